@@ -1,0 +1,90 @@
+// The files of the six tables.
+ghost use Rattle.std.specs.Prelude.{◌≡◌, IfOk};
+ghost use Rattle.std.specs.Option.{option_copied};
+ghost use Rattle.acct_text.specs.Files.{table_of};
+
+use crate::{Bytes, Tab};
+use std::alloc::{AllocError, Global};
+
+/// The bytes of the files of the six tables. None stands for a file that is absent.
+#[derive(Debug, Drop)]
+pub struct Files {
+    /// The users (passwd(5)).
+    pub passwd: Option<Bytes>,
+    /// Hashes and aging of the users (shadow(5)).
+    pub shadow: Option<Bytes>,
+    /// The groups and their members (group(5)).
+    pub group: Option<Bytes>,
+    /// Hashes, administrators and members of the groups (gshadow(5)).
+    pub gshadow: Option<Bytes>,
+    /// Subordinate UIDs of the users (subuid(5)).
+    pub subuid: Option<Bytes>,
+    /// Subordinate GIDs of the users (subgid(5)).
+    pub subgid: Option<Bytes>,
+}
+
+impl Files {
+    /// Second files with the same bytes, of which the same are absent.
+    pub fn copy(&self, alloc: Global) -> Result<Self, AllocError>
+        ensures { IfOk result (λ files. files ≡ self.now) }
+    {
+        Ok(Files {
+            passwd: copy_of(alloc, &self.passwd)?,
+            shadow: copy_of(alloc, &self.shadow)?,
+            group: copy_of(alloc, &self.group)?,
+            gshadow: copy_of(alloc, &self.gshadow)?,
+            subuid: copy_of(alloc, &self.subuid)?,
+            subgid: copy_of(alloc, &self.subgid)?,
+        })
+    }
+
+    /// The bytes of a table's file, and none where it is absent.
+    pub fn table(&self, of: Tab) -> Option<&Bytes>
+        ensures { option_copied result ≡ table_of self.now of }
+    {
+        match of {
+            Tab::Passwd => self.passwd.as_ref(),
+            Tab::Shadow => self.shadow.as_ref(),
+            Tab::Group => self.group.as_ref(),
+            Tab::Gshadow => self.gshadow.as_ref(),
+            Tab::Subuid => self.subuid.as_ref(),
+            Tab::Subgid => self.subgid.as_ref(),
+        }
+    }
+}
+
+// The file again, absent where it was.
+fn copy_of(alloc: Global, file: &Option<Bytes>) -> Result<Option<Bytes>, AllocError>
+    ensures { IfOk result (λ copy. copy ≡ file.now) }
+{
+    match file {
+        Some(bytes) => Ok(Some(Bytes::of(alloc, bytes.as_slice())?)),
+        None => Ok(None),
+    }
+}
+
+#[cfg(test)]
+mod tests {
+    use super::*;
+    use std::test::Fail;
+
+    #[test]
+    fn an_absent_table_is_absent_in_a_copy(rt: HostRuntime) -> Result<(), Fail> {
+        let alloc = rt.alloc();
+        let files = Files {
+            passwd: Some(Bytes::of(alloc, b"root:x:0:0::/root:\n")?),
+            shadow: None,
+            group: Some(Bytes::of(alloc, b"root:x:0:\n")?),
+            gshadow: None,
+            subuid: None,
+            subgid: None,
+        };
+        let copy = files.copy(alloc)?;
+        assert!(rt; copy.table(Tab::Shadow).is_none());
+        assert_eq!(rt;
+            copy.table(Tab::Group).map(Bytes::as_slice),
+            Some(b"root:x:0:\n".as_slice())
+        );
+        Ok(())
+    }
+}
