@@ -1,0 +1,11 @@
+mod Rows
+pub mod NameLemmas
+pub mod StoreLemmas
+pub mod TokenLemmas
+pub mod NumberLemmas
+pub mod FolderLemmas
+pub mod EventLemmas
+pub mod ResultLemmas
+pub mod ToldLemmas
+mod StreamLemmas
+pub mod OthersLemmas

@@ -1,0 +1,147 @@
+-- What is found among files after one was dropped or put.
+use Rattle.std.proofs.Common.{◌≡◌, ℕ, ◌+◌, ◌<◌, length, take, get_or, Bool, true, false, not, cond, List, [], ◌∷◌, ◌++◌, Option, None, Some, refl, sym, ◌∙◌, ap, subst, inl, inr}
+use Rattle.std.specs.List.{filter}
+use Rattle.std.proofs.lemmas.List.{take_more}
+use Rattle.std.specs.Prelude.{bytes_eq, ◌&&◌}
+use Rattle.std.proofs.lemmas.Slice.Eq.{bytes_eq-Decides}
+use Rattle.std.proofs.lemmas.Bool.{cases_Bool, cond-true, cond-false}
+use Rattle.acct_text.specs.Bytes.{Bytes}
+use Rattle.acct_outside.specs.declared.Name.{Name}
+use Rattle.acct_outside.specs.Names.{same_name}
+use Rattle.acct_outside.specs.declared.Name.TheVariants.{Lock}
+use Rattle.acct_outside.specs.Folder.{Folder, with_file}
+use Rattle.acct_outside.specs.Store.{file_in, folder_of, with_files, is_lock, is_lock_with}
+use Rattle.acct_outside.proofs.NameLemmas.{same_name-true, same_name-self}
+
+else_back : (name other : Name) → same_name other name ≡ false → same_name name other ≡ false
+else_back name other isnt = elim (cases_Bool (same_name name other)) [
+  | inl hit ↦ absurd (let same : name ≡ other = same_name-true name other hit in let at : same_name other name ≡ true = subst (λ n. same_name other n ≡ true) (sym same) (same_name-self other) in cc (at, isnt))
+  | inr miss ↦ miss
+]
+
+module _ (name : Name) where
+  -- the files but those of the name
+  abbrev pub others_of : List (Name × Bytes) → List (Name × Bytes)
+  others_of files = filter (λ file. not (same_name file.0 name)) files
+
+  -- a test that holds of this name tells another one apart
+  apart : (here other : Name) → same_name here name ≡ true → same_name other name ≡ false → same_name here other ≡ false
+  apart here other is isnt = elim (cases_Bool (same_name here other)) [
+    | inl hit ↦ absurd (let same : here ≡ other = same_name-true here other hit in let at : same_name other name ≡ true = subst (λ n. same_name n name ≡ true) same is in cc (at, isnt))
+    | inr miss ↦ miss
+  ]
+
+  else_apart : (here other : Name) → same_name here name ≡ false → same_name here other ≡ true → same_name other name ≡ false
+  else_apart here other isnt hit = subst (λ n. same_name n name ≡ false) (same_name-true here other hit) isnt
+
+  pub file_in-others : (files : List (Name × Bytes)) (other : Name) → file_in (others_of files) other ≡ cond (same_name other name) None (file_in files other)
+  file_in-others [] other = elim (cases_Bool (same_name other name)) [
+    | inl hit ↦ sym (cond-true _ _ _ hit)
+    | inr miss ↦ sym (cond-false _ _ _ miss)
+  ]
+  file_in-others (file ∷ files) other = elim (cases_Bool (same_name file.0 name)) [
+    | inl hit ↦ rw hit (file_in-others files other ∙ elim (cases_Bool (same_name other name)) [
+      | inl is ↦ rw is refl
+      | inr isnt ↦ rw (isnt, apart file.0 other hit isnt) refl
+    ])
+    | inr miss ↦ rw miss (elim (cases_Bool (same_name file.0 other)) [
+      | inl here ↦ rw (here, else_apart file.0 other miss here) refl
+      | inr not_here ↦ rw not_here (file_in-others files other)
+    ])
+  ]
+
+-- the first where there is one, else the second
+abbrev or_else : Option Bytes → Option Bytes → Option Bytes
+or_else None second = second
+or_else (Some bytes) second = Some bytes
+
+or_else-none : (first : Option Bytes) → or_else first None ≡ first
+or_else-none None = refl
+or_else-none (Some bytes) = refl
+
+file_in-append : (front back : List (Name × Bytes)) (other : Name) → file_in (front ++ back) other ≡ or_else (file_in front other) (file_in back other)
+file_in-append [] back other = refl
+file_in-append (file ∷ front) back other = elim (cases_Bool (same_name file.0 other)) [
+  | inl here ↦ rw here refl
+  | inr not_here ↦ rw not_here (file_in-append front back other)
+]
+
+-- a file put behind the others
+pub file_in-put : (files : List (Name × Bytes)) (name : Name) (bytes : Bytes) (other : Name) (old : Option Bytes) → file_in files other ≡ cond (same_name other name) None old
+    → file_in (files ++ (name, bytes) ∷ []) other ≡ cond (same_name other name) (Some bytes) old
+file_in-put files name bytes other old before = file_in-append files ((name, bytes) ∷ []) other ∙ elim (cases_Bool (same_name other name)) [
+  | inl is ↦
+      let same : other ≡ name = same_name-true other name is in
+      let back : same_name name other ≡ true = subst (λ n. same_name name n ≡ true) (sym same) (same_name-self name) in
+      ap (λ (o : Option Bytes). or_else o (cond (same_name name other) (Some bytes) None)) (before ∙ cond-true _ _ _ is)
+      ∙ cond-true _ _ _ back ∙ sym (cond-true _ _ _ is)
+  | inr isnt ↦
+      let back : same_name name other ≡ false = else_back name other isnt in
+      ap (λ (o : Option Bytes). or_else o (cond (same_name name other) (Some bytes) None)) (before ∙ cond-false _ _ _ isnt)
+      ∙ ap (or_else old) (cond-false _ _ _ back) ∙ or_else-none old ∙ sym (cond-false _ _ _ isnt)
+]
+
+-- files and lock numbers that are those of a folder make it
+pub folder_of-is : (files : List (Name × Bytes)) (locks : List ℕ) (folder : Folder)
+    → ((name : Name) → file_in files name ≡ folder.file name)
+    → locks ≡ folder.locks
+    → folder_of files locks ≡ folder
+folder_of-is files locks folder same_files same_locks =
+    λ i. record { file = λ name. same_files name i; locks = same_locks i }
+
+-- no file of a lock has the text
+abbrev pub LacksLock : Bytes → List (Name × Bytes) → Type 0
+LacksLock text files = (number : ℕ) → ¬ (file_in files (Lock number) ≡ Some text)
+
+-- a file that is no lock with the text doesn't stand as one
+other_lock : (text : Bytes) (file : Name × Bytes) (number : ℕ) (same : Bool)
+    → is_lock_with text file ≡ false
+    → same_name file.0 (Lock number) ≡ same
+    → ¬ (cond same (Some file.1) None ≡ Some text)
+other_lock text file number true other is stands =
+    let name : file.0 ≡ Lock number = same_name-true file.0 (Lock number) is in
+    let lock : is_lock file.0 ≡ true = ap is_lock name in
+    let apart : bytes_eq file.1 text ≡ false =
+    sym (ap (λ (b : Bool). b && bytes_eq file.1 text) lock) ∙ other in
+    let equal : file.1 ≡ text = cc in
+    cc (apart, (bytes_eq-Decides file.1 text).1 equal)
+other_lock text file number false other is stands = cc
+
+-- what stands first among files isn't the text, nor what stands next
+lacks_next : (text : Bytes) (content next : Option Bytes)
+    → ¬ (content ≡ Some text)
+    → ¬ (next ≡ Some text)
+    → ¬ (or_else content next ≡ Some text)
+lacks_next text None next lacks next_lacks = next_lacks
+lacks_next text (Some bytes) next lacks next_lacks = lacks
+
+-- the text is that of no lock among files, and of none with one more that isn't a lock with it
+pub LacksLock-push : (text : Bytes) (files : List (Name × Bytes)) (file : Name × Bytes)
+    → LacksLock text files
+    → is_lock_with text file ≡ false
+    → LacksLock text (files ++ file ∷ [])
+LacksLock-push text files file lacks other = λ number stands.
+    lacks_next text (file_in files (Lock number)) (file_in (file ∷ []) (Lock number))
+    (lacks number)
+    (other_lock text file number (same_name file.0 (Lock number)) other refl)
+    (sym (file_in-append files (file ∷ []) (Lock number)) ∙ stands)
+
+-- one more file put in a folder
+pub with_files-push : (files : List (Name × Bytes)) (file : Name × Bytes) (folder : Folder)
+    → with_files (files ++ file ∷ []) folder ≡ with_file file.0 (Some file.1) (with_files files folder)
+with_files-push [] file folder = refl
+with_files-push (other ∷ files) file folder =
+    with_files-push files file (with_file other.0 (Some other.1) folder)
+
+-- the files up to a place, and the one there
+pub with_files-more : (files : List (Name × Bytes)) (place : ℕ) (file : Name × Bytes)
+    (folder : Folder)
+    → place < length files
+    → file ≡ get_or files place file
+    → with_files (take (place + 1) files) folder
+    ≡ with_file file.0 (Some file.1) (with_files (take place files) folder)
+with_files-more files place file folder low is =
+    ap (λ (l : List (Name × Bytes)). with_files l folder)
+    (take_more files place file low
+    ∙ ap (λ (f : Name × Bytes). take place files ++ f ∷ []) (sym is))
+    ∙ with_files-push (take place files) file folder

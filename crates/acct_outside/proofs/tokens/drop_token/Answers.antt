@@ -1,0 +1,14 @@
+use Rattle.std.proofs.Common.{◌≡◌, ◌∙◌, not, ap, rules}
+use Rattle.std.specs.Prelude.{bytes_eq}
+use Rattle.std.specs.List.{filter}
+use Rattle.std.proofs.lemmas.Fn.{filter_same}
+use Rattle.acct_outside.specs.Events.{has_token}
+use Rattle.acct_outside.proofs.TokenLemmas.{without}
+use Rattle.acct_outside.proofs.tokens.drop_token.Goals as goal
+
+pub returns-clause-rest : goal.returns-clause-rest
+returns-clause-rest c = λ other.
+    let token = c.args.token.now in
+    let kept : c.retain.new.self.items ≡ filter (λ x. not (bytes_eq x token)) c.args.tokens.now.items =
+    filter_same _ (λ x. not (bytes_eq x token)) _ (λ x b q r. search rules) _ _ c.retain.ensures.filtered in
+    ap (has_token other) kept ∙ without token other c.args.tokens.now.items

@@ -1,0 +1,46 @@
+// The calls of a stream or clock in memory that fail.
+ghost use Rattle.std.specs.Prelude.{◌≡◌, ◌≤◌, IsTrue, ◌↔◌, Contains, MatchBool};
+ghost use Rattle.acct_outside.specs.Faults.{HasRisen, next_count};
+
+use crate::mishap::risen;
+
+/// The numbers of the calls that fail, with the calls and the faults so far.
+#[derive(Debug, Drop)]
+pub(crate) struct Failing {
+    pub failing: Vec<u64>,
+    pub calls: u64,
+    pub faults: u64,
+}
+
+impl Failing {
+    /// These calls fail, counted from 1.
+    pub(crate) fn new(failing: Vec<u64>) -> Self
+        ensures failing { result.failing.items ≡ failing.items }
+        ensures calls { result.calls ≡ 0 }
+        ensures faults { result.faults ≡ 0 }
+    {
+        Failing {
+            failing,
+            calls: 0,
+            faults: 0,
+        }
+    }
+
+    /// Counts a call, and says whether it fails.
+    pub(crate) fn next(&mut self) -> bool
+        ensures fails { IsTrue result ↔ Contains self.old.failing.items
+            (next_count self.old.calls) }
+        ensures faults { MatchBool result
+            ((self.old.faults ≤ self.new.faults) × HasRisen self.old.faults self.new.faults)
+            (self.new.faults ≡ self.old.faults) }
+        ensures calls { self.new.calls ≡ next_count self.old.calls }
+        ensures failing { self.new.failing.items ≡ self.old.failing.items }
+    {
+        self.calls = risen(self.calls);
+        if self.failing.contains(&self.calls) {
+            self.faults = risen(self.faults);
+            return true;
+        }
+        false
+    }
+}

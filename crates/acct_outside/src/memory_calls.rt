@@ -1,0 +1,251 @@
+// The calls of a folder in memory. Each is counted, then fails where a mishap is planned for it, and
+// else finds its answer and records its event.
+ghost use Rattle.std.specs.Prelude.{◌≡◌, ◌≤◌, ◌↔◌, All, IfOk, IsSome, Ok, false, true};
+ghost use Rattle.acct_outside.specs.Calls.{lists, reads, asks, creates, writes, renames, removes, answers};
+ghost use Rattle.acct_outside.specs.Folder.{Folder as FolderMap};
+ghost use Rattle.acct_outside.specs.Faults.{CountsFailure, next_count};
+ghost use Rattle.acct_outside.specs.Life.{is_running};
+ghost use Rattle.acct_outside.specs.Tokens.{held_text};
+ghost use Rattle.acct_outside.specs.declared.Name.TheVariants.{Lock};
+ghost use Rattle.acct_outside.specs.Events.{has_token};
+ghost use Rattle.acct_outside.specs.Contract.{IsName, IsLockNumber, IsWithinLimit, MayAct, TellsRead, TellsBegin, WhereTold, locks_result};
+
+use crate::event::{Answer, Command, Outcome};
+use crate::memory::MemoryFolder;
+use crate::{Call, Created, Effect, Folder, FolderFault, Found, Name, Token, Verdict};
+use acct_text::{Bytes, Word};
+
+impl Folder for MemoryFolder {
+    ghost use Rattle.std.specs.Prelude.{Some};
+    ghost use Rattle.acct_outside.specs.Logged.{folder_after};
+    ghost use Rattle.acct_outside.specs.Memory.{FailsByPlan, IsCounted, Runs, TellsIn, alive_of, faults_of, no_others, past_of};
+
+    ghost told = { λ folder. Some (past_of folder) };
+
+    ghost admits = { λ folder. no_others };
+
+    ghost fault_count = { faults_of };
+
+    fn enter(&mut self, _prefix: &Bytes) -> Result<(), FolderFault> {
+        Ok(())
+    }
+
+    fn begin(&mut self, words: &[Word], input: &Bytes, day: u32) -> Result<Token, FolderFault>
+        ensures told { WhereTold (Some (past_of self.old)) (Some (past_of self.new))
+            (TellsBegin no_others
+            (record { words = words.now; input = input.now; day = day }) result) }
+        ensures runs { IfOk result (Runs self.new) }
+        ensures acts { IfOk result (MayAct no_others (Some (past_of self.new))) }
+        ensures faults { CountsFailure FolderFault.Failed (faults_of self.old)
+            (faults_of self.new) result }
+        ensures counted { IsCounted self.old self.new }
+        ensures planned { FailsByPlan self.new result }
+        ensures other { IfOk result (λ token. has_token token (alive_of self.old) ≡ false) }
+        ensures no_lock { IfOk result (λ token. (number : _)
+            → ¬ ((past_of self.old).first.file (Lock number) ≡ Some (held_text token))) }
+    {
+        self.mishaps.count();
+        let Ok(command) = Command::of(self.alloc, words, input, day) else {
+            return Err(FolderFault::Memory);
+        };
+        match self.mishaps.planned() {
+            Ok(None) => self.start(command),
+            Ok(Some(_)) => Err(self.fail_begin(command)),
+            Err(_) => Err(FolderFault::Memory),
+        }
+    }
+
+    fn locks(&mut self, by: &Token) -> Result<Vec<u64>, FolderFault>
+        ensures told { TellsIn self.old self.new by.now lists (locks_result result) }
+        ensures numbers { IfOk result (λ numbers. All IsLockNumber numbers.items) }
+        ensures faults { CountsFailure FolderFault.Failed (faults_of self.old)
+            (faults_of self.new) result }
+        ensures counted { IsCounted self.old self.new }
+        ensures planned { FailsByPlan self.new result }
+    {
+        self.mishaps.count();
+        self.pass(by, Call::Locks)?;
+        Ok(self.log.list(self.alloc, by)?)
+    }
+
+    fn read(&mut self, by: &Token, name: Name, limit: u64) -> Result<Found, FolderFault>
+        requires { IsName name }
+        ensures told { TellsRead no_others (Some (past_of self.old))
+            (Some (past_of self.new)) by.now name
+            limit result }
+        ensures limit { IfOk result (IsWithinLimit limit) }
+        ensures faults { CountsFailure FolderFault.Failed (faults_of self.old)
+            (faults_of self.new) result }
+        ensures counted { IsCounted self.old self.new }
+        ensures planned { FailsByPlan self.new result }
+    {
+        self.mishaps.count();
+        self.pass(by, Call::Read(name))?;
+        Ok(self.log.read(self.alloc, by, name, limit)?)
+    }
+
+    fn verdict(&mut self, by: &Token, token: &Token) -> Result<Verdict, FolderFault>
+        ensures told { TellsIn self.old self.new by.now (asks token.now) result }
+        ensures dead { IfOk result (λ verdict. (verdict ≡ Verdict.Dead)
+            ↔ ((is_running token.now (past_of self.old).history ≡ false)
+            × (has_token token.now (alive_of self.old) ≡ false))) }
+        ensures faults { CountsFailure FolderFault.Failed (faults_of self.old)
+            (faults_of self.new) result }
+        ensures counted { IsCounted self.old self.new }
+        ensures planned { FailsByPlan self.new result }
+    {
+        self.mishaps.count();
+        let call = self.pass(by, Call::Verdict(token.copy()?))?;
+        let verdict = self.judge(token);
+        let told = Answer::Verdict(verdict);
+        self.log.record(self.alloc, by, call, Outcome::Done(told))?;
+        Ok(verdict)
+    }
+
+    fn create(&mut self, by: &Token, number: u64) -> Result<Created, FolderFault>
+        requires { IsLockNumber number }
+        ensures told { TellsIn self.old self.new by.now (creates number) result }
+        ensures faults { CountsFailure FolderFault.Failed (faults_of self.old)
+            (faults_of self.new) result }
+        ensures counted { IsCounted self.old self.new }
+        ensures planned { FailsByPlan self.new result }
+    {
+        self.mishaps.count();
+        let call = self.pass(by, Call::Create(number))?;
+        let created = self.log.store.created(number);
+        let told = Answer::Created(created);
+        self.log.record(self.alloc, by, call, Outcome::Done(told))?;
+        Ok(created)
+    }
+
+    fn write(&mut self, by: &Token, name: Name, bytes: &Bytes) -> Result<(), FolderFault>
+        requires { IsName name }
+        ensures told { TellsIn self.old self.new by.now (writes name bytes.now) result }
+        ensures faults { CountsFailure FolderFault.Failed (faults_of self.old)
+            (faults_of self.new) result }
+        ensures counted { IsCounted self.old self.new }
+        ensures planned { FailsByPlan self.new result }
+    {
+        self.mishaps.count();
+        self.act(by, Call::Write(name, bytes.copy()?))
+    }
+
+    fn rename(&mut self, by: &Token, from: Name, to: Name) -> Result<(), FolderFault>
+        requires from { IsName from }
+        requires to { IsName to }
+        ensures told { TellsIn self.old self.new by.now (renames from to) result }
+        ensures faults { CountsFailure FolderFault.Failed (faults_of self.old)
+            (faults_of self.new) result }
+        ensures counted { IsCounted self.old self.new }
+        ensures planned { IsSome ((folder_after (past_of self.old)).file from)
+            → FailsByPlan self.new result }
+    {
+        self.mishaps.count();
+        let call = Call::Rename(from, to);
+        if !self.log.store.stands(from) {
+            return Err(self.fail(by, call, Effect::Nothing));
+        }
+        self.act(by, call)
+    }
+
+    fn remove(&mut self, by: &Token, name: Name) -> Result<(), FolderFault>
+        requires { IsName name }
+        ensures told { TellsIn self.old self.new by.now (removes name) result }
+        ensures faults { CountsFailure FolderFault.Failed (faults_of self.old)
+            (faults_of self.new) result }
+        ensures counted { IsCounted self.old self.new }
+        ensures planned { FailsByPlan self.new result }
+    {
+        self.mishaps.count();
+        self.act(by, Call::Remove(name))
+    }
+
+    fn answered(&mut self, by: &Token, status: u8)
+        requires { Runs self.old by.now }
+        ensures told { TellsIn self.old self.new by.now (answers status) (Ok tt) }
+        ensures faults { faults_of self.new ≡ faults_of self.old }
+    {
+        self.log.answer(by, status);
+    }
+
+    fn faults(&self) -> u64 {
+        self.mishaps.faults
+    }
+}
+
+#[cfg(test)]
+mod tests {
+    use super::*;
+    use crate::Mishap;
+    use std::alloc::Global;
+    use std::test::Fail;
+
+    // A folder with these files, in which the call with this number fails.
+    fn folder_with(
+        alloc: Global,
+        contents: Vec<(Name, Bytes)>,
+        call: u64,
+        effect: Effect,
+    ) -> Result<MemoryFolder, Fail>
+        requires { All (λ file. IsName file.0) contents.items }
+    {
+        let mut plan = Vec::new(alloc);
+        plan.push(Mishap { call, effect })?;
+        Ok(MemoryFolder::new(alloc, contents, Vec::new(alloc), plan)?)
+    }
+
+    // What stands at the name, empty where nothing does.
+    fn text_at(folder: &MemoryFolder, name: Name) -> &[u8] {
+        folder.file(name).map_or(b"", |bytes| bytes.as_slice())
+    }
+
+    #[test]
+    fn a_failed_write_leaves_other_bytes(rt: HostRuntime) -> Result<(), Fail> {
+        let alloc = rt.alloc();
+        let junk = Effect::Left(Some(Bytes::of(alloc, b"junk")?));
+        let mut folder = folder_with(alloc, Vec::new(alloc), 2, junk)?;
+        let token = folder.begin(&[], &Bytes::new(alloc), 20000)?;
+        let text = Bytes::of(alloc, b"text")?;
+        assert!(rt; folder.write(&token, Name::Intent, &text).is_err());
+        assert_eq!(rt; text_at(&folder, Name::Intent), b"junk".as_slice());
+        assert_eq!(rt; folder.faults(), 1);
+        Ok(())
+    }
+
+    #[test]
+    fn a_failed_create_may_have_made_its_lock(rt: HostRuntime) -> Result<(), Fail> {
+        let alloc = rt.alloc();
+        let mut folder = folder_with(alloc, Vec::new(alloc), 2, Effect::Happened)?;
+        let token = folder.begin(&[], &Bytes::new(alloc), 20000)?;
+        assert!(rt; folder.create(&token, 7).is_err());
+        assert_eq!(rt; text_at(&folder, Name::Lock(7)), b"held m1\n".as_slice());
+        assert_eq!(rt; folder.locks(&token)?.as_slice(), [7].as_slice());
+        Ok(())
+    }
+
+    #[test]
+    fn a_dead_session_left_what_its_call_did(rt: HostRuntime) -> Result<(), Fail> {
+        let alloc = rt.alloc();
+        let mut folder = folder_with(alloc, Vec::new(alloc), 0, Effect::Nothing)?;
+        let token = folder.begin(&[], &Bytes::new(alloc), 20000)?;
+        folder.die(&token, Call::Create(3), Effect::Happened)?;
+        let other = folder.begin(&[], &Bytes::new(alloc), 20000)?;
+        assert_eq!(rt; other.as_slice(), b"m2".as_slice());
+        assert_eq!(rt; folder.verdict(&other, &token)?, Verdict::Dead);
+        assert_eq!(rt; folder.create(&other, 3)?, Created::Exists);
+        Ok(())
+    }
+
+    #[test]
+    fn a_token_of_a_lock_or_an_outsider_is_not_given(rt: HostRuntime) -> Result<(), Fail> {
+        let alloc = rt.alloc();
+        let mut contents = Vec::new(alloc);
+        contents.push((Name::Lock(1), Bytes::of(alloc, b"held m1\n")?))?;
+        let mut alive = Vec::new(alloc);
+        alive.push(Token::read(alloc, b"m2")?.ok_or("no token")?)?;
+        let mut folder = MemoryFolder::new(alloc, contents, alive, Vec::new(alloc))?;
+        let token = folder.begin(&[], &Bytes::new(alloc), 20000)?;
+        assert_eq!(rt; token.as_slice(), b"m3".as_slice());
+        Ok(())
+    }
+}
