@@ -1,0 +1,5 @@
+pub mod Intent
+pub mod ChangedTables
+pub mod Parts
+pub mod Cursor
+pub mod Laws

@@ -1,0 +1,82 @@
+//! The text of an intent: the changed tables of one command, committed as one file.
+#![tactic(auto)]
+
+ghost use Rattle.intent_file.specs.Laws.{EachTextReadsOrFails, FirstFaultIsOne, ReadingIsUnique};
+
+mod cursor;
+mod intent;
+
+use acct_text::{Bytes, Tab};
+pub use intent::Intent;
+use std::alloc::{AllocError, AllocFailed};
+use thiserror::Error;
+
+/// A table with its new bytes, as an intent lists it.
+#[derive(Debug, Drop)]
+pub struct NewTable {
+    /// Which of the six tables it is.
+    pub table: Tab,
+    /// All of its bytes, in an intent at most 16,777,216.
+    pub bytes: Bytes,
+}
+
+impl NewTable {
+    ghost use Rattle.std.specs.Prelude.{◌≡◌};
+    ghost use Rattle.acct_text.specs.Tables.{same_table};
+
+    /// Whether these are the bytes of that table.
+    fn is_for(&self, table: Tab) -> bool
+        ensures { result ≡ same_table self.now.table table }
+    {
+        self.table == table
+    }
+}
+
+/// Why a text couldn't be read as an intent.
+#[derive(Clone, Copy, Debug, PartialEq, Eq, Error)]
+pub enum IntentFault {
+    /// The first part that doesn't stand, counted from 0: the header, each table that it counts,
+    /// and the end with all that follows.
+    #[error("intent is damaged in part {0}")]
+    Part(u32),
+    /// Memory ran out.
+    #[error("out of memory")]
+    Memory,
+}
+
+impl From<AllocError> for IntentFault {
+    ghost use Rattle.std.specs.Prelude.{◌≡◌};
+    ghost use Rattle.intent_file.specs.declared.IntentFault.TheVariants.{Memory};
+
+    ghost from_gives = { λ _ fault. fault ≡ Memory };
+
+    fn from(_: AllocError) -> Self {
+        IntentFault::Memory
+    }
+}
+
+impl<T: Drop> From<AllocFailed<T>> for IntentFault {
+    ghost use Rattle.std.specs.Prelude.{◌≡◌};
+    ghost use Rattle.intent_file.specs.declared.IntentFault.TheVariants.{Memory};
+
+    ghost from_gives = { λ _ fault. fault ≡ Memory };
+
+    fn from(_: AllocFailed<T>) -> Self {
+        IntentFault::Memory
+    }
+}
+
+/// Bytes read as at most one intent, and no text of an intent is a proper prefix of another.
+pub fn reading_is_unique()
+    ensures { ReadingIsUnique }
+{}
+
+/// Bytes have at most one first part that doesn't stand, and none where they read as an intent.
+pub fn first_fault_is_one()
+    ensures { FirstFaultIsOne }
+{}
+
+/// Bytes read as an intent, or have a first part that doesn't stand.
+pub fn each_text_reads_or_fails()
+    ensures { EachTextReadsOrFails }
+{}
