@@ -1,0 +1,372 @@
+-- A whole commit, event by event: `groupadd -P R -g 1500 staff` on an empty passwd and an empty group.
+-- Each history is named for its last step, and lawful by computation.
+use Rattle.std.proofs.Common.{◌≡◌, ◌≢◌, refl, lit≤, true, false, [], ◌∷◌, Some, None}
+use Rattle.std.specs.Fmt.{digits}
+use Rattle.acct_text.specs.declared.Tab.{Tab}
+use Rattle.acct_text.specs.declared.Tab.TheVariants.{Passwd, Shadow, Group, Gshadow, Subuid, Subgid}
+use Rattle.acct_outside.specs.declared.Name.TheVariants.{Table, Backup, Staged, Intent, IntentStage, BackupStage, FreeStage, Lock, Defs}
+use Rattle.acct_outside.specs.declared.Created.TheVariants.{Done}
+use Rattle.acct_outside.specs.Tokens.{free_text}
+use Rattle.acct_outside.specs.Folder.{tables}
+use Rattle.acct_outside.specs.Calls.{Call, Answer, begins, lists, reads, creates, writes, renames, removes, answers, done, found_absent, found_bytes}
+use Rattle.acct_outside.specs.History.{Event, History, after}
+use Rattle.suite_rules.specs.Knowledge.{Seen}
+use Rattle.suite_rules.specs.Listing.{new_listing}
+use Rattle.suite_rules.specs.Standing.{standing}
+use Rattle.suite_rules.specs.Rules.{CommitRule, HasSeen, moves_backup, answers_changed, free_begin, create_rule, commit_rule, move_rule, answer_rule}
+use Rattle.suite_rules.specs.Lawful.{Lawful, starts, goes_on}
+use Rattle.suite_rules.specs.Settled.{settled}
+use Rattle.suite_rules.specs.Committed.{committed, folded}
+use Rattle.suite_rules.proofs.Staff.{first, is-folder, staff_line, staff_files, staff_deeds, groupadd_staff, m1, is-token-m1, staff_intent, seen_of, install-lawful, clear-lawful}
+use Rattle.suite_rules.proofs.RowSteps.{list-lawful, read-lawful, write-lawful, free-lawful}
+
+-- a call of the session that was done
+abbrev own : (call : Call) → Answer call → Event
+own call answer = record { token = m1; call = call; result = done answer }
+
+-- nothing has happened
+abbrev nothing_happened : History
+nothing_happened = []
+
+-- the session begins
+abbrev pub begun : History
+begun = own (begins groupadd_staff) tt ∷ nothing_happened
+
+-- it lists no lock
+abbrev pub listed : History
+listed = own lists [] ∷ begun
+
+-- it creates lock 1
+abbrev pub created : History
+created = own (creates 1) Done ∷ listed
+
+-- it lists its lock as the greatest, and is keeper
+abbrev pub became_keeper : History
+became_keeper = own lists (1 ∷ []) ∷ created
+
+-- it finds no intent
+abbrev pub found_no_intent : History
+found_no_intent = own (reads Intent) found_absent ∷ became_keeper
+
+-- it reads passwd, which is empty
+abbrev pub read_passwd : History
+read_passwd = own (reads (Table Passwd)) (found_bytes []) ∷ found_no_intent
+
+-- it finds no shadow
+abbrev pub read_shadow : History
+read_shadow = own (reads (Table Shadow)) found_absent ∷ read_passwd
+
+-- it reads group, which is empty
+abbrev pub read_group : History
+read_group = own (reads (Table Group)) (found_bytes []) ∷ read_shadow
+
+-- it finds no gshadow
+abbrev pub read_gshadow : History
+read_gshadow = own (reads (Table Gshadow)) found_absent ∷ read_group
+
+-- it finds no subuid
+abbrev pub read_subuid : History
+read_subuid = own (reads (Table Subuid)) found_absent ∷ read_gshadow
+
+-- it finds no subgid
+abbrev pub read_subgid : History
+read_subgid = own (reads (Table Subgid)) found_absent ∷ read_subuid
+
+-- it finds no login.defs
+abbrev pub read_settings : History
+read_settings = own (reads Defs) found_absent ∷ read_subgid
+
+-- it writes the old group
+abbrev pub staged_backup : History
+staged_backup = own (writes BackupStage []) tt ∷ read_settings
+
+-- it moves that to the backup
+abbrev pub backed_up : History
+backed_up = own (renames BackupStage (Backup Group)) tt ∷ staged_backup
+
+-- it writes the intent
+abbrev pub staged_intent : History
+staged_intent = own (writes IntentStage staff_intent) tt ∷ backed_up
+
+-- it commits
+abbrev pub committed_group : History
+committed_group = own (renames IntentStage Intent) tt ∷ staged_intent
+
+-- it writes the new group
+abbrev pub staged_group : History
+staged_group = own (writes (Staged Group) staff_line) tt ∷ committed_group
+
+-- it moves that to group
+abbrev pub installed_group : History
+installed_group = own (renames (Staged Group) (Table Group)) tt ∷ staged_group
+
+-- it removes the intent
+abbrev pub cleared : History
+cleared = own (removes Intent) tt ∷ installed_group
+
+-- it writes the free text
+abbrev pub staged_free : History
+staged_free = own (writes FreeStage free_text) tt ∷ cleared
+
+-- it moves that to its lock
+abbrev pub freed : History
+freed = own (renames FreeStage (Lock 1)) tt ∷ staged_free
+
+-- it answers success
+abbrev pub answered : History
+answered = own (answers 0) tt ∷ freed
+
+-- What stands at the end: group has the line, its backup is empty, lock 1 is free, and no intent.
+
+-- the group
+group-after : (after first answered).file (Table Group) ≡ Some staff_line
+group-after = refl
+
+-- its backup
+backup-after : (after first answered).file (Backup Group) ≡ Some []
+backup-after = refl
+
+-- the lock
+lock-after : (after first answered).file (Lock 1) ≡ Some free_text
+lock-after = refl
+
+-- the intent
+intent-after : (after first answered).file Intent ≡ None
+intent-after = refl
+
+-- one command was committed
+one-committed : committed answered
+    ≡ record { token = m1; number = 1; command = groupadd_staff } ∷ []
+one-committed = refl
+
+-- its fold has the line
+group-folded : folded staff_deeds first (committed answered) Group ≡ Some staff_line
+group-folded = refl
+
+-- the settled group is empty before the commit
+settled-before : settled (after first staged_intent) Group ≡ Some []
+settled-before = refl
+
+-- and has the line from the commit on
+settled-at-commit : settled (after first committed_group) Group ≡ Some staff_line
+unfolding digits
+settled-at-commit = refl
+
+-- What the commit rests on.
+
+-- what the session has seen when it commits
+abbrev seen_all : Seen
+seen_all = seen_of (standing m1 staged_intent).knows
+
+-- it has seen each table
+each-table-seen : (table : Tab) → seen_all.file (Table table) ≡ Some (tables first table)
+each-table-seen Passwd = refl
+each-table-seen Shadow = refl
+each-table-seen Group = refl
+each-table-seen Gshadow = refl
+each-table-seen Subuid = refl
+each-table-seen Subgid = refl
+
+-- the table that differs is backed up
+staff-backed : (table : Tab) → staff_files table ≢ tables first table →
+    seen_all.backed table ≡ true
+staff-backed Passwd differs = absurd (differs refl)
+staff-backed Shadow differs = absurd (differs refl)
+staff-backed Group differs = refl
+staff-backed Gshadow differs = absurd (differs refl)
+staff-backed Subuid differs = absurd (differs refl)
+staff-backed Subgid differs = absurd (differs refl)
+
+-- it has seen all
+abbrev staff_seen : HasSeen (standing m1 staged_intent).command seen_all
+staff_seen = record {
+  command = groupadd_staff;
+  files = tables first;
+  defs = None;
+  is_asked = refl;
+  each_table = each-table-seen;
+  settings = refl;
+}
+
+-- so it may commit
+pub staff-commit : CommitRule staff_deeds (standing m1 staged_intent) 1
+unfolding digits
+staff-commit = record {
+  first = refl;
+  seen = seen_all;
+  knows = refl;
+  has_seen = staff_seen;
+  new = staff_files;
+  is_deed = refl;
+  staged = refl;
+  backed = staff-backed;
+}
+
+-- The history is lawful.
+
+-- nothing has happened: lawful
+pub nothing_happened-lawful : Lawful staff_deeds first nothing_happened
+nothing_happened-lawful = starts is-folder
+
+-- the session begins: lawful
+pub begun-lawful : Lawful staff_deeds first begun
+begun-lawful = goes_on _ _ nothing_happened-lawful (record {
+  keeps = record {
+    life_rule = tt;
+    permitted = free_begin groupadd_staff;
+  };
+  gives = (is-token-m1, refl);
+})
+
+-- it lists no lock: lawful
+pub listed-lawful : Lawful staff_deeds first listed
+listed-lawful =
+    list-lawful staff_deeds first m1 begun begun-lawful refl [] refl
+
+-- it creates lock 1: lawful
+pub created-lawful : Lawful staff_deeds first created
+created-lawful = goes_on _ _ listed-lawful (record {
+  keeps = record {
+    life_rule = tt;
+    permitted = create_rule 1 (record {
+      listing = new_listing false [];
+      listed = refl;
+      first = refl;
+      one_above = refl;
+      judged = refl;
+      not_exhausted = lit≤ tt;
+    });
+  };
+  gives = refl;
+})
+
+-- it lists its lock as the greatest, and is keeper: lawful
+pub became_keeper-lawful : Lawful staff_deeds first became_keeper
+became_keeper-lawful =
+    list-lawful staff_deeds first m1 created created-lawful refl (1 ∷ []) refl
+
+-- it finds no intent: lawful
+pub found_no_intent-lawful : Lawful staff_deeds first found_no_intent
+found_no_intent-lawful =
+    read-lawful staff_deeds first m1 became_keeper became_keeper-lawful refl
+    Intent found_absent refl
+
+-- it reads passwd, which is empty: lawful
+pub read_passwd-lawful : Lawful staff_deeds first read_passwd
+read_passwd-lawful =
+    read-lawful staff_deeds first m1 found_no_intent found_no_intent-lawful refl
+    (Table Passwd) (found_bytes []) refl
+
+-- it finds no shadow: lawful
+pub read_shadow-lawful : Lawful staff_deeds first read_shadow
+read_shadow-lawful =
+    read-lawful staff_deeds first m1 read_passwd read_passwd-lawful refl
+    (Table Shadow) found_absent refl
+
+-- it reads group, which is empty: lawful
+pub read_group-lawful : Lawful staff_deeds first read_group
+read_group-lawful =
+    read-lawful staff_deeds first m1 read_shadow read_shadow-lawful refl
+    (Table Group) (found_bytes []) refl
+
+-- it finds no gshadow: lawful
+pub read_gshadow-lawful : Lawful staff_deeds first read_gshadow
+read_gshadow-lawful =
+    read-lawful staff_deeds first m1 read_group read_group-lawful refl
+    (Table Gshadow) found_absent refl
+
+-- it finds no subuid: lawful
+pub read_subuid-lawful : Lawful staff_deeds first read_subuid
+read_subuid-lawful =
+    read-lawful staff_deeds first m1 read_gshadow read_gshadow-lawful refl
+    (Table Subuid) found_absent refl
+
+-- it finds no subgid: lawful
+pub read_subgid-lawful : Lawful staff_deeds first read_subgid
+read_subgid-lawful =
+    read-lawful staff_deeds first m1 read_subuid read_subuid-lawful refl
+    (Table Subgid) found_absent refl
+
+-- it finds no login.defs: lawful
+pub read_settings-lawful : Lawful staff_deeds first read_settings
+read_settings-lawful =
+    read-lawful staff_deeds first m1 read_subgid read_subgid-lawful refl Defs found_absent refl
+
+-- it writes the old group: lawful
+pub staged_backup-lawful : Lawful staff_deeds first staged_backup
+staged_backup-lawful =
+    write-lawful staff_deeds first m1 read_settings read_settings-lawful refl BackupStage []
+    (record { number = 1; keeps = refl }) refl
+
+-- it moves that to the backup: lawful
+pub backed_up-lawful : Lawful staff_deeds first backed_up
+backed_up-lawful = goes_on _ _ staged_backup-lawful (record {
+  keeps = record {
+    life_rule = tt;
+    permitted = move_rule _ _ (record { number = 1; keeps = refl }) (moves_backup Group (record {
+      seen = _;
+      knows = refl;
+      bytes = [];
+      is_seen = refl;
+      staged = refl;
+    }));
+  };
+  gives = refl;
+})
+
+-- it writes the intent: lawful
+pub staged_intent-lawful : Lawful staff_deeds first staged_intent
+staged_intent-lawful =
+    write-lawful staff_deeds first m1 backed_up backed_up-lawful refl IntentStage staff_intent
+    (record { number = 1; keeps = refl }) refl
+
+-- it commits: lawful
+pub committed_group-lawful : Lawful staff_deeds first committed_group
+committed_group-lawful = goes_on _ _ staged_intent-lawful (record {
+  keeps = record {
+    life_rule = tt;
+    permitted = commit_rule (record { number = 1; keeps = refl }) staff-commit;
+  };
+  gives = refl;
+})
+
+-- it writes the new group: lawful
+pub staged_group-lawful : Lawful staff_deeds first staged_group
+staged_group-lawful =
+    write-lawful staff_deeds first m1 committed_group committed_group-lawful refl
+    (Staged Group) staff_line
+    (record { number = 1; keeps = refl }) refl
+
+-- it moves that to group: lawful
+pub installed_group-lawful : Lawful staff_deeds first installed_group
+installed_group-lawful =
+    install-lawful m1 staged_group staged_group-lawful refl
+    (record { number = 1; keeps = refl }) _ refl refl refl
+
+-- it removes the intent: lawful
+pub cleared-lawful : Lawful staff_deeds first cleared
+cleared-lawful =
+    clear-lawful m1 installed_group installed_group-lawful refl
+    (record { number = 1; keeps = refl }) refl
+
+-- it writes the free text: lawful
+pub staged_free-lawful : Lawful staff_deeds first staged_free
+staged_free-lawful =
+    write-lawful staff_deeds first m1 cleared cleared-lawful refl FreeStage free_text
+    (record { number = 1; keeps = refl }) refl
+
+-- it moves that to its lock: lawful
+pub freed-lawful : Lawful staff_deeds first freed
+freed-lawful =
+    free-lawful staff_deeds first m1 staged_free staged_free-lawful refl
+    (record { number = 1; keeps = refl }) refl refl
+
+-- it answers success: lawful
+pub answered-lawful : Lawful staff_deeds first answered
+answered-lawful = goes_on _ _ freed-lawful (record {
+  keeps = record {
+    life_rule = tt;
+    permitted = answer_rule 0 (answers_changed refl);
+  };
+  gives = tt;
+})

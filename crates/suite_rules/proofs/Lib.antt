@@ -1,0 +1,29 @@
+pub mod Cut
+pub mod Own
+pub mod StepLemmas
+mod Numbers
+pub mod Names
+mod Sessions
+mod Effects
+mod LockSteps
+mod LockOrigins
+mod LockFacts
+mod LockKept
+mod LockTop
+pub mod Keepers
+mod Intents
+mod ViewSteps
+mod FileSteps
+mod Changed
+mod SettledSteps
+mod Commitments
+pub mod Settles
+mod Places
+mod Once
+pub mod Whole
+mod RowSteps
+mod Staff
+mod CommitRow
+mod RecoveryRow
+mod OutrunRow
+mod Refused

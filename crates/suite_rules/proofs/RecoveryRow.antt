@@ -1,0 +1,224 @@
+-- A death within a commit, and a recovery: the commit of CommitRow happened, but its session died in it.
+-- The next session judges it dead, takes over, carries the intent out, and refuses its own command.
+-- Each history is named for its last step, and lawful by computation.
+use Rattle.std.proofs.Common.{◌≡◌, refl, ap, ℕ, ◌==◌, lit≤, true, false, [], ◌∷◌, Some, codes, true≢false}
+use Rattle.std.specs.Fmt.{digits}
+use Rattle.acct_text.specs.declared.Tab.TheVariants.{Group}
+use Rattle.acct_outside.specs.declared.Name.TheVariants.{Table, Staged, Intent, IntentStage, FreeStage, Lock}
+use Rattle.acct_outside.specs.declared.Created.TheVariants.{Done}
+use Rattle.acct_outside.specs.declared.Verdict.TheVariants.{Dead}
+use Rattle.acct_outside.specs.Tokens.{free_text}
+use Rattle.acct_outside.specs.Calls.{Call, Answer, begins, lists, reads, asks, creates, writes, renames, removes, answers, done, died, happened, found_bytes}
+use Rattle.acct_outside.specs.History.{Event, History, after}
+use Rattle.suite_rules.specs.Rules.{unlocks_below, free_begin, create_rule, commit_rule, unlock_rule}
+use Rattle.suite_rules.specs.Lawful.{Lawful, goes_on}
+use Rattle.suite_rules.specs.Settled.{settled}
+use Rattle.suite_rules.specs.Committed.{committed}
+use Rattle.suite_rules.proofs.Staff.{first, staff_line, staff_deeds, groupadd_staff, m1, m2, is-token-m2, staff_intent, install-lawful, clear-lawful}
+use Rattle.suite_rules.proofs.RowSteps.{list-lawful, read-lawful, verdict-lawful, write-lawful, free-lawful, refusal-lawful}
+use Rattle.suite_rules.proofs.CommitRow.{staged_intent, staff-commit, staged_intent-lawful}
+
+-- a call of the second session that was done
+abbrev second : (call : Call) → Answer call → Event
+second call answer = record { token = m2; call = call; result = done answer }
+
+-- the first session dies within its commit, which happened
+abbrev pub died_in_commit : History
+died_in_commit =
+    record { token = m1; call = renames IntentStage Intent; result = died happened }
+    ∷ staged_intent
+
+-- the second session begins
+abbrev pub second_begun : History
+second_begun = second (begins groupadd_staff) tt ∷ died_in_commit
+
+-- it lists lock 1
+abbrev pub listed_dead : History
+listed_dead = second lists (1 ∷ []) ∷ second_begun
+
+-- it reads that the first session holds it
+abbrev pub read_holder : History
+read_holder = second (reads (Lock 1)) (found_bytes (codes "held m1\n")) ∷ listed_dead
+
+-- it is told that this is dead
+abbrev pub told_dead : History
+told_dead = second (asks m1) Dead ∷ read_holder
+
+-- it creates lock 2
+abbrev pub created_above : History
+created_above = second (creates 2) Done ∷ told_dead
+
+-- it lists its lock as the greatest, and is keeper
+abbrev pub took_over : History
+took_over = second lists (1 ∷ 2 ∷ []) ∷ created_above
+
+-- it reads the intent
+abbrev pub found_intent : History
+found_intent = second (reads Intent) (found_bytes staff_intent) ∷ took_over
+
+-- it writes what this lists for group
+abbrev pub staged_again : History
+staged_again = second (writes (Staged Group) staff_line) tt ∷ found_intent
+
+-- it moves that to group
+abbrev pub recovered_group : History
+recovered_group = second (renames (Staged Group) (Table Group)) tt ∷ staged_again
+
+-- it removes the intent
+abbrev pub cleared_intent : History
+cleared_intent = second (removes Intent) tt ∷ recovered_group
+
+-- it removes the lower lock
+abbrev pub unlocked_below : History
+unlocked_below = second (removes (Lock 1)) tt ∷ cleared_intent
+
+-- it writes the free text
+abbrev pub staged_its_free : History
+staged_its_free = second (writes FreeStage free_text) tt ∷ unlocked_below
+
+-- it moves that to its lock
+abbrev pub freed_its_lock : History
+freed_its_lock = second (renames FreeStage (Lock 2)) tt ∷ staged_its_free
+
+-- it answers a refusal
+abbrev pub refused : History
+refused = second (answers 4) tt ∷ freed_its_lock
+
+-- What the dead session committed is kept.
+
+-- it is settled from its commit on
+settled-when-dead : settled (after first died_in_commit) Group ≡ Some staff_line
+unfolding digits
+settled-when-dead = refl
+
+-- and in place at the end
+group-recovered : (after first refused).file (Table Group) ≡ Some staff_line
+group-recovered = refl
+
+-- one lock is left
+locks-recovered : (after first refused).locks ≡ 2 ∷ []
+locks-recovered = refl
+
+-- one command was committed
+committed-once : committed refused
+    ≡ record { token = m1; number = 1; command = groupadd_staff } ∷ []
+committed-once = refl
+
+-- The history is lawful.
+
+-- the first session dies within its commit, which happened: lawful
+pub died_in_commit-lawful : Lawful staff_deeds first died_in_commit
+died_in_commit-lawful = goes_on _ _ staged_intent-lawful (record {
+  keeps = record {
+    life_rule = tt;
+    permitted = commit_rule (record { number = 1; keeps = refl }) staff-commit;
+  };
+  gives = refl;
+})
+
+-- the second session begins: lawful
+pub second_begun-lawful : Lawful staff_deeds first second_begun
+second_begun-lawful = goes_on _ _ died_in_commit-lawful (record {
+  keeps = record {
+    life_rule = tt;
+    permitted = free_begin groupadd_staff;
+  };
+  gives = (is-token-m2, refl);
+})
+
+-- it lists lock 1: lawful
+pub listed_dead-lawful : Lawful staff_deeds first listed_dead
+listed_dead-lawful =
+    list-lawful staff_deeds first m2 second_begun second_begun-lawful refl (1 ∷ []) refl
+
+-- it reads that the first session holds it: lawful
+pub read_holder-lawful : Lawful staff_deeds first read_holder
+read_holder-lawful =
+    read-lawful staff_deeds first m2 listed_dead listed_dead-lawful refl
+    (Lock 1) (found_bytes (codes "held m1\n")) refl
+
+-- it is told that this is dead: lawful
+pub told_dead-lawful : Lawful staff_deeds first told_dead
+told_dead-lawful =
+    verdict-lawful staff_deeds first m2 read_holder read_holder-lawful refl m1 Dead refl
+
+-- it creates lock 2: lawful
+pub created_above-lawful : Lawful staff_deeds first created_above
+created_above-lawful = goes_on _ _ told_dead-lawful (record {
+  keeps = record {
+    life_rule = tt;
+    permitted = create_rule 2 (record {
+      listing = record {
+        numbers = 1 ∷ [];
+        texts = codes "held m1\n" ∷ [];
+        is_judged = true;
+        follows_create = false;
+      };
+      listed = refl;
+      first = refl;
+      one_above = refl;
+      judged = refl;
+      not_exhausted = lit≤ tt;
+    });
+  };
+  gives = refl;
+})
+
+-- it lists its lock as the greatest, and is keeper: lawful
+pub took_over-lawful : Lawful staff_deeds first took_over
+took_over-lawful =
+    list-lawful staff_deeds first m2 created_above created_above-lawful refl (1 ∷ 2 ∷ []) refl
+
+-- it reads the intent: lawful
+pub found_intent-lawful : Lawful staff_deeds first found_intent
+found_intent-lawful =
+    read-lawful staff_deeds first m2 took_over took_over-lawful refl
+    Intent (found_bytes staff_intent) refl
+
+-- it writes what this lists for group: lawful
+pub staged_again-lawful : Lawful staff_deeds first staged_again
+staged_again-lawful =
+    write-lawful staff_deeds first m2 found_intent found_intent-lawful refl
+    (Staged Group) staff_line
+    (record { number = 2; keeps = refl }) refl
+
+-- it moves that to group: lawful
+pub recovered_group-lawful : Lawful staff_deeds first recovered_group
+recovered_group-lawful =
+    install-lawful m2 staged_again staged_again-lawful refl
+    (record { number = 2; keeps = refl }) _ refl refl refl
+
+-- it removes the intent: lawful
+pub cleared_intent-lawful : Lawful staff_deeds first cleared_intent
+cleared_intent-lawful =
+    clear-lawful m2 recovered_group recovered_group-lawful refl
+    (record { number = 2; keeps = refl }) refl
+
+-- it removes the lower lock: lawful
+pub unlocked_below-lawful : Lawful staff_deeds first unlocked_below
+unlocked_below-lawful = goes_on _ _ cleared_intent-lawful (record {
+  keeps = record {
+    life_rule = tt;
+    permitted = unlock_rule 1
+        (unlocks_below (record { number = 2; keeps = refl }) (lit≤ tt));
+  };
+  gives = tt;
+})
+
+-- it writes the free text: lawful
+pub staged_its_free-lawful : Lawful staff_deeds first staged_its_free
+staged_its_free-lawful =
+    write-lawful staff_deeds first m2 unlocked_below unlocked_below-lawful refl FreeStage free_text
+    (record { number = 2; keeps = refl }) refl
+
+-- it moves that to its lock: lawful
+pub freed_its_lock-lawful : Lawful staff_deeds first freed_its_lock
+freed_its_lock-lawful =
+    free-lawful staff_deeds first m2 staged_its_free staged_its_free-lawful refl
+    (record { number = 2; keeps = refl }) refl refl
+
+-- it answers a refusal: lawful
+pub refused-lawful : Lawful staff_deeds first refused
+refused-lawful =
+    refusal-lawful staff_deeds first m2 freed_its_lock freed_its_lock-lawful refl 4
+    (λ is. true≢false (ap (λ (status : ℕ). status == 4) is))

@@ -1,0 +1,14 @@
+pub mod Deeds
+pub mod OwnLock
+pub mod Listing
+pub mod Knowledge
+pub mod Standing
+pub mod Rules
+pub mod Lawful
+pub mod Settled
+pub mod Committed
+pub mod Backups
+pub mod Invariant
+pub mod Laws
+pub mod Steps
+pub mod Belongs

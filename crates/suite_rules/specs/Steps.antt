@@ -1,0 +1,73 @@
+-- One step of a session: what it knows of its own standing, and what its one call of the folder
+-- does to the history (docs/ARCHITECTURE.md, "Typed steps"). It knows nothing of what stands in the
+-- folder, so its next call may come after any lawful events of others.
+use Rattle.std.specs.Prelude.{◌≡◌, ◌∷◌, Option, Some, IfSome, Result}
+use Rattle.acct_outside.specs.declared.FolderFault.{FolderFault}
+use Rattle.acct_outside.specs.Tokens.{Token}
+use Rattle.acct_outside.specs.Folder.{Folder}
+use Rattle.acct_outside.specs.Calls.{Command, Call, Answer}
+use Rattle.acct_outside.specs.History.{Event, History}
+use Rattle.acct_outside.specs.Life.{life, running}
+use Rattle.acct_outside.specs.Others.{Admission}
+use Rattle.acct_outside.specs.Contract.{Past, NeverAdmits, MayAnswer, WhereTold, Tells, Narrows}
+use Rattle.suite_rules.specs.Deeds.{SuiteDeeds}
+use Rattle.suite_rules.specs.Knowledge.{Knowledge}
+use Rattle.suite_rules.specs.Standing.{Commit, Standing, no_standing, standing}
+use Rattle.suite_rules.specs.Lawful.{Lawful}
+
+-- the session runs and none of its calls failed, the folder admits no event of it, and this holds
+-- of its standing
+pub record Stands (admits : Admission) (token : Token) (Holds : Standing → Type 0) (past : Past)
+    : Type 0 where
+  pub runs : life token past.history ≡ running
+  pub own : NeverAdmits admits token
+  pub holds : Holds (standing token past.history)
+
+-- the same where the folder tells its history: the condition of a typed step
+abbrev pub StandsIn : Admission → Option Past → Token → (Standing → Type 0) → Type 0
+StandsIn admits told token Holds = IfSome told (Stands admits token Holds)
+
+-- the standing of a session whose begin is its only event
+abbrev pub begun_with : Command → Standing
+begun_with command = record no_standing { command = Some command }
+
+-- every event that the folder admits after a lawful history keeps it lawful
+abbrev pub LawfulOthers : SuiteDeeds → Admission → Folder → Type 0
+LawfulOthers deeds admits first = (history : History) (event : Event) → Lawful deeds first history →
+    admits history event → Lawful deeds first (event ∷ history)
+
+-- a lawful history stays lawful, where every event that the folder admits is lawful
+abbrev pub StaysLawful : SuiteDeeds → Admission → Option Past → Option Past → Type 0
+StaysLawful deeds admits before now = WhereTold before now (λ first old new.
+    LawfulOthers deeds admits first → Lawful deeds first old → Lawful deeds first new)
+
+-- the same for whatever deeds
+abbrev pub AlwaysStaysLawful : Admission → Option Past → Option Past → Type 0
+AlwaysStaysLawful admits before now = (deeds : SuiteDeeds) → StaysLawful deeds admits before now
+
+-- what a session was asked, what it knows of the intent, and how far it is with its commit
+pub record Work : Type 0 where
+  pub command : Option Command
+  pub knows : Knowledge
+  pub commit : Commit
+
+-- the parts of a standing that a step on the locks leaves to a keeper
+abbrev pub work : Standing → Work
+work standing =
+    record { command = standing.command; knows = standing.knows; commit = standing.commit }
+
+-- a part of the session's standing is as it was
+abbrev pub Leaves : {A : Type 0} → (Standing → A) → Token → Option Past → Option Past → Type 0
+Leaves part token before now = WhereTold before now (λ first old new.
+    part (standing token new) ≡ part (standing token old))
+
+-- The session makes this one call: events come that the folder admits, and then the call's own,
+-- with an answer that shows in what the step gives. The folder admits no more than before, and the
+-- session may answer now, whatever the call answered.
+pub record MakesCall (before_admits admits : Admission) (before now : Option Past) (token : Token)
+    (call : Call) (Shows : Result (Answer call) FolderFault → Type 0) : Type 0 where
+  pub answer : Result (Answer call) FolderFault
+  pub told : Tells before_admits before now token call answer
+  pub shown : Shows answer
+  pub narrows : Narrows before_admits admits
+  pub may_answer : MayAnswer admits now token
