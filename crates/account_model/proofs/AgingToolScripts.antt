@@ -1,0 +1,322 @@
+-- chage and chpasswd print only records that read back, where they don't refuse: `chage-written`, `chpasswd-written`.
+-- Way: a date of four digits of the year is less than the greatest day; the hash of a line of the input has no `:`, as
+-- the line isn't refused, and no newline, as it is part of a line.
+use Rattle.std.proofs.Common.{◌≡◌, zero, suc, ℕ, ◌+◌, ◌-◌, ◌*◌, ◌<◌, ◌≤◌, ◌^◌, Bool, true, false, ◌&&◌, not, Ok, Err, List, [], ◌∷◌, length, map, refl, subst, arith, inl, inr}
+use Rattle.std.specs.Prelude.{Option, Some, None, ◌==◌, codes, bytes_eq, nat_le, nat_lt, option_map, if◌then◌else◌, drop, Result}
+use Rattle.std.specs.List.{AllByRecursion, position_or_len}
+use Rattle.std.specs.Str.Parse.{digits_value}
+use Rattle.std.proofs.lemmas.Bool.{cases_Bool, and_parts, leb-true, eqb-true}
+use Rattle.std.proofs.lemmas.Int.Digits.{digits_value-lt}
+use Rattle.acct_text.specs.declared.files.Files.{Files}
+use Rattle.acct_text.specs.Bytes.{newline, colon}
+use Rattle.acct_text.specs.Pieces.{Lacks, cut_at}
+use Rattle.acct_text.specs.Lines.{Line, lines_of}
+use Rattle.acct_text.specs.Numbers.{is_digits, number_within}
+use Rattle.acct_text.proofs.LinesLaws.{lines_of-are}
+use Rattle.acct_text.proofs.NumberLaws.{some-inj, number-is, is_digits-numeral}
+use Rattle.account_model.specs.declared.records.ShadowRecord.{ShadowRecord}
+use Rattle.account_model.specs.declared.refusal.LineProblem.{LineProblem}
+use Rattle.account_model.specs.declared.refusal.LineProblem.TheVariants.{NoColon, HashColon, UnknownUser}
+use Rattle.account_model.specs.declared.refusal.Refusal.{Refusal}
+use Rattle.account_model.specs.declared.refusal.Refusal.TheVariants.{BadLine}
+use Rattle.account_model.specs.Text.{hyphen, has_byte, first_some}
+use Rattle.account_model.specs.Format.{is_named}
+use Rattle.account_model.specs.Edits.{each_where}
+use Rattle.account_model.specs.Records.{shadow_format, greatest_days}
+use Rattle.account_model.specs.Written.{IsField, IsDaysNumber, IsShadow}
+use Rattle.account_model.specs.Tables.{no_edits}
+use Rattle.account_model.specs.WrittenScript.{IsWrittenScript}
+use Rattle.account_model.specs.Dates.{Date, DayFault, is_leap_year, no_day_shape, no_such_day, day_out_of_range, is_date, day_of, days_of_years, days_in_year, are_digits, written_date, day_of_written, read_date_pieces, read_day_number, read_day}
+use Rattle.account_model.specs.Values.{days_value, date_value}
+use Rattle.account_model.specs.Hashes.{demand_shadow, each_user_hash}
+use Rattle.account_model.specs.Users.{has_user, aging_of}
+use Rattle.account_model.specs.Request.{Request, has_option, operand}
+use Rattle.account_model.specs.Action.{changes, reports}
+use Rattle.account_model.specs.Chage.{with_aging, chage_refusals, chage_script, aging_report, chage}
+use Rattle.account_model.specs.Chpasswd.{line_name, line_hash, line_problem, bad_line_from, set_last_change, set_hash, line_script, chpasswd}
+use Rattle.account_model.proofs.DatesLaws.{date_parts, within_year}
+use Rattle.account_model.proofs.DeedLaws.{first-none}
+use Rattle.account_model.proofs.FieldFacts.{lacks-byte}
+use Rattle.account_model.proofs.HeldLaws.{shadow-holds, each_where-written}
+use Rattle.account_model.proofs.RefusalFacts.{field-kept}
+use Rattle.account_model.proofs.WrittenScripts.{none-written, users-written, order-written, demand-shadow-written, user-hash-written}
+
+-- ---- Numbers of days and dates
+
+-- what stands under two `Some`s
+some-map-inj : (n : ℕ) (o : Option ℕ) → option_map Some o ≡ Some (Some n) → o ≡ Some n
+some-map-inj n None e = cc
+some-map-inj n (Some m) e = some-inj e
+
+-- a number of days that a value means
+days-by :
+    (text : List ℕ) (days : Option ℕ) (cleared : Bool)
+    → (if cleared then Some None else option_map Some (number_within greatest_days text)) ≡ Some days
+    → IsDaysNumber days
+days-by text None cleared e = tt
+days-by text (Some n) true e = cc
+days-by text (Some n) false e =
+    (number-is greatest_days text n (some-map-inj n (number_within greatest_days text) e)).bounded
+
+-- a number of days is one that shadow holds
+pub days-held : (text : List ℕ) (days : Option ℕ) → days_value text ≡ Some days → IsDaysNumber days
+days-held text days e = days-by text days (bytes_eq text (codes "-1")) e
+
+-- a year has at most 366 days
+year-is-short : (year : ℕ) → days_in_year year ≤ 366
+year-is-short year = elim (cases_Bool (is_leap_year year)) [
+  | inl leap ↦ rw leap (omega arith)
+  | inr plain ↦ rw plain (omega arith)
+]
+
+-- and so many years have at most so many times that
+years-are-short : (n : ℕ) → days_of_years n ≤ 366 * n
+years-are-short zero = omega arith
+years-are-short (suc n) = omega (arith, years-are-short n, year-is-short (1970 + n))
+
+-- a date of a year of four digits is less than the greatest day
+date-small : (date : Date) → is_date date ≡ true → date.year < 10000 → day_of date ≤ greatest_days
+date-small date is early =
+    let rest = within_year date (date_parts date is)
+    in omega (arith, rest, year-is-short date.year, years-are-short (date.year - 1970), early)
+
+-- the day of a date as it was written
+written-by :
+    (date : Date) (day : Option ℕ) (there past : Bool)
+    → is_date date ≡ there
+    → (if not there then Err no_such_day else (if past then Err day_out_of_range else Ok (Some (day_of date)))) ≡ Ok day
+    → date.year < 10000
+    → IsDaysNumber day
+written-by date day false past is e early = cc
+written-by date day true true is e early = cc
+written-by date None true false is e early = cc
+written-by date (Some n) true false is e early =
+    let same : day_of date ≡ n = cc
+    in subst (λ k. k ≤ greatest_days) same (date-small date is early)
+
+-- four digits write a number below 10000
+four-digits : (text : List ℕ) → are_digits 4 text ≡ true → digits_value 10 text < 10000
+four-digits text are =
+    let parts = and_parts (is_digits text) (length text == 4) are
+    in let small = digits_value-lt 10 text (is_digits-numeral text parts.0).1
+    in subst (λ k. digits_value 10 text < 10 ^ k) (eqb-true (length text) 4 parts.1) small
+
+-- the day of three texts
+pieces-by :
+    (year month day : List ℕ) (found : Option ℕ) (digits : Bool)
+    → (are_digits 4 year && are_digits 2 month && are_digits 2 day) ≡ digits
+    → (if digits then day_of_written (written_date year month day) else Err no_day_shape) ≡ Ok found
+    → IsDaysNumber found
+pieces-by year month day found false are e = cc
+pieces-by year month day found true are e =
+    let outer = and_parts (are_digits 4 year && are_digits 2 month) (are_digits 2 day) are
+    in let inner = and_parts (are_digits 4 year) (are_digits 2 month) outer.0
+    in written-by (written_date year month day) found (is_date (written_date year month day))
+    (nat_lt (digits_value 10 year) 1970) refl e (four-digits year inner.0)
+
+-- the day of a date that was cut
+pieces-held :
+    (pieces : List (List ℕ)) (found : Option ℕ)
+    → read_date_pieces pieces ≡ Ok found
+    → IsDaysNumber found
+pieces-held [] found e = cc
+pieces-held (year ∷ []) found e = cc
+pieces-held (year ∷ month ∷ []) found e = cc
+pieces-held (year ∷ month ∷ day ∷ []) found e =
+    pieces-by year month day found (are_digits 4 year && are_digits 2 month && are_digits 2 day) refl e
+pieces-held (year ∷ month ∷ day ∷ more ∷ rest) found e = cc
+
+-- the number of a day
+number-by :
+    (text : List ℕ) (found : Option ℕ) (small : Bool)
+    → nat_le (digits_value 10 text) greatest_days ≡ small
+    → (if small then Ok (Some (digits_value 10 text)) else Err day_out_of_range) ≡ Ok found
+    → IsDaysNumber found
+number-by text found false is e = cc
+number-by text None true is e = cc
+number-by text (Some n) true is e =
+    let same : digits_value 10 text ≡ n = cc
+    in subst (λ k. k ≤ greatest_days) same (leb-true (digits_value 10 text) greatest_days is)
+
+-- a day as it is written
+day-by :
+    (text : List ℕ) (found : Option ℕ) (cleared digits : Bool)
+    → (if cleared then Ok None else
+    (if digits then read_day_number text else read_date_pieces (cut_at hyphen text))) ≡ Ok found
+    → IsDaysNumber found
+day-by text None cleared digits e = tt
+day-by text (Some n) true digits e = cc
+day-by text (Some n) false true e =
+    number-by text (Some n) (nat_le (digits_value 10 text) greatest_days) refl e
+day-by text (Some n) false false e = pieces-held (cut_at hyphen text) (Some n) e
+
+-- a day that is read
+value-by :
+    (text : List ℕ) (found : Option ℕ) (o : Result (Option ℕ) DayFault)
+    → read_day text ≡ o
+    → elim o [ Ok day ↦ Some day | Err fault ↦ None ] ≡ Some found
+    → IsDaysNumber found
+value-by text found (Err fault) is e = cc
+value-by text found (Ok day) is e =
+    subst (λ d. IsDaysNumber d) (some-inj e) (day-by text day (bytes_eq text (codes "-1")) (is_digits text) is)
+
+-- a date is a day that shadow holds
+pub date-held : (text : List ℕ) (day : Option ℕ) → date_value text ≡ Some day → IsDaysNumber day
+date-held text day e = value-by text day (read_day text) refl e
+
+-- ---- chage
+
+-- each option of chage keeps what a line can hold
+aging-held : (request : Request) (r : ShadowRecord) → IsShadow r → IsShadow (with_aging request r)
+aging-held request r is = record {
+  name = is.name;
+  hash = is.hash;
+  last_change = field-kept IsDaysNumber date_value (codes "d") request r.last_change date-held is.last_change;
+  minimum = field-kept IsDaysNumber days_value (codes "m") request r.minimum days-held is.minimum;
+  maximum = field-kept IsDaysNumber days_value (codes "M") request r.maximum days-held is.maximum;
+  warning = field-kept IsDaysNumber days_value (codes "W") request r.warning days-held is.warning;
+  inactive = field-kept IsDaysNumber days_value (codes "I") request r.inactive days-held is.inactive;
+  expiration = field-kept IsDaysNumber date_value (codes "E") request r.expiration date-held is.expiration;
+  rest = is.rest;
+}
+
+-- the edits of chage
+chage-script-written :
+    (request : Request) (files : Files)
+    → IsWrittenScript (chage_script request files)
+chage-script-written request files = order-written
+    (demand_shadow (operand request) files
+    ∷ record no_edits {
+      shadow = each_where (is_named shadow_format (operand request)) (with_aging request) ∷ [];
+    }
+    ∷ []) (
+      demand-shadow-written (operand request) files,
+      (
+        users-written [] _ tt (
+          each_where-written shadow_format IsShadow shadow-holds (is_named shadow_format (operand request)) (with_aging request)
+              (aging-held request),
+          tt,
+        ),
+        tt,
+      ),
+    )
+
+-- what chage does, by whether it lists
+chage-by :
+    (request : Request) (files : Files) (lists : Bool) (shown : List ℕ)
+    → IsWrittenScript (if lists
+    then reports (chage_refusals request files) 0 shown
+    else changes (chage_refusals request files) (chage_script request files)).script
+chage-by request files true shown = none-written
+chage-by request files false shown = chage-script-written request files
+
+-- chage sets numbers that shadow holds
+pub chage-written :
+    (request : Request) (files : Files)
+    → IsWrittenScript (chage request files).script
+chage-written request files =
+    chage-by request files (has_option (codes "l") request) (aging_report (aging_of (operand request) files))
+
+-- ---- chpasswd
+
+-- a text without its first bytes lacks what it lacks
+pub lacks-drop : (byte count : ℕ) (text : List ℕ) → Lacks byte text → Lacks byte (drop count text)
+lacks-drop byte zero text lacks = lacks
+lacks-drop byte (suc count) [] lacks = tt
+lacks-drop byte (suc count) (first ∷ rest) lacks = lacks-drop byte count rest lacks.1
+
+-- a hash that no problem of the line names has no `:`
+no-colon-by :
+    (files : Files) (text : List ℕ) (colon_there hash_colon user_there : Bool)
+    → has_byte colon (line_hash text) ≡ hash_colon
+    → (if not colon_there then Some NoColon else
+    (if hash_colon then Some HashColon else
+    (if not user_there then Some (UnknownUser (line_name text)) else None))) ≡ None
+    → Lacks colon (line_hash text)
+no-colon-by files text false hash_colon user_there is none = cc
+no-colon-by files text true true user_there is none = cc
+no-colon-by files text true false user_there is none = lacks-byte colon (line_hash text) is
+
+-- the hash of a line without a problem can stand in a field
+hash-field :
+    (files : Files) (text : List ℕ)
+    → Lacks newline text
+    → line_problem files text ≡ None
+    → IsField (line_hash text)
+hash-field files text lacks none = record {
+  no_colon = no-colon-by files text (has_byte colon text) (has_byte colon (line_hash text))
+      (has_user (line_name text) files) refl none;
+  no_newline = lacks-drop newline (position_or_len (λ b. b == colon) text + 1) text lacks;
+}
+
+-- the last change of a user
+last-change-written :
+    (name : List ℕ) (day : ℕ)
+    → day ≤ greatest_days
+    → IsWrittenScript (set_last_change name day)
+last-change-written name day small = users-written [] _ tt (
+  each_where-written shadow_format IsShadow shadow-holds (is_named shadow_format name)
+      (λ r. record r { last_change = Some day })
+      (λ r is. record {
+        name = is.name;
+        hash = is.hash;
+        last_change = small;
+        minimum = is.minimum;
+        maximum = is.maximum;
+        warning = is.warning;
+        inactive = is.inactive;
+        expiration = is.expiration;
+        rest = is.rest;
+      }),
+  tt,
+)
+
+-- what a line does
+set-hash-written :
+    (name hash : List ℕ) (files : Files) (day : ℕ)
+    → IsField hash
+    → day ≤ greatest_days
+    → IsWrittenScript (set_hash name hash files day)
+set-hash-written name hash files day is small = order-written
+    (demand_shadow name files ∷ each_user_hash name (λ old. hash) files ∷ set_last_change name day ∷ []) (
+      demand-shadow-written name files,
+      (user-hash-written name (λ old. hash) files (λ old held. is), (last-change-written name day small, tt)),
+    )
+
+-- the first line, and those behind it, have no problem
+first-good :
+    (number : ℕ) (files : Files) (line : Line) (lines : List Line) (problem : Option LineProblem)
+    → line_problem files line.text ≡ problem
+    → elim problem as (λ p. Option Refusal) [
+      | Some found ↦ Some (BadLine number found)
+      | None ↦ bad_line_from (suc number) files lines
+    ] ≡ None
+    → (line_problem files line.text ≡ None) × (bad_line_from (suc number) files lines ≡ None)
+first-good number files line lines (Some found) is none = cc
+first-good number files line lines None is none = (is, none)
+
+-- what all lines do
+lines-written :
+    (number : ℕ) (files : Files) (day : ℕ) (lines : List Line)
+    → day ≤ greatest_days
+    → AllByRecursion (λ line. Lacks newline line.text) lines
+    → bad_line_from number files lines ≡ None
+    → AllByRecursion IsWrittenScript (map (line_script files day) lines)
+lines-written number files day [] small apart none = tt
+lines-written number files day (line ∷ lines) small apart none =
+    let good = first-good number files line lines (line_problem files line.text) refl none
+    in (
+      set-hash-written (line_name line.text) (line_hash line.text) files day (hash-field files line.text apart.0 good.0) small,
+      lines-written (suc number) files day lines small apart.1 good.1,
+    )
+
+-- chpasswd sets hashes without `:`
+pub chpasswd-written :
+    (input : List ℕ) (files : Files) (day : ℕ)
+    → day ≤ greatest_days
+    → first_some (chpasswd input files day).refusals ≡ None
+    → IsWrittenScript (chpasswd input files day).script
+chpasswd-written input files day small none =
+    order-written (map (line_script files day) (lines_of input))
+    (lines-written 1 files day (lines_of input) small (lines_of-are input).apart
+    (first-none (bad_line_from 1 files (lines_of input)) [] none).0)

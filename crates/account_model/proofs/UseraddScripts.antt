@@ -1,0 +1,358 @@
+-- useradd prints only records that read back, where it doesn't refuse: `useradd-written`. Way: the
+-- refusals show that each value can stand in a line, and then each edit keeps that.
+use Rattle.std.proofs.Common.{◌≡◌, zero, suc, ℕ, ◌<◌, ◌≤◌, Bool, true, false, ◌&&◌, not, List, [], ◌∷◌, ◌++◌, map, refl, subst, arith, lit≤}
+use Rattle.std.specs.Prelude.{Option, Some, None, ◌==◌, codes, is_some, option_map, option_and_then, unwrap_or, if◌then◌else◌}
+use Rattle.std.specs.List.{AllByRecursion, list_any}
+use Rattle.std.proofs.lemmas.Bool.{and_parts}
+use Rattle.std.proofs.Math.Nat.{le_trans}
+use Rattle.acct_text.specs.declared.files.Files.{Files}
+use Rattle.acct_text.proofs.NumberLaws.{some-inj}
+use Rattle.account_model.specs.declared.records.GroupRecord.{GroupRecord}
+use Rattle.account_model.specs.declared.settings.Key.TheVariants.{PassMinDays, PassMaxDays, PassWarnAge}
+use Rattle.account_model.specs.declared.refusal.Refusal.{Refusal}
+use Rattle.account_model.specs.declared.refusal.Refusal.TheVariants.{BadName}
+use Rattle.acct_text.specs.Bytes.{newline, colon}
+use Rattle.account_model.specs.Text.{first_some, has_byte}
+use Rattle.account_model.specs.Names.{is_valid_name}
+use Rattle.account_model.specs.Records.{subid_format, greatest_id, greatest_days}
+use Rattle.account_model.specs.RecordEdits.{IsWrittenEdit}
+use Rattle.account_model.specs.Edits.Edit.{Add, Put}
+use Rattle.account_model.specs.Written.{IsField, IsListed, IsDaysNumber, IsPasswd, IsShadow, IsSubid}
+use Rattle.account_model.specs.Tables.{no_edits}
+use Rattle.account_model.specs.WrittenScript.{IsWrittenScript}
+use Rattle.account_model.specs.Settings.{Setting, number}
+use Rattle.account_model.specs.Values.{is_field, is_folder, is_shell, is_days_value, is_expiration_value, given_uid, days_value, expiration_value, text_value}
+use Rattle.account_model.specs.GivenGroups.{given_group, given_groups}
+use Rattle.account_model.specs.Hashes.{locked}
+use Rattle.account_model.specs.Members.{add_to_group}
+use Rattle.account_model.specs.Request.{Request, has_option, operand}
+use Rattle.account_model.specs.Refusals.{bad_name, bad_value, bad_key}
+use Rattle.account_model.specs.NewAccount.{kind_of, settings_for, free_uid, free_gid, new_hash, add_group}
+use Rattle.account_model.specs.FreeRange.{IsFreeRange}
+use Rattle.account_model.specs.Ids.{is_used, used_gids}
+use Rattle.account_model.specs.SubidOwner.{is_owned}
+use Rattle.account_model.specs.NewRanges.{Subordinate, subordinate_uids, subordinate_gids, may_have_ranges, is_allotted, free_start, new_range, allotted}
+use Rattle.account_model.specs.Useradd.{makes_group, new_uid, gid_beside, own_gid, default_gid, primary_gid, useradd_checks, useradd_conflicts, new_home, new_user, new_shadow, add_own_group, join_groups, add_user, useradd_script, useradd_under, useradd}
+use Rattle.account_model.proofs.DeedLaws.{first-none}
+use Rattle.account_model.proofs.HeldLaws.{passwd-holds, shadow-holds, subid-holds}
+use Rattle.account_model.proofs.FieldFacts.{is_field-is, is_folder-is, is_shell-is, field-append, empty-field, valid-name, valid-listed, lacks-byte}
+use Rattle.account_model.proofs.RefusalFacts.{refuse-none, text-kept, field-kept, given-small}
+use Rattle.account_model.proofs.SettingBounds.{free-uid-small, free-gid-small, minimum-days, maximum-days, warning-days, subuid-maximum, subgid-maximum}
+use Rattle.account_model.proofs.WrittenScripts.{none-written, users-written, order-written, either-written, add-to-group-written, locked-field}
+use Rattle.account_model.proofs.GroupToolScripts.{add-group-written, password-by, new-hash-field}
+use Rattle.account_model.proofs.GivenFacts.{given-group-gid, expiration-held}
+use Rattle.account_model.proofs.AgingToolScripts.{days-held}
+use Rattle.account_model.proofs.FreeRangeLaws.{free_range-is}
+
+-- ---- useradd: the IDs
+
+-- a UID that is given or chosen
+uid-by :
+    (request : Request) (files : Files) (settings : List Setting) (uid : ℕ) (given : Option ℕ)
+    → ((n : ℕ) → given ≡ Some n → n ≤ greatest_id)
+    → elim given as (λ o. Option ℕ) [ Some n ↦ Some n | None ↦ free_uid (kind_of request) files settings ] ≡ Some uid
+    → uid ≤ greatest_id
+uid-by request files settings uid None small e =
+    free-uid-small (kind_of request) files settings uid e
+uid-by request files settings uid (Some n) small e = small uid e
+
+-- the new UID is an ID
+new-uid-small :
+    (request : Request) (files : Files) (settings : List Setting) (uid : ℕ)
+    → new_uid request files settings ≡ Some uid
+    → uid ≤ greatest_id
+new-uid-small request files settings uid e =
+    uid-by request files settings uid (given_uid request) (given-small (codes "u") request) e
+
+-- the GID beside a UID
+beside-by :
+    (request : Request) (files : Files) (settings : List Setting) (uid gid : ℕ) (used : Bool)
+    → uid ≤ greatest_id
+    → (if used then free_gid (kind_of request) files settings else Some uid) ≡ Some gid
+    → gid ≤ greatest_id
+beside-by request files settings uid gid true small e =
+    free-gid-small (kind_of request) files settings gid e
+beside-by request files settings uid gid false small e =
+    subst (λ k. k ≤ greatest_id) (some-inj e) small
+
+-- the GID of the own group
+own-gid-by :
+    (request : Request) (files : Files) (settings : List Setting) (gid : ℕ) (uid : Option ℕ)
+    → ((n : ℕ) → uid ≡ Some n → n ≤ greatest_id)
+    → option_and_then (gid_beside request files settings) uid ≡ Some gid
+    → gid ≤ greatest_id
+own-gid-by request files settings gid None small e = cc
+own-gid-by request files settings gid (Some n) small e =
+    beside-by request files settings n gid (is_used (used_gids files) n) (small n refl) e
+
+-- the primary GID, by whether a group is made
+primary-by :
+    (request : Request) (files : Files) (settings : List Setting) (gid : ℕ) (makes : Bool)
+    → (if makes
+    then own_gid request files settings
+    else Some (unwrap_or (option_map (λ group. group.gid) (given_group request files)) default_gid)) ≡ Some gid
+    → gid ≤ greatest_id
+primary-by request files settings gid true e =
+    own-gid-by request files settings gid (new_uid request files settings) (new-uid-small request files settings) e
+primary-by request files settings gid false e =
+    subst (λ k. k ≤ greatest_id) (some-inj e) (given-group-gid request files default_gid (lit≤ tt))
+
+-- the primary GID is an ID
+primary-gid-small :
+    (request : Request) (files : Files) (settings : List Setting) (gid : ℕ)
+    → primary_gid request files settings ≡ Some gid
+    → gid ≤ greatest_id
+primary-gid-small request files settings gid e =
+    primary-by request files settings gid (makes_group request settings) e
+
+-- ---- useradd: the records
+
+-- what the tests of useradd leave of the request
+record UseraddPasses (request : Request) : Type 0 where
+  name : is_valid_name (operand request) ≡ true
+  comment : bad_value (codes "c") is_field request ≡ None
+  home : bad_value (codes "d") is_folder request ≡ None
+  base : bad_value (codes "b") is_folder request ≡ None
+  shell : bad_value (codes "s") is_shell request ≡ None
+  hash : bad_value (codes "p") is_field request ≡ None
+
+-- no refusal of useradd
+useradd-passes :
+    (request : Request) (more : List (Option Refusal))
+    → first_some (useradd_checks request ++ more) ≡ None
+    → UseraddPasses request
+useradd-passes request more none =
+    let after_name = first-none (bad_name (operand request)) _ none
+    in let after_key = first-none (bad_key request) _ after_name.1
+    in let after_comment = first-none (bad_value (codes "c") is_field request) _ after_key.1
+    in let after_home = first-none (bad_value (codes "d") is_folder request) _ after_comment.1
+    in let after_base = first-none (bad_value (codes "b") is_folder request) _ after_home.1
+    in let after_expiration = first-none (bad_value (codes "e") is_expiration_value request) _ after_base.1
+    in let after_inactive = first-none (bad_value (codes "f") is_days_value request) _ after_expiration.1
+    in let after_shell = first-none (bad_value (codes "s") is_shell request) _ after_inactive.1
+    in let after_hash = first-none (bad_value (codes "p") is_field request) _ after_shell.1
+    in record {
+      name = refuse-none (is_valid_name (operand request)) (BadName (operand request)) after_name.0;
+      comment = after_comment.0;
+      home = after_home.0;
+      base = after_base.0;
+      shell = after_shell.0;
+      hash = after_hash.0;
+    }
+
+-- a text without `:` and newlines
+literal-field :
+    (text : List ℕ)
+    → has_byte colon text ≡ false
+    → has_byte newline text ≡ false
+    → IsField text
+literal-field text no_colon no_newline =
+    record { no_colon = lacks-byte colon text no_colon; no_newline = lacks-byte newline text no_newline }
+
+-- the home of a new user
+home-field : (request : Request) → UseraddPasses request → IsField (new_home request)
+home-field request passes =
+    let base = text-kept IsField (codes "b") is_folder request (codes "/home") is_folder-is passes.base
+    (literal-field (codes "/home") refl refl)
+    in let name = (valid-name (operand request) passes.name).field
+    in let folder = text_value (codes "b") request (codes "/home") ++ codes "/"
+    in let in_base : IsField (folder ++ operand request) = field-append folder (operand request)
+    (field-append (text_value (codes "b") request (codes "/home")) (codes "/") base (literal-field (codes "/") refl refl)) name
+    in text-kept IsField (codes "d") is_folder request (folder ++ operand request) is_folder-is passes.home in_base
+
+-- the new line of passwd
+new-user-held :
+    (request : Request) (files : Files) (uid gid : ℕ)
+    → UseraddPasses request
+    → uid ≤ greatest_id
+    → gid ≤ greatest_id
+    → IsPasswd (new_user request files uid gid)
+new-user-held request files uid gid passes small_uid small_gid = record {
+  name = valid-name (operand request) passes.name;
+  password = password-by (new_hash request) (is_some files.shadow) (new-hash-field request passes.hash);
+  uid = small_uid;
+  gid = small_gid;
+  comment = text-kept IsField (codes "c") is_field request [] is_field-is passes.comment empty-field;
+  home = home-field request passes;
+  shell = text-kept IsField (codes "s") is_shell request [] is_shell-is passes.shell empty-field;
+}
+
+-- the aging of a new user, by whether it is a system user
+aging-by :
+    (days : Option ℕ) (system : Bool)
+    → IsDaysNumber days
+    → IsDaysNumber (if system then None else days)
+aging-by days true is = tt
+aging-by days false is = is
+
+-- the new line of shadow
+new-shadow-held :
+    (request : Request) (settings : List Setting) (day : ℕ)
+    → UseraddPasses request
+    → day ≤ greatest_days
+    → IsShadow (new_shadow request settings day)
+new-shadow-held request settings day passes small = record {
+  name = valid-name (operand request) passes.name;
+  hash = new-hash-field request passes.hash;
+  last_change = small;
+  minimum = aging-by (number PassMinDays settings) (has_option (codes "r") request) (minimum-days settings);
+  maximum = aging-by (number PassMaxDays settings) (has_option (codes "r") request) (maximum-days settings);
+  warning = aging-by (number PassWarnAge settings) (has_option (codes "r") request) (warning-days settings);
+  inactive = field-kept IsDaysNumber days_value (codes "f") request None days-held tt;
+  expiration = field-kept IsDaysNumber expiration_value (codes "e") request None expiration-held tt;
+  rest = empty-field;
+}
+
+-- ---- useradd: the ranges
+
+-- a range that is free can stand in a line
+range-held :
+    (request : Request) (ids : Subordinate) (start : ℕ)
+    → UseraddPasses request
+    → ids.maximum ≤ greatest_id
+    → 0 < ids.count
+    → free_start ids ≡ Some start
+    → IsSubid (new_range request start ids.count)
+range-held request ids start passes small some found =
+    let free = subst (λ choice. IsFreeRange ids.minimum ids.maximum ids.count ids.records choice) found
+    (free_range-is ids.minimum ids.maximum ids.count some ids.records)
+    in record {
+      owner = valid-name (operand request) passes.name;
+      some = some;
+      last = le_trans free.member.not_above small;
+    }
+
+-- the new line of a range
+start-written :
+    (request : Request) (ids : Subordinate) (start : Option ℕ)
+    → UseraddPasses request
+    → ids.maximum ≤ greatest_id
+    → 0 < ids.count
+    → free_start ids ≡ start
+    → AllByRecursion (IsWrittenEdit subid_format)
+    (elim start [ None ↦ [] | Some first ↦ Add (new_range request first ids.count) ∷ [] ])
+start-written request ids None passes small some found = tt
+start-written request ids (Some start) passes small some found =
+    (subid-holds.written (new_range request start ids.count) (range-held request ids start passes small some found), tt)
+
+-- a count that isn't 0
+some-count : (count : ℕ) → not (count == 0) ≡ true → 0 < count
+some-count zero e = cc
+some-count (suc n) e = omega arith
+
+-- a range where one is allotted
+allotted-by :
+    (request : Request) (uid : Option ℕ) (ids : Subordinate) (test : Bool)
+    → is_allotted request uid ids ≡ test
+    → UseraddPasses request
+    → ids.maximum ≤ greatest_id
+    → AllByRecursion (IsWrittenEdit subid_format) (if test
+    then elim (free_start ids) [ None ↦ [] | Some start ↦ Add (new_range request start ids.count) ∷ [] ]
+    else [])
+allotted-by request uid ids false is passes small = tt
+allotted-by request uid ids true is passes small =
+    start-written request ids (free_start ids) passes small
+    (some-count ids.count (and_parts (is_some ids.bytes && not (list_any (is_owned (operand request) uid) ids.records)
+    && may_have_ranges request) (not (ids.count == 0)) is).1)
+    refl
+
+-- the new line of a table of subordinate IDs
+allotted-written :
+    (request : Request) (uid : Option ℕ) (ids : Subordinate)
+    → UseraddPasses request
+    → ids.maximum ≤ greatest_id
+    → AllByRecursion (IsWrittenEdit subid_format) (allotted request uid ids)
+allotted-written request uid ids passes small =
+    allotted-by request uid ids (is_allotted request uid ids) refl passes small
+
+-- ---- useradd: the edits
+
+-- groups that are joined
+joined-written :
+    (user : List ℕ) (groups : List GroupRecord)
+    → IsListed user
+    → AllByRecursion IsWrittenScript (map (λ group. add_to_group group.name user) groups)
+joined-written user [] is = tt
+joined-written user (group ∷ groups) is =
+    (add-to-group-written group.name user is, joined-written user groups is)
+
+-- a user of this UID and this GID
+add-user-written :
+    (request : Request) (files : Files) (settings : List Setting) (day uid gid : ℕ)
+    → UseraddPasses request
+    → day ≤ greatest_days
+    → uid ≤ greatest_id
+    → gid ≤ greatest_id
+    → IsWrittenScript (add_user request files settings day uid gid)
+add-user-written request files settings day uid gid passes small small_uid small_gid = order-written
+    (record no_edits {
+      passwd = Add (new_user request files uid gid) ∷ [];
+      shadow = Put (new_shadow request settings day) ∷ [];
+    }
+    ∷ add_own_group request files settings gid
+    ∷ join_groups request files
+    ∷ record no_edits {
+      subuid = allotted request (Some uid) (subordinate_uids files settings);
+      subgid = allotted request (Some uid) (subordinate_gids files settings);
+    }
+    ∷ []) (
+      users-written _ _ (
+        passwd-holds.written (new_user request files uid gid)
+            (new-user-held request files uid gid passes small_uid small_gid),
+        tt,
+      )
+          (shadow-holds.written (new_shadow request settings day) (new-shadow-held request settings day passes small), tt),
+      (
+        either-written (makes_group request settings) (add_group (operand request) locked gid files) no_edits
+            (add-group-written (operand request) locked gid files (valid-name (operand request) passes.name) locked-field small_gid)
+            none-written,
+        (
+          order-written (map (λ group. add_to_group group.name (operand request)) (given_groups request files))
+              (joined-written (operand request) (given_groups request files) (valid-listed (operand request) passes.name)),
+          (
+            record {
+              passwd = tt;
+              shadow = tt;
+              group = tt;
+              gshadow = tt;
+              subuid = allotted-written request (Some uid) (subordinate_uids files settings) passes (subuid-maximum settings);
+              subgid = allotted-written request (Some uid) (subordinate_gids files settings) passes (subgid-maximum settings);
+            },
+            tt,
+          ),
+        ),
+      ),
+    )
+
+-- a user, where there are a UID and a GID
+useradd-script-written :
+    (request : Request) (files : Files) (settings : List Setting) (day : ℕ) (uid gid : Option ℕ)
+    → UseraddPasses request
+    → day ≤ greatest_days
+    → ((n : ℕ) → uid ≡ Some n → n ≤ greatest_id)
+    → ((n : ℕ) → gid ≡ Some n → n ≤ greatest_id)
+    → IsWrittenScript (useradd_script request files settings day uid gid)
+useradd-script-written request files settings day None gid passes small small_uid small_gid = none-written
+useradd-script-written request files settings day (Some uid) None passes small small_uid small_gid = none-written
+useradd-script-written request files settings day (Some uid) (Some gid) passes small small_uid small_gid =
+    add-user-written request files settings day uid gid passes small (small_uid uid refl) (small_gid gid refl)
+
+-- useradd under settings
+useradd-under-written :
+    (settings : List Setting) (request : Request) (files : Files) (day : ℕ)
+    → day ≤ greatest_days
+    → first_some (useradd_under settings request files day).refusals ≡ None
+    → IsWrittenScript (useradd_under settings request files day).script
+useradd-under-written settings request files day small none =
+    useradd-script-written request files settings day (new_uid request files settings) (primary_gid request files settings)
+    (useradd-passes request (useradd_conflicts request files settings) none) small
+    (new-uid-small request files settings) (primary-gid-small request files settings)
+
+-- useradd adds a valid name with tested values and IDs
+pub useradd-written :
+    (request : Request) (files : Files) (settings : List Setting) (day : ℕ)
+    → day ≤ greatest_days
+    → first_some (useradd request files settings day).refusals ≡ None
+    → IsWrittenScript (useradd request files settings day).script
+useradd-written request files settings day small none =
+    useradd-under-written (settings_for request settings) request files day small none

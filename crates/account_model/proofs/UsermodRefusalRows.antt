@@ -1,0 +1,158 @@
+-- What usermod refuses, in the order in which it is tested, each row decided by computing.
+use Rattle.std.specs.Prelude.{◌≡◌, [], codes, refl, Some}
+use Rattle.std.specs.Fmt.{digits}
+use Rattle.std.specs.Str.{byte}
+use Rattle.acct_text.specs.declared.Tab.TheVariants.{Subuid}
+use Rattle.account_model.specs.declared.refusal.Refusal.TheVariants.{BadName, BadValue, UserExists, NoUser, NoGroup, UidInUse, Meets, EmptyHash}
+use Rattle.account_model.proofs.Image.{image}
+use Rattle.account_model.proofs.Commands.{words, lines, on, plainly_on, same, refused, small}
+
+-- `usermod -P R -W 1-4294967295 -w 1- -V 1 -v 2-1 -u -1 -l -x -p a:b -s sh -f -2 -e x -d home -c : ann`: the refusals of usermod, in their order
+usermod_value_c : on image (words "usermod -P R -W 1-4294967295 -w 1- -V 1 -v 2-1 -u -1 -l -x -p a:b -s sh -f -2 -e x -d home -c : ann")
+    ≡ refused 3 (BadValue (byte "c") (codes ":")) "usermod: invalid value for -c: :"
+unfolding digits
+usermod_value_c = refl
+
+-- `usermod -P R -W 1-4294967295 -w 1- -V 1 -v 2-1 -u -1 -l -x -p a:b -s sh -f -2 -e x -d home ann`
+usermod_value_d : on image (words "usermod -P R -W 1-4294967295 -w 1- -V 1 -v 2-1 -u -1 -l -x -p a:b -s sh -f -2 -e x -d home ann")
+    ≡ refused 3 (BadValue (byte "d") (codes "home")) "usermod: invalid value for -d: home"
+unfolding digits
+usermod_value_d = refl
+
+-- `usermod -P R -W 1-4294967295 -w 1- -V 1 -v 2-1 -u -1 -l -x -p a:b -s sh -f -2 -e x ann`
+usermod_value_e : on image (words "usermod -P R -W 1-4294967295 -w 1- -V 1 -v 2-1 -u -1 -l -x -p a:b -s sh -f -2 -e x ann")
+    ≡ refused 3 (BadValue (byte "e") (codes "x")) "usermod: invalid value for -e: x"
+unfolding digits
+usermod_value_e = refl
+
+-- `usermod -P R -W 1-4294967295 -w 1- -V 1 -v 2-1 -u -1 -l -x -p a:b -s sh -f -2 ann`
+usermod_value_f : on image (words "usermod -P R -W 1-4294967295 -w 1- -V 1 -v 2-1 -u -1 -l -x -p a:b -s sh -f -2 ann")
+    ≡ refused 3 (BadValue (byte "f") (codes "-2")) "usermod: invalid value for -f: -2"
+unfolding digits
+usermod_value_f = refl
+
+-- `usermod -P R -W 1-4294967295 -w 1- -V 1 -v 2-1 -u -1 -l -x -p a:b -s sh ann`
+usermod_value_s : on image (words "usermod -P R -W 1-4294967295 -w 1- -V 1 -v 2-1 -u -1 -l -x -p a:b -s sh ann")
+    ≡ refused 3 (BadValue (byte "s") (codes "sh")) "usermod: invalid value for -s: sh"
+unfolding digits
+usermod_value_s = refl
+
+-- `usermod -P R -W 1-4294967295 -w 1- -V 1 -v 2-1 -u -1 -l -x -p a:b ann`
+usermod_value_p : on image (words "usermod -P R -W 1-4294967295 -w 1- -V 1 -v 2-1 -u -1 -l -x -p a:b ann")
+    ≡ refused 3 (BadValue (byte "p") (codes "a:b")) "usermod: invalid value for -p: a:b"
+unfolding digits
+usermod_value_p = refl
+
+-- `usermod -P R -W 1-4294967295 -w 1- -V 1 -v 2-1 -u -1 -l -x ann`
+usermod_value_l : on image (words "usermod -P R -W 1-4294967295 -w 1- -V 1 -v 2-1 -u -1 -l -x ann")
+    ≡ refused 3 (BadValue (byte "l") (codes "-x")) "usermod: invalid value for -l: -x"
+unfolding digits
+usermod_value_l = refl
+
+-- `usermod -P R -W 1-4294967295 -w 1- -V 1 -v 2-1 -u -1 ann`
+usermod_value_u : on image (words "usermod -P R -W 1-4294967295 -w 1- -V 1 -v 2-1 -u -1 ann")
+    ≡ refused 3 (BadValue (byte "u") (codes "-1")) "usermod: invalid value for -u: -1"
+unfolding digits
+usermod_value_u = refl
+
+-- `usermod -P R -W 1-4294967295 -w 1- -V 1 -v 2-1 ann`
+usermod_value_v : on image (words "usermod -P R -W 1-4294967295 -w 1- -V 1 -v 2-1 ann")
+    ≡ refused 3 (BadValue (byte "v") (codes "2-1")) "usermod: invalid value for -v: 2-1"
+unfolding digits
+usermod_value_v = refl
+
+-- `usermod -P R -W 1-4294967295 -w 1- -V 1 ann`
+usermod_value_del_v : on image (words "usermod -P R -W 1-4294967295 -w 1- -V 1 ann")
+    ≡ refused 3 (BadValue (byte "V") (codes "1")) "usermod: invalid value for -V: 1"
+unfolding digits
+usermod_value_del_v = refl
+
+-- `usermod -P R -W 1-4294967295 -w 1- ann`
+usermod_value_w : on image (words "usermod -P R -W 1-4294967295 -w 1- ann")
+    ≡ refused 3 (BadValue (byte "w") (codes "1-")) "usermod: invalid value for -w: 1-"
+unfolding digits
+usermod_value_w = refl
+
+-- `usermod -P R -W 1-4294967295 ann`
+usermod_value_del_w : on image (words "usermod -P R -W 1-4294967295 ann")
+    ≡ refused 3 (BadValue (byte "W") (codes "1-4294967295")) "usermod: invalid value for -W: 1-4294967295"
+unfolding digits
+usermod_value_del_w = refl
+
+-- `usermod -P R -v 5 -v 1-2 ann`: each range counts
+each_range_value : on image (words "usermod -P R -v 5 -v 1-2 ann")
+    ≡ refused 3 (BadValue (byte "v") (codes "5")) "usermod: invalid value for -v: 5"
+unfolding digits
+each_range_value = refl
+
+-- `usermod -P R -l root ann`
+unknown_user : on image (words "usermod -P R -l root ann")
+    ≡ refused 6 (NoUser (codes "ann")) "usermod: unknown user ann"
+unfolding digits
+unknown_user = refl
+
+-- `usermod -P R -l root -u 0 bob`
+name_taken : on image (words "usermod -P R -l root -u 0 bob")
+    ≡ refused 9 (UserExists (codes "root")) "usermod: user root exists"
+unfolding digits
+name_taken = refl
+
+-- `usermod -P R -l b a`
+name_taken_in_shadow : plainly_on (record (small "a:x:1:1::/:" "g:x:1:") { shadow = Some (lines "b:!:::::::") }) (words "usermod -P R -l b a")
+    ≡ refused 9 (UserExists (codes "b")) "usermod: user b exists"
+unfolding digits
+name_taken_in_shadow = refl
+
+-- `usermod -P R -u 0 -g nope bob`
+uid_taken : on image (words "usermod -P R -u 0 -g nope bob")
+    ≡ refused 4 (UidInUse 0) "usermod: UID 0 is in use"
+unfolding digits
+uid_taken = refl
+
+-- `usermod -P R -u 1000 bob`: the own UID is no other's
+own_uid : on image (words "usermod -P R -u 1000 bob")
+    ≡ same
+unfolding digits
+own_uid = refl
+
+-- `usermod -P R -g nope -G none bob`
+unknown_primary : on image (words "usermod -P R -g nope -G none bob")
+    ≡ refused 6 (NoGroup (codes "nope")) "usermod: unknown group nope"
+unfolding digits
+unknown_primary = refl
+
+-- `usermod -P R -G sudo,none messagebus`
+unknown_group : on image (words "usermod -P R -G sudo,none messagebus")
+    ≡ refused 6 (NoGroup (codes "none")) "usermod: unknown group none"
+unfolding digits
+unknown_group = refl
+
+-- `usermod -P R -U -v 100000-100000 messagebus`
+empty_hash : on image (words "usermod -P R -U -v 100000-100000 messagebus")
+    ≡ refused 3 (EmptyHash (codes "messagebus")) "usermod: unlocking messagebus would leave no password"
+unfolding digits
+empty_hash = refl
+
+-- `usermod -P R -U a`: a user without a line in shadow: the password field counts
+empty_hash_in_passwd : plainly_on (record (small "a:!:1:1::/:" "g:x:1:") { shadow = Some [] }) (words "usermod -P R -U a")
+    ≡ refused 3 (EmptyHash (codes "a")) "usermod: unlocking a would leave no password"
+unfolding digits
+empty_hash_in_passwd = refl
+
+-- `usermod -P R -f 1 -v 5-5 a`
+meets_before_no_shadow : plainly_on (record (small "a:!:1:1::/:" "g:x:1:") { subuid = Some (lines "#|b:5:1") }) (words "usermod -P R -f 1 -v 5-5 a")
+    ≡ refused 3 (Meets 5 5 Subuid 2) "usermod: range 5-5 meets subuid line 2"
+unfolding digits
+meets_before_no_shadow = refl
+
+-- `usermod -P R -G g a,b`: a name with a comma can't stand in a list
+name_with_comma : plainly_on (small "a,b:x:1:1::/:" "g:x:1:") (words "usermod -P R -G g a,b")
+    ≡ refused 3 (BadName (codes "a,b")) "usermod: invalid name: a,b"
+unfolding digits
+name_with_comma = refl
+
+-- `usermod -P R -v 1-2 a`: parts of a change on an absent table are skipped
+absent_subuid : plainly_on (small "a:x:1:1::/:" "g:x:1:") (words "usermod -P R -v 1-2 a")
+    ≡ same
+unfolding digits
+absent_subuid = refl

@@ -1,0 +1,5 @@
+use Rattle.account_model.proofs.ToolScripts.{tools-written}
+use Rattle.account_model.proofs.laws.tools_are_written.Goals as goal
+
+pub returns : goal.returns
+returns c = tools-written

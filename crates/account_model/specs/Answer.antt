@@ -1,0 +1,157 @@
+-- What a command answers on given files, and the new files that it makes.
+use Rattle.std.specs.List.{list_all}
+use Rattle.std.specs.Prelude.{map, ℕ, Bool, true, false, not, List, [], ◌∷◌, ◌++◌, codes, decimal, length, nat_le, Option, Some, None, option_map, unwrap_or, Result, Ok, Err, if◌then◌else◌}
+use Rattle.account_model.specs.declared.tool.Tool.{Tool}
+use Rattle.acct_text.specs.declared.Tab.{Tab}
+use Rattle.acct_text.specs.declared.Tab.TheVariants.{Passwd, Group}
+use Rattle.acct_text.specs.declared.files.Files.{Files}
+use Rattle.account_model.specs.declared.refusal.Refusal.{Refusal}
+use Rattle.account_model.specs.Text.{first_some}
+use Rattle.acct_text.specs.Files.{table_of}
+use Rattle.account_model.specs.Settings.{settings_of, bad_line}
+use Rattle.account_model.specs.Request.{Request}
+use Rattle.account_model.specs.Action.{Made, outcome_of}
+use Rattle.acct_text.specs.Tables.{table_name, all_tables}
+use Rattle.account_model.specs.Messages.{message, messages, refusal_text}
+use Rattle.account_model.specs.Statuses.{file_status, refusal_status}
+use Rattle.account_model.specs.Change.{action_of}
+use Rattle.acct_text.specs.Limits.{table_limit}
+use Rattle.acct_text.specs.Contents.{same_content}
+
+-- what is wrong with the files
+pub data FileProblem : Type 0 where
+  -- the table, or login.defs, passes the limit
+  TableTooLarge : Tab → FileProblem
+  SettingsTooLarge : FileProblem
+  -- a table that must stand is absent
+  TableAbsent : Tab → FileProblem
+  -- the line of login.defs, counted from 1, has a number that its key doesn't allow
+  BadSettingAt : ℕ → FileProblem
+
+-- why a command answers as it does
+pub data AnswerCause : Type 0 where
+  -- the files can't be used, or what would become of them
+  Unusable : FileProblem → AnswerCause
+  -- the tool refuses
+  Refused : Refusal → AnswerCause
+  -- all six tables stay as they are
+  Same : AnswerCause
+  -- they become these
+  Changed : Files → AnswerCause
+
+-- the cause, the status, and what goes to the output and to the error stream
+pub record Answer : Type 0 where
+  pub cause : AnswerCause
+  pub status : ℕ
+  pub output : List ℕ
+  pub error : List ℕ
+
+-- the bytes pass the limit of a table, of login.defs and of the input
+abbrev pub passes_limit : List ℕ → Bool
+passes_limit bytes = not (nat_le (length bytes) table_limit)
+
+-- passwd and group must stand
+abbrev pub must_stand : Tab → Bool
+must_stand Passwd = true
+must_stand Group = true
+must_stand tab = false
+
+-- what is wrong with a table as it was read
+abbrev pub table_problem : Tab → Option (List ℕ) → Option FileProblem
+table_problem tab None = if must_stand tab then Some (TableAbsent tab) else None
+table_problem tab (Some bytes) = if passes_limit bytes then Some (TableTooLarge tab) else None
+
+-- what is wrong with login.defs; an absent one counts as empty
+abbrev pub settings_problem : List ℕ → Option FileProblem
+settings_problem bytes =
+    if passes_limit bytes then Some SettingsTooLarge else option_map BadSettingAt (bad_line bytes)
+
+-- what is wrong with each table, in their order
+abbrev pub problems_of_tables : Files → List (Option FileProblem)
+problems_of_tables files = map (λ tab. table_problem tab (table_of files tab)) all_tables
+
+-- the first problem of the files, in the order in which they are read
+abbrev pub files_problem : Files → Option (List ℕ) → Option FileProblem
+files_problem files defs =
+    first_some (problems_of_tables files ++ settings_problem (unwrap_or defs []) ∷ [])
+
+-- the new table passes the limit
+abbrev pub new_table_problem : Tab → Option (List ℕ) → Option FileProblem
+new_table_problem tab None = None
+new_table_problem tab (Some bytes) = if passes_limit bytes then Some (TableTooLarge tab) else None
+
+-- the first new table that passes the limit
+abbrev pub new_problem : Files → Option FileProblem
+new_problem files = first_some (map (λ tab. new_table_problem tab (table_of files tab)) all_tables)
+
+-- whether all six files are equal
+abbrev pub files_eq : Files → Files → Bool
+files_eq a b = list_all (λ tab. same_content (table_of a tab) (table_of b tab)) all_tables
+
+-- what is printed of it
+abbrev pub file_problem_text : FileProblem → List ℕ
+file_problem_text (TableTooLarge tab) = table_name tab ++ codes " is too large"
+file_problem_text SettingsTooLarge = codes "login.defs is too large"
+file_problem_text (TableAbsent tab) = table_name tab ++ codes " does not exist"
+file_problem_text (BadSettingAt line) =
+    codes "login.defs line " ++ decimal line ++ codes ": bad number"
+
+-- an answer that says why the files can't be used
+abbrev pub unusable : Tool → FileProblem → Answer
+unusable tool problem = record {
+  cause = Unusable problem;
+  status = file_status tool;
+  output = [];
+  error = message tool (file_problem_text problem);
+}
+
+-- an answer that says why the tool refuses
+abbrev pub refused : Tool → Refusal → Answer
+refused tool refusal = record {
+  cause = Refused refusal;
+  status = refusal_status tool refusal;
+  output = [];
+  error = message tool (refusal_text refusal);
+}
+
+-- an answer with what a tool made
+abbrev pub succeeding : Tool → AnswerCause → Made → Answer
+succeeding tool cause made = record {
+  cause = cause;
+  status = made.status;
+  output = made.output;
+  error = messages tool made.notices;
+}
+
+-- Same where all six files stay, and else Changed
+abbrev pub cause_of : Files → Files → AnswerCause
+cause_of old new = if files_eq old new then Same else Changed new
+
+-- the answer to what a tool made, of which a table may pass the limit
+abbrev pub answer_made : Tool → Files → Made → Answer
+answer_made tool files made = elim (new_problem made.files) [
+  | Some problem ↦ unusable tool problem
+  | None ↦ succeeding tool (cause_of files made.files) made
+]
+
+-- the answer to a tool's outcome
+abbrev pub answer_outcome : Tool → Files → Result Made Refusal → Answer
+answer_outcome tool files (Err refusal) = refused tool refusal
+answer_outcome tool files (Ok made) = answer_made tool files made
+
+-- The answer to a request: the first problem of the files, else the tool's refusal, else what it makes.
+abbrev pub answer : Request → List ℕ → ℕ → Files → Option (List ℕ) → Answer
+answer request input day files defs = elim (files_problem files defs) [
+  | Some problem ↦ unusable request.tool problem
+  | None ↦ answer_outcome request.tool files
+      (outcome_of (action_of request input day files (settings_of (unwrap_or defs []))) files)
+]
+
+-- the new files of an answer that is a change
+abbrev pub new_files : AnswerCause → Option Files
+new_files (Changed files) = Some files
+new_files cause = None
+
+-- the change that the request stands for on these files, or none
+abbrev pub deed : Request → List ℕ → ℕ → Files → Option (List ℕ) → Option Files
+deed request input day files defs = new_files (answer request input day files defs).cause

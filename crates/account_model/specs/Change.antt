@@ -1,0 +1,39 @@
+-- What each tool does: one function over all of them.
+use Rattle.std.specs.Prelude.{ℕ, List}
+use Rattle.account_model.specs.declared.tool.Tool.{Tool}
+use Rattle.account_model.specs.declared.tool.Tool.TheVariants.{Useradd, Usermod, Userdel, Groupadd, Groupmod, Groupdel, Gpasswd, Chage, Chpasswd, Pwck, Grpck, Getsubids}
+use Rattle.acct_text.specs.declared.files.Files.{Files}
+use Rattle.account_model.specs.Settings.{Setting}
+use Rattle.account_model.specs.Request.{Request}
+use Rattle.account_model.specs.Action.{Action}
+use Rattle.account_model.specs.Useradd.{useradd}
+use Rattle.account_model.specs.Usermod.{usermod}
+use Rattle.account_model.specs.Userdel.{userdel}
+use Rattle.account_model.specs.Groupadd.{groupadd}
+use Rattle.account_model.specs.Groupmod.{groupmod}
+use Rattle.account_model.specs.Groupdel.{groupdel}
+use Rattle.account_model.specs.Gpasswd.{gpasswd}
+use Rattle.account_model.specs.Chage.{chage}
+use Rattle.account_model.specs.Chpasswd.{chpasswd}
+use Rattle.account_model.specs.Pwck.{pwck}
+use Rattle.account_model.specs.Grpck.{grpck}
+use Rattle.account_model.specs.Getsubids.{getsubids}
+
+-- what a tool does for a request with its input and the day, on these files under the settings of login.defs(5)
+abbrev pub action_by : Tool → Request → List ℕ → ℕ → Files → List Setting → Action
+action_by Useradd request input day files settings = useradd request files settings day
+action_by Usermod request input day files settings = usermod request files day
+action_by Userdel request input day files settings = userdel request files settings
+action_by Groupadd request input day files settings = groupadd request files settings
+action_by Groupmod request input day files settings = groupmod request files
+action_by Groupdel request input day files settings = groupdel request files
+action_by Gpasswd request input day files settings = gpasswd request files
+action_by Chage request input day files settings = chage request files
+action_by Chpasswd request input day files settings = chpasswd input files day
+action_by Pwck request input day files settings = pwck request files day
+action_by Grpck request input day files settings = grpck request files
+action_by Getsubids request input day files settings = getsubids request files
+
+-- what the request's tool does
+abbrev pub action_of : Request → List ℕ → ℕ → Files → List Setting → Action
+action_of request input day files settings = action_by request.tool request input day files settings

@@ -1,0 +1,65 @@
+-- chpasswd -e (chpasswd(8)): sets the hashes of users, from lines NAME:HASH of the input.
+use Rattle.std.specs.Prelude.{ℕ, suc, not, ◌==◌, if◌then◌else◌, List, [], ◌∷◌, map, Option, Some, None}
+use Rattle.std.specs.List.{before_first, after_first}
+use Rattle.acct_text.specs.declared.files.Files.{Files}
+use Rattle.account_model.specs.declared.refusal.LineProblem.{LineProblem}
+use Rattle.account_model.specs.declared.refusal.LineProblem.TheVariants.{NoColon, HashColon, UnknownUser}
+use Rattle.account_model.specs.declared.refusal.Refusal.{Refusal}
+use Rattle.account_model.specs.declared.refusal.Refusal.TheVariants.{BadLine}
+use Rattle.acct_text.specs.Bytes.{colon}
+use Rattle.account_model.specs.Text.{has_byte}
+use Rattle.acct_text.specs.Lines.{Line, lines_of}
+use Rattle.account_model.specs.Format.{is_named}
+use Rattle.account_model.specs.Edits.{each_where}
+use Rattle.account_model.specs.Records.{shadow_format}
+use Rattle.account_model.specs.Tables.{Script, no_edits, in_order}
+use Rattle.account_model.specs.Action.{Action, changes}
+use Rattle.account_model.specs.Users.{has_user}
+use Rattle.account_model.specs.Hashes.{demand_shadow, each_user_hash}
+
+-- the name stands before the first `:`
+abbrev pub line_name : List ℕ → List ℕ
+line_name text = before_first (λ b. b == colon) text
+
+-- the hash stands behind it
+abbrev pub line_hash : List ℕ → List ℕ
+line_hash text = after_first (λ b. b == colon) text
+
+-- what is wrong with a line: no `:`, then one in the hash, then a name that isn't in passwd
+abbrev pub line_problem : Files → List ℕ → Option LineProblem
+line_problem files text =
+    if not (has_byte colon text) then Some NoColon else
+    (if has_byte colon (line_hash text) then Some HashColon else
+    (if not (has_user (line_name text) files) then Some (UnknownUser (line_name text)) else None))
+
+-- the first bad line, by its number; the first of these lines has the number that is given
+abbrev pub bad_line_from : ℕ → Files → List Line → Option Refusal
+bad_line_from number files [] = None
+bad_line_from number files (line ∷ lines) = elim (line_problem files line.text) [
+  | Some problem ↦ Some (BadLine number problem)
+  | None ↦ bad_line_from (suc number) files lines
+]
+
+-- with shadow the last change of the user becomes the day
+abbrev pub set_last_change : List ℕ → ℕ → Script
+set_last_change name day = record no_edits {
+  shadow = each_where (is_named shadow_format name) (λ r. record r { last_change = Some day }) ∷ [];
+}
+
+-- the line of shadow on demand, then the hash, then the last change
+abbrev pub set_hash : List ℕ → List ℕ → Files → ℕ → Script
+set_hash name hash files day = in_order
+    (demand_shadow name files
+    ∷ each_user_hash name (λ old. hash) files
+    ∷ set_last_change name day
+    ∷ [])
+
+-- what a line of the input does
+abbrev pub line_script : Files → ℕ → Line → Script
+line_script files day line = set_hash (line_name line.text) (line_hash line.text) files day
+
+-- what chpasswd does, by the input, the tables and the day: a bad line refuses the whole input
+abbrev pub chpasswd : List ℕ → Files → ℕ → Action
+chpasswd input files day =
+    changes (bad_line_from 1 files (lines_of input) ∷ [])
+    (in_order (map (line_script files day) (lines_of input)))

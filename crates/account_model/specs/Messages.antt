@@ -1,0 +1,70 @@
+-- The texts of refusals, as a tool prints them on the error stream. They are this profile's own.
+use Rattle.std.specs.Prelude.{ℕ, List, [], ◌∷◌, ◌++◌, codes, decimal, flat_map}
+use Rattle.account_model.specs.declared.tool.Tool.{Tool}
+use Rattle.account_model.specs.declared.tool.Tool.TheVariants.{Useradd, Usermod, Userdel, Groupadd, Groupmod, Groupdel, Gpasswd, Chage, Chpasswd, Pwck, Grpck, Getsubids}
+use Rattle.account_model.specs.declared.refusal.Refusal.{Refusal}
+use Rattle.account_model.specs.declared.refusal.Refusal.TheVariants.{BadName, BadKey, BadValue, UserExists, GroupExists, NoUser, NoGroup, UidInUse, GidInUse, NoFreeUid, NoFreeGid, NoGap, Meets, EmptyHash, PrimaryGroup, NotMember, NoShadow, BadLine, NoRanges, Multiple}
+use Rattle.account_model.specs.declared.refusal.LineProblem.{LineProblem}
+use Rattle.account_model.specs.declared.refusal.LineProblem.TheVariants.{NoColon, HashColon, UnknownUser}
+use Rattle.acct_text.specs.Bytes.{newline}
+use Rattle.acct_text.specs.Tables.{table_name}
+
+-- ---- Names
+
+-- the word that names the tool
+abbrev pub tool_name : Tool → List ℕ
+tool_name Useradd = codes "useradd"
+tool_name Usermod = codes "usermod"
+tool_name Userdel = codes "userdel"
+tool_name Groupadd = codes "groupadd"
+tool_name Groupmod = codes "groupmod"
+tool_name Groupdel = codes "groupdel"
+tool_name Gpasswd = codes "gpasswd"
+tool_name Chage = codes "chage"
+tool_name Chpasswd = codes "chpasswd"
+tool_name Pwck = codes "pwck"
+tool_name Grpck = codes "grpck"
+tool_name Getsubids = codes "getsubids"
+
+-- ---- Texts
+
+-- what is wrong with a line of the input of chpasswd
+abbrev pub line_problem_text : LineProblem → List ℕ
+line_problem_text NoColon = codes "no colon"
+line_problem_text HashColon = codes "colon in hash"
+line_problem_text (UnknownUser name) = codes "unknown user " ++ name
+
+-- why a tool refuses
+abbrev pub refusal_text : Refusal → List ℕ
+refusal_text (BadName name) = codes "invalid name: " ++ name
+refusal_text (BadKey word) = codes "invalid setting: " ++ word
+refusal_text (BadValue letter value) = codes "invalid value for -" ++ letter ∷ codes ": " ++ value
+refusal_text (UserExists name) = codes "user " ++ name ++ codes " exists"
+refusal_text (GroupExists name) = codes "group " ++ name ++ codes " exists"
+refusal_text (NoUser name) = codes "unknown user " ++ name
+refusal_text (NoGroup word) = codes "unknown group " ++ word
+refusal_text (UidInUse uid) = codes "UID " ++ decimal uid ++ codes " is in use"
+refusal_text (GidInUse gid) = codes "GID " ++ decimal gid ++ codes " is in use"
+refusal_text NoFreeUid = codes "no free UID"
+refusal_text NoFreeGid = codes "no free GID"
+refusal_text (NoGap tab) = codes "no free range in " ++ table_name tab
+refusal_text (Meets first last tab line) =
+    codes "range " ++ decimal first ++ codes "-" ++ decimal last ++ codes " meets "
+    ++ table_name tab ++ codes " line " ++ decimal line
+refusal_text (EmptyHash name) = codes "unlocking " ++ name ++ codes " would leave no password"
+refusal_text (PrimaryGroup group user) =
+    codes "group " ++ group ++ codes " is the primary group of " ++ user
+refusal_text (NotMember user group) = codes "user " ++ user ++ codes " is not a member of " ++ group
+refusal_text NoShadow = codes "shadow does not exist"
+refusal_text (BadLine line problem) =
+    codes "line " ++ decimal line ++ codes ": " ++ line_problem_text problem
+refusal_text (NoRanges name) = codes "no ranges for " ++ name
+refusal_text (Multiple tab name) = table_name tab ++ codes " has multiple entries for " ++ name
+
+-- one line on the error stream, after the tool's name
+abbrev pub message : Tool → List ℕ → List ℕ
+message tool text = tool_name tool ++ codes ": " ++ text ++ newline ∷ []
+
+-- one such line for each text
+abbrev pub messages : Tool → List (List ℕ) → List ℕ
+messages tool texts = flat_map (message tool) texts
