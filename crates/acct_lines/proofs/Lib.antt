@@ -1,0 +1,10 @@
+pub mod Counted
+pub mod NamesCut
+pub mod NamesJoined
+pub mod Read
+pub mod PasswdFields
+pub mod GroupFields
+pub mod GshadowFields
+pub mod ShadowFields
+pub mod SubidFields
+pub mod ShadowFaults

@@ -1,0 +1,13 @@
+use Rattle.account_model.proofs.FormatLaws.{gshadow-is_format}
+use Rattle.acct_lines.proofs.GshadowFields.{gshadow-read}
+use Rattle.acct_lines.proofs.gshadow.GshadowRecordTableRecord.read.Goals as goal
+
+pub returns-clause-reads : goal.returns-clause-reads
+returns-clause-reads c =
+    gshadow-read c.args.line.now c.in_ok-fields.fields _ c.in_ok-fields.ensures
+    c.in_ok-name.ensures.first c.in_ok-name.ensures.some c.in_ok-text.ensures
+    c.in_ok-names.ensures c.in_ok-names-2.ensures
+
+pub returns-clause-written : goal.returns-clause-written
+returns-clause-written c =
+    λ one_line. gshadow-is_format.written _ _ one_line (returns-clause-reads c)
