@@ -1,0 +1,5 @@
+pub mod WordLaws
+pub mod DigitLaws
+pub mod SettingLaws
+pub mod SettingFaults
+pub mod LineLaws
