@@ -1,0 +1,3 @@
+pub mod LastLineLemmas
+pub mod GroupLineLemmas
+pub mod RefusalLemmas
