@@ -1,0 +1,5 @@
+pub mod ToldCalls
+pub mod ProceedsLemmas
+pub mod FileStepLemmas
+pub mod TextLemmas
+pub mod FormLemmas
