@@ -1,0 +1,5 @@
+pub mod Forms
+pub mod Rules
+pub mod Meanings
+pub mod Parsed
+pub mod Reading

@@ -1,0 +1,143 @@
+// The words of a command, from their limits to the request.
+ghost use Rattle.std.specs.Prelude.{◌≡◌, ◌⊎◌, Some, IfOk, IfErr};
+ghost use Rattle.account_model.specs.Words.{Asks, fault, past_limit as first_past_limit};
+ghost use Rattle.option_words.specs.Parsed.{request_in};
+
+use crate::Parsed;
+use crate::reading::read_arguments;
+use account_model::{Tool, WordFault};
+use acct_text::Word;
+use std::alloc::Global;
+
+// How many words a command has at most, the tool's name among them.
+const MOST_WORDS: usize = 512;
+
+// How many bytes a word has at most.
+const LONGEST_WORD: usize = 4096;
+
+/// What the words of a command ask for. Word 0 names the tool.
+///
+/// A fault of the words is the first of them, in the order of `WordFault`: the limits, the tool, the
+/// words from left to right, the prefix, a missing operand, and the tool's rules. `Memory` comes for
+/// want of memory alone. The time is linear in the bytes of the words.
+pub fn read_words(alloc: Global, words: &[Word]) -> Result<Parsed, WordFault>
+    ensures request { IfOk result (λ parsed. Asks words.now (request_in parsed)) }
+    ensures first_fault { IfErr result (λ found. (fault words.now ≡ Some found) ⊎ (found ≡ WordFault.Memory)) }
+{
+    if let Some(place) = past_limit(words) {
+        return Err(WordFault::WordLimit(place));
+    }
+    let Some((name, arguments)) = words.split_first() else {
+        return Err(WordFault::NoTool);
+    };
+    let tool = Tool::named(name.as_slice()).ok_or(WordFault::UnknownTool)?;
+    read_arguments(alloc, tool, arguments)?.into_parsed()
+}
+
+// The place of the first word that passes a limit.
+fn past_limit(words: &[Word]) -> Option<usize>
+    ensures { result ≡ first_past_limit words.now }
+{
+    words.iter().enumerate().position(|(place, word)| place >= MOST_WORDS
+        || word.as_slice().len() > LONGEST_WORD)
+}
+
+#[cfg(test)]
+mod tests {
+    use super::*;
+    use std::test::Fail;
+
+    // The words of a text, cut at blanks.
+    fn words_of(alloc: Global, text: &[u8]) -> Result<Vec<Word>, Fail> {
+        let mut words = Vec::new(alloc);
+        for word in text.split(|byte| *byte == b' ') {
+            words.push(Word::of(alloc, word)?)?;
+        }
+        Ok(words)
+    }
+
+    // The fault of the words of a text, and none where they read.
+    fn fault_of(alloc: Global, text: &[u8]) -> Result<Option<WordFault>, Fail> {
+        let words = words_of(alloc, text)?;
+        Ok(read_words(alloc, words.as_slice()).err())
+    }
+
+    // What the words of a text ask for: the tool, then each option as `-x` or `-x=V`, then the
+    // operands, with a blank between.
+    fn shown(alloc: Global, text: &[u8]) -> Result<Vec<u8>, Fail> {
+        let words = words_of(alloc, text)?;
+        let parsed = read_words(alloc, words.as_slice()).map_err(|_| "a fault")?;
+        let mut shown = Vec::from_slice(alloc, parsed.tool.name().as_bytes())?;
+        for option in parsed.options.as_slice() {
+            shown.extend_from_slice(b" -")?;
+            shown.push(option.letter)?;
+            if let Some(value) = &option.value {
+                shown.push(b'=')?;
+                shown.extend_from_slice(value.as_slice())?;
+            }
+        }
+        for operand in parsed.operands.as_slice() {
+            shown.push(b' ')?;
+            shown.extend_from_slice(operand.as_slice())?;
+        }
+        Ok(shown)
+    }
+
+    #[test]
+    fn words_are_read_as_getopt_long_does(rt: HostRuntime) -> Result<(), Fail> {
+        let cases = [
+            (
+                b"usermod -P R -aGsudo www-data".as_slice(),
+                b"usermod -a -G=sudo www-data".as_slice(),
+            ),
+            (
+                b"useradd --prefix=R --comment Ann --gid= --system ann",
+                b"useradd -c=Ann -g= -r ann",
+            ),
+            (b"useradd -rMP R -u -1 ann", b"useradd -r -M -u=-1 ann"),
+            (b"userdel ann -P Q -f -P R", b"userdel -f ann"),
+            (b"groupdel -P R -- -f", b"groupdel -f"),
+            (b"groupdel -P R -", b"groupdel -"),
+            (b"gpasswd -P R -A  -A bob sudo", b"gpasswd -A= -A=bob sudo"),
+            (
+                b"useradd -P R --key=UID_MIN=5 ann",
+                b"useradd -K=UID_MIN=5 ann",
+            ),
+            (b"pwck -qr -P R", b"pwck -q -r"),
+        ];
+        for (text, wanted) in cases {
+            assert_eq!(rt; shown(rt.alloc(), text)?.as_slice(), wanted);
+        }
+        Ok(())
+    }
+
+    #[test]
+    fn the_first_fault_of_words_is_told(rt: HostRuntime) -> Result<(), Fail> {
+        let cases = [
+            (b"groupadd staff".as_slice(), WordFault::NoPrefix),
+            (b"useradd -P R -aG sudo bob", WordFault::UnknownOption(3)),
+            (b"adduser -P R ann", WordFault::UnknownTool),
+            (b"userdel -P R -fr ann", WordFault::UnknownOption(3)),
+            (b"usermod -P R --comm x ann", WordFault::UnknownOption(3)),
+            (b"useradd ann -rP", WordFault::MissingValue(2)),
+            (
+                b"useradd -P R --system=yes ann",
+                WordFault::UnexpectedValue(3),
+            ),
+            (b"useradd -P R ann bob", WordFault::TooMany(4)),
+            (b"pwck -P R -r -- x", WordFault::TooMany(5)),
+            (b"groupadd -P R --prefix= staff", WordFault::NoPrefix),
+            (b"useradd -P R -o", WordFault::TooFew),
+            (b"useradd -P R -oNU -g 5 ann", WordFault::Clash(1)),
+            (b"usermod -P R -LU ann", WordFault::Clash(3)),
+            (b"usermod -P R ann", WordFault::Clash(4)),
+            (b"gpasswd -P R -a bob -M bob sudo", WordFault::Clash(2)),
+            (b"grpck -P R -sr", WordFault::Clash(2)),
+        ];
+        for (text, fault) in cases {
+            assert_eq!(rt; fault_of(rt.alloc(), text)?, Some(fault));
+        }
+        assert_eq!(rt; read_words(rt.alloc(), &[]).err(), Some(WordFault::NoTool));
+        Ok(())
+    }
+}
