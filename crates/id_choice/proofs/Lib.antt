@@ -1,0 +1,3 @@
+pub mod UsedLemmas
+pub mod FreeSearch
+pub mod RangeItems

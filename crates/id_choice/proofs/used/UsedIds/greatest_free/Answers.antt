@@ -1,0 +1,20 @@
+use Rattle.std.proofs.Common.{rules, tests, ◌≡◌, ◌∙◌, sym, ap, arith}
+use Rattle.std.proofs.lemmas.Iterator.Adapters.{option_map_id}
+use Rattle.std.proofs.lemmas.Iterator.Search.{find_from_yields_List}
+use Rattle.id_choice.proofs.RangeItems.{back-items}
+use Rattle.id_choice.proofs.FreeSearch.{is_unused, greatest-found}
+use Rattle.id_choice.proofs.used.UsedIds.greatest_free.Goals as goal
+
+pub returns : goal.returns
+returns c =
+    let used = c.args.self.now
+    in let found = find_from_yields_List
+    (is_unused used)
+    _
+    _
+    c.find.result
+    c.find.ensures.ran
+    (back-items c.rev.result)
+    (λ number answer closure call. search (rules, tests))
+    in let is = greatest-found c.args.low c.args.high used c.rev.result (cc) (cc) (cc)
+    in sym (option_map_id c.find.result) ∙ found ∙ is

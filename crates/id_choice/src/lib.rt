@@ -1,0 +1,10 @@
+//! Which ID a new user or group gets (useradd(8), groupadd(8), login.defs(5)).
+//!
+//! A command adds each ID of passwd(5) or group(5) to `UsedIds`, and then asks for one that isn't
+//! used: the one that it prefers, or else the choice from a range of login.defs(5).
+#![tactic(auto)]
+
+mod used;
+
+pub use account_model::Kind;
+pub use used::UsedIds;
