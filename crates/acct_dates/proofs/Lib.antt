@@ -1,0 +1,4 @@
+pub mod CalendarLaws
+pub mod DatePieces
+pub mod DateTexts
+pub mod WrittenDays

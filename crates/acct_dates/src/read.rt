@@ -1,0 +1,155 @@
+// A text as a day: `-1`, the number of a day, or a date (chage(1), `-d` and `-E`; useradd(8) and
+// usermod(8), `-e`).
+ghost use Rattle.std.specs.Prelude.{◌≡◌, ◌<◌, ◌≤◌, ◌∷◌, [], ◌==◌, ◌^◌, position, if◌then◌else◌, IfOk, IfErr};
+ghost use Rattle.std.specs.Str.Parse.{digits_value};
+ghost use Rattle.acct_text.specs.Pieces.{cut_at};
+ghost use Rattle.account_model.specs.Text.{hyphen};
+ghost use Rattle.account_model.specs.Dates.{are_digits, day_of_written, read_date_pieces, read_day as day_of_text};
+ghost use Rattle.acct_dates.specs.Days.{answered, date_of};
+
+use acct_text::{NumberFault, read_decimal};
+use jiff::civil::Date;
+use thiserror::Error;
+
+// The greatest day and number of days (shadow(5)).
+const GREATEST_DAY: u64 = 2_147_483_647;
+
+/// Why a text is no day.
+#[derive(Clone, Copy, Debug, PartialEq, Eq, Error)]
+pub enum DateFault {
+    /// The text is neither `-1` nor digits, nor of the form YYYY-MM-DD.
+    #[error("neither a number of days nor a date")]
+    Shape,
+    /// The text is of that form, and the calendar has no such day.
+    #[error("no day of the calendar")]
+    NoSuchDay,
+    /// The number is above 2147483647, or the date before 1970-01-01.
+    #[error("the day is out of range")]
+    OutOfRange,
+}
+
+/// The day that the text writes, counted from 1970-01-01: a number up to 2147483647, or a date
+/// YYYY-MM-DD. `-1`, which is no day and empties a field, gives -1.
+///
+/// `Shape` comes where the text is neither `-1` nor digits, nor of the form of a date; `NoSuchDay`
+/// where it is of that form and the calendar has no such day; `OutOfRange` where the number is too
+/// large, or the date before 1970-01-01.
+pub fn read_day(text: &[u8]) -> Result<i64, DateFault>
+    ensures { result ≡ answered (day_of_text text.now) }
+{
+    if text == b"-1".as_slice() {
+        return Ok(-1);
+    }
+    match read_decimal(text, GREATEST_DAY) {
+        Ok(day) => Ok(day as i64),
+        Err(NumberFault::TooLarge) => Err(DateFault::OutOfRange),
+        Err(NumberFault::Empty) => Err(DateFault::Shape),
+        Err(NumberFault::NotDigit(_)) => read_date(text),
+    }
+}
+
+// The day of a date YYYY-MM-DD.
+fn read_date(text: &[u8]) -> Result<i64, DateFault>
+    ensures { result ≡ answered (read_date_pieces (cut_at hyphen text.now)) }
+{
+    let first = cut_once(text)?;
+    let second = cut_once(first.after)?;
+    let year = number(first.before, 4)?;
+    let month = number(second.before, 2)?;
+    let day = number(second.after, 2)?;
+    day_of(WrittenDate { year, month, day })
+}
+
+// A text at its first hyphen.
+#[derive(Clone, Copy)]
+struct Cut<'a> {
+    before: &'a [u8],
+    after: &'a [u8],
+}
+
+// Cuts a text at its first hyphen; without one it is no date.
+fn cut_once(text: &[u8]) -> Result<Cut<'_>, DateFault>
+    ensures found { IfOk result (λ cut.
+        cut_at hyphen text.now ≡ cut.before.now ∷ cut_at hyphen cut.after.now) }
+    ensures whole { IfErr result (λ fault.
+        (fault ≡ DateFault.Shape) × (cut_at hyphen text.now ≡ text.now ∷ [])) }
+{
+    match place_of_hyphen(text) {
+        Some(end) => Ok(Cut {
+            before: &text[..end],
+            after: &text[end + 1..],
+        }),
+        None => Err(DateFault::Shape),
+    }
+}
+
+// The place of the first hyphen.
+fn place_of_hyphen(text: &[u8]) -> Option<usize>
+    ensures { result ≡ position (λ byte. byte == hyphen) text.now }
+{
+    text.iter().position(|byte| *byte == b'-')
+}
+
+// The number of exactly so many digits.
+fn number(text: &[u8], count: usize) -> Result<u16, DateFault>
+    requires { count ≤ 4 }
+    ensures value { result ≡ (if are_digits count text.now then Ok (digits_value 10 text.now)
+        else Err DateFault.Shape) }
+    ensures within { IfOk result (λ number. number < 10 ^ count) }
+{
+    if text.len() != count {
+        return Err(DateFault::Shape);
+    }
+    match read_decimal(text, 9999) {
+        Ok(number) => Ok(number as u16),
+        Err(_) => Err(DateFault::Shape),
+    }
+}
+
+// A date as it is written, which the calendar may lack.
+#[derive(Clone, Copy)]
+struct WrittenDate {
+    year: u16,
+    month: u16,
+    day: u16,
+}
+
+// The day of a date that the calendar has, from 1970 on.
+fn day_of(written: WrittenDate) -> Result<i64, DateFault>
+    requires year { written.year < 10000 }
+    requires month { written.month < 100 }
+    requires day { written.day < 100 }
+    ensures { result ≡ answered (day_of_written (date_of written)) }
+{
+    let Ok(date) = Date::new(written.year as i16, written.month as i8, written.day as i8) else {
+        return Err(DateFault::NoSuchDay);
+    };
+    if written.year < 1970 {
+        return Err(DateFault::OutOfRange);
+    }
+    Ok(i64::from(date.to_plain().to_unix_epoch_day()))
+}
+
+#[cfg(test)]
+mod tests {
+    use super::*;
+
+    #[test]
+    fn a_day_is_a_number_or_a_date_from_1970_on(rt: HostRuntime) {
+        let cases = [
+            (b"-1".as_slice(), Ok(-1)),
+            (b"19800".as_slice(), Ok(19800)),
+            (b"2147483647".as_slice(), Ok(2147483647)),
+            (b"2147483648".as_slice(), Err(DateFault::OutOfRange)),
+            (b"2024-03-18".as_slice(), Ok(19800)),
+            (b"9999-12-31".as_slice(), Ok(2932896)),
+            (b"2024-02-30".as_slice(), Err(DateFault::NoSuchDay)),
+            (b"0000-01-01".as_slice(), Err(DateFault::OutOfRange)),
+            (b"1970-1-1".as_slice(), Err(DateFault::Shape)),
+            (b"".as_slice(), Err(DateFault::Shape)),
+        ];
+        for (text, wanted) in cases {
+            assert_eq!(rt; read_day(text), wanted);
+        }
+    }
+}
