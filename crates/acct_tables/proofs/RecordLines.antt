@@ -1,0 +1,121 @@
+-- Claim: the records behind a place are those behind the next, with the record of the line there
+-- (`records-from`), so what is found and counted among the records is found and counted line by
+-- line (`find-met`, `find-passed`, `count-met`, `count-passed`).
+use Rattle.std.proofs.Common.{◌≡◌, ℕ, ◌+◌, ◌<◌, true, false, List, ◌∷◌, length, take, drop, get_or, refl, sym, ◌∙◌, ap, zero-add}
+use Rattle.std.specs.Prelude.{Option, Some, None, if◌then◌else◌}
+use Rattle.std.specs.List.{cons_option}
+use Rattle.std.proofs.lemmas.List.{drop_more, take-append-drop}
+use Rattle.std.proofs.lemmas.List.Sums.{sum_by-cons, sum_by-append}
+use Rattle.std.proofs.lemmas.List.Elements.{filter_map-append}
+use Rattle.acct_text.specs.Lines.{Line}
+use Rattle.account_model.specs.Format.{Format, records_of, is_named, find_named, count_named}
+use Rattle.acct_tables.specs.TableLines.{line_is_named}
+
+-- the lines from a place on begin with the line there
+pub lines-from :
+    (lines : List Line) (place : ℕ) (line : Line)
+    → place < length lines
+    → line ≡ get_or lines place line
+    → drop place lines ≡ line ∷ drop (place + 1) lines
+lines-from lines place line inside is =
+    drop_more lines place line inside ∙ ap (λ l. l ∷ drop (place + 1) lines) (sym is)
+
+module _ {R : Type 0} (format : Format R) (name : List ℕ) where
+  -- the records from a place on begin with that of the line there
+  pub records-from :
+      (lines : List Line) (place : ℕ) (line : Line)
+      → place < length lines
+      → line ≡ get_or lines place line
+      → records_of format (drop place lines)
+      ≡ cons_option (format.read line.text) (records_of format (drop (place + 1) lines))
+  records-from lines place line inside is =
+      ap (records_of format) (lines-from lines place line inside is)
+
+  -- a record of the name is the first that is found
+  met-by :
+      (kept : Option R) (rest : List R)
+      → (elim kept [ None ↦ false | Some r ↦ is_named format name r ]) ≡ true
+      → find_named format name (cons_option kept rest) ≡ kept
+  met-by None rest named = absurd cc
+  met-by (Some r) rest named = rw named refl
+
+  -- a record of another name isn't found, and other text neither
+  passed-by :
+      (kept : Option R) (rest : List R)
+      → (elim kept [ None ↦ false | Some r ↦ is_named format name r ]) ≡ false
+      → find_named format name (cons_option kept rest) ≡ find_named format name rest
+  passed-by None rest other = refl
+  passed-by (Some r) rest other = rw other refl
+
+  -- a record of the name counts
+  counts-by :
+      (kept : Option R) (rest : List R)
+      → (elim kept [ None ↦ false | Some r ↦ is_named format name r ]) ≡ true
+      → count_named format name (cons_option kept rest) ≡ 1 + count_named format name rest
+  counts-by None rest named = absurd cc
+  counts-by (Some r) rest named =
+      sum_by-cons (λ x. if is_named format name x then 1 else 0) r rest
+      ∙ ap (λ test. (if test then 1 else 0) + count_named format name rest) named
+
+  -- a record of another name doesn't count, and other text neither
+  skips-by :
+      (kept : Option R) (rest : List R)
+      → (elim kept [ None ↦ false | Some r ↦ is_named format name r ]) ≡ false
+      → count_named format name (cons_option kept rest) ≡ count_named format name rest
+  skips-by None rest other = refl
+  skips-by (Some r) rest other =
+      sum_by-cons (λ x. if is_named format name x then 1 else 0) r rest
+      ∙ ap (λ test. (if test then 1 else 0) + count_named format name rest) other
+      ∙ zero-add (count_named format name rest)
+
+  module _
+      (lines : List Line) (place : ℕ) (line : Line)
+      (inside : place < length lines)
+      (is : line ≡ get_or lines place line) where
+    -- at the first line of the name its record is found
+    pub find-met :
+        line_is_named format name line ≡ true
+        → find_named format name (records_of format (drop place lines)) ≡ format.read line.text
+    find-met named =
+        ap (find_named format name) (records-from lines place line inside is)
+        ∙ met-by (format.read line.text) (records_of format (drop (place + 1) lines)) named
+
+    -- another line is passed
+    pub find-passed :
+        line_is_named format name line ≡ false
+        → find_named format name (records_of format (drop place lines))
+        ≡ find_named format name (records_of format (drop (place + 1) lines))
+    find-passed other =
+        ap (find_named format name) (records-from lines place line inside is)
+        ∙ passed-by (format.read line.text) (records_of format (drop (place + 1) lines)) other
+
+    -- a line of the name counts
+    pub count-met :
+        line_is_named format name line ≡ true
+        → count_named format name (records_of format (drop place lines))
+        ≡ 1 + count_named format name (records_of format (drop (place + 1) lines))
+    count-met named =
+        ap (count_named format name) (records-from lines place line inside is)
+        ∙ counts-by (format.read line.text) (records_of format (drop (place + 1) lines)) named
+
+    -- another line doesn't
+    pub count-passed :
+        line_is_named format name line ≡ false
+        → count_named format name (records_of format (drop place lines))
+        ≡ count_named format name (records_of format (drop (place + 1) lines))
+    count-passed other =
+        ap (count_named format name) (records-from lines place line inside is)
+        ∙ skips-by (format.read line.text) (records_of format (drop (place + 1) lines)) other
+
+  -- records before a place and from it on are all
+  pub count-cut :
+      (lines : List Line) (place : ℕ)
+      → count_named format name (records_of format lines)
+      ≡ count_named format name (records_of format (take place lines))
+      + count_named format name (records_of format (drop place lines))
+  count-cut lines place =
+      ap (λ all. count_named format name (records_of format all)) (sym (take-append-drop place lines))
+      ∙ ap (count_named format name)
+      (filter_map-append (λ line. format.read line.text) (take place lines) (drop place lines))
+      ∙ sum_by-append (λ x. if is_named format name x then 1 else 0)
+      (records_of format (take place lines)) (records_of format (drop place lines))

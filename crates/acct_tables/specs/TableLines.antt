@@ -1,0 +1,49 @@
+-- A table as its calls see it: the list of the lines of its file, each other text or a record of
+-- the table's format (passwd(5), shadow(5), group(5), gshadow(5), subuid(5), subgid(5)).
+-- Places count the lines from 0.
+use Rattle.std.specs.Prelude.{◌≡◌, ℕ, ◌+◌, ◌<◌, ◌==◌, Bool, true, false, List, ◌∷◌, ◌++◌, length, map, take, drop, Option, Some, None, slice_get, if◌then◌else◌}
+use Rattle.std.specs.List.{insert}
+use Rattle.acct_text.specs.Lines.{Line}
+use Rattle.account_model.specs.Format.{Format, is_named, records_of, count_named}
+use Rattle.account_model.specs.Edits.{printed_line, with_line}
+
+-- ---- What is found
+
+-- the record at this place; none past the end and at other text
+abbrev pub record_at : {R : Type 0} → Format R → List Line → ℕ → Option R
+record_at format lines place =
+    elim (slice_get lines place) [ None ↦ None | Some line ↦ format.read line.text ]
+
+-- whether the line is a record of the name
+abbrev pub line_is_named : {R : Type 0} → Format R → List ℕ → Line → Bool
+line_is_named format name line =
+    elim (format.read line.text) [ None ↦ false | Some r ↦ is_named format name r ]
+
+-- the line at this place is the only one of the name
+pub record IsOnlyPlace {R : Type 0} (format : Format R) (name : List ℕ) (lines : List Line)
+    (place : ℕ) : Type 0 where
+  pub inside : place < length lines
+  pub none_before : count_named format name (records_of format (take place lines)) ≡ 0
+  pub named : (line : Line) (rest : List Line) → drop place lines ≡ line ∷ rest
+      → line_is_named format name line ≡ true
+  pub none_behind : count_named format name (records_of format (drop (place + 1) lines)) ≡ 0
+
+-- ---- Edits at a place
+
+-- the list with the element at this place as f makes it
+abbrev pub changed_at : {X : Type 0} → (X → X) → ℕ → List X → List X
+changed_at f place xs = take place xs ++ map f (take 1 (drop place xs)) ++ drop (place + 1) xs
+
+-- the line with this record: it keeps its end, and its bytes where it is this record already
+abbrev pub with_record : {R : Type 0} → Format R → R → Line → Line
+with_record format r line = elim (format.read line.text) [
+  | None ↦ record line { text = format.print r }
+  | Some old ↦ if format.same old r then line else record line { text = format.print r }
+]
+
+-- the lines with that of a new record, which has an end, in front of the line at this place; at the
+-- end it goes behind the last line
+abbrev pub with_record_at : {R : Type 0} → Format R → R → ℕ → List Line → List Line
+with_record_at format r place lines = if place == length lines
+    then with_line (format.print r) lines
+    else insert lines place (printed_line format r)

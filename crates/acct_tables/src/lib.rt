@@ -1,0 +1,22 @@
+//! A table of an account file by name: its lines, of which some are records, and the edits of a
+//! list of lines (passwd(5), shadow(5), group(5), gshadow(5), subuid(5), subgid(5)); and what a
+//! command decides on the tables, with the text and the status of each refusal.
+//!
+//! A line keeps its bytes until an edit puts another record into it. After a refusal and after want
+//! of memory a table is as before the call.
+#![tactic(auto)]
+
+mod decision;
+mod fault;
+mod line;
+mod refusal;
+mod status;
+mod table;
+
+pub use account_model::{LineProblem, Refusal};
+pub use acct_lines::TableRecord;
+pub use decision::{Decision, Output};
+pub use fault::TableFault;
+pub use refusal::refusal_text;
+pub use status::refusal_status;
+pub use table::Table;

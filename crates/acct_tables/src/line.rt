@@ -1,0 +1,128 @@
+// A line of a table, with the record that it is.
+ghost use Rattle.std.specs.Prelude.{◌≡◌, ◌++◌, Bool, false, bytes_eq, IfOk, IfSome, OnOk, OnErr};
+ghost use Rattle.std.specs.Option.{option_copied};
+ghost use Rattle.acct_text.specs.Bytes.{newline};
+ghost use Rattle.acct_text.specs.Lines.{Line, line_bytes};
+ghost use Rattle.acct_text.specs.Pieces.{Lacks};
+ghost use Rattle.account_model.specs.Edits.{as_ended};
+ghost use Rattle.account_model.specs.Written.{IsWritten};
+ghost use Rattle.acct_tables.specs.Kept.{is_printed_as};
+ghost use Rattle.acct_tables.specs.TableLines.{line_is_named, with_record};
+
+use acct_lines::{ReadFault, TableRecord};
+use acct_text::Bytes;
+use std::alloc::{AllocError, Global};
+use std::marker::Model;
+
+/// A line of a table, which keeps its bytes until another record is put into it.
+#[derive(Drop)]
+pub(crate) struct TableLine<R: TableRecord> {
+    text: Bytes,
+    ended: bool,
+    record: Option<R>,
+}
+
+impl<R: TableRecord> Model for TableLine<R> {
+    ghost use Rattle.acct_text.specs.Lines.{Line};
+    ghost use Rattle.acct_tables.specs.Kept.{IsKept};
+
+    ghost Value = { Line };
+
+    ghost view = { λ l. record { text = l.text; ended = l.ended } };
+
+    ghost invariant = { λ l. IsKept R.format l.text l.record };
+}
+
+impl<R: TableRecord + Drop> TableLine<R> {
+    /// The line of this text, with a newline behind it or none.
+    pub(crate) fn read(alloc: Global, text: &[u8], ended: bool) -> Result<Self, AllocError>
+        requires { Lacks newline text.now }
+        ensures { IfOk result (λ line. line ≡ record { text = text.now; ended = ended }) }
+    {
+        let record = match R::read(alloc, text) {
+            Ok(record) => Some(record),
+            Err(ReadFault::Line(_)) => None,
+            Err(ReadFault::Memory) => return Err(AllocError),
+        };
+        Ok(TableLine {
+            text: Bytes::of(alloc, text)?,
+            ended,
+            record,
+        })
+    }
+
+    /// The line of a record, with a newline behind it or none.
+    pub(crate) fn of(alloc: Global, item: R, ended: bool) -> Result<Self, AllocError>
+        requires { IsWritten R.format item }
+        ensures { IfOk result (λ line. line ≡
+            record { text = R.format.print item; ended = ended }) }
+    {
+        Ok(TableLine {
+            text: item.print(alloc)?,
+            ended,
+            record: Some(item),
+        })
+    }
+
+    /// The record that the line is, which can be written again; none where it is other text.
+    pub(crate) fn record(&self) -> Option<&R>
+        ensures found { option_copied result ≡ R.format.read self.now.text }
+        ensures written { IfSome (option_copied result) (IsWritten R.format) }
+    {
+        self.record.as_ref()
+    }
+
+    /// Whether the line is a record of the name.
+    pub(crate) fn is_named(&self, name: &[u8]) -> bool
+        ensures { result ≡ line_is_named R.format name.now self.now }
+    {
+        match &self.record {
+            Some(kept) => kept.name() == name,
+            None => false,
+        }
+    }
+
+    /// Gives the line an end.
+    pub(crate) fn end(&mut self)
+        ensures { self.new ≡ as_ended self.old }
+    {
+        self.ended = true;
+    }
+
+    /// Puts a record into the line, which keeps its end, and its bytes where it is the same record.
+    /// At `AllocError` the line is as before.
+    pub(crate) fn put(&mut self, alloc: Global, item: R) -> Result<(), AllocError>
+        requires { IsWritten R.format item }
+        ensures put { OnOk result (self.new ≡ with_record R.format item self.old) }
+        ensures unchanged { OnErr result (self.new ≡ self.old) }
+    {
+        let text = item.print(alloc)?;
+        if !self.prints_as(alloc, text.as_slice())? {
+            self.text = text;
+            self.record = Some(item);
+        }
+        Ok(())
+    }
+
+    // Whether the line is a record whose canonical text is this one.
+    fn prints_as(&self, alloc: Global, text: &[u8]) -> Result<bool, AllocError>
+        ensures { IfOk result (λ same. same ≡
+            is_printed_as R.format text.now (R.format.read self.now.text)) }
+    {
+        match &self.record {
+            Some(kept) => Ok(kept.print(alloc)?.as_slice() == text),
+            None => Ok(false),
+        }
+    }
+
+    /// Adds the bytes of the line, with its newline. At `AllocError` the text may have a part of it.
+    pub(crate) fn push_to(&self, text: &mut Bytes) -> Result<(), AllocError>
+        ensures { OnOk result (text.new ≡ text.old ++ line_bytes self.now) }
+    {
+        text.push(self.text.as_slice())?;
+        if self.ended {
+            text.push(b"\n")?;
+        }
+        Ok(())
+    }
+}
