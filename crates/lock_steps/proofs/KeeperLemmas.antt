@@ -1,0 +1,61 @@
+-- Claim: a keeper's call on other files leaves its lock and the lower locks, whatever it answered,
+-- so that it stands as a keeper with what it knows then (`keeps-aside`). Way: such a call is no
+-- listing, no verdict, no create, no read of a lock and no move of the free text, so it changes
+-- neither the own lock (`own-aside`) nor the last listing (`listing-aside`).
+use Rattle.std.proofs.Common.{◌≡◌, refl, sym, subst, ◌∙◌, Option}
+use Rattle.acct_outside.specs.declared.Name.TheVariants.{FreeStage, Lock}
+use Rattle.acct_outside.specs.Calls.{Call, Answer, CallResult, lists, reads, asks, creates, renames, done}
+use Rattle.suite_rules.specs.OwnLock.{OwnLock, own_step}
+use Rattle.suite_rules.specs.Listing.{Listing, listing_step}
+use Rattle.suite_rules.specs.Knowledge.{Knowledge, knows_step}
+use Rattle.suite_rules.specs.Standing.{Standing, standing_step}
+use Rattle.lock_steps.specs.States.{Kept}
+use Rattle.lock_steps.specs.Stands.{Keeps}
+use Rattle.lock_steps.proofs.StandsLemmas.{kept-part}
+
+-- the call is on other files than the locks
+abbrev pub IsAside : Call → Type 0
+IsAside lists = ⊥
+IsAside (asks token) = ⊥
+IsAside (creates number) = ⊥
+IsAside (reads (Lock number)) = ⊥
+IsAside (renames FreeStage (Lock number)) = ⊥
+IsAside _ = Unit {0}
+
+-- it leaves the own lock
+own-aside : (call : Call) → IsAside call → (result : CallResult (Answer call)) (own : OwnLock) →
+    own_step call result own ≡ own
+own-aside lists aside result own = absurd aside
+own-aside (asks token) aside result own = absurd aside
+own-aside (creates number) aside result own = absurd aside
+own-aside (renames FreeStage (Lock number)) aside result own = absurd aside
+own-aside call aside result own = refl
+
+-- it leaves the last listing
+listing-aside : (call : Call) → IsAside call → (result : CallResult (Answer call))
+    (own : OwnLock) (listing : Option Listing) → listing_step own call result listing ≡ listing
+listing-aside lists aside result own listing = absurd aside
+listing-aside (asks token) aside result own listing = absurd aside
+listing-aside (creates number) aside result own listing = absurd aside
+listing-aside (reads (Lock number)) aside result own listing = absurd aside
+listing-aside (reads name) aside (done found) own listing = refl
+listing-aside call aside result own listing = refl
+
+-- the session keeps its number, with the same lower locks
+pub keeps-aside : (keeper : Kept) (Knows Knew : Knowledge → Type 0)
+    (call : Call) (aside : IsAside call) (result : CallResult (Answer call)) (stood : Standing) →
+    Knows (knows_step stood.staged call result stood.knows) → Keeps keeper Knew stood →
+    Keeps keeper Knows (standing_step call result stood)
+keeps-aside keeper Knows Knew call aside result stood knows held = record {
+  locks = record {
+    owns = own-aside call aside result stood.own ∙ held.locks.owns;
+    listing = held.locks.listing;
+    listed = listing-aside call aside result stood.own stood.listing ∙ held.locks.listed;
+    is_greatest = held.locks.is_greatest;
+    is_such = held.locks.is_such;
+  };
+  knows = subst Knows
+      (sym (kept-part keeper.number stood.own (own_step call result stood.own) _ _ stood.knows
+      held.locks.owns))
+      knows;
+}

@@ -1,0 +1,187 @@
+-- Claim: where a step leads on, the session stands as its next state says. Way: by the step's
+-- outcome the call was done with the answer that leads there, and StandsLemmas has what that makes
+-- of the standing. The lemmas stand in the order of the calls. Where a step tells that the folder
+-- failed, its call told so (`counts`).
+use Rattle.std.proofs.Common.{ap, ℕ, ◌+◌, ◌<◌, List, length, Option, Result, Ok, Err}
+use Rattle.std.specs.Prelude.{IfOk, IsErrOf}
+use Rattle.acct_outside.specs.declared.FolderFault.{FolderFault}
+use Rattle.acct_outside.specs.declared.FolderFault.TheVariants.{Failed}
+use Rattle.acct_outside.specs.declared.Name.TheVariants.{FreeStage, Lock}
+use Rattle.acct_outside.specs.declared.Verdict.{Verdict}
+use Rattle.acct_outside.specs.declared.Verdict.TheVariants.{Alive, Dead}
+use Rattle.acct_outside.specs.declared.Created.{Created}
+use Rattle.acct_outside.specs.declared.Created.TheVariants.{Done, Exists}
+use Rattle.acct_outside.specs.Faults.{CountsFailure}
+use Rattle.acct_outside.specs.Tokens.{Token, free_text}
+use Rattle.acct_outside.specs.Calls.{Found, found_absent, found_bytes, found_too_large, lists, reads, asks, creates, writes, renames, removes}
+use Rattle.acct_outside.specs.Others.{Admission}
+use Rattle.acct_outside.specs.Contract.{Past, Narrows, Tells}
+use Rattle.suite_rules.specs.Knowledge.{Knowledge}
+use Rattle.suite_rules.specs.Steps.{StandsIn}
+use Rattle.suite_rules.proofs.StepLemmas.{stands-done}
+use Rattle.lock_steps.specs.declared.LockEnd.{LockEnd}
+use Rattle.lock_steps.specs.declared.judging.Told.{Told}
+use Rattle.lock_steps.specs.declared.judging.Told.TheVariants.{Judged, Ask}
+use Rattle.lock_steps.specs.declared.claiming.Confirmed.{Confirmed}
+use Rattle.lock_steps.specs.declared.claiming.Confirmed.TheVariants.{Keeper, Loser}
+use Rattle.lock_steps.specs.declared.keeping.Ended.{Ended}
+use Rattle.lock_steps.specs.States.{Lister, Asker, Maker, Overtaken, Kept}
+use Rattle.lock_steps.specs.Stands.{HasNoLock, HasLooked, HasReadHeld, HasJudged, HasMade, WasOvertaken, Keeps, KnowsAnything, HasStagedFree, HasFreed, StandsTold, StandsConfirmed}
+use Rattle.lock_steps.specs.Outcomes.{Looks, Reads, Asks, Claims, Confirms, LeadsTo, cleaned_once, freeing_of, the_end}
+use Rattle.lock_steps.proofs.StandsLemmas.{looked, read-free, read-held, told-dead, made, kept, overtaken, cleaned, staged-free, freed}
+
+-- a step that tells a failure only where its call did counts it as the call does
+pub counts :
+    {T U E : Type 0} (failure : E) (before now : ℕ)
+    (came : Result T FolderFault) (result : Result U E)
+    → (IsErrOf result failure → IsErrOf came Failed)
+    → CountsFailure Failed before now came
+    → CountsFailure failure before now result
+counts failure before now came result only counted = record {
+  never_falls = counted.never_falls;
+  failed = λ is. counted.failed (only is);
+}
+
+-- What each call leads to, by a folder that admits no more than before.
+module _ (before_admits admits : Admission) (narrows : Narrows before_admits admits) (token : Token)
+    (before now : Option Past) where
+  -- a listing
+  pub look-leads :
+      (answer : Result (List ℕ) FolderFault) (result : Result Lister LockEnd)
+      → Looks token answer result
+      → StandsIn before_admits before token HasNoLock
+      → Tells before_admits before now token lists answer
+      → IfOk result (λ seen. StandsIn admits now token (HasLooked seen))
+  look-leads (Ok numbers) (Ok seen) shown stands tells =
+      stands-done before_admits admits narrows token lists tt HasNoLock (HasLooked seen) numbers
+      (looked numbers seen (ap (λ (lister : Lister). lister.greatest) shown.1))
+      before now stands tells
+  look-leads (Err fault) (Ok seen) shown stands tells = absurd shown
+  look-leads answer (Err end) shown stands tells = tt
+
+  -- a read of the greatest lock
+  pub read-leads :
+      (seen : Lister) (answer : Result Found FolderFault) (result : Result Told LockEnd)
+      → Reads seen answer result
+      → StandsIn before_admits before token (HasLooked seen)
+      → Tells before_admits before now token (reads (Lock seen.greatest)) answer
+      → IfOk result (StandsTold admits now token)
+  read-leads seen (Ok (found_bytes text)) (Ok (Judged judged)) shown stands tells =
+      stands-done before_admits admits narrows token (reads (Lock seen.greatest)) tt
+      (HasLooked seen) (HasJudged judged) (found_bytes text)
+      (λ stood held. read-free seen text stood held shown.0 judged shown.1) before now stands tells
+  read-leads seen (Ok (found_bytes text)) (Ok (Ask asking)) shown stands tells =
+      stands-done before_admits admits narrows token (reads (Lock seen.greatest)) tt
+      (HasLooked seen) (HasReadHeld asking) (found_bytes text)
+      (λ stood held. read-held seen text stood held asking shown.0
+      (ap (λ (asker : Asker). asker.greatest) shown.1))
+      before now stands tells
+  read-leads seen (Ok found_absent) (Ok told) shown stands tells = absurd shown
+  read-leads seen (Ok found_too_large) (Ok told) shown stands tells = absurd shown
+  read-leads seen (Err fault) (Ok told) shown stands tells = absurd shown
+  read-leads seen answer (Err end) shown stands tells = tt
+
+  -- a verdict
+  pub ask-leads :
+      (asking : Asker) (answer : Result Verdict FolderFault) (result : Result Lister LockEnd)
+      → Asks asking answer result
+      → StandsIn before_admits before token (HasReadHeld asking)
+      → Tells before_admits before now token (asks asking.asked) answer
+      → IfOk result (λ judged. StandsIn admits now token (HasJudged judged))
+  ask-leads asking (Ok Dead) (Ok judged) shown stands tells =
+      stands-done before_admits admits narrows token (asks asking.asked) tt
+      (HasReadHeld asking) (HasJudged judged) Dead
+      (told-dead asking judged (ap (λ (lister : Lister). lister.greatest) shown))
+      before now stands tells
+  ask-leads asking (Ok Alive) (Ok judged) shown stands tells = absurd shown
+  ask-leads asking (Err fault) (Ok judged) shown stands tells = absurd shown
+  ask-leads asking answer (Err end) shown stands tells = tt
+
+  -- a create
+  pub claim-leads :
+      (judged : Lister) (answer : Result Created FolderFault) (result : Result Maker LockEnd)
+      → Claims judged answer result
+      → StandsIn before_admits before token (HasJudged judged)
+      → Tells before_admits before now token (creates (judged.greatest + 1)) answer
+      → IfOk result (λ claimed. StandsIn admits now token (HasMade claimed))
+  claim-leads judged (Ok Done) (Ok claimed) shown stands tells =
+      stands-done before_admits admits narrows token (creates (judged.greatest + 1)) tt
+      (HasJudged judged) (HasMade claimed) Done
+      (made (judged.greatest + 1) judged claimed (ap (λ (maker : Maker). maker.number) shown))
+      before now stands tells
+  claim-leads judged (Ok Exists) (Ok claimed) shown stands tells = absurd shown
+  claim-leads judged (Err fault) (Ok claimed) shown stands tells = absurd shown
+  claim-leads judged answer (Err end) shown stands tells = tt
+
+  -- a second listing
+  pub confirm-leads :
+      (claimed : Maker) (answer : Result (List ℕ) FolderFault) (result : Result Confirmed LockEnd)
+      → Confirms claimed answer result
+      → StandsIn before_admits before token (HasMade claimed)
+      → Tells before_admits before now token lists answer
+      → IfOk result (StandsConfirmed admits now token)
+  confirm-leads claimed (Ok numbers) (Ok (Keeper keeper)) shown stands tells =
+      stands-done before_admits admits narrows token lists tt
+      (HasMade claimed) (Keeps keeper KnowsAnything) numbers
+      (λ stood held. kept claimed numbers stood held keeper shown.0
+      (ap (λ (one : Kept). one.number) shown.1) (ap (λ (one : Kept). one.lower) shown.1))
+      before now stands tells
+  confirm-leads claimed (Ok numbers) (Ok (Loser loser)) shown stands tells =
+      stands-done before_admits admits narrows token lists tt
+      (HasMade claimed) (WasOvertaken loser) numbers
+      (λ stood held. overtaken claimed numbers stood held loser shown.0
+      (ap (λ (one : Overtaken). one.number) shown.1)
+      (ap (λ (one : Overtaken). one.greatest) shown.1))
+      before now stands tells
+  confirm-leads claimed (Err fault) (Ok confirmed) shown stands tells = absurd shown
+  confirm-leads claimed answer (Err end) shown stands tells = tt
+
+  -- a removal of the first lower lock
+  pub clean-leads :
+      (keeper : Kept) (Knows : Knowledge → Type 0) (number : ℕ)
+      (answer : Result (Unit {0}) FolderFault) (result : Result Kept FolderFault)
+      → 0 < length keeper.lower
+      → LeadsTo (cleaned_once keeper) answer result
+      → StandsIn before_admits before token (Keeps keeper Knows)
+      → Tells before_admits before now token (removes (Lock number)) answer
+      → IfOk result (λ next. StandsIn admits now token (Keeps next Knows))
+  clean-leads keeper Knows number (Ok tt) (Ok next) some shown stands tells =
+      stands-done before_admits admits narrows token (removes (Lock number)) tt
+      (Keeps keeper Knows) (Keeps next Knows) tt
+      (λ stood held. cleaned keeper Knows number stood held some next
+      (ap (λ (one : Kept). one.number) shown) (ap (λ (one : Kept). one.lower) shown))
+      before now stands tells
+  clean-leads keeper Knows number (Err fault) (Ok next) some shown stands tells = absurd shown
+  clean-leads keeper Knows number answer (Err came) some shown stands tells = tt
+
+  -- a write of the free text
+  pub stage-leads :
+      (keeper : Kept) (Knows : Knowledge → Type 0)
+      (answer : Result (Unit {0}) FolderFault) (result : Result Maker FolderFault)
+      → LeadsTo (freeing_of keeper) answer result
+      → StandsIn before_admits before token (Keeps keeper Knows)
+      → Tells before_admits before now token (writes FreeStage free_text) answer
+      → IfOk result (λ freeing. StandsIn admits now token (HasStagedFree freeing))
+  stage-leads keeper Knows (Ok tt) (Ok freeing) shown stands tells =
+      stands-done before_admits admits narrows token (writes FreeStage free_text) tt
+      (Keeps keeper Knows) (HasStagedFree freeing) tt
+      (λ stood held. staged-free keeper Knows stood held freeing
+      (ap (λ (one : Maker). one.number) shown))
+      before now stands tells
+  stage-leads keeper Knows (Err fault) (Ok freeing) shown stands tells = absurd shown
+  stage-leads keeper Knows answer (Err came) shown stands tells = tt
+
+  -- a move of the free text
+  pub move-leads :
+      (freeing : Maker)
+      (answer : Result (Unit {0}) FolderFault) (result : Result Ended FolderFault)
+      → LeadsTo the_end answer result
+      → StandsIn before_admits before token (HasStagedFree freeing)
+      → Tells before_admits before now token (renames FreeStage (Lock freeing.number)) answer
+      → IfOk result (λ _. StandsIn admits now token (HasFreed freeing))
+  move-leads freeing (Ok tt) (Ok ended) shown stands tells =
+      stands-done before_admits admits narrows token (renames FreeStage (Lock freeing.number)) tt
+      (HasStagedFree freeing) (HasFreed freeing) tt
+      (λ stood held. freed freeing stood held) before now stands tells
+  move-leads freeing (Err fault) (Ok ended) shown stands tells = absurd shown
+  move-leads freeing answer (Err came) shown stands tells = tt

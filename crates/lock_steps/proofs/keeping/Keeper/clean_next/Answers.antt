@@ -1,0 +1,42 @@
+use Rattle.std.proofs.Common.{ap, subst, ◌<◌, length, get_or}
+use Rattle.acct_outside.specs.declared.Name.TheVariants.{Lock}
+use Rattle.acct_outside.specs.Calls.{removes}
+use Rattle.suite_rules.specs.Steps.{work}
+use Rattle.suite_rules.proofs.StepLemmas.{makes-call, leaves, stays-lawful}
+use Rattle.lock_steps.specs.States.{Kept}
+use Rattle.lock_steps.specs.Stands.{Keeps}
+use Rattle.lock_steps.proofs.NumberLemmas.{first-of}
+use Rattle.lock_steps.proofs.StandsLemmas.{removal-leaves}
+use Rattle.lock_steps.proofs.OutcomesLemmas.{clean-leads, counts}
+use Rattle.lock_steps.proofs.PermitsLemmas.{may-remove}
+use Rattle.lock_steps.proofs.keeping.Keeper.clean_next.Goals as goal
+
+pub returns : goal.returns
+returns g c =
+    let keeper = c.args.self in
+    let knows = g.K.Knowing.knows in
+    let removed = c.remove-removed.result in
+    let lowest = get_or keeper.lower 0 0 in
+    let lowest_is = first-of keeper.lower _ c.requires.left
+    (rw (ap (λ (one : Kept). one.lower) c.self.view_is) at c.index.ensures) in
+    let tells = rw (ap (λ (one : Kept). one.token) c.self.view_is, lowest_is)
+    at c.remove-removed.ensures.told in
+    let below = subst
+    (λ (one : Kept). 0 < length one.lower → get_or one.lower 0 0 < one.number)
+    c.self.view_is (λ some. (c.self.invariant.1 0 0 some).1) c.requires.left in
+    record {
+      call = makes-call _ _ c.remove-removed.ensures.narrows keeper.token (removes (Lock lowest)) tt
+          (Keeps keeper knows) _ removed _ _ c.requires.stands tells c.after_removal.ensures.shown;
+      next = clean-leads _ _ c.remove-removed.ensures.narrows keeper.token _ _ keeper knows lowest
+          removed c.after_removal.result c.requires.left c.after_removal.ensures.shown
+          c.requires.stands tells;
+      work = leaves _ _ c.remove-removed.ensures.narrows keeper.token (removes (Lock lowest)) tt
+          (Keeps keeper knows) work
+          (λ result stood held. removal-leaves keeper knows lowest stood held result) removed _ _
+          c.requires.stands tells;
+      lawful = λ deeds. stays-lawful deeds _ keeper.token (removes (Lock lowest)) tt
+          (Keeps keeper knows) (λ stood held. may-remove deeds stood keeper knows lowest below held) removed _ _
+          c.requires.stands tells;
+      faults = counts _ _ _ removed c.after_removal.result c.after_removal.ensures.failed
+          c.remove-removed.ensures.faults;
+    }

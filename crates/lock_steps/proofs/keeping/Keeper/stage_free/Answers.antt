@@ -1,0 +1,35 @@
+use Rattle.std.proofs.Common.{ap}
+use Rattle.acct_outside.specs.declared.Name.TheVariants.{FreeStage}
+use Rattle.acct_outside.specs.Tokens.{free_text}
+use Rattle.acct_outside.specs.Calls.{writes}
+use Rattle.suite_rules.specs.Steps.{work}
+use Rattle.suite_rules.proofs.StepLemmas.{makes-call, leaves, stays-lawful}
+use Rattle.lock_steps.specs.States.{Kept}
+use Rattle.lock_steps.specs.Stands.{Keeps}
+use Rattle.lock_steps.proofs.StandsLemmas.{write-leaves}
+use Rattle.lock_steps.proofs.OutcomesLemmas.{stage-leads, counts}
+use Rattle.lock_steps.proofs.PermitsLemmas.{may-stage-free}
+use Rattle.lock_steps.proofs.keeping.Keeper.stage_free.Goals as goal
+
+pub returns : goal.returns
+returns g c =
+    let keeper = c.args.self in
+    let knows = g.K.Knowing.knows in
+    let written = c.write-written.result in
+    let tells = rw (ap (λ (one : Kept). one.token) c.self.view_is, c.self.inside.holder.is_free)
+    at c.write-written.ensures.told in
+    record {
+      call = makes-call _ _ c.write-written.ensures.narrows keeper.token
+          (writes FreeStage free_text) tt (Keeps keeper knows) _ written _ _ c.requires tells c.after_write.ensures.shown;
+      next = stage-leads _ _ c.write-written.ensures.narrows keeper.token _ _ keeper knows written
+          c.after_write.result c.after_write.ensures.shown c.requires tells;
+      work = leaves _ _ c.write-written.ensures.narrows keeper.token (writes FreeStage free_text) tt
+          (Keeps keeper knows) work
+          (λ result stood held. write-leaves keeper knows stood held result) written _ _
+          c.requires tells;
+      lawful = λ deeds. stays-lawful deeds _ keeper.token (writes FreeStage free_text) tt
+          (Keeps keeper knows) (λ stood held. may-stage-free deeds stood keeper knows held) written
+          _ _ c.requires tells;
+      faults = counts _ _ _ written c.after_write.result c.after_write.ensures.failed
+          c.write-written.ensures.faults;
+    }

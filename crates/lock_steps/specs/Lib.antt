@@ -1,0 +1,4 @@
+pub mod States
+pub mod LockText
+pub mod Stands
+pub mod Outcomes

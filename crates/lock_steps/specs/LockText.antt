@@ -1,0 +1,22 @@
+-- The text of a lock: `free`, or `held` with a token, each with one newline (docs/LOCK.md).
+use Rattle.std.specs.Prelude.{◌≡◌, ◌≢◌}
+use Rattle.acct_text.specs.Bytes.{Bytes}
+use Rattle.acct_outside.specs.Tokens.{Token, IsToken, held_text, free_text}
+use Rattle.lock_steps.specs.declared.lock_text.LockText.{LockText}
+use Rattle.lock_steps.specs.declared.lock_text.LockText.TheVariants.{Free, Held, Damaged}
+
+-- the text of a lock that this session holds
+pub record IsHeldBy (text : Bytes) (token : Token) : Type 0 where
+  pub is_token : IsToken token
+  pub is_text : text ≡ held_text token
+
+-- neither of the two texts
+pub record IsDamaged (text : Bytes) : Type 0 where
+  pub not_free : text ≢ free_text
+  pub not_held : (token : Token) → IsHeldBy text token → ⊥
+
+-- the text says this
+abbrev pub Says : Bytes → LockText → Type 0
+Says text Free = text ≡ free_text
+Says text (Held token) = IsHeldBy text token
+Says text Damaged = IsDamaged text

@@ -1,0 +1,96 @@
+-- The standing of a session in each typed state (docs/ARCHITECTURE.md, "Typed steps"). Each is
+-- found from the session's own events alone.
+use Rattle.std.specs.Prelude.{◌≡◌, ℕ, ◌++◌, nat_lt, true, List, filter, Option, Some}
+use Rattle.acct_outside.specs.Others.{Admission}
+use Rattle.acct_outside.specs.Contract.{Past}
+use Rattle.acct_outside.specs.declared.Name.TheVariants.{FreeStage}
+use Rattle.acct_outside.specs.Tokens.{Token, free_text}
+use Rattle.acct_outside.specs.Folder.{greatest}
+use Rattle.suite_rules.specs.OwnLock.{OwnLock, lock_uncalled, lock_made, lock_kept, lock_freed}
+use Rattle.suite_rules.specs.Listing.{Listing, is_held_in}
+use Rattle.suite_rules.specs.Knowledge.{Seen, Knowledge, knows_none}
+use Rattle.suite_rules.specs.Standing.{Standing}
+use Rattle.suite_rules.specs.Steps.{StandsIn}
+use Rattle.lock_steps.specs.declared.judging.Told.{Told}
+use Rattle.lock_steps.specs.declared.judging.Told.TheVariants.{Judged, Ask}
+use Rattle.lock_steps.specs.declared.claiming.Confirmed.{Confirmed}
+use Rattle.lock_steps.specs.declared.claiming.Confirmed.TheVariants.{Keeper, Loser}
+use Rattle.lock_steps.specs.States.{Lister, Asker, Maker, Overtaken, Kept}
+
+-- it hasn't called create
+abbrev pub HasNoLock : Standing → Type 0
+HasNoLock standing = standing.own ≡ lock_uncalled
+
+-- it has this own lock, and its last listing of the locks has this greatest number and is such a one
+pub record HasListed (own : OwnLock) (number : ℕ) (IsSuch : Listing → Type 0) (standing : Standing)
+    : Type 0 where
+  pub owns : standing.own ≡ own
+  pub listing : Listing
+  pub listed : standing.listing ≡ Some listing
+  pub is_greatest : greatest listing.numbers ≡ number
+  pub is_such : IsSuch listing
+
+-- it has listed the locks, and judged them where there are none
+abbrev pub HasLooked : Lister → Standing → Type 0
+HasLooked seen = HasListed lock_uncalled seen.greatest
+    (λ listing. seen.greatest ≡ 0 → listing.is_judged ≡ true)
+
+-- it has read the greatest lock as held by the session that it asks for
+abbrev pub HasReadHeld : Asker → Standing → Type 0
+HasReadHeld asking = HasListed lock_uncalled asking.greatest
+    (λ listing. is_held_in listing.texts asking.asked ≡ true)
+
+-- it has judged the greatest lock, so it may create the next
+abbrev pub HasJudged : Lister → Standing → Type 0
+HasJudged judged = HasListed lock_uncalled judged.greatest (λ listing. listing.is_judged ≡ true)
+
+-- its create was done
+abbrev pub HasMade : Maker → Standing → Type 0
+HasMade claimed standing = standing.own ≡ lock_made claimed.number
+
+-- it has made its lock, and a later listing of its own shows this greatest one
+abbrev pub WasOvertaken : Overtaken → Standing → Type 0
+WasOvertaken loser = HasListed (lock_made loser.number) loser.greatest
+    (λ listing. listing.follows_create ≡ true)
+
+-- the locks below the number, of which these are left
+abbrev pub AreLeft : ℕ → List ℕ → List ℕ → Type 0
+AreLeft number numbers left =
+    (removed : List ℕ) × (filter (λ other. nat_lt other number) numbers ≡ removed ++ left)
+
+-- It keeps its number, which a listing after its create showed as the greatest; of the lower locks
+-- in that listing these are left; and such is what it knows of the intent.
+pub record Keeps (keeper : Kept) (Knows : Knowledge → Type 0) (standing : Standing) : Type 0 where
+  pub locks : HasListed (lock_kept keeper.number) keeper.number
+      (λ listing. (listing.follows_create ≡ true)
+      × AreLeft keeper.number listing.numbers keeper.lower)
+      standing
+  pub knows : Knows standing.knows
+
+-- anything may be so of the intent
+abbrev pub KnowsAnything : Knowledge → Type 0
+KnowsAnything knows = Unit {0}
+
+-- it knows that no intent stands
+abbrev pub KnowsNone : Knowledge → Type 0
+KnowsNone knows = (seen : Seen) × (knows ≡ knows_none seen)
+
+-- it keeps its number, and has staged the free text
+pub record HasStagedFree (freeing : Maker) (standing : Standing) : Type 0 where
+  pub keeps : standing.own ≡ lock_kept freeing.number
+  pub staged : standing.staged FreeStage ≡ Some free_text
+
+-- it has freed its lock
+abbrev pub HasFreed : Maker → Standing → Type 0
+HasFreed freeing standing = standing.own ≡ lock_freed freeing.number
+
+-- after the greatest lock was read: it is judged, or read as held
+abbrev pub StandsTold : Admission → Option Past → Token → Told → Type 0
+StandsTold admits told token (Judged judged) = StandsIn admits told token (HasJudged judged)
+StandsTold admits told token (Ask asking) = StandsIn admits told token (HasReadHeld asking)
+
+-- after the second listing: the session keeps its number, or was overtaken
+abbrev pub StandsConfirmed : Admission → Option Past → Token → Confirmed → Type 0
+StandsConfirmed admits told token (Keeper keeper) =
+    StandsIn admits told token (Keeps keeper KnowsAnything)
+StandsConfirmed admits told token (Loser loser) = StandsIn admits told token (WasOvertaken loser)

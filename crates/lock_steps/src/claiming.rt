@@ -1,0 +1,210 @@
+// The states in which a session makes a lock, and learns whether that is the greatest:
+//
+// 1. `Judged`: nobody keeps the greatest lock. `claim` makes the next, and leads to `Claimed`.
+// 2. `Claimed`: its create was done. `confirm` lists the locks, and leads to `Keeper` where its own
+//    is the greatest, to `Loser` where a greater one stands.
+// 3. `Loser`: a greater lock stands. `withdraw` removes its own, and no more is left.
+ghost use Rattle.std.specs.Prelude.{◌≡◌, ◌+◌, ◌<◌, IfOk, IsErrOf, Err, All};
+ghost use Rattle.acct_outside.specs.declared.Name.TheVariants.{Lock};
+ghost use Rattle.acct_outside.specs.Names.{greatest_lock};
+ghost use Rattle.acct_outside.specs.Calls.{lists, creates, removes};
+ghost use Rattle.acct_outside.specs.Faults.{CountsFailure};
+ghost use Rattle.acct_outside.specs.Contract.{IsLockNumber, locks_result};
+ghost use Rattle.suite_rules.specs.Steps.{StandsIn, MakesCall, AlwaysStaysLawful};
+ghost use Rattle.lock_steps.specs.Stands.{HasJudged, HasMade, WasOvertaken, StandsConfirmed};
+ghost use Rattle.lock_steps.specs.Outcomes.{folder_failed, Claims, Confirms, Withdraws};
+
+use crate::holder::Holder;
+use crate::keeping::{Keeper, Unknown};
+use crate::listing::greatest_of;
+use crate::{LockEnd, LockRefusal};
+use acct_outside::{Created, Folder, FolderFault, Name};
+use std::marker::Model;
+
+/// A session that may make the next lock, as nobody keeps the greatest.
+#[derive(Debug, Drop)]
+pub struct Judged {
+    holder: Holder,
+    greatest: u64,
+}
+
+impl Model for Judged {
+    ghost use Rattle.std.specs.Prelude.{◌<◌};
+    ghost use Rattle.acct_outside.specs.Names.{greatest_lock};
+    ghost use Rattle.lock_steps.specs.States.{Lister};
+
+    ghost Value = { Lister };
+
+    ghost view = { λ judged. record { token = judged.holder.token; greatest = judged.greatest } };
+
+    ghost invariant = { λ judged. judged.greatest < greatest_lock };
+}
+
+/// A session that has made the lock of its number.
+#[derive(Debug, Drop)]
+pub struct Claimed {
+    holder: Holder,
+    number: u64,
+}
+
+impl Model for Claimed {
+    ghost use Rattle.acct_outside.specs.Contract.{IsLockNumber};
+    ghost use Rattle.lock_steps.specs.States.{Maker};
+
+    ghost Value = { Maker };
+
+    ghost view = { λ claimed. record { token = claimed.holder.token; number = claimed.number } };
+
+    ghost invariant = { λ claimed. IsLockNumber claimed.number };
+}
+
+/// A session whose lock was outrun by a greater one.
+#[derive(Debug, Drop)]
+pub struct Loser {
+    holder: Holder,
+    number: u64,
+    greatest: u64,
+}
+
+impl Model for Loser {
+    ghost use Rattle.std.specs.Prelude.{◌<◌};
+    ghost use Rattle.acct_outside.specs.Contract.{IsLockNumber};
+    ghost use Rattle.lock_steps.specs.States.{Overtaken};
+
+    ghost Value = { Overtaken };
+
+    ghost view = { λ loser. record {
+      token = loser.holder.token;
+      number = loser.number;
+      greatest = loser.greatest;
+    } };
+
+    ghost invariant = { λ loser. IsLockNumber loser.number × (loser.number < loser.greatest) };
+}
+
+/// What the second listing showed.
+#[derive(Debug, Drop)]
+pub enum Confirmed {
+    /// The own lock is the greatest.
+    Keeper(Keeper<Unknown>),
+    /// A greater lock stands.
+    Loser(Loser),
+}
+
+impl Judged {
+    /// The session of this holder has judged the greatest lock, which has this number, 0 for none.
+    pub(crate) fn new(holder: Holder, greatest: u64) -> Self
+        requires { greatest < greatest_lock }
+        ensures { result ≡ record { token = holder.token; greatest = greatest } }
+    {
+        Judged { holder, greatest }
+    }
+
+    /// Makes the lock one above the greatest.
+    ///
+    /// At `Raced` another session made it first.
+    pub fn claim<F: Folder>(self, folder: &mut F) -> Result<Claimed, LockEnd>
+        requires { StandsIn (F.admits folder.old) (F.told folder.old) self.token
+            (HasJudged self) }
+        ensures call { MakesCall (F.admits folder.old) (F.admits folder.new) (F.told folder.old)
+            (F.told folder.new) self.token (creates (self.greatest + 1))
+            (λ answer. Claims self answer result) }
+        ensures next { IfOk result (λ claimed.
+            StandsIn (F.admits folder.new) (F.told folder.new) self.token (HasMade claimed)) }
+        ensures lawful { AlwaysStaysLawful (F.admits folder.old) (F.told folder.old)
+            (F.told folder.new) }
+        ensures faults { CountsFailure folder_failed (F.fault_count folder.old)
+            (F.fault_count folder.new) result }
+    {
+        let created = folder.create(&self.holder.token, self.greatest + 1);
+        self.after_create(created)
+    }
+
+    /// What the create leads to.
+    fn after_create(self, created: Result<Created, FolderFault>) -> Result<Claimed, LockEnd>
+        ensures shown { Claims self created result }
+        ensures failed { IsErrOf result folder_failed → IsErrOf created FolderFault.Failed }
+    {
+        let number = self.greatest + 1;
+        match created? {
+            Created::Done => Ok(Claimed {
+                holder: self.holder,
+                number,
+            }),
+            Created::Exists => Err(LockEnd::Refused(LockRefusal::Raced(number))),
+        }
+    }
+}
+
+impl Claimed {
+    /// Lists the locks again, to see whether the own one is the greatest.
+    ///
+    /// At `Outrun` neither the own lock nor a greater one is the greatest: the own was taken away.
+    pub fn confirm<F: Folder>(self, folder: &mut F) -> Result<Confirmed, LockEnd>
+        requires { StandsIn (F.admits folder.old) (F.told folder.old) self.token
+            (HasMade self) }
+        ensures call { MakesCall (F.admits folder.old) (F.admits folder.new) (F.told folder.old)
+            (F.told folder.new) self.token lists (λ answer. Confirms self answer result) }
+        ensures next { IfOk result
+            (StandsConfirmed (F.admits folder.new) (F.told folder.new) self.token) }
+        ensures lawful { AlwaysStaysLawful (F.admits folder.old) (F.told folder.old)
+            (F.told folder.new) }
+        ensures faults { CountsFailure folder_failed (F.fault_count folder.old)
+            (F.fault_count folder.new) result }
+    {
+        let listed = folder.locks(&self.holder.token);
+        self.after_listing(listed)
+    }
+
+    /// What the second listing leads to.
+    fn after_listing(self, listed: Result<Vec<u64>, FolderFault>) -> Result<Confirmed, LockEnd>
+        requires { IfOk listed (λ numbers. All IsLockNumber numbers.items) }
+        ensures shown { Confirms self (locks_result listed) result }
+        ensures failed { IsErrOf result folder_failed → IsErrOf listed FolderFault.Failed }
+    {
+        let numbers = listed?;
+        let greatest = greatest_of(&numbers);
+        if greatest < self.number {
+            return Err(LockEnd::Refused(LockRefusal::Outrun(self.number, greatest)));
+        }
+        if greatest > self.number {
+            return Ok(Confirmed::Loser(Loser {
+                holder: self.holder,
+                number: self.number,
+                greatest,
+            }));
+        }
+        Ok(Confirmed::Keeper(Keeper::of_listing(self.holder, self.number, numbers)))
+    }
+}
+
+impl Loser {
+    /// Removes the own lock, and refuses with `Outrun`, its number and that of the greatest.
+    ///
+    /// At `Folder` the lock may stand.
+    pub fn withdraw<F: Folder>(self, folder: &mut F) -> LockEnd
+        requires { StandsIn (F.admits folder.old) (F.told folder.old) self.token
+            (WasOvertaken self) }
+        ensures call { MakesCall (F.admits folder.old) (F.admits folder.new) (F.told folder.old)
+            (F.told folder.new) self.token (removes (Lock self.number))
+            (λ answer. Withdraws self answer result) }
+        ensures lawful { AlwaysStaysLawful (F.admits folder.old) (F.told folder.old)
+            (F.told folder.new) }
+        ensures faults { CountsFailure {T = Unit {0}} folder_failed (F.fault_count folder.old)
+            (F.fault_count folder.new) (Err result) }
+    {
+        let removed = folder.remove(&self.holder.token, Name::Lock(self.number));
+        self.after_removal(removed)
+    }
+
+    /// What the removal leads to.
+    fn after_removal(self, removed: Result<(), FolderFault>) -> LockEnd
+        ensures shown { Withdraws self removed result }
+        ensures failed { result ≡ folder_failed → IsErrOf removed FolderFault.Failed }
+    {
+        match removed {
+            Ok(()) => LockEnd::Refused(LockRefusal::Outrun(self.number, self.greatest)),
+            Err(fault) => LockEnd::Folder(fault),
+        }
+    }
+}

@@ -1,0 +1,251 @@
+// The states of a keeper, the one session that may change the account files:
+//
+// 1. `Keeper`: its lock is the greatest. `clean_next` removes the lower locks one by one.
+//    `stage_free` leads to `Freeing`.
+// 2. `Freeing`: the text that frees its lock is staged. `move_free` leads to `Ended`.
+// 3. `Ended`: its lock is free. Only the answer of the session is left.
+ghost use Rattle.std.specs.Prelude.{◌≡◌, ◌<◌, IfOk, IsErrOf, length, nat_lt, slice_index, filter, All};
+ghost use Rattle.acct_outside.specs.declared.Name.TheVariants.{FreeStage, Lock};
+ghost use Rattle.acct_outside.specs.Tokens.{free_text};
+ghost use Rattle.acct_outside.specs.Calls.{writes, renames, removes};
+ghost use Rattle.acct_outside.specs.Faults.{CountsFailure};
+ghost use Rattle.acct_outside.specs.Contract.{IsLockNumber};
+ghost use Rattle.suite_rules.specs.Knowledge.{Knowledge};
+ghost use Rattle.suite_rules.specs.Steps.{StandsIn, MakesCall, AlwaysStaysLawful, Leaves, work};
+ghost use Rattle.lock_steps.specs.Stands.{Keeps, KnowsAnything, KnowsNone, HasStagedFree, HasFreed};
+ghost use Rattle.lock_steps.specs.Outcomes.{LeadsTo, cleaned_once, freeing_of, the_end};
+
+use crate::holder::Holder;
+use acct_outside::{Folder, FolderFault, Name, Token};
+use std::collections::VecDeque;
+use std::marker::{Model, PhantomData};
+
+/// What a keeper knows of the intent.
+pub trait Knowing {
+    /// Such is its knowledge, where the folder tells its history.
+    ghost knows: { Knowledge → Type 0 };
+}
+
+/// A keeper may know anything of the intent, or nothing.
+#[derive(Clone, Copy, Debug)]
+pub struct Unknown;
+
+impl Knowing for Unknown {
+    ghost knows = { KnowsAnything };
+}
+
+/// A keeper knows that no intent stands.
+#[derive(Clone, Copy, Debug)]
+pub struct Clean;
+
+impl Knowing for Clean {
+    ghost knows = { KnowsNone };
+}
+
+/// The session whose lock is the greatest, and what it knows of the intent.
+#[derive(Debug, Drop)]
+pub struct Keeper<K> {
+    holder: Holder,
+    number: u64,
+    lower: VecDeque<u64>,
+    knowing: PhantomData<K>,
+}
+
+impl<K> Model for Keeper<K> {
+    ghost use Rattle.std.specs.Prelude.{◌<◌, ◌≤◌, All};
+    ghost use Rattle.acct_outside.specs.Contract.{IsLockNumber};
+    ghost use Rattle.lock_steps.specs.States.{Kept};
+
+    ghost Value = { Kept };
+
+    ghost view = { λ keeper. record {
+      token = keeper.holder.token;
+      number = keeper.number;
+      lower = keeper.lower.items;
+    } };
+
+    ghost invariant = { λ keeper.
+        IsLockNumber keeper.number
+        × All (λ other. (1 ≤ other) × (other < keeper.number)) keeper.lower.items };
+}
+
+/// A keeper that has staged the text with which it frees its lock.
+#[derive(Debug, Drop)]
+pub struct Freeing {
+    holder: Holder,
+    number: u64,
+}
+
+impl Model for Freeing {
+    ghost use Rattle.acct_outside.specs.Contract.{IsLockNumber};
+    ghost use Rattle.lock_steps.specs.States.{Maker};
+
+    ghost Value = { Maker };
+
+    ghost view = { λ freeing. record { token = freeing.holder.token; number = freeing.number } };
+
+    ghost invariant = { λ freeing. IsLockNumber freeing.number };
+}
+
+/// The lock is free, and only the answer of the session is left.
+#[derive(Clone, Copy, Debug, PartialEq, Eq)]
+pub struct Ended;
+
+impl Keeper<Unknown> {
+    /// The keeper of the number, where these locks are listed.
+    pub(crate) fn of_listing(holder: Holder, number: u64, mut numbers: Vec<u64>) -> Self
+        requires number { IsLockNumber number }
+        requires numbers { All IsLockNumber numbers.items }
+        ensures { result ≡ record {
+          token = holder.token;
+          number = number;
+          lower = filter (λ other. nat_lt other number) numbers.items;
+        } }
+    {
+        numbers.retain(|other| *other < number);
+        Keeper {
+            holder,
+            number,
+            lower: VecDeque::from(numbers),
+            knowing: PhantomData,
+        }
+    }
+
+    /// Says that the keeper knows that no intent stands. The folder stays as it is.
+    pub fn cleaned<F: Folder>(self, folder: &F) -> Keeper<Clean>
+        requires { StandsIn (F.admits folder.now) (F.told folder.now) self.token
+            (Keeps self KnowsNone) }
+        ensures value { result ≡ self }
+        ensures clean { StandsIn (F.admits folder.now) (F.told folder.now) self.token
+            (Keeps result KnowsNone) }
+    {
+        let _ = folder;
+        Keeper {
+            holder: self.holder,
+            number: self.number,
+            lower: self.lower,
+            knowing: PhantomData,
+        }
+    }
+}
+
+impl<K: Knowing> Keeper<K> {
+    /// How many of the lower locks are left to remove.
+    pub fn lower(&self) -> usize
+        ensures { result ≡ length self.now.lower }
+    {
+        self.lower.len()
+    }
+
+    /// The number of its lock, from 1 to 999999999999999999.
+    pub fn number(&self) -> u64
+        ensures value { result ≡ self.now.number }
+        ensures bounds { IsLockNumber result }
+    {
+        self.number
+    }
+
+    /// The token of its session.
+    pub fn token(&self) -> &Token
+        ensures { result.now ≡ self.now.token }
+    {
+        &self.holder.token
+    }
+
+    /// Removes the first of the lower locks that are left, in the order of the second listing.
+    ///
+    /// At a fault the keeper is spent.
+    pub fn clean_next<F: Folder>(self, folder: &mut F) -> Result<Self, FolderFault>
+        requires left { 0 < length self.lower }
+        requires stands { StandsIn (F.admits folder.old) (F.told folder.old) self.token
+            (Keeps self K.knows) }
+        ensures call { MakesCall (F.admits folder.old) (F.admits folder.new) (F.told folder.old)
+            (F.told folder.new) self.token (removes (Lock (slice_index self.lower 0)))
+            (λ answer. LeadsTo (cleaned_once self) answer result) }
+        ensures next { IfOk result (λ keeper.
+            StandsIn (F.admits folder.new) (F.told folder.new) self.token (Keeps keeper K.knows)) }
+        ensures work { Leaves work self.token (F.told folder.old) (F.told folder.new) }
+        ensures lawful { AlwaysStaysLawful (F.admits folder.old) (F.told folder.old)
+            (F.told folder.new) }
+        ensures faults { CountsFailure FolderFault.Failed
+            (F.fault_count folder.old) (F.fault_count folder.new) result }
+    {
+        let removed = folder.remove(&self.holder.token, Name::Lock(self.lower[0]));
+        self.after_removal(removed)
+    }
+
+    /// What the removal of the first lower lock leads to.
+    fn after_removal(mut self, removed: Result<(), FolderFault>) -> Result<Self, FolderFault>
+        ensures shown { LeadsTo (cleaned_once self) removed result }
+        ensures failed { IsErrOf result FolderFault.Failed → IsErrOf removed FolderFault.Failed }
+    {
+        removed?;
+        let _ = self.lower.pop_front();
+        Ok(self)
+    }
+
+    /// Writes the text that frees its lock.
+    ///
+    /// At a fault the keeper is spent, and its lock stands.
+    pub fn stage_free<F: Folder>(self, folder: &mut F) -> Result<Freeing, FolderFault>
+        requires { StandsIn (F.admits folder.old) (F.told folder.old) self.token
+            (Keeps self K.knows) }
+        ensures call { MakesCall (F.admits folder.old) (F.admits folder.new) (F.told folder.old)
+            (F.told folder.new) self.token (writes FreeStage free_text)
+            (λ answer. LeadsTo (freeing_of self) answer result) }
+        ensures next { IfOk result (λ freeing.
+            StandsIn (F.admits folder.new) (F.told folder.new) self.token (HasStagedFree freeing)) }
+        ensures work { Leaves work self.token (F.told folder.old) (F.told folder.new) }
+        ensures lawful { AlwaysStaysLawful (F.admits folder.old) (F.told folder.old)
+            (F.told folder.new) }
+        ensures faults { CountsFailure FolderFault.Failed
+            (F.fault_count folder.old) (F.fault_count folder.new) result }
+    {
+        let written = folder.write(&self.holder.token, Name::FreeStage, &self.holder.free);
+        self.after_write(written)
+    }
+
+    /// What the write of the free text leads to.
+    fn after_write(self, written: Result<(), FolderFault>) -> Result<Freeing, FolderFault>
+        ensures shown { LeadsTo (freeing_of self) written result }
+        ensures failed { IsErrOf result FolderFault.Failed → IsErrOf written FolderFault.Failed }
+    {
+        written?;
+        Ok(Freeing {
+            holder: self.holder,
+            number: self.number,
+        })
+    }
+}
+
+impl Freeing {
+    /// Moves the staged text to its lock, which is free then.
+    ///
+    /// At a fault the lock may be held or free.
+    pub fn move_free<F: Folder>(self, folder: &mut F) -> Result<Ended, FolderFault>
+        requires { StandsIn (F.admits folder.old) (F.told folder.old) self.token
+            (HasStagedFree self) }
+        ensures call { MakesCall (F.admits folder.old) (F.admits folder.new) (F.told folder.old)
+            (F.told folder.new) self.token (renames FreeStage (Lock self.number))
+            (λ answer. LeadsTo the_end answer result) }
+        ensures next { IfOk result (λ _.
+            StandsIn (F.admits folder.new) (F.told folder.new) self.token (HasFreed self)) }
+        ensures work { Leaves work self.token (F.told folder.old) (F.told folder.new) }
+        ensures lawful { AlwaysStaysLawful (F.admits folder.old) (F.told folder.old)
+            (F.told folder.new) }
+        ensures faults { CountsFailure FolderFault.Failed
+            (F.fault_count folder.old) (F.fault_count folder.new) result }
+    {
+        let moved = folder.rename(&self.holder.token, Name::FreeStage, Name::Lock(self.number));
+        self.after_move(moved)
+    }
+
+    /// What the move of the free text leads to.
+    fn after_move(self, moved: Result<(), FolderFault>) -> Result<Ended, FolderFault>
+        ensures shown { LeadsTo the_end moved result }
+        ensures failed { IsErrOf result FolderFault.Failed → IsErrOf moved FolderFault.Failed }
+    {
+        moved?;
+        Ok(Ended)
+    }
+}
