@@ -1,0 +1,46 @@
+use Rattle.std.proofs.Common.{refl}
+use Rattle.acct_outside.specs.declared.Name.TheVariants.{Intent}
+use Rattle.acct_outside.specs.Calls.{reads}
+use Rattle.acct_outside.specs.Contract.{found_result}
+use Rattle.suite_rules.specs.Rules.{free_read}
+use Rattle.suite_rules.proofs.StepLemmas.{makes-call, leaves, stays-lawful, read-tells}
+use Rattle.lock_steps.specs.Stands.{Keeps, KnowsAnything}
+use Rattle.recovery.specs.Stands.{own_command}
+use Rattle.recovery.proofs.OutcomesLemmas.{told-of, read-leads, read-refuses, absent-clean}
+use Rattle.recovery.proofs.reading.read_intent.Goals as goal
+
+pub after_read-requires : goal.after_read-requires
+after_read-requires g c = λ absent.
+    let token = c.args.keeper.token in
+    let found = c.read-found.result in
+    absent-clean _ _ c.read-found.ensures.narrows token _ _ c.args.keeper found absent c.requires
+    (told-of _ _ _ _ token (reads Intent) (found_result found) c.token.ensures
+    (read-tells _ _ Intent found _ _ c.read-found.ensures.told))
+
+pub returns : goal.returns
+returns g c =
+    let token = c.args.keeper.token in
+    let found = c.read-found.result in
+    let answer = found_result found in
+    let keeps = Keeps c.args.keeper KnowsAnything in
+    let narrows = c.read-found.ensures.narrows in
+    let counts = c.read-found.ensures.faults in
+    let shown = c.after_read.ensures.shown in
+    let told = told-of _ _ _ _ token (reads Intent) answer c.token.ensures
+    (read-tells _ _ Intent found _ _ c.read-found.ensures.told) in
+    record {
+      call = makes-call _ _ narrows token (reads Intent) tt keeps _
+          answer _ _ c.requires told shown;
+      next = read-leads _ _ narrows token _ _ c.args.keeper
+          answer c.after_read.result shown c.requires told;
+      refused = read-refuses _ _ narrows token _ _ c.args.keeper
+          answer c.after_read.result shown c.requires told;
+      own = leaves _ _ narrows token (reads Intent) tt keeps
+          own_command (λ result stood held. refl) answer _ _ c.requires told;
+      lawful = λ deeds. stays-lawful deeds _ token (reads Intent) tt keeps
+          (λ stood kept. free_read Intent) answer _ _ c.requires told;
+      faults = record {
+        never_falls = counts.never_falls;
+        failed = λ is. counts.failed (c.after_read.ensures.failed is);
+      };
+    }

@@ -1,0 +1,60 @@
+-- The standing of a session in each state of a recovery (docs/ARCHITECTURE.md, "Typed steps"). Each
+-- is found from the session's own events alone.
+use Rattle.std.specs.Prelude.{◌≡◌, true, List, ◌++◌, slice_get, All, Option, Some, IfSome, ⊤}
+use Rattle.acct_outside.specs.declared.Name.TheVariants.{Staged}
+use Rattle.acct_outside.specs.Tokens.{Token}
+use Rattle.acct_outside.specs.Others.{Admission}
+use Rattle.acct_outside.specs.Contract.{Past}
+use Rattle.acct_outside.specs.Calls.{Command}
+use Rattle.intent_file.specs.Intent.{NewTable}
+use Rattle.suite_rules.specs.Knowledge.{Knowledge, nothing_seen, knows_none}
+use Rattle.suite_rules.specs.Standing.{Standing, Commit}
+use Rattle.suite_rules.specs.Rules.{KnowsIntent}
+use Rattle.suite_rules.specs.Steps.{StandsIn}
+use Rattle.lock_steps.specs.Stands.{Keeps, KnowsAnything}
+use Rattle.recovery.specs.declared.IntentSeen.{IntentSeen}
+use Rattle.recovery.specs.declared.IntentSeen.TheVariants.{Clean, Listed}
+use Rattle.recovery.specs.declared.RecoveryEnd.{RecoveryEnd}
+use Rattle.recovery.specs.declared.RecoveryEnd.TheVariants.{Fault, Damaged, TooLarge}
+use Rattle.recovery.specs.States.{Recoverer}
+
+-- it knows that no intent stands, and has seen no file since it came to know that
+abbrev pub KnowsNoneYet : Knowledge → Type 0
+KnowsNoneYet knows = knows ≡ knows_none nothing_seen
+
+-- It keeps its number and knows an intent that reads. The tables that the intent lists are first
+-- those that it has put in place, and then those that are left.
+pub record Recovers (recovering : Recoverer) (standing : Standing) : Type 0 where
+  pub keeps : Keeps recovering.keeper KnowsAnything standing
+  pub knows : KnowsIntent standing
+  pub moved : List NewTable
+  pub lists : knows.intent.tables ≡ moved ++ recovering.left
+  pub in_place : All (λ new. knows.placed new.table ≡ true) moved
+
+-- it recovers, and has staged the bytes of the first table that is left
+pub record HasStagedNext (recovering : Recoverer) (standing : Standing) : Type 0 where
+  pub recovers : Recovers recovering standing
+  pub staged : IfSome (slice_get recovering.left 0)
+      (λ next. standing.staged (Staged next.table) ≡ Some next.bytes)
+
+-- what the session itself was asked, and how far it is with its commit of that
+pub record OwnCommand : Type 0 where
+  pub command : Option Command
+  pub commit : Commit
+
+-- the part of a standing that a recovery, which carries out what another session was asked, leaves
+abbrev pub own_command : Standing → OwnCommand
+own_command standing = record { command = standing.command; commit = standing.commit }
+
+-- after the read of the intent: none stands, or all tables of the one that stands are left
+abbrev pub StandsSeen : Admission → Option Past → Token → IntentSeen → Type 0
+StandsSeen admits told token (Clean keeper) = StandsIn admits told token (Keeps keeper KnowsNoneYet)
+StandsSeen admits told token (Listed recovering) = StandsIn admits told token (Recovers recovering)
+
+-- after a read of the intent that leads no further: a refusal hands the keeper back
+abbrev pub StandsRefused : Admission → Option Past → Token → RecoveryEnd → Type 0
+StandsRefused admits told token (Fault fault) = ⊤
+StandsRefused admits told token (Damaged part keeper) =
+    StandsIn admits told token (Keeps keeper KnowsAnything)
+StandsRefused admits told token (TooLarge keeper) =
+    StandsIn admits told token (Keeps keeper KnowsAnything)

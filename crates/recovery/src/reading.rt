@@ -1,0 +1,96 @@
+// The read of the intent, from `Keeper<Unknown>` to `Recovering`, or to `Keeper<Clean>` where none
+// stands.
+ghost use Rattle.std.specs.Prelude.{◌≡◌, IfOk, IfErr, IsErrOf, Ok};
+ghost use Rattle.acct_outside.specs.Calls.{reads};
+ghost use Rattle.acct_outside.specs.Contract.{found_result};
+ghost use Rattle.acct_outside.specs.Faults.{CountsFailure};
+ghost use Rattle.suite_rules.specs.Steps.{StandsIn, MakesCall, AlwaysStaysLawful, Leaves};
+ghost use Rattle.lock_steps.specs.Stands.{Keeps, KnowsAnything, KnowsNone};
+ghost use Rattle.recovery.specs.Stands.{StandsSeen, StandsRefused, own_command};
+ghost use Rattle.recovery.specs.Outcomes.{FindsIntent, ReadsBytes, before_commit, failed_before};
+
+use crate::recovering::Recovering;
+use crate::{IntentSeen, RecoveryEnd};
+use acct_outside::{CommitStage, Folder, FolderFault, Found, Name, StageFault};
+use intent_file::{Intent, IntentFault};
+use lock_steps::{Keeper, Unknown};
+use std::alloc::Global;
+
+/// The most bytes of an intent that are read.
+const INTENT_LIMIT: u64 = 100_664_320;
+
+/// Reads the intent.
+///
+/// At `Damaged` it doesn't read, and at `TooLarge` it has more than 100,664,320 bytes; both hand the
+/// keeper back. `Fault` says that the folder failed, or that memory ran out for the read or, after
+/// it, for the listed tables.
+pub fn read_intent<F: Folder>(
+    alloc: Global,
+    keeper: Keeper<Unknown>,
+    folder: &mut F,
+) -> Result<IntentSeen, RecoveryEnd>
+    requires { StandsIn (F.admits folder.old) (F.told folder.old) keeper.token
+        (Keeps keeper KnowsAnything) }
+    ensures call { MakesCall (F.admits folder.old) (F.admits folder.new) (F.told folder.old)
+        (F.told folder.new) keeper.token (reads Name.Intent)
+        (λ answer. FindsIntent keeper answer result) }
+    ensures next { IfOk result
+        (StandsSeen (F.admits folder.new) (F.told folder.new) keeper.token) }
+    ensures refused { IfErr result
+        (StandsRefused (F.admits folder.new) (F.told folder.new) keeper.token) }
+    ensures own { Leaves own_command keeper.token (F.told folder.old) (F.told folder.new) }
+    ensures lawful { AlwaysStaysLawful (F.admits folder.old) (F.told folder.old)
+        (F.told folder.new) }
+    ensures faults { CountsFailure (RecoveryEnd.Fault failed_before)
+        (F.fault_count folder.old) (F.fault_count folder.new) result }
+{
+    let found = folder.read(keeper.token(), Name::Intent, INTENT_LIMIT);
+    after_read(alloc, keeper, folder, found)
+}
+
+/// What the read of the intent leads to.
+fn after_read<F: Folder>(
+    alloc: Global,
+    keeper: Keeper<Unknown>,
+    folder: &F,
+    found: Result<Found, FolderFault>,
+) -> Result<IntentSeen, RecoveryEnd>
+    requires { found ≡ Ok Found.Absent →
+        StandsIn (F.admits folder.now) (F.told folder.now) keeper.token (Keeps keeper KnowsNone) }
+    ensures shown { FindsIntent keeper (found_result found) result }
+    ensures failed { IsErrOf result (RecoveryEnd.Fault failed_before)
+        → IsErrOf found FolderFault.Failed }
+{
+    match found {
+        Ok(Found::Absent) => Ok(IntentSeen::Clean(keeper.cleaned(folder))),
+        Ok(Found::Held(bytes)) => after_bytes(alloc, keeper, bytes.as_slice()),
+        Ok(Found::TooLarge) => Err(RecoveryEnd::TooLarge(keeper)),
+        Err(fault) => Err(RecoveryEnd::Fault(at_before(fault))),
+    }
+}
+
+/// What the bytes of an intent lead to.
+fn after_bytes(
+    alloc: Global,
+    keeper: Keeper<Unknown>,
+    bytes: &[u8],
+) -> Result<IntentSeen, RecoveryEnd>
+    ensures shown { ReadsBytes keeper bytes.now result }
+    ensures failed { ¬ (IsErrOf result (RecoveryEnd.Fault failed_before)) }
+{
+    match Intent::read(alloc, bytes) {
+        Ok(intent) => Ok(IntentSeen::Listed(Recovering::new(keeper, intent))),
+        Err(IntentFault::Part(part)) => Err(RecoveryEnd::Damaged(part, keeper)),
+        Err(IntentFault::Memory) => Err(RecoveryEnd::Fault(at_before(FolderFault::Memory))),
+    }
+}
+
+/// The fault of the folder, before the session's own commit.
+pub(crate) fn at_before(fault: FolderFault) -> StageFault
+    ensures { result ≡ before_commit fault }
+{
+    StageFault {
+        fault,
+        stage: CommitStage::Before,
+    }
+}

@@ -1,0 +1,206 @@
+// The states of a keeper that carries out an intent that stands and reads:
+//
+// 1. `Recovering`: the tables that were moved are in place, the others of the list are left.
+//    `stage_next` writes the bytes of the first that is left, and leads to `Moving`.
+// 2. `Moving`: these bytes are staged. `move_next` moves them to their table, and leads back to
+//    `Recovering` with one table less.
+// 3. `Keeper<Clean>`: no table is left. `remove_intent` leads to it from `Recovering`.
+ghost use Rattle.std.specs.Prelude.{◌≡◌, ◌<◌, length, slice_get, IfOk, IfSome, IsErrOf, OnOk, Some};
+ghost use Rattle.acct_outside.specs.Calls.{removes};
+ghost use Rattle.acct_outside.specs.Faults.{CountsFailure};
+ghost use Rattle.suite_rules.specs.Steps.{StandsIn, MakesCall, AlwaysStaysLawful, Leaves};
+ghost use Rattle.lock_steps.specs.Stands.{Keeps, KnowsNone};
+ghost use Rattle.recovery.specs.States.{moved_once};
+ghost use Rattle.recovery.specs.Stands.{Recovers, HasStagedNext, KnowsNoneYet, own_command};
+ghost use Rattle.recovery.specs.Outcomes.{LeadsTo, failed_before, stages, installs};
+
+use crate::reading::at_before;
+use acct_outside::{Folder, FolderFault, Name, StageFault, Token};
+use intent_file::{Intent, NewTable};
+use lock_steps::{Clean, Keeper, Unknown};
+use std::collections::VecDeque;
+use std::marker::Model;
+
+/// A keeper that carries out the intent, with the tables that are left.
+#[derive(Debug, Drop)]
+pub struct Recovering {
+    keeper: Keeper<Unknown>,
+    left: VecDeque<NewTable>,
+}
+
+impl Model for Recovering {
+    ghost use Rattle.recovery.specs.States.{Recoverer};
+
+    ghost Value = { Recoverer };
+
+    ghost view = { λ recovering. record {
+      keeper = recovering.keeper;
+      left = recovering.left.items;
+    } };
+}
+
+/// A keeper that has staged the bytes of the first table that is left.
+#[derive(Debug, Drop)]
+pub struct Moving {
+    recovering: Recovering,
+}
+
+impl Model for Moving {
+    ghost use Rattle.std.specs.Prelude.{◌<◌, length};
+    ghost use Rattle.recovery.specs.States.{Recoverer};
+
+    ghost Value = { Recoverer };
+
+    ghost view = { λ moving. moving.recovering };
+
+    ghost invariant = { λ moving. 0 < length moving.recovering.left };
+}
+
+impl Recovering {
+    /// The recovery of an intent of which no table is moved.
+    pub(crate) fn new(keeper: Keeper<Unknown>, intent: Intent) -> Self
+        ensures { result ≡ record { keeper = keeper; left = intent.tables } }
+    {
+        Recovering {
+            keeper,
+            left: VecDeque::from(intent.into_tables()),
+        }
+    }
+
+    /// How many of the listed tables are left to move.
+    pub fn left(&self) -> usize
+        ensures { result ≡ length self.now.left }
+    {
+        self.left.len()
+    }
+
+    /// The token of its session.
+    fn token(&self) -> &Token
+        ensures { result.now ≡ self.now.keeper.token }
+    {
+        self.keeper.token()
+    }
+
+    /// The first of the tables that are left.
+    fn next(&self) -> &NewTable
+        requires { 0 < length self.now.left }
+        ensures { slice_get self.now.left 0 ≡ Some result.now }
+    {
+        &self.left[0]
+    }
+
+    /// Writes the bytes of the first table that is left to its staging name.
+    ///
+    /// At a fault the keeper is spent, and the intent stands.
+    pub fn stage_next<F: Folder>(self, folder: &mut F) -> Result<Moving, StageFault>
+        requires left { 0 < length self.left }
+        requires stands { StandsIn (F.admits folder.old) (F.told folder.old) self.keeper.token
+            (Recovers self) }
+        ensures call { IfSome (slice_get self.left 0) (λ next.
+            MakesCall (F.admits folder.old) (F.admits folder.new) (F.told folder.old)
+            (F.told folder.new) self.keeper.token (stages next)
+            (λ answer. LeadsTo self answer result)) }
+        ensures next { IfOk result (λ moving. StandsIn (F.admits folder.new) (F.told folder.new)
+            self.keeper.token (HasStagedNext moving)) }
+        ensures own { Leaves own_command self.keeper.token (F.told folder.old) (F.told folder.new) }
+        ensures lawful { AlwaysStaysLawful (F.admits folder.old) (F.told folder.old)
+            (F.told folder.new) }
+        ensures faults { CountsFailure failed_before
+            (F.fault_count folder.old) (F.fault_count folder.new) result }
+    {
+        let next = self.next();
+        let written = folder.write(self.token(), Name::Staged(next.table), &next.bytes);
+        self.after_write(written)
+    }
+
+    /// What the write of the next table's bytes leads to.
+    fn after_write(self, written: Result<(), FolderFault>) -> Result<Moving, StageFault>
+        requires { 0 < length self.left }
+        ensures shown { LeadsTo self written result }
+        ensures failed { IsErrOf result failed_before → IsErrOf written FolderFault.Failed }
+    {
+        match written {
+            Ok(()) => Ok(Moving { recovering: self }),
+            Err(fault) => Err(at_before(fault)),
+        }
+    }
+
+    /// What the move of the next table leads to.
+    fn after_move(mut self, moved: Result<(), FolderFault>) -> Result<Self, StageFault>
+        ensures shown { LeadsTo (moved_once self) moved result }
+        ensures failed { IsErrOf result failed_before → IsErrOf moved FolderFault.Failed }
+    {
+        match moved {
+            Ok(()) => {
+                let _ = self.left.pop_front();
+                Ok(self)
+            }
+            Err(fault) => Err(at_before(fault)),
+        }
+    }
+
+    /// Removes the intent, once no table is left.
+    ///
+    /// At a fault the keeper is spent, and the intent may stand.
+    pub fn remove_intent<F: Folder>(self, folder: &mut F) -> Result<Keeper<Clean>, StageFault>
+        requires left { length self.left ≡ 0 }
+        requires stands { StandsIn (F.admits folder.old) (F.told folder.old) self.keeper.token
+            (Recovers self) }
+        ensures call { MakesCall (F.admits folder.old) (F.admits folder.new) (F.told folder.old)
+            (F.told folder.new) self.keeper.token (removes Name.Intent)
+            (λ answer. LeadsTo self.keeper answer result) }
+        ensures next { IfOk result (λ keeper. StandsIn (F.admits folder.new) (F.told folder.new)
+            self.keeper.token (Keeps keeper KnowsNoneYet)) }
+        ensures own { Leaves own_command self.keeper.token (F.told folder.old) (F.told folder.new) }
+        ensures lawful { AlwaysStaysLawful (F.admits folder.old) (F.told folder.old)
+            (F.told folder.new) }
+        ensures faults { CountsFailure failed_before
+            (F.fault_count folder.old) (F.fault_count folder.new) result }
+    {
+        let removed = folder.remove(self.token(), Name::Intent);
+        self.after_removal(folder, removed)
+    }
+
+    /// What the removal of the intent leads to.
+    fn after_removal<F: Folder>(
+        self,
+        folder: &F,
+        removed: Result<(), FolderFault>,
+    ) -> Result<Keeper<Clean>, StageFault>
+        requires { OnOk removed (StandsIn (F.admits folder.now) (F.told folder.now)
+            self.keeper.token (Keeps self.keeper KnowsNone)) }
+        ensures shown { LeadsTo self.keeper removed result }
+        ensures failed { IsErrOf result failed_before → IsErrOf removed FolderFault.Failed }
+    {
+        match removed {
+            Ok(()) => Ok(self.keeper.cleaned(folder)),
+            Err(fault) => Err(at_before(fault)),
+        }
+    }
+}
+
+impl Moving {
+    /// Moves the staged bytes to their table, which is in place then.
+    ///
+    /// At a fault the keeper is spent, and the intent stands.
+    pub fn move_next<F: Folder>(self, folder: &mut F) -> Result<Recovering, StageFault>
+        requires { StandsIn (F.admits folder.old) (F.told folder.old) self.keeper.token
+            (HasStagedNext self) }
+        ensures call { IfSome (slice_get self.left 0) (λ next.
+            MakesCall (F.admits folder.old) (F.admits folder.new) (F.told folder.old)
+            (F.told folder.new) self.keeper.token (installs next)
+            (λ answer. LeadsTo (moved_once self) answer result)) }
+        ensures next { IfOk result (λ recovering. StandsIn (F.admits folder.new)
+            (F.told folder.new) self.keeper.token (Recovers recovering)) }
+        ensures own { Leaves own_command self.keeper.token (F.told folder.old) (F.told folder.new) }
+        ensures lawful { AlwaysStaysLawful (F.admits folder.old) (F.told folder.old)
+            (F.told folder.new) }
+        ensures faults { CountsFailure failed_before
+            (F.fault_count folder.old) (F.fault_count folder.new) result }
+    {
+        let token = self.recovering.token();
+        let table = self.recovering.next().table;
+        let moved = folder.rename(token, Name::Staged(table), Name::Table(table));
+        self.recovering.after_move(moved)
+    }
+}
