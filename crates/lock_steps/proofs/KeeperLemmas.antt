@@ -1,16 +1,18 @@
 -- Claim: a keeper's call on other files leaves its lock and the lower locks, whatever it answered,
 -- so that it stands as a keeper with what it knows then (`keeps-aside`). Way: such a call is no
 -- listing, no verdict, no create, no read of a lock and no move of the free text, so it changes
--- neither the own lock (`own-aside`) nor the last listing (`listing-aside`).
+-- neither the own lock (`own-aside`) nor the last listing (`listing-aside`). It is keeper as the
+-- rules ask (`is-keeper`).
 use Rattle.std.proofs.Common.{◌≡◌, refl, sym, subst, ◌∙◌, Option}
 use Rattle.acct_outside.specs.declared.Name.TheVariants.{FreeStage, Lock}
 use Rattle.acct_outside.specs.Calls.{Call, Answer, CallResult, lists, reads, asks, creates, renames, done}
 use Rattle.suite_rules.specs.OwnLock.{OwnLock, own_step}
 use Rattle.suite_rules.specs.Listing.{Listing, listing_step}
-use Rattle.suite_rules.specs.Knowledge.{Knowledge, knows_step}
+use Rattle.suite_rules.specs.Knowledge.{Knowledge, nothing_seen, knows_step}
 use Rattle.suite_rules.specs.Standing.{Standing, standing_step}
+use Rattle.suite_rules.specs.Rules.{KeeperRule}
 use Rattle.lock_steps.specs.States.{Kept}
-use Rattle.lock_steps.specs.Stands.{Keeps}
+use Rattle.lock_steps.specs.Stands.{Keeps, KnowsNone, KnowsNoneYet}
 use Rattle.lock_steps.proofs.StandsLemmas.{kept-part}
 
 -- the call is on other files than the locks
@@ -59,3 +61,30 @@ keeps-aside keeper Knows Knew call aside result stood knows held = record {
       held.locks.owns))
       knows;
 }
+
+-- a keeper whose own lock and listing stay keeps its number, whatever it knows now
+pub keeps-on : (keeper : Kept) (Knew Knows : Knowledge → Type 0) (stood now : Standing) →
+    now.own ≡ stood.own → now.listing ≡ stood.listing → Keeps keeper Knew stood →
+    Knows now.knows → Keeps keeper Knows now
+keeps-on keeper Knew Knows stood now same_own same_listing keeps knows = record {
+  locks = record {
+    owns = same_own ∙ keeps.locks.owns;
+    listing = keeps.locks.listing;
+    listed = same_listing ∙ keeps.locks.listed;
+    is_greatest = keeps.locks.is_greatest;
+    is_such = keeps.locks.is_such;
+  };
+  knows = knows;
+}
+
+-- a keeper keeps its number, as the rules ask
+pub is-keeper : (keeper : Kept) (Knows : Knowledge → Type 0) (stood : Standing) →
+    Keeps keeper Knows stood → KeeperRule stood
+is-keeper keeper Knows stood keeps =
+    record { number = keeper.number; keeps = keeps.locks.owns }
+
+-- a keeper that has seen nothing yet knows that no intent stands
+pub clean-is-clean : (keeper : Kept) (stood : Standing) → Keeps keeper KnowsNoneYet stood →
+    Keeps keeper KnowsNone stood
+clean-is-clean keeper stood keeps =
+    record { locks = keeps.locks; knows = (nothing_seen, keeps.knows) }

@@ -8,7 +8,7 @@ use Rattle.acct_outside.specs.Tokens.{Token, free_text}
 use Rattle.acct_outside.specs.Folder.{greatest}
 use Rattle.suite_rules.specs.OwnLock.{OwnLock, lock_uncalled, lock_made, lock_kept, lock_freed}
 use Rattle.suite_rules.specs.Listing.{Listing, is_held_in}
-use Rattle.suite_rules.specs.Knowledge.{Seen, Knowledge, knows_none}
+use Rattle.suite_rules.specs.Knowledge.{Seen, Knowledge, nothing_seen, knows_none}
 use Rattle.suite_rules.specs.Standing.{Standing}
 use Rattle.suite_rules.specs.Steps.{StandsIn}
 use Rattle.lock_steps.specs.declared.judging.Told.{Told}
@@ -74,6 +74,10 @@ KnowsAnything knows = Unit {0}
 -- it knows that no intent stands
 abbrev pub KnowsNone : Knowledge → Type 0
 KnowsNone knows = (seen : Seen) × (knows ≡ knows_none seen)
+
+-- it knows that no intent stands, and has seen no file since it came to know that
+abbrev pub KnowsNoneYet : Knowledge → Type 0
+KnowsNoneYet knows = knows ≡ knows_none nothing_seen
 
 -- it keeps its number, and has staged the free text
 pub record HasStagedFree (freeing : Maker) (standing : Standing) : Type 0 where

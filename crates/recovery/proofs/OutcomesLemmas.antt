@@ -10,37 +10,25 @@ use Rattle.acct_outside.specs.declared.StageFault.{StageFault}
 use Rattle.acct_outside.specs.declared.Found.{Found as Reading}
 use Rattle.acct_outside.specs.declared.Found.TheVariants.{Absent}
 use Rattle.acct_outside.specs.Tokens.{Token}
-use Rattle.acct_outside.specs.Calls.{Call, Answer, Found, found_absent, found_bytes, found_too_large, reads, removes, done}
+use Rattle.acct_outside.specs.Calls.{Found, found_absent, found_bytes, found_too_large, reads, removes, done}
 use Rattle.acct_outside.specs.Others.{Admission}
 use Rattle.acct_outside.specs.Contract.{Past, Narrows, Tells, found_result}
 use Rattle.intent_file.specs.Intent.{NewTable}
-use Rattle.suite_rules.specs.Knowledge.{nothing_seen}
 use Rattle.suite_rules.specs.Standing.{Standing, standing_step}
 use Rattle.suite_rules.specs.Steps.{StandsIn}
+use Rattle.suite_rules.specs.Outcomes.{before_commit, LeadsTo, stages, installs}
 use Rattle.suite_rules.proofs.StepLemmas.{stands-done, stands-weaker}
 use Rattle.lock_steps.specs.States.{Kept}
-use Rattle.lock_steps.specs.Stands.{Keeps, KnowsAnything, KnowsNone}
+use Rattle.lock_steps.specs.Stands.{Keeps, KnowsAnything, KnowsNone, KnowsNoneYet}
+use Rattle.lock_steps.proofs.KeeperLemmas.{clean-is-clean}
 use Rattle.recovery.specs.declared.IntentSeen.{IntentSeen}
 use Rattle.recovery.specs.declared.IntentSeen.TheVariants.{Clean, Listed}
 use Rattle.recovery.specs.declared.RecoveryEnd.{RecoveryEnd}
 use Rattle.recovery.specs.declared.RecoveryEnd.TheVariants.{Fault, Damaged, TooLarge}
 use Rattle.recovery.specs.States.{Recoverer, moved_once}
-use Rattle.recovery.specs.Stands.{KnowsNoneYet, Recovers, HasStagedNext, StandsSeen, StandsRefused}
-use Rattle.recovery.specs.Outcomes.{FindsIntent, LeadsTo, stages, installs}
+use Rattle.recovery.specs.Stands.{Recovers, HasStagedNext, StandsSeen, StandsRefused}
+use Rattle.recovery.specs.Outcomes.{FindsIntent}
 use Rattle.recovery.proofs.RecoversLemmas.{keeps-after-read, clean-after-read, recovers-after-read, staged-after-write, recovers-after-move, clean-after-removal}
-
--- the call of one name for a token is that of the other
-pub told-of : (admits : Admission) (before now : Option Past) (by token : Token) (call : Call)
-    (answer : Result (Answer call) FolderFault) → by ≡ token →
-    Tells admits before now by call answer → Tells admits before now token call answer
-told-of admits before now by token call answer same =
-    subst (λ (other : Token). Tells admits before now other call answer) same
-
--- a keeper that has seen nothing yet knows that no intent stands
-clean-is-clean : (keeper : Kept) (stood : Standing) → Keeps keeper KnowsNoneYet stood →
-    Keeps keeper KnowsNone stood
-clean-is-clean keeper stood keeps =
-    record { locks = keeps.locks; knows = (nothing_seen, keeps.knows) }
 
 module _ (before_admits admits : Admission) (narrows : Narrows before_admits admits) (token : Token)
     (before now : Option Past) where
@@ -125,7 +113,7 @@ module _ (before_admits admits : Admission) (narrows : Narrows before_admits adm
       (recovering : Recoverer) (next : NewTable)
       (answer : Result (Unit {0}) FolderFault) (result : Result Recoverer StageFault)
       → slice_get recovering.left 0 ≡ Some next
-      → LeadsTo recovering answer result
+      → LeadsTo recovering before_commit answer result
       → StandsIn before_admits before token (Recovers recovering)
       → Tells before_admits before now token (stages next) answer
       → IfOk result (λ moving. StandsIn admits now token (HasStagedNext moving))
@@ -143,7 +131,7 @@ module _ (before_admits admits : Admission) (narrows : Narrows before_admits adm
       (recovering : Recoverer) (next : NewTable)
       (answer : Result (Unit {0}) FolderFault) (result : Result Recoverer StageFault)
       → slice_get recovering.left 0 ≡ Some next
-      → LeadsTo (moved_once recovering) answer result
+      → LeadsTo (moved_once recovering) before_commit answer result
       → StandsIn before_admits before token (HasStagedNext recovering)
       → Tells before_admits before now token (installs next) answer
       → IfOk result (λ moved. StandsIn admits now token (Recovers moved))
@@ -181,7 +169,7 @@ module _ (before_admits admits : Admission) (narrows : Narrows before_admits adm
   pub removal-leads :
       (recovering : Recoverer)
       (answer : Result (Unit {0}) FolderFault) (result : Result Kept StageFault)
-      → LeadsTo recovering.keeper answer result
+      → LeadsTo recovering.keeper before_commit answer result
       → StandsIn before_admits before token (Recovers recovering)
       → Tells before_admits before now token (removes Intent) answer
       → IfOk result (λ keeper. StandsIn admits now token (Keeps keeper KnowsNoneYet))

@@ -4,81 +4,30 @@
 -- `may-remove`). Way: none of the calls concerns a lock, so the session keeps its number
 -- (`keeps-on`); as it is keeper, its knowledge and what it has staged take their own step
 -- (`knows-next`, `staged-next`).
-use Rattle.std.proofs.Common.{◌≡◌, refl, sym, ap, subst, ◌∙◌, ℕ, Bool, true, false, ◌||◌, if◌then◌else◌, List, [], ◌∷◌, ◌++◌, length, slice_get, drop, Option, Some, IfSome, All, append_assoc, arith}
+use Rattle.std.proofs.Common.{◌≡◌, refl, sym, ap, subst, ◌∙◌, Bool, true, false, ◌||◌, if◌then◌else◌, List, [], ◌∷◌, ◌++◌, length, slice_get, drop, Option, Some, IfSome, All, append_assoc}
 use Rattle.std.proofs.lemmas.List.{append-nil}
 use Rattle.std.proofs.lemmas.List.Elements.{All-nil, All-push, All-same, All-weaker}
 use Rattle.acct_text.specs.declared.Tab.{Tab}
 use Rattle.acct_text.specs.Bytes.{Bytes}
 use Rattle.acct_text.specs.Tables.{same_table}
 use Rattle.acct_outside.specs.declared.Name.TheVariants.{Intent, Staged}
-use Rattle.acct_outside.specs.Calls.{Call, Answer, CallResult, Found, reads, removes, done, found_absent, found_bytes}
+use Rattle.acct_outside.specs.Calls.{Found, reads, removes, done, found_absent, found_bytes}
 use Rattle.intent_file.specs.Intent.{NewTable, is_in_order, listed_in}
 use Rattle.suite_rules.specs.Deeds.{SuiteDeeds}
-use Rattle.suite_rules.specs.OwnLock.{OwnLock, lock_kept, own_step}
-use Rattle.suite_rules.specs.Knowledge.{Knowledge, Stages, knows_nothing, knows_step, install_step, table_with}
-use Rattle.suite_rules.specs.Standing.{Standing, standing_step, keeper_part, staged_step, nothing_staged}
-use Rattle.suite_rules.specs.Rules.{KeeperRule, Permits, staging_rule, install_rule, clear_rule}
+use Rattle.suite_rules.specs.Knowledge.{Knowledge, Stages, install_step, table_with}
+use Rattle.suite_rules.specs.Standing.{Standing, standing_step}
+use Rattle.suite_rules.specs.Rules.{Permits, staging_rule, install_rule, clear_rule}
+use Rattle.suite_rules.specs.Outcomes.{stages, installs}
 use Rattle.suite_rules.proofs.Names.{table-same}
+use Rattle.suite_rules.proofs.Listed.{first-of, none-of, listed-there, all-in-place}
+use Rattle.suite_rules.proofs.KeeperParts.{knows-next, staged-next}
 use Rattle.intent_file.proofs.Reading.{allowed_parts}
 use Rattle.lock_steps.specs.States.{Kept}
-use Rattle.lock_steps.specs.Stands.{Keeps, KnowsAnything}
+use Rattle.lock_steps.specs.Stands.{Keeps, KnowsAnything, KnowsNoneYet}
+use Rattle.lock_steps.proofs.KeeperLemmas.{keeps-on, is-keeper}
 use Rattle.recovery.specs.States.{Recoverer, moved_once}
-use Rattle.recovery.specs.Stands.{KnowsNoneYet, Recovers, HasStagedNext}
-use Rattle.recovery.specs.Outcomes.{ListsAll, stages, installs}
-use Rattle.recovery.proofs.ListedLemmas.{listed-there, all-in-place}
-
--- a keeper whose own lock and listing stay keeps its number, whatever it knows now
-keeps-on : (keeper : Kept) (Knew Knows : Knowledge → Type 0) (stood now : Standing) →
-    now.own ≡ stood.own → now.listing ≡ stood.listing → Keeps keeper Knew stood →
-    Knows now.knows → Keeps keeper Knows now
-keeps-on keeper Knew Knows stood now same_own same_listing keeps knows = record {
-  locks = record {
-    owns = same_own ∙ keeps.locks.owns;
-    listing = keeps.locks.listing;
-    listed = same_listing ∙ keeps.locks.listed;
-    is_greatest = keeps.locks.is_greatest;
-    is_such = keeps.locks.is_such;
-  };
-  knows = knows;
-}
-
--- what a keeper knows takes its step
-knows-next : (call : Call) (result : CallResult (Answer call)) (stood : Standing) (number : ℕ) →
-    stood.own ≡ lock_kept number →
-    (standing_step call result stood).knows ≡ knows_step stood.staged call result stood.knows
-knows-next call result stood number keeps = ap (λ (before : OwnLock).
-    keeper_part before (own_step call result stood.own) knows_nothing
-    (knows_step stood.staged call result stood.knows) stood.knows) keeps
-
--- what a keeper has staged takes its step
-staged-next : (call : Call) (result : CallResult (Answer call)) (stood : Standing) (number : ℕ) →
-    stood.own ≡ lock_kept number →
-    (standing_step call result stood).staged ≡ staged_step call result stood.staged
-staged-next call result stood number keeps = ap (λ (before : OwnLock).
-    keeper_part before (own_step call result stood.own) nothing_staged
-    (staged_step call result stood.staged) stood.staged) keeps
-
--- a keeper keeps its number, as the rules ask
-is-keeper : (keeper : Kept) (Knows : Knowledge → Type 0) (stood : Standing) →
-    Keeps keeper Knows stood → KeeperRule stood
-is-keeper keeper Knows stood keeps =
-    record { number = keeper.number; keeps = keeps.locks.owns }
-
--- a list with a first table is that table and those behind it
-first-of : (tables : List NewTable) (next : NewTable) → slice_get tables 0 ≡ Some next →
-    tables ≡ next ∷ drop 1 tables
-first-of [] next is = absurd (cc is)
-first-of (first ∷ tables) next is =
-    ap (λ (table : NewTable). table ∷ tables) (first-same first next is)
-  where
-    first-same : (first next : NewTable) →
-        ◌≡◌ {A = Option NewTable} (Some first) (Some next) → first ≡ next
-    first-same first next is = cc is
-
--- a list of no tables is empty
-none-of : (tables : List NewTable) → length tables ≡ 0 → tables ≡ []
-none-of [] none = refl
-none-of (first ∷ tables) none = absurd (omega (arith, none))
+use Rattle.recovery.specs.Stands.{Recovers, HasStagedNext}
+use Rattle.recovery.specs.Outcomes.{ListsAll}
 
 -- What the read of the intent leads to.
 module _ (keeper : Kept) (stood : Standing) (keeps : Keeps keeper KnowsAnything stood) where

@@ -2,24 +2,19 @@
 -- commit"). All faults come before the session's own commit.
 use Rattle.std.specs.Prelude.{◌≡◌, Result, Ok, Err}
 use Rattle.acct_text.specs.Bytes.{Bytes}
-use Rattle.acct_outside.specs.declared.Name.TheVariants.{Table, Staged}
 use Rattle.acct_outside.specs.declared.FolderFault.{FolderFault}
 use Rattle.acct_outside.specs.declared.FolderFault.TheVariants.{Failed, Memory}
-use Rattle.acct_outside.specs.declared.CommitStage.TheVariants.{Before}
 use Rattle.acct_outside.specs.declared.StageFault.{StageFault}
-use Rattle.acct_outside.specs.Calls.{Call, Found, found_absent, found_bytes, found_too_large, writes, renames}
-use Rattle.intent_file.specs.Intent.{NewTable, Intended, ReadsIntent}
+use Rattle.acct_outside.specs.Calls.{Found, found_absent, found_bytes, found_too_large}
+use Rattle.intent_file.specs.Intent.{Intended, ReadsIntent}
 use Rattle.intent_file.specs.Parts.{FirstFault}
+use Rattle.suite_rules.specs.Outcomes.{before_commit}
 use Rattle.lock_steps.specs.States.{Kept}
 use Rattle.recovery.specs.declared.IntentSeen.{IntentSeen}
 use Rattle.recovery.specs.declared.IntentSeen.TheVariants.{Clean, Listed}
 use Rattle.recovery.specs.declared.RecoveryEnd.{RecoveryEnd}
 use Rattle.recovery.specs.declared.RecoveryEnd.TheVariants.{Fault, Damaged, TooLarge}
 use Rattle.recovery.specs.States.{Recoverer}
-
--- a fault of the folder before the session's own commit
-abbrev pub before_commit : FolderFault → StageFault
-before_commit fault = record { fault = fault; stage = Before }
 
 -- the folder failed before it
 abbrev pub failed_before : StageFault
@@ -46,18 +41,3 @@ FindsIntent keeper (Ok (found_bytes bytes)) result = ReadsBytes keeper bytes res
 FindsIntent keeper (Ok found_too_large) (Err (TooLarge kept)) = kept ≡ keeper
 FindsIntent keeper (Err fault) (Err (Fault came)) = came ≡ before_commit fault
 FindsIntent _ _ _ = ⊥
-
--- a call that can't be refused: done it leads to this state, and a fault is given as it came
-abbrev pub LeadsTo : {A State : Type 0} → State → Result A FolderFault →
-    Result State StageFault → Type 0
-LeadsTo next (Ok answer) (Ok state) = state ≡ next
-LeadsTo next (Err fault) (Err came) = came ≡ before_commit fault
-LeadsTo _ _ _ = ⊥
-
--- the call that stages the bytes of a listed table
-abbrev pub stages : NewTable → Call
-stages new = writes (Staged new.table) new.bytes
-
--- the call that puts the staged bytes of a listed table in place
-abbrev pub installs : NewTable → Call
-installs new = renames (Staged new.table) (Table new.table)

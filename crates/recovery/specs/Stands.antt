@@ -5,22 +5,16 @@ use Rattle.acct_outside.specs.declared.Name.TheVariants.{Staged}
 use Rattle.acct_outside.specs.Tokens.{Token}
 use Rattle.acct_outside.specs.Others.{Admission}
 use Rattle.acct_outside.specs.Contract.{Past}
-use Rattle.acct_outside.specs.Calls.{Command}
 use Rattle.intent_file.specs.Intent.{NewTable}
-use Rattle.suite_rules.specs.Knowledge.{Knowledge, nothing_seen, knows_none}
-use Rattle.suite_rules.specs.Standing.{Standing, Commit}
+use Rattle.suite_rules.specs.Standing.{Standing}
 use Rattle.suite_rules.specs.Rules.{KnowsIntent}
 use Rattle.suite_rules.specs.Steps.{StandsIn}
-use Rattle.lock_steps.specs.Stands.{Keeps, KnowsAnything}
+use Rattle.lock_steps.specs.Stands.{Keeps, KnowsAnything, KnowsNoneYet}
 use Rattle.recovery.specs.declared.IntentSeen.{IntentSeen}
 use Rattle.recovery.specs.declared.IntentSeen.TheVariants.{Clean, Listed}
 use Rattle.recovery.specs.declared.RecoveryEnd.{RecoveryEnd}
 use Rattle.recovery.specs.declared.RecoveryEnd.TheVariants.{Fault, Damaged, TooLarge}
 use Rattle.recovery.specs.States.{Recoverer}
-
--- it knows that no intent stands, and has seen no file since it came to know that
-abbrev pub KnowsNoneYet : Knowledge → Type 0
-KnowsNoneYet knows = knows ≡ knows_none nothing_seen
 
 -- It keeps its number and knows an intent that reads. The tables that the intent lists are first
 -- those that it has put in place, and then those that are left.
@@ -36,15 +30,6 @@ pub record HasStagedNext (recovering : Recoverer) (standing : Standing) : Type 0
   pub recovers : Recovers recovering standing
   pub staged : IfSome (slice_get recovering.left 0)
       (λ next. standing.staged (Staged next.table) ≡ Some next.bytes)
-
--- what the session itself was asked, and how far it is with its commit of that
-pub record OwnCommand : Type 0 where
-  pub command : Option Command
-  pub commit : Commit
-
--- the part of a standing that a recovery, which carries out what another session was asked, leaves
-abbrev pub own_command : Standing → OwnCommand
-own_command standing = record { command = standing.command; commit = standing.commit }
 
 -- after the read of the intent: none stands, or all tables of the one that stands are left
 abbrev pub StandsSeen : Admission → Option Past → Token → IntentSeen → Type 0

@@ -4,10 +4,11 @@ ghost use Rattle.std.specs.Prelude.{◌≡◌, IfOk, IfErr, IsErrOf, Ok};
 ghost use Rattle.acct_outside.specs.Calls.{reads};
 ghost use Rattle.acct_outside.specs.Contract.{found_result};
 ghost use Rattle.acct_outside.specs.Faults.{CountsFailure};
-ghost use Rattle.suite_rules.specs.Steps.{StandsIn, MakesCall, AlwaysStaysLawful, Leaves};
+ghost use Rattle.suite_rules.specs.Steps.{StandsIn, MakesCall, AlwaysStaysLawful, Leaves, own_command};
+ghost use Rattle.suite_rules.specs.Outcomes.{before_commit};
 ghost use Rattle.lock_steps.specs.Stands.{Keeps, KnowsAnything, KnowsNone};
-ghost use Rattle.recovery.specs.Stands.{StandsSeen, StandsRefused, own_command};
-ghost use Rattle.recovery.specs.Outcomes.{FindsIntent, ReadsBytes, before_commit, failed_before};
+ghost use Rattle.recovery.specs.Stands.{StandsSeen, StandsRefused};
+ghost use Rattle.recovery.specs.Outcomes.{FindsIntent, ReadsBytes, failed_before};
 
 use crate::recovering::Recovering;
 use crate::{IntentSeen, RecoveryEnd};

@@ -8,11 +8,12 @@
 ghost use Rattle.std.specs.Prelude.{◌≡◌, ◌<◌, length, slice_get, IfOk, IfSome, IsErrOf, OnOk, Some};
 ghost use Rattle.acct_outside.specs.Calls.{removes};
 ghost use Rattle.acct_outside.specs.Faults.{CountsFailure};
-ghost use Rattle.suite_rules.specs.Steps.{StandsIn, MakesCall, AlwaysStaysLawful, Leaves};
-ghost use Rattle.lock_steps.specs.Stands.{Keeps, KnowsNone};
+ghost use Rattle.suite_rules.specs.Steps.{StandsIn, MakesCall, AlwaysStaysLawful, Leaves, own_command};
+ghost use Rattle.suite_rules.specs.Outcomes.{before_commit, LeadsTo, stages, installs};
+ghost use Rattle.lock_steps.specs.Stands.{Keeps, KnowsNone, KnowsNoneYet};
 ghost use Rattle.recovery.specs.States.{moved_once};
-ghost use Rattle.recovery.specs.Stands.{Recovers, HasStagedNext, KnowsNoneYet, own_command};
-ghost use Rattle.recovery.specs.Outcomes.{LeadsTo, failed_before, stages, installs};
+ghost use Rattle.recovery.specs.Stands.{Recovers, HasStagedNext};
+ghost use Rattle.recovery.specs.Outcomes.{failed_before};
 
 use crate::reading::at_before;
 use acct_outside::{Folder, FolderFault, Name, StageFault, Token};
@@ -99,7 +100,7 @@ impl Recovering {
         ensures call { IfSome (slice_get self.left 0) (λ next.
             MakesCall (F.admits folder.old) (F.admits folder.new) (F.told folder.old)
             (F.told folder.new) self.keeper.token (stages next)
-            (λ answer. LeadsTo self answer result)) }
+            (λ answer. LeadsTo self before_commit answer result)) }
         ensures next { IfOk result (λ moving. StandsIn (F.admits folder.new) (F.told folder.new)
             self.keeper.token (HasStagedNext moving)) }
         ensures own { Leaves own_command self.keeper.token (F.told folder.old) (F.told folder.new) }
@@ -116,7 +117,7 @@ impl Recovering {
     /// What the write of the next table's bytes leads to.
     fn after_write(self, written: Result<(), FolderFault>) -> Result<Moving, StageFault>
         requires { 0 < length self.left }
-        ensures shown { LeadsTo self written result }
+        ensures shown { LeadsTo self before_commit written result }
         ensures failed { IsErrOf result failed_before → IsErrOf written FolderFault.Failed }
     {
         match written {
@@ -127,7 +128,7 @@ impl Recovering {
 
     /// What the move of the next table leads to.
     fn after_move(mut self, moved: Result<(), FolderFault>) -> Result<Self, StageFault>
-        ensures shown { LeadsTo (moved_once self) moved result }
+        ensures shown { LeadsTo (moved_once self) before_commit moved result }
         ensures failed { IsErrOf result failed_before → IsErrOf moved FolderFault.Failed }
     {
         match moved {
@@ -148,7 +149,7 @@ impl Recovering {
             (Recovers self) }
         ensures call { MakesCall (F.admits folder.old) (F.admits folder.new) (F.told folder.old)
             (F.told folder.new) self.keeper.token (removes Name.Intent)
-            (λ answer. LeadsTo self.keeper answer result) }
+            (λ answer. LeadsTo self.keeper before_commit answer result) }
         ensures next { IfOk result (λ keeper. StandsIn (F.admits folder.new) (F.told folder.new)
             self.keeper.token (Keeps keeper KnowsNoneYet)) }
         ensures own { Leaves own_command self.keeper.token (F.told folder.old) (F.told folder.new) }
@@ -169,7 +170,7 @@ impl Recovering {
     ) -> Result<Keeper<Clean>, StageFault>
         requires { OnOk removed (StandsIn (F.admits folder.now) (F.told folder.now)
             self.keeper.token (Keeps self.keeper KnowsNone)) }
-        ensures shown { LeadsTo self.keeper removed result }
+        ensures shown { LeadsTo self.keeper before_commit removed result }
         ensures failed { IsErrOf result failed_before → IsErrOf removed FolderFault.Failed }
     {
         match removed {
@@ -189,7 +190,7 @@ impl Moving {
         ensures call { IfSome (slice_get self.left 0) (λ next.
             MakesCall (F.admits folder.old) (F.admits folder.new) (F.told folder.old)
             (F.told folder.new) self.keeper.token (installs next)
-            (λ answer. LeadsTo (moved_once self) answer result)) }
+            (λ answer. LeadsTo (moved_once self) before_commit answer result)) }
         ensures next { IfOk result (λ recovering. StandsIn (F.admits folder.new)
             (F.told folder.new) self.keeper.token (Recovers recovering)) }
         ensures own { Leaves own_command self.keeper.token (F.told folder.old) (F.told folder.new) }

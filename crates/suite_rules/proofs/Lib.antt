@@ -3,6 +3,8 @@ pub mod Own
 pub mod StepLemmas
 mod Numbers
 pub mod Names
+pub mod Listed
+pub mod KeeperParts
 mod Sessions
 mod Effects
 mod LockSteps
@@ -14,7 +16,7 @@ pub mod Keepers
 mod Intents
 mod ViewSteps
 mod FileSteps
-mod Changed
+pub mod Changed
 mod SettledSteps
 mod Commitments
 pub mod Settles

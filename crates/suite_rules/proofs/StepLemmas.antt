@@ -6,7 +6,8 @@
 -- (`stands-memory`), that the session may answer after each (`may-answer`, `makes-call`), and which
 -- parts of its standing the call leaves (`leaves`, `stands-left`). Where the rules permit the
 -- call, a lawful history stays lawful (`stays-lawful`). A read with the limit of its name is such
--- a call (`read-tells`), and a session that has begun stands at the start (`stands-begun`).
+-- a call (`read-tells`), a call by another name of the token is the same (`told-of`), and a
+-- session that has begun stands at the start (`stands-begun`).
 use Rattle.std.proofs.Common.{◌≡◌, refl, sym, ap, subst, ◌∙◌, false, [], ◌∷◌, Option, Some, None, IfSome, Result, Ok, Err}
 use Rattle.acct_outside.specs.declared.Name.{Name}
 use Rattle.acct_outside.specs.declared.FolderFault.{FolderFault}
@@ -60,6 +61,13 @@ module _ (admits : Admission) (token : Token) where
   stands-both Holds Other None stands other = tt
   stands-both Holds Other (Some past) stands other =
       record { runs = stands.runs; own = stands.own; holds = (stands.holds, other.holds) }
+
+-- the call of one name for a token is that of the other
+pub told-of : (admits : Admission) (before now : Option Past) (by token : Token) (call : Call)
+    (answer : Result (Answer call) FolderFault) → by ≡ token →
+    Tells admits before now by call answer → Tells admits before now token call answer
+told-of admits before now by token call answer same =
+    subst (λ (other : Token). Tells admits before now other call answer) same
 
 -- the session's life, standing and own events are as they were
 pub record Stayed (token : Token) (old new : History) : Type 0 where

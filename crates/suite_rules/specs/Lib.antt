@@ -11,4 +11,5 @@ pub mod Backups
 pub mod Invariant
 pub mod Laws
 pub mod Steps
+pub mod Outcomes
 pub mod Belongs

@@ -13,7 +13,8 @@ use Rattle.acct_outside.specs.Folder.{greatest}
 use Rattle.acct_outside.specs.Calls.{Command, Call, begins, lists, reads, asks, creates, writes, renames, removes, answers}
 use Rattle.acct_outside.specs.Life.{Life, MayCall}
 use Rattle.intent_file.specs.Intent.{Intended, intent_text, ReadsIntent, listed_in}
-use Rattle.suite_rules.specs.Deeds.{SuiteDeeds, changed_tables}
+use Rattle.intent_file.specs.ChangedTables.{changed_tables}
+use Rattle.suite_rules.specs.Deeds.{SuiteDeeds}
 use Rattle.suite_rules.specs.OwnLock.{lock_uncalled, lock_kept, made_number}
 use Rattle.suite_rules.specs.Listing.{Listing}
 use Rattle.suite_rules.specs.Knowledge.{Seen, knows_none, knows_bytes}

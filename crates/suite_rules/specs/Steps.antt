@@ -56,6 +56,19 @@ abbrev pub work : Standing → Work
 work standing =
     record { command = standing.command; knows = standing.knows; commit = standing.commit }
 
+-- what the session was asked
+abbrev pub asked : Standing → Option Command
+asked standing = standing.command
+
+-- what the session itself was asked, and how far it is with its commit of that
+pub record OwnCommand : Type 0 where
+  pub command : Option Command
+  pub commit : Commit
+
+-- the part of a standing that a keeper's steps before its own commit leave
+abbrev pub own_command : Standing → OwnCommand
+own_command standing = record { command = standing.command; commit = standing.commit }
+
 -- a part of the session's standing is as it was
 abbrev pub Leaves : {A : Type 0} → (Standing → A) → Token → Option Past → Option Past → Type 0
 Leaves part token before now = WhereTold before now (λ first old new.

@@ -3,10 +3,10 @@ use Rattle.acct_outside.specs.declared.Name.TheVariants.{Intent}
 use Rattle.acct_outside.specs.Calls.{reads}
 use Rattle.acct_outside.specs.Contract.{found_result}
 use Rattle.suite_rules.specs.Rules.{free_read}
-use Rattle.suite_rules.proofs.StepLemmas.{makes-call, leaves, stays-lawful, read-tells}
+use Rattle.suite_rules.specs.Steps.{own_command}
+use Rattle.suite_rules.proofs.StepLemmas.{told-of, makes-call, leaves, stays-lawful, read-tells}
 use Rattle.lock_steps.specs.Stands.{Keeps, KnowsAnything}
-use Rattle.recovery.specs.Stands.{own_command}
-use Rattle.recovery.proofs.OutcomesLemmas.{told-of, read-leads, read-refuses, absent-clean}
+use Rattle.recovery.proofs.OutcomesLemmas.{read-leads, read-refuses, absent-clean}
 use Rattle.recovery.proofs.reading.read_intent.Goals as goal
 
 pub after_read-requires : goal.after_read-requires

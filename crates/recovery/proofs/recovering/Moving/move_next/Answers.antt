@@ -1,10 +1,11 @@
 use Rattle.std.proofs.Common.{◌∙◌, refl, sym, ap, subst, slice_get}
-use Rattle.suite_rules.proofs.StepLemmas.{makes-call, leaves, stays-lawful}
+use Rattle.suite_rules.specs.Steps.{own_command}
+use Rattle.suite_rules.proofs.StepLemmas.{told-of, makes-call, leaves, stays-lawful}
 use Rattle.recovery.specs.States.{Recoverer, moved_once}
-use Rattle.recovery.specs.Stands.{HasStagedNext, own_command}
-use Rattle.recovery.specs.Outcomes.{LeadsTo, installs}
+use Rattle.recovery.specs.Stands.{HasStagedNext}
+use Rattle.suite_rules.specs.Outcomes.{before_commit, LeadsTo, installs}
 use Rattle.recovery.proofs.RecoversLemmas.{may-move}
-use Rattle.recovery.proofs.OutcomesLemmas.{told-of, move-leads}
+use Rattle.recovery.proofs.OutcomesLemmas.{move-leads}
 use Rattle.recovery.proofs.recovering.Moving.move_next.Goals as goal
 
 pub returns : goal.returns
@@ -17,7 +18,7 @@ returns g c =
     let is_next = ap (λ (recovering : Recoverer). slice_get recovering.left 0) (sym c.self.view_is)
     ∙ c.next.ensures in
     let shown = subst (λ (recovering : Recoverer).
-    LeadsTo (moved_once recovering) moved c.after_move.result)
+    LeadsTo (moved_once recovering) before_commit moved c.after_move.result)
     c.self.view_is c.after_move.ensures.shown in
     let told = told-of _ _ _ _ token (installs next) moved
     (c.token-token.ensures

@@ -1,10 +1,11 @@
 use Rattle.std.proofs.Common.{refl}
 use Rattle.acct_outside.specs.declared.Name.TheVariants.{Intent}
 use Rattle.acct_outside.specs.Calls.{removes}
-use Rattle.suite_rules.proofs.StepLemmas.{makes-call, leaves, stays-lawful}
-use Rattle.recovery.specs.Stands.{Recovers, own_command}
+use Rattle.suite_rules.specs.Steps.{own_command}
+use Rattle.suite_rules.proofs.StepLemmas.{told-of, makes-call, leaves, stays-lawful}
+use Rattle.recovery.specs.Stands.{Recovers}
 use Rattle.recovery.proofs.RecoversLemmas.{may-remove}
-use Rattle.recovery.proofs.OutcomesLemmas.{told-of, removal-leads, removal-clean}
+use Rattle.recovery.proofs.OutcomesLemmas.{removal-leads, removal-clean}
 use Rattle.recovery.proofs.recovering.Recovering.remove_intent.Goals as goal
 
 pub after_removal-requires : goal.after_removal-requires

@@ -1,9 +1,10 @@
 use Rattle.std.proofs.Common.{refl}
-use Rattle.suite_rules.proofs.StepLemmas.{makes-call, leaves, stays-lawful}
-use Rattle.recovery.specs.Stands.{Recovers, own_command}
-use Rattle.recovery.specs.Outcomes.{stages}
+use Rattle.suite_rules.specs.Steps.{own_command}
+use Rattle.suite_rules.proofs.StepLemmas.{told-of, makes-call, leaves, stays-lawful}
+use Rattle.recovery.specs.Stands.{Recovers}
+use Rattle.suite_rules.specs.Outcomes.{stages}
 use Rattle.recovery.proofs.RecoversLemmas.{may-stage}
-use Rattle.recovery.proofs.OutcomesLemmas.{told-of, stage-leads}
+use Rattle.recovery.proofs.OutcomesLemmas.{stage-leads}
 use Rattle.recovery.proofs.recovering.Recovering.stage_next.Goals as goal
 
 pub returns : goal.returns

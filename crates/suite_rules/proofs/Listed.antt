@@ -1,7 +1,8 @@
 -- Claim: the tables of an intent are listed each with its bytes, as each stands there once
 -- (`listed-there`); and where those of a list are all in place, so is each table that it lists
 -- (`all-in-place`). Way: in the fixed order a table comes later than each before it (`later-behind`).
-use Rattle.std.proofs.Common.{◌≡◌, refl, ap, subst, ◌<◌, Bool, true, false, nat_lt, if◌then◌else◌, List, [], ◌∷◌, ◌++◌, Some, All, arith}
+-- A list with a first table is that one and the others (`first-of`), and one of none is empty.
+use Rattle.std.proofs.Common.{◌≡◌, refl, ap, subst, ◌<◌, Bool, true, false, nat_lt, if◌then◌else◌, List, [], ◌∷◌, ◌++◌, length, slice_get, drop, Option, Some, All, arith}
 use Rattle.std.proofs.lemmas.Bool.{and_parts}
 use Rattle.std.proofs.lemmas.Bool.Decides.{nat_tests}
 use Rattle.std.proofs.lemmas.List.Elements.{All-head, All-tail}
@@ -83,3 +84,19 @@ all-in-place placed (new ∷ news) all table bytes listed =
         subst (λ (other : Tab). placed other ≡ true) (table-is new.table table is)
         (All-head (λ (new : NewTable). placed new.table ≡ true) new news all)
     cases false is found behind = behind found
+
+-- a list with a first table is that table and those behind it
+pub first-of : (tables : List NewTable) (next : NewTable) → slice_get tables 0 ≡ Some next →
+    tables ≡ next ∷ drop 1 tables
+first-of [] next is = absurd (cc is)
+first-of (first ∷ tables) next is =
+    ap (λ (table : NewTable). table ∷ tables) (first-same first next is)
+  where
+    first-same : (first next : NewTable) →
+        ◌≡◌ {A = Option NewTable} (Some first) (Some next) → first ≡ next
+    first-same first next is = cc is
+
+-- a list of no tables is empty
+pub none-of : (tables : List NewTable) → length tables ≡ 0 → tables ≡ []
+none-of [] none = refl
+none-of (first ∷ tables) none = absurd (omega (arith, none))

@@ -1,0 +1,43 @@
+-- What the steps that change the account files give by the answer of their one call, and the calls
+-- on one table of an intent (docs/ARCHITECTURE.md, "The commit").
+use Rattle.std.specs.Prelude.{◌≡◌, Result, Ok, Err}
+use Rattle.acct_outside.specs.declared.Name.TheVariants.{Table, Staged}
+use Rattle.acct_outside.specs.declared.FolderFault.{FolderFault}
+use Rattle.acct_outside.specs.declared.FolderFault.TheVariants.{Failed, Memory}
+use Rattle.acct_outside.specs.declared.CommitStage.{CommitStage}
+use Rattle.acct_outside.specs.declared.CommitStage.TheVariants.{Before, Unsure, Committed}
+use Rattle.acct_outside.specs.declared.StageFault.{StageFault}
+use Rattle.acct_outside.specs.Calls.{Call, writes, renames}
+use Rattle.intent_file.specs.Intent.{NewTable}
+
+-- a fault of the folder with the stage of the session's own commit
+abbrev pub at_stage : CommitStage → FolderFault → StageFault
+at_stage stage fault = record { fault = fault; stage = stage }
+
+-- a fault of the folder before the session's own commit
+abbrev pub before_commit : FolderFault → StageFault
+before_commit = at_stage Before
+
+-- a fault of the call that commits: failed, it may have happened; without memory it didn't
+abbrev pub at_commit : FolderFault → StageFault
+at_commit Failed = at_stage Unsure Failed
+at_commit Memory = before_commit Memory
+
+-- a fault of the folder after the session's own commit
+abbrev pub after_commit : FolderFault → StageFault
+after_commit = at_stage Committed
+
+-- a call that can't be refused: done it leads to this state, and a fault is given with its stage
+abbrev pub LeadsTo : {A State : Type 0} → State → (FolderFault → StageFault) →
+    Result A FolderFault → Result State StageFault → Type 0
+LeadsTo next staged (Ok answer) (Ok state) = state ≡ next
+LeadsTo next staged (Err fault) (Err came) = came ≡ staged fault
+LeadsTo _ _ _ _ = ⊥
+
+-- the call that stages the bytes of a listed table
+abbrev pub stages : NewTable → Call
+stages new = writes (Staged new.table) new.bytes
+
+-- the call that puts the staged bytes of a listed table in place
+abbrev pub installs : NewTable → Call
+installs new = renames (Staged new.table) (Table new.table)
