@@ -1,0 +1,143 @@
+-- Claims: the commit leads from the staged intent to the installations (`installs-after-commit`),
+-- the rules permit it where the new files are the deed of what the session was asked
+-- (`may-commit`), and after a fault the session is as far with it as the fault's stage tells
+-- (`commit-unsure`). Way: the session has seen all inputs and backed up each table that differs,
+-- and the staged text is that of its intent.
+use Rattle.std.proofs.Common.{◌≡◌, ◌≢◌, refl, sym, ap, ◌∙◌, Bool, true, false, Option, Some, None, All, IfSome, true≢false, Result, Ok, Err}
+use Rattle.std.specs.Prelude.{IfErr}
+use Rattle.std.specs.Option.{option_or}
+use Rattle.std.proofs.lemmas.List.Elements.{All-nil}
+use Rattle.acct_text.specs.declared.Tab.{Tab}
+use Rattle.acct_text.specs.Bytes.{Bytes}
+use Rattle.acct_text.specs.Contents.{IsChange}
+use Rattle.acct_outside.specs.declared.Name.TheVariants.{Intent, IntentStage}
+use Rattle.acct_outside.specs.declared.FolderFault.{FolderFault}
+use Rattle.acct_outside.specs.declared.FolderFault.TheVariants.{Failed, Memory}
+use Rattle.acct_outside.specs.declared.StageFault.{StageFault}
+use Rattle.acct_outside.specs.Tokens.{Token}
+use Rattle.acct_outside.specs.Calls.{Call, Effect, renames, done, failed}
+use Rattle.acct_outside.specs.Others.{Admission}
+use Rattle.acct_outside.specs.Contract.{Past, Narrows, Tells}
+use Rattle.intent_file.specs.Intent.{NewTable, listed_in}
+use Rattle.suite_rules.specs.Deeds.{SuiteDeeds}
+use Rattle.suite_rules.specs.Knowledge.{Knowledge, commits_bytes}
+use Rattle.suite_rules.specs.Standing.{Standing, commit_called, calls_commit, standing_step}
+use Rattle.suite_rules.specs.Rules.{KeeperRule, Permits, commit_rule}
+use Rattle.suite_rules.specs.Steps.{StandsIn}
+use Rattle.suite_rules.specs.Outcomes.{LeadsTo, at_commit}
+use Rattle.suite_rules.proofs.Changed.{listed-changed}
+use Rattle.suite_rules.proofs.Listed.{all-in-place}
+use Rattle.suite_rules.proofs.KeeperParts.{knows-next}
+use Rattle.suite_rules.proofs.StepLemmas.{Faulted, failed-leads, stands-memory}
+use Rattle.lock_steps.specs.Stands.{KnowsAnything}
+use Rattle.lock_steps.proofs.KeeperLemmas.{keeps-on}
+use Rattle.commit_steps.specs.States.{Change, Walker, changed, new_files, old_files, walk_of}
+use Rattle.commit_steps.specs.Stands.{HasStagedIntent, Installs, IsDeed, KnowsBackups, StandsUnsure, commit_at}
+
+-- the call
+abbrev pub commit_call : Call
+commit_call = renames IntentStage Intent
+
+-- What the commit leads to.
+module _ (change : Change) where
+  -- what the session knows before it
+  abbrev Knew : Knowledge → Type 0
+  Knew = KnowsBackups change (changed change)
+
+  -- done, the intent is known, and no table is in place yet
+  pub installs-after-commit : (answer : Unit {0}) (stood : Standing) →
+      HasStagedIntent change stood →
+      Installs (walk_of change) (standing_step commit_call (done answer) stood)
+  installs-after-commit answer stood held = record {
+    keeps = keeps-on change.inputs.keeper Knew KnowsAnything stood
+        (standing_step commit_call (done answer) stood) refl refl held.keeps tt;
+    committed = refl;
+    reads_it = held.reads_it;
+    placed = λ table. false;
+    knows = knows-next commit_call (done answer) stood change.inputs.keeper.number
+        held.keeps.locks.owns
+        ∙ ap (λ (staged : Option Bytes). commits_bytes staged stood.knows) held.staged;
+    in_place = All-nil (λ (new : NewTable). false ≡ true);
+    staged = λ is. absurd (true≢false (sym is));
+  }
+
+  -- where a table differs, it is backed up
+  all-backed : (backed : Tab → Bool) → All (λ new. backed new.table ≡ true) (changed change) →
+      IsChange (old_files change) (new_files change) → (table : Tab) →
+      new_files change table ≢ old_files change table → backed table ≡ true
+  all-backed backed all allowed table differs =
+      cases (listed_in (changed change) table) refl
+      (listed-changed (old_files change) (new_files change) allowed.standing table)
+    where
+      cases : (listed : Option Bytes) → listed_in (changed change) table ≡ listed →
+          option_or listed (old_files change table) ≡ new_files change table →
+          backed table ≡ true
+      cases (Some bytes) is new = all-in-place backed (changed change) all table bytes is
+      cases None is new = absurd (differs (sym new))
+
+  -- the rules permit it, where the new files are the deed
+  pub may-commit : (deeds : SuiteDeeds) (stood : Standing) →
+      HasStagedIntent change stood × IsDeed deeds change stood → Permits deeds stood commit_call
+  may-commit deeds stood (held, deed) =
+      let inputs = held.keeps.knows.inputs in
+      let keeper : KeeperRule stood =
+      record { number = change.inputs.keeper.number; keeps = held.keeps.locks.owns } in
+      commit_rule keeper (record {
+        first = held.uncommitted;
+        seen = inputs.seen;
+        knows = inputs.clean;
+        has_seen = record {
+          command = deed.command;
+          files = old_files change;
+          defs = change.inputs.defs;
+          is_asked = deed.is_asked;
+          each_table = inputs.each_table;
+          settings = inputs.settings;
+        };
+        new = new_files change;
+        is_deed = deed.is_deed;
+        staged = held.staged;
+        backed = all-backed inputs.seen.backed held.keeps.knows.backed
+            (deeds.makes_changes deed.command (old_files change) change.inputs.defs
+            (new_files change) deed.is_deed);
+      })
+
+  -- one that failed was called, whatever came of it
+  was-called : (effect : Effect) (stood : Standing) → HasStagedIntent change stood →
+      (standing_step commit_call (failed effect) stood).commit ≡ commit_called
+  was-called effect stood held = ap calls_commit held.uncommitted
+
+  -- after a fault the session is as far as its stage tells
+  pub commit-unsure :
+      (before_admits admits : Admission) → Narrows before_admits admits → (token : Token)
+      (before now : Option Past) (answer : Result (Unit {0}) FolderFault)
+      (result : Result Walker StageFault) → LeadsTo (walk_of change) at_commit answer result →
+      StandsIn before_admits before token (HasStagedIntent change) →
+      Tells before_admits before now token commit_call answer →
+      IfErr result (StandsUnsure now token)
+  commit-unsure before_admits admits narrows token before now (Err Failed) (Err came)
+      shown stands tells =
+      called now (failed-leads before_admits admits narrows token commit_call tt
+      (HasStagedIntent change) (λ stood. stood.commit ≡ commit_called) was-called
+      before now stands tells)
+    where
+      called : (now : Option Past) →
+          IfSome now (Faulted token (λ stood. stood.commit ≡ commit_called)) →
+          StandsUnsure now token came
+      called None faulted = tt
+      called (Some past) faulted =
+          faulted.holds ∙ sym (ap (λ (fault : StageFault). commit_at fault.stage) shown)
+  commit-unsure before_admits admits narrows token before now (Err Memory) (Err came)
+      shown stands tells =
+      uncalled now (stands-memory before_admits admits narrows token commit_call tt
+      (HasStagedIntent change) before now stands tells)
+    where
+      uncalled : (now : Option Past) → StandsIn admits now token (HasStagedIntent change) →
+          StandsUnsure now token came
+      uncalled None stands = tt
+      uncalled (Some past) stands = stands.holds.uncommitted
+          ∙ sym (ap (λ (fault : StageFault). commit_at fault.stage) shown)
+  commit-unsure before_admits admits narrows token before now (Ok answer) (Err came)
+      shown stands tells = absurd shown
+  commit-unsure before_admits admits narrows token before now answer (Ok state)
+      shown stands tells = tt

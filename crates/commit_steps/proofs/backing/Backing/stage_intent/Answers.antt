@@ -1,0 +1,54 @@
+use Rattle.std.proofs.Common.{refl, ap, subst, ◌∙◌}
+use Rattle.acct_outside.specs.declared.Name.TheVariants.{IntentStage}
+use Rattle.acct_outside.specs.Calls.{writes}
+use Rattle.intent_file.specs.Intent.{ReadsIntent, intent_text}
+use Rattle.suite_rules.specs.Outcomes.{LeadsTo, before_commit}
+use Rattle.suite_rules.proofs.StepLemmas.{told-of}
+use Rattle.commit_steps.specs.States.{Change, Walker, intended}
+use Rattle.commit_steps.specs.Stands.{BacksUp, HasStagedIntent}
+use Rattle.commit_steps.specs.Walks.{token_of}
+use Rattle.commit_steps.proofs.LeadsLemmas.{acts-as, takes-step, writes-same}
+use Rattle.commit_steps.proofs.BackupLemmas.{stages_intent, intent-after-write, may-stage-intent}
+use Rattle.commit_steps.proofs.backing.Backing.stage_intent.Goals as goal
+
+pub write-written-requires-clause-acts : goal.write-written-requires-clause-acts
+write-written-requires-clause-acts g c =
+    let change = c.into_prepared-prepared.ensures
+    ∙ ap (λ (walker : Walker). walker.change) c.self.view_is in
+    acts-as (BacksUp c.args.self) _ _ _ (token_of c.args.self)
+    (c.token.ensures ∙ ap (λ (change : Change). change.inputs.keeper.token) change)
+    c.requires.stands
+
+pub returns : goal.returns
+returns g c =
+    let walker = c.args.self in
+    let written = c.write-written.result in
+    let narrows = c.write-written.ensures.narrows in
+    let counts = c.write-written.ensures.faults in
+    let change = c.into_prepared-prepared.ensures
+    ∙ ap (λ (walker : Walker). walker.change) c.self.view_is in
+    let text = c.text.ensures.value
+    ∙ ap (λ (change : Change). intent_text (intended change)) change in
+    let reads_it = subst (λ (change : Change).
+    ReadsIntent (intent_text (intended change)) (intended change)) change c.text.ensures.reads in
+    let shown = subst (λ (next : Change). LeadsTo next before_commit written c.leads.result)
+    (c.of.ensures ∙ change) c.leads.ensures.shown in
+    let told = writes-same _ _ _ (token_of walker) IntentStage c.text.result.now _ written text
+    (told-of _ _ _ _ (token_of walker) (writes IntentStage c.text.result.now) written
+    (c.token.ensures ∙ ap (λ (change : Change). change.inputs.keeper.token) change)
+    c.write-written.ensures.told) in
+    let taken = takes-step (stages_intent walker reads_it) tt (BacksUp walker) HasStagedIntent
+    walker.change (intent-after-write walker reads_it c.requires.left) tt
+    (λ result stood held. refl) (may-stage-intent walker reads_it)
+    before_commit _ _ narrows (token_of walker) _ _ written c.leads.result shown
+    c.requires.stands told in
+    record {
+      call = taken.called;
+      next = taken.stands;
+      own = taken.left;
+      lawful = taken.stays_lawful;
+      faults = record {
+        never_falls = counts.never_falls;
+        failed = λ is. counts.failed (c.leads.ensures.failed is);
+      };
+    }

@@ -1,0 +1,43 @@
+use Rattle.std.proofs.Common.{refl, ap, subst, ◌∙◌}
+use Rattle.suite_rules.specs.Steps.{asked}
+use Rattle.suite_rules.specs.Outcomes.{LeadsTo, at_commit}
+use Rattle.suite_rules.proofs.StepLemmas.{told-of, makes-call, leaves, stays-lawful, stands-both}
+use Rattle.commit_steps.specs.States.{Change, Walker, walk_of}
+use Rattle.commit_steps.specs.Stands.{HasStagedIntent, Installs, IsDeed}
+use Rattle.commit_steps.proofs.LeadsLemmas.{leads-on}
+use Rattle.commit_steps.proofs.CommitLemmas.{commit_call, installs-after-commit, may-commit, commit-unsure}
+use Rattle.commit_steps.proofs.committing.IntentStaged.commit.Goals as goal
+
+pub returns : goal.returns
+returns g c =
+    let change = c.args.self in
+    let token = change.inputs.keeper.token in
+    let moved = c.rename-moved.result in
+    let narrows = c.rename-moved.ensures.narrows in
+    let counts = c.rename-moved.ensures.faults in
+    let shown = subst (λ (walker : Walker). LeadsTo walker at_commit moved c.commits.result)
+    (c.start.ensures ∙ ap walk_of c.self.view_is) c.commits.ensures.shown in
+    let told = told-of _ _ _ _ token commit_call moved
+    (c.token-token.ensures
+    ∙ ap (λ (change : Change). change.inputs.keeper.token) c.self.view_is)
+    c.rename-moved.ensures.told in
+    record {
+      call = makes-call _ _ narrows token commit_call tt (HasStagedIntent change) _
+          moved _ _ c.requires told shown;
+      next = leads-on commit_call tt (HasStagedIntent change) Installs (walk_of change)
+          (installs-after-commit change) at_commit _ _ narrows token _ _ moved c.commits.result
+          shown c.requires told;
+      unsure = commit-unsure change _ _ narrows token _ _ moved c.commits.result
+          shown c.requires told;
+      own = leaves _ _ narrows token commit_call tt (HasStagedIntent change)
+          asked (λ result stood held. refl) moved _ _ c.requires told;
+      lawful = λ deeds deed. stays-lawful deeds _ token commit_call tt
+          (λ stood. HasStagedIntent change stood × IsDeed deeds change stood)
+          (may-commit change deeds) moved _ _
+          (stands-both _ token (HasStagedIntent change) (IsDeed deeds change) _ c.requires deed)
+          told;
+      faults = record {
+        never_falls = counts.never_falls;
+        failed = λ is. counts.failed (c.commits.ensures.failed is);
+      };
+    }

@@ -1,0 +1,39 @@
+use Rattle.std.proofs.Common.{refl, ap, ◌∙◌}
+use Rattle.acct_outside.specs.Calls.{reads}
+use Rattle.acct_outside.specs.Contract.{found_result}
+use Rattle.suite_rules.specs.Rules.{free_read}
+use Rattle.suite_rules.specs.Steps.{own_command}
+use Rattle.suite_rules.proofs.StepLemmas.{makes-call, leaves, stays-lawful}
+use Rattle.commit_steps.specs.States.{Reader, next_name}
+use Rattle.commit_steps.specs.Stands.{HasRead}
+use Rattle.commit_steps.proofs.ReadsLemmas.{load-leads, load-refuses, next-told}
+use Rattle.commit_steps.proofs.reading.Loader.load_next.Goals as goal
+
+pub returns : goal.returns
+returns g c =
+    let reader = c.args.self in
+    let next = reader.next in
+    let token = reader.keeper.token in
+    let answer = found_result c.read-found.result in
+    let narrows = c.read-found.ensures.narrows in
+    let counts = c.read-found.ensures.faults in
+    let shown = c.after_read.ensures.shown in
+    let told = next-told next c.next_name-name.result c.next_name-name.ensures _ _ _ _ token
+    (c.token.ensures ∙ ap (λ (reader : Reader). reader.keeper.token) c.self.view_is)
+    c.read-found.result c.read-found.ensures.told in
+    record {
+      call = makes-call _ _ narrows token (reads (next_name next)) tt (HasRead reader) _
+          answer _ _ c.requires told shown;
+      next = load-leads reader.keeper reader.files _ _ narrows token _ _ next
+          answer c.after_read.result shown c.requires told;
+      refused = load-refuses reader.keeper reader.files _ _ narrows token _ _ next
+          answer c.after_read.result shown c.requires told;
+      own = leaves _ _ narrows token (reads (next_name next)) tt (HasRead reader)
+          own_command (λ result stood held. refl) answer _ _ c.requires told;
+      lawful = λ deeds. stays-lawful deeds _ token (reads (next_name next)) tt (HasRead reader)
+          (λ stood held. free_read (next_name next)) answer _ _ c.requires told;
+      faults = record {
+        never_falls = counts.never_falls;
+        failed = λ is. counts.failed (c.after_read.ensures.failed is);
+      };
+    }

@@ -1,0 +1,4 @@
+pub mod States
+pub mod Stands
+pub mod Outcomes
+pub mod Walks

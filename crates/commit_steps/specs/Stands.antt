@@ -1,0 +1,121 @@
+-- The standing of a session in each state of a commit (docs/ARCHITECTURE.md, "Typed steps"). Each is
+-- found from the session's own events alone.
+use Rattle.std.specs.Prelude.{◌≡◌, ⊤, Bool, true, List, slice_get, take, All, Option, Some, IfSome, IsSomeAnd}
+use Rattle.acct_text.specs.declared.Tab.{Tab}
+use Rattle.acct_text.specs.Files.{table_of}
+use Rattle.acct_outside.specs.declared.Name.TheVariants.{Table, Staged, BackupStage, IntentStage, Defs}
+use Rattle.acct_outside.specs.declared.CommitStage.{CommitStage}
+use Rattle.acct_outside.specs.declared.CommitStage.TheVariants.{Before, Unsure, Committed}
+use Rattle.acct_outside.specs.declared.StageFault.{StageFault}
+use Rattle.acct_outside.specs.Tokens.{Token}
+use Rattle.acct_outside.specs.Calls.{Command}
+use Rattle.acct_outside.specs.Others.{Admission}
+use Rattle.acct_outside.specs.Contract.{Past}
+use Rattle.intent_file.specs.Intent.{NewTable, intent_text, ReadsIntent}
+use Rattle.suite_rules.specs.Deeds.{SuiteDeeds}
+use Rattle.suite_rules.specs.Knowledge.{Seen, Knowledge, knows_none, knows_bytes}
+use Rattle.suite_rules.specs.Standing.{Standing, Commit, commit_uncalled, commit_called, commit_done, standing}
+use Rattle.suite_rules.specs.Steps.{StandsIn}
+use Rattle.lock_steps.specs.States.{Kept}
+use Rattle.lock_steps.specs.Stands.{Keeps, KnowsAnything, KnowsNone, KnowsNoneYet}
+use Rattle.commit_steps.specs.declared.Loading.{Loading}
+use Rattle.commit_steps.specs.declared.Loading.TheVariants.{More, Done}
+use Rattle.commit_steps.specs.declared.LoadEnd.{LoadEnd}
+use Rattle.commit_steps.specs.declared.LoadEnd.TheVariants.{Fault, TooLarge, NoTable}
+use Rattle.commit_steps.specs.States.{Reader, Inputs, Change, Walker, is_before, new_files, changed, intended, old_bytes}
+
+-- It knows that no intent stands, and has since seen each table before the next.
+pub record KnowsSome (reader : Reader) (knows : Knowledge) : Type 0 where
+  pub seen : Seen
+  pub clean : knows ≡ knows_none seen
+  pub tables : (table : Tab) → is_before table reader.next ≡ true →
+      seen.file (Table table) ≡ Some (table_of reader.files table)
+
+-- it keeps its number and hasn't called its commit, and knows this of the tables
+pub record HasRead (reader : Reader) (standing : Standing) : Type 0 where
+  pub keeps : Keeps reader.keeper (KnowsSome reader) standing
+  pub uncommitted : standing.commit ≡ commit_uncalled
+
+-- It knows that no intent stands, and has since seen the six tables and login.defs.
+pub record KnowsInputs (inputs : Inputs) (knows : Knowledge) : Type 0 where
+  pub seen : Seen
+  pub clean : knows ≡ knows_none seen
+  pub each_table : (table : Tab) → seen.file (Table table) ≡ Some (table_of inputs.files table)
+  pub settings : seen.file Defs ≡ Some inputs.defs
+
+-- it keeps its number and hasn't called its commit, and knows this of the inputs
+pub record HasLoaded (inputs : Inputs) (standing : Standing) : Type 0 where
+  pub keeps : Keeps inputs.keeper (KnowsInputs inputs) standing
+  pub uncommitted : standing.commit ≡ commit_uncalled
+
+-- It knows the inputs, and has since moved the bytes that it saw of these tables to their backups.
+pub record KnowsBackups (change : Change) (tables : List NewTable) (knows : Knowledge)
+    : Type 0 where
+  pub inputs : KnowsInputs change.inputs knows
+  pub backed : All (λ new. inputs.seen.backed new.table ≡ true) tables
+
+-- It hasn't called its commit. It has backed up the tables before the place, and staged the old bytes
+-- of the one at the place where the walker says so.
+pub record BacksUp (walker : Walker) (standing : Standing) : Type 0 where
+  pub keeps : Keeps walker.change.inputs.keeper
+      (KnowsBackups walker.change (take walker.place (changed walker.change))) standing
+  pub uncommitted : standing.commit ≡ commit_uncalled
+  pub staged : walker.is_staged ≡ true → IsSomeAnd (slice_get (changed walker.change) walker.place)
+      (λ next. standing.staged BackupStage ≡ Some (old_bytes walker.change next.table))
+
+-- It hasn't called its commit. It has backed up each table that differs, and staged the text of the
+-- intent, which reads.
+pub record HasStagedIntent (change : Change) (standing : Standing) : Type 0 where
+  pub keeps : Keeps change.inputs.keeper (KnowsBackups change (changed change)) standing
+  pub uncommitted : standing.commit ≡ commit_uncalled
+  pub reads_it : ReadsIntent (intent_text (intended change)) (intended change)
+  pub staged : standing.staged IntentStage ≡ Some (intent_text (intended change))
+
+-- the new files are the deed of what the session was asked, on the inputs
+pub record IsDeed (deeds : SuiteDeeds) (change : Change) (standing : Standing) : Type 0 where
+  pub command : Command
+  pub is_asked : standing.command ≡ Some command
+  pub is_deed : deeds.deed command (table_of change.inputs.files) change.inputs.defs
+      ≡ Some (new_files change)
+
+-- how far a session is with its commit where that answered with a fault of this stage
+abbrev pub commit_at : CommitStage → Commit
+commit_at Before = commit_uncalled
+commit_at Unsure = commit_called
+commit_at Committed = commit_done
+
+-- after a commit that answered with a fault: it is as far as the fault's stage tells
+abbrev pub StandsUnsure : Option Past → Token → StageFault → Type 0
+StandsUnsure told token fault = IfSome told (λ past.
+    (standing token past.history).commit ≡ commit_at fault.stage)
+
+-- Its commit was done, and it knows the intent of the change. The tables before the place are in
+-- place, and the new bytes of the one at the place are staged where the walker says so.
+pub record Installs (walker : Walker) (standing : Standing) : Type 0 where
+  pub keeps : Keeps walker.change.inputs.keeper KnowsAnything standing
+  pub committed : standing.commit ≡ commit_done
+  pub reads_it :
+      ReadsIntent (intent_text (intended walker.change)) (intended walker.change)
+  pub placed : Tab → Bool
+  pub knows : standing.knows ≡ knows_bytes (intent_text (intended walker.change)) placed
+  pub in_place : All (λ new. placed new.table ≡ true) (take walker.place (changed walker.change))
+  pub staged : walker.is_staged ≡ true → IsSomeAnd (slice_get (changed walker.change) walker.place)
+      (λ next. standing.staged (Staged next.table) ≡ Some next.bytes)
+
+-- its commit was done, and it knows that no intent stands any more
+pub record HasCleared (keeper : Kept) (standing : Standing) : Type 0 where
+  pub keeps : Keeps keeper KnowsNoneYet standing
+  pub committed : standing.commit ≡ commit_done
+
+-- after a read that leads on: more is to be read, or all is
+abbrev pub StandsLoading : Admission → Option Past → Token → Loading → Type 0
+StandsLoading admits told token (More reader) = StandsIn admits told token (HasRead reader)
+StandsLoading admits told token (Done inputs) = StandsIn admits told token (HasLoaded inputs)
+
+-- after a read that leads no further: a refusal hands the clean keeper back
+abbrev pub StandsEnded : Admission → Option Past → Token → LoadEnd → Type 0
+StandsEnded admits told token (Fault fault) = ⊤
+StandsEnded admits told token (TooLarge name keeper) =
+    StandsIn admits told token (Keeps keeper KnowsNone)
+StandsEnded admits told token (NoTable table keeper) =
+    StandsIn admits told token (Keeps keeper KnowsNone)

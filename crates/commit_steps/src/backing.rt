@@ -1,0 +1,146 @@
+// The state of a keeper that backs up the tables that differ, before its commit. `back_up_next` goes
+// one step, and `stage_intent` leads to `IntentStaged` once all are backed up.
+ghost use Rattle.std.specs.Prelude.{◌≡◌, ◌<◌, IfOk, IfSome, false, slice_get, true};
+ghost use Rattle.acct_outside.specs.declared.Name.TheVariants.{IntentStage};
+ghost use Rattle.acct_outside.specs.Calls.{writes};
+ghost use Rattle.acct_outside.specs.Faults.{CountsFailure};
+ghost use Rattle.intent_file.specs.Intent.{intent_text};
+ghost use Rattle.suite_rules.specs.Steps.{StandsIn, MakesCall, AlwaysStaysLawful, Leaves, own_command};
+ghost use Rattle.suite_rules.specs.Outcomes.{LeadsTo, before_commit};
+ghost use Rattle.commit_steps.specs.States.{changed, intended, step_on, steps_left, walk_of};
+ghost use Rattle.commit_steps.specs.Stands.{BacksUp, HasStagedIntent};
+ghost use Rattle.commit_steps.specs.Outcomes.{backup_call};
+ghost use Rattle.commit_steps.specs.Walks.{WalksOn, token_of};
+
+use crate::committing::IntentStaged;
+use crate::leads::leads;
+use crate::prepared::Prepared;
+use crate::walking::Walking;
+use acct_outside::{CommitStage, Folder, FolderFault, Name, StageFault};
+use std::marker::Model;
+
+/// A keeper that backs up the tables that differ, and then stages the intent.
+#[derive(Debug, Drop)]
+pub struct Backing {
+    walking: Walking,
+}
+
+impl Model for Backing {
+    ghost use Rattle.commit_steps.specs.States.{Walker};
+
+    ghost Value = { Walker };
+
+    ghost view = { λ backing. backing.walking };
+}
+
+impl Backing {
+    /// The change before its first backup.
+    pub(crate) fn start(prepared: Prepared) -> Self
+        ensures { result ≡ walk_of prepared }
+    {
+        Backing {
+            walking: Walking::start(prepared),
+        }
+    }
+
+    /// How many steps are left: for each table that differs the write and then the rename.
+    pub fn left(&self) -> usize
+        ensures { result ≡ steps_left self.now }
+    {
+        self.walking.left()
+    }
+
+    /// Writes the old bytes of the next table, or moves them to its backup.
+    ///
+    /// At a fault the keeper is spent, and nothing is committed.
+    pub fn back_up_next<F: Folder>(self, folder: &mut F) -> Result<Self, StageFault>
+        requires left { 0 < steps_left self }
+        requires stands { StandsIn (F.admits folder.old) (F.told folder.old) (token_of self)
+            (BacksUp self) }
+        ensures call { IfSome (slice_get (changed self.change) self.place) (λ next.
+            MakesCall (F.admits folder.old) (F.admits folder.new) (F.told folder.old)
+            (F.told folder.new) (token_of self) (backup_call self next)
+            (λ answer. LeadsTo (step_on self) before_commit answer result)) }
+        ensures next { IfOk result (λ backing. StandsIn (F.admits folder.new) (F.told folder.new)
+            (token_of self) (BacksUp backing)) }
+        ensures own { Leaves own_command (token_of self) (F.told folder.old) (F.told folder.new) }
+        ensures lawful { AlwaysStaysLawful (F.admits folder.old) (F.told folder.old)
+            (F.told folder.new) }
+        ensures faults { CountsFailure (before_commit FolderFault.Failed)
+            (F.fault_count folder.old) (F.fault_count folder.new) result }
+    {
+        if self.walking.is_staged() {
+            self.move_backup(folder)
+        } else {
+            self.stage_backup(folder)
+        }
+    }
+
+    /// Writes the old bytes of the next table.
+    fn stage_backup<F: Folder>(self, folder: &mut F) -> Result<Self, StageFault>
+        requires left { 0 < steps_left self }
+        requires unstaged { self.is_staged ≡ false }
+        requires stands { StandsIn (F.admits folder.old) (F.told folder.old) (token_of self)
+            (BacksUp self) }
+        ensures step { WalksOn backup_call BacksUp before_commit self (F.admits folder.old)
+            (F.admits folder.new) (F.told folder.old) (F.told folder.new) result }
+        ensures faults { CountsFailure (before_commit FolderFault.Failed)
+            (F.fault_count folder.old) (F.fault_count folder.new) result }
+    {
+        let prepared = self.walking.prepared();
+        let old = prepared.old(self.walking.next().table);
+        let written = folder.write(prepared.token(), Name::BackupStage, old);
+        leads(self.step_on(), written, CommitStage::Before)
+    }
+
+    /// Moves the staged bytes to the backup of the next table.
+    fn move_backup<F: Folder>(self, folder: &mut F) -> Result<Self, StageFault>
+        requires left { 0 < steps_left self }
+        requires staged { self.is_staged ≡ true }
+        requires stands { StandsIn (F.admits folder.old) (F.told folder.old) (token_of self)
+            (BacksUp self) }
+        ensures step { WalksOn backup_call BacksUp before_commit self (F.admits folder.old)
+            (F.admits folder.new) (F.told folder.old) (F.told folder.new) result }
+        ensures faults { CountsFailure (before_commit FolderFault.Failed)
+            (F.fault_count folder.old) (F.fault_count folder.new) result }
+    {
+        let token = self.walking.prepared().token();
+        let table = self.walking.next().table;
+        let moved = folder.rename(token, Name::BackupStage, Name::Backup(table));
+        leads(self.step_on(), moved, CommitStage::Before)
+    }
+
+    /// One step further.
+    fn step_on(self) -> Self
+        requires { 0 < steps_left self }
+        ensures { result ≡ step_on self }
+    {
+        Backing {
+            walking: self.walking.step_on(),
+        }
+    }
+
+    /// Writes the intent to its staging name, once all tables that differ are backed up.
+    ///
+    /// At a fault the keeper is spent, and nothing is committed.
+    pub fn stage_intent<F: Folder>(self, folder: &mut F) -> Result<IntentStaged, StageFault>
+        requires left { steps_left self ≡ 0 }
+        requires stands { StandsIn (F.admits folder.old) (F.told folder.old) (token_of self)
+            (BacksUp self) }
+        ensures call { MakesCall (F.admits folder.old) (F.admits folder.new) (F.told folder.old)
+            (F.told folder.new) (token_of self)
+            (writes IntentStage (intent_text (intended self.change)))
+            (λ answer. LeadsTo self.change before_commit answer result) }
+        ensures next { IfOk result (λ staged. StandsIn (F.admits folder.new) (F.told folder.new)
+            (token_of self) (HasStagedIntent staged)) }
+        ensures own { Leaves own_command (token_of self) (F.told folder.old) (F.told folder.new) }
+        ensures lawful { AlwaysStaysLawful (F.admits folder.old) (F.told folder.old)
+            (F.told folder.new) }
+        ensures faults { CountsFailure (before_commit FolderFault.Failed)
+            (F.fault_count folder.old) (F.fault_count folder.new) result }
+    {
+        let prepared = self.walking.into_prepared();
+        let written = folder.write(prepared.token(), Name::IntentStage, prepared.text());
+        leads(IntentStaged::of(prepared), written, CommitStage::Before)
+    }
+}

@@ -1,0 +1,70 @@
+// The state of a keeper between its backups and its installations. `commit` leads from the one to the
+// other: it is the one call by which the change is made.
+ghost use Rattle.std.specs.Prelude.{◌≡◌, IfErr, IfOk};
+ghost use Rattle.acct_outside.specs.declared.Name.TheVariants.{Intent, IntentStage};
+ghost use Rattle.acct_outside.specs.Calls.{renames};
+ghost use Rattle.acct_outside.specs.Faults.{CountsFailure};
+ghost use Rattle.suite_rules.specs.Deeds.{SuiteDeeds};
+ghost use Rattle.suite_rules.specs.Steps.{StandsIn, MakesCall, StaysLawful, Leaves, asked};
+ghost use Rattle.suite_rules.specs.Outcomes.{LeadsTo, at_commit};
+ghost use Rattle.commit_steps.specs.States.{walk_of};
+ghost use Rattle.commit_steps.specs.Stands.{HasStagedIntent, Installs, IsDeed, StandsUnsure};
+
+use crate::installing::Installing;
+use crate::leads::commits;
+use crate::prepared::Prepared;
+use acct_outside::{Folder, FolderFault, Name, StageFault};
+use std::marker::Model;
+
+/// A keeper that has backed up its tables and staged its intent.
+#[derive(Debug, Drop)]
+pub struct IntentStaged {
+    prepared: Prepared,
+}
+
+impl Model for IntentStaged {
+    ghost use Rattle.commit_steps.specs.States.{Change};
+
+    ghost Value = { Change };
+
+    ghost view = { λ staged. staged.prepared };
+}
+
+impl IntentStaged {
+    /// The change whose intent is staged.
+    pub(crate) fn of(prepared: Prepared) -> Self
+        ensures { result ≡ prepared }
+    {
+        IntentStaged { prepared }
+    }
+
+    /// Moves the staged intent to its name: done, the change stands, and whoever becomes keeper after
+    /// a death carries it out.
+    ///
+    /// It is lawful where the new files are the deed of what the session was asked. At a fault the
+    /// keeper is spent. `Failed` has the stage Unsure, as the rename may have happened; `Memory` has
+    /// the stage Before.
+    pub fn commit<F: Folder>(self, folder: &mut F) -> Result<Installing, StageFault>
+        requires { StandsIn (F.admits folder.old) (F.told folder.old) self.inputs.keeper.token
+            (HasStagedIntent self) }
+        ensures call { MakesCall (F.admits folder.old) (F.admits folder.new) (F.told folder.old)
+            (F.told folder.new) self.inputs.keeper.token (renames IntentStage Intent)
+            (λ answer. LeadsTo (walk_of self) at_commit answer result) }
+        ensures next { IfOk result (λ installing. StandsIn (F.admits folder.new)
+            (F.told folder.new) self.inputs.keeper.token (Installs installing)) }
+        ensures unsure { IfErr result
+            (StandsUnsure (F.told folder.new) self.inputs.keeper.token) }
+        ensures own { Leaves asked self.inputs.keeper.token (F.told folder.old)
+            (F.told folder.new) }
+        ensures lawful { (deeds : SuiteDeeds) →
+            StandsIn (F.admits folder.old) (F.told folder.old) self.inputs.keeper.token
+            (IsDeed deeds self)
+            → StaysLawful deeds (F.admits folder.old) (F.told folder.old) (F.told folder.new) }
+        ensures faults { CountsFailure (at_commit FolderFault.Failed)
+            (F.fault_count folder.old) (F.fault_count folder.new) result }
+    {
+        let token = self.prepared.token();
+        let moved = folder.rename(token, Name::IntentStage, Name::Intent);
+        commits(Installing::start(self.prepared), moved)
+    }
+}
