@@ -3,4 +3,9 @@ pub mod LoadedLines
 pub mod PlaceLemmas
 pub mod EndedLines
 pub mod OnlyPlace
+pub mod PutOnly
+pub mod ListLines
+pub mod RenamingLemmas
+pub mod OrderLemmas
+pub mod ArrangeLemmas
 pub mod RefusalLemmas

@@ -40,7 +40,7 @@ only-place format name lines place line inside is named few none_yet =
 
 module _ {R : Type 0} (format : Format R) (tells : TellsSame format) (name : List ℕ) where
   -- the records of other names stay
-  abbrev KeepsOthers : (R → List R) → Type 0
+  abbrev pub KeepsOthers : (R → List R) → Type 0
   KeepsOthers f = (r : R) → is_named format name r ≡ false → f r ≡ r ∷ []
 
   -- a record that stays leaves its line
@@ -52,7 +52,7 @@ module _ {R : Type 0} (format : Format R) (tells : TellsSame format) (name : Lis
   stays line r false is = absurd cc
 
   -- a record of another name leaves its line
-  leaves-other :
+  pub leaves-other :
       (f : R → List R) (line : Line) (r : R)
       → f r ≡ r ∷ []
       → line_becomes format line r (f r) ≡ line ∷ []
@@ -92,7 +92,7 @@ module _ {R : Type 0} (format : Format R) (tells : TellsSame format) (name : Lis
       later
 
   -- an edit of the records of a name leaves lines of which none has it
-  leaves :
+  pub leaves :
       (f : R → List R) (lines : List Line)
       → KeepsOthers f
       → count_named format name (records_of format lines) ≡ 0
@@ -112,7 +112,7 @@ module _ {R : Type 0} (format : Format R) (tells : TellsSame format) (name : Lis
       let same : s ≡ r = cc in ap (λ t. line_becomes format line t (f t)) same
 
   -- the edit of the only line of the name
-  edits-only :
+  pub edits-only :
       (f : R → List R) (lines : List Line) (place : ℕ) (line : Line) (r : R)
       → KeepsOthers f
       → IsOnlyPlace format name lines place
@@ -156,7 +156,7 @@ module _ {R : Type 0} (format : Format R) (tells : TellsSame format) (name : Lis
   one-of a b false = refl
 
   -- a line with this record, as a list
-  with-record :
+  pub with-record :
       (item : R) (line : Line) (kept : Option R) (r : R)
       → kept ≡ Some r
       → (elim kept [

@@ -9,7 +9,9 @@
 mod decision;
 mod fault;
 mod line;
+mod list_record;
 mod refusal;
+mod renaming;
 mod status;
 mod table;
 
@@ -17,6 +19,10 @@ pub use account_model::{LineProblem, Refusal};
 pub use acct_lines::TableRecord;
 pub use decision::{Decision, Output};
 pub use fault::TableFault;
+pub use list_record::ListRecord;
 pub use refusal::refusal_text;
 pub use status::refusal_status;
 pub use table::Table;
+
+#[cfg(test)]
+mod tests;

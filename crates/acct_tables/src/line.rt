@@ -1,14 +1,16 @@
 // A line of a table, with the record that it is.
-ghost use Rattle.std.specs.Prelude.{◌≡◌, ◌++◌, Bool, false, bytes_eq, IfOk, IfSome, OnOk, OnErr};
+ghost use Rattle.std.specs.Prelude.{◌≡◌, ◌++◌, Bool, false, bytes_eq, is_some, IfOk, IfSome, OnOk, OnErr};
 ghost use Rattle.std.specs.Option.{option_copied};
 ghost use Rattle.acct_text.specs.Bytes.{newline};
 ghost use Rattle.acct_text.specs.Lines.{Line, line_bytes};
 ghost use Rattle.acct_text.specs.Pieces.{Lacks};
 ghost use Rattle.account_model.specs.Edits.{as_ended};
-ghost use Rattle.account_model.specs.Written.{IsWritten};
+ghost use Rattle.account_model.specs.Written.{IsListed, IsWritten};
 ghost use Rattle.acct_tables.specs.Kept.{is_printed_as};
+ghost use Rattle.acct_tables.specs.Lists.{changed_line};
 ghost use Rattle.acct_tables.specs.TableLines.{line_is_named, with_record};
 
+use crate::ListRecord;
 use acct_lines::{ReadFault, TableRecord};
 use acct_text::Bytes;
 use std::alloc::{AllocError, Global};
@@ -82,6 +84,28 @@ impl<R: TableRecord + Drop> TableLine<R> {
         }
     }
 
+    /// An equal line.
+    pub(crate) fn copy(&self, alloc: Global) -> Result<Self, AllocError>
+        ensures { IfOk result (λ line. line ≡ self.now) }
+    {
+        TableLine::read(alloc, self.text.as_slice(), self.ended)
+    }
+
+    /// The line with the text of another one, and its own end.
+    pub(crate) fn with_text_of(&self, alloc: Global, source: &Self) -> Result<Self, AllocError>
+        ensures { IfOk result (λ line. line ≡
+            record { text = source.now.text; ended = self.now.ended }) }
+    {
+        TableLine::read(alloc, source.text.as_slice(), self.ended)
+    }
+
+    /// Whether the line is a record.
+    pub(crate) fn is_record(&self) -> bool
+        ensures { result ≡ is_some (R.format.read self.now.text) }
+    {
+        self.record.is_some()
+    }
+
     /// Gives the line an end.
     pub(crate) fn end(&mut self)
         ensures { self.new ≡ as_ended self.old }
@@ -124,5 +148,21 @@ impl<R: TableRecord + Drop> TableLine<R> {
             text.push(b"\n")?;
         }
         Ok(())
+    }
+}
+
+impl<R: ListRecord + Drop> TableLine<R> {
+    /// The line with a user renamed in the lists of its record; other text stays. The line keeps
+    /// its end, and its bytes where it is the same record.
+    pub(crate) fn renamed(&self, alloc: Global, old: &[u8], new: &[u8]) -> Result<Self, AllocError>
+        requires { IsListed new.now }
+        ensures { IfOk result (λ line. line ≡
+            changed_line R.format (R.renamed old.now new.now) self.now) }
+    {
+        let mut line = self.copy(alloc)?;
+        if let Some(kept) = self.record() {
+            line.put(alloc, kept.renamed(alloc, old, new)?)?;
+        }
+        Ok(line)
     }
 }

@@ -15,6 +15,8 @@ use std::alloc::{AllocError, Global};
 use std::marker::Model;
 
 mod edits;
+mod lists;
+mod order;
 
 /// The lines of a table's file, each a record of the table or other text.
 #[derive(Drop)]

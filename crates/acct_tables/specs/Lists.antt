@@ -1,0 +1,62 @@
+-- Records with lists of users (group(5), gshadow(5)): what the renaming of a user makes of them,
+-- and which it refuses (usermod(8), `-l`).
+use Rattle.std.specs.Prelude.{ℕ, Bool, ◌&&◌, ◌||◌, List, map, Option, Some, None, if◌then◌else◌}
+use Rattle.acct_text.specs.Lines.{Line}
+use Rattle.account_model.specs.declared.records.GroupRecord.{GroupRecord}
+use Rattle.account_model.specs.declared.records.GshadowRecord.{GshadowRecord}
+use Rattle.account_model.specs.Edits.{is_multiple}
+use Rattle.account_model.specs.Format.{Format, records_of, count_named}
+use Rattle.account_model.specs.Members.{renamed_in}
+use Rattle.account_model.specs.Text.{first_some, is_listed}
+use Rattle.acct_tables.specs.declared.fault.TableFault.{TableFault}
+use Rattle.acct_tables.specs.declared.fault.TableFault.TheVariants.{Multiple}
+use Rattle.acct_tables.specs.TableLines.{with_record}
+
+-- ---- The records
+
+-- the group has the member
+abbrev pub group_holds : List ℕ → GroupRecord → Bool
+group_holds name r = is_listed name r.members
+
+-- the group with the member renamed
+abbrev pub group_renamed : List ℕ → List ℕ → GroupRecord → GroupRecord
+group_renamed old new r = record r { members = renamed_in old new r.members }
+
+-- the group has the administrator or the member
+abbrev pub gshadow_holds : List ℕ → GshadowRecord → Bool
+gshadow_holds name r = is_listed name r.administrators || is_listed name r.members
+
+-- the group with the administrator and the member renamed
+abbrev pub gshadow_renamed : List ℕ → List ℕ → GshadowRecord → GshadowRecord
+gshadow_renamed old new r = record r {
+  administrators = renamed_in old new r.administrators;
+  members = renamed_in old new r.members;
+}
+
+-- ---- The lines
+
+-- a line whose record becomes what f gives; other text stays
+abbrev pub changed_line : {R : Type 0} → Format R → (R → R) → Line → Line
+changed_line format f line = elim (format.read line.text) [
+  | None ↦ line
+  | Some r ↦ with_record format (f r) line
+]
+
+-- ---- The refusal
+
+-- a record among these whose list holds the name can't change: its own name has several records
+abbrev pub holder_refusal : {R : Type 0} → Format R → (R → Bool) → List R → R → Option TableFault
+holder_refusal format holds records r = if holds r && is_multiple format records r
+    then Some (Multiple (count_named format (format.name r) records)) else None
+
+-- the refusal for a line
+abbrev pub line_refusal : {R : Type 0} → Format R → (R → Bool) → List R → Line → Option TableFault
+line_refusal format holds records line = elim (format.read line.text) [
+  | None ↦ None
+  | Some r ↦ holder_refusal format holds records r
+]
+
+-- the refusal for the first line that has one
+abbrev pub list_refusal : {R : Type 0} → Format R → (R → Bool) → List Line → Option TableFault
+list_refusal format holds lines =
+    first_some (map (line_refusal format holds (records_of format lines)) lines)

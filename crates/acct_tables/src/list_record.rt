@@ -1,0 +1,81 @@
+// The records with lists of users, in which a user is renamed (group(5), gshadow(5)).
+ghost use Rattle.std.specs.Prelude.{◌≡◌, ℕ, Bool, List, IfOk};
+ghost use Rattle.account_model.specs.Written.{IsListed, IsWritten};
+
+use crate::TableRecord;
+use crate::renaming::{is_listed, renamed_in};
+use acct_lines::{GroupRecord, GshadowRecord};
+use std::alloc::{AllocError, Global};
+
+/// A record with lists of users.
+pub trait ListRecord: TableRecord {
+    // whether a list of the record holds the name
+    ghost holds: { List ℕ → Self → Bool };
+
+    // the record with the old name renamed to the new one in each list
+    ghost renamed: { List ℕ → List ℕ → Self → Self };
+
+    /// Whether a list of the record holds the name.
+    fn holds(&self, name: &[u8]) -> bool
+        ensures { result ≡ holds name.now self.now };
+
+    /// The record with the old name renamed to the new one in each list that holds it. There the
+    /// new name stands once, in its first place or the old one's; a list without the old name
+    /// stays.
+    ///
+    /// At `AllocError` there was no memory for it.
+    fn renamed(&self, alloc: Global, old: &[u8], new: &[u8]) -> Result<Self, AllocError>
+        ensures { IfOk result (λ item. item ≡ renamed old.now new.now self.now) };
+
+    // a record that a line can hold stays one, for a new name that a list can hold
+    ghost stays_written: { (old new : List ℕ) (r : Self) → IsListed new
+        → IsWritten Self.format r → IsWritten Self.format (renamed old new r) };
+}
+
+impl ListRecord for GroupRecord {
+    ghost use Rattle.acct_tables.specs.Lists.{group_holds, group_renamed};
+    ghost use Rattle.acct_tables.specs.RenamedRecords.{group-written};
+
+    ghost holds = { group_holds };
+
+    ghost renamed = { group_renamed };
+
+    fn holds(&self, name: &[u8]) -> bool {
+        is_listed(&self.members, name)
+    }
+
+    fn renamed(&self, alloc: Global, old: &[u8], new: &[u8]) -> Result<Self, AllocError> {
+        Ok(GroupRecord {
+            name: self.name.copy()?,
+            password: self.password.copy()?,
+            gid: self.gid,
+            members: renamed_in(alloc, &self.members, old, new)?,
+        })
+    }
+
+    ghost stays_written = { group-written };
+}
+
+impl ListRecord for GshadowRecord {
+    ghost use Rattle.acct_tables.specs.Lists.{gshadow_holds, gshadow_renamed};
+    ghost use Rattle.acct_tables.specs.RenamedRecords.{gshadow-written};
+
+    ghost holds = { gshadow_holds };
+
+    ghost renamed = { gshadow_renamed };
+
+    fn holds(&self, name: &[u8]) -> bool {
+        is_listed(&self.administrators, name) || is_listed(&self.members, name)
+    }
+
+    fn renamed(&self, alloc: Global, old: &[u8], new: &[u8]) -> Result<Self, AllocError> {
+        Ok(GshadowRecord {
+            name: self.name.copy()?,
+            password: self.password.copy()?,
+            administrators: renamed_in(alloc, &self.administrators, old, new)?,
+            members: renamed_in(alloc, &self.members, old, new)?,
+        })
+    }
+
+    ghost stays_written = { gshadow-written };
+}

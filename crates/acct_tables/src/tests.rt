@@ -1,0 +1,74 @@
+// Edits of group(5) files that no tool would write: no last newline, other text, names twice.
+ghost use Rattle.std.specs.Prelude.{IfOk};
+ghost use Rattle.acct_text.specs.Bytes.{newline};
+ghost use Rattle.acct_text.specs.Pieces.{Lacks};
+ghost use Rattle.account_model.specs.Records.{group_format};
+ghost use Rattle.account_model.specs.Written.{IsWritten};
+
+use super::*;
+use acct_lines::GroupRecord;
+use std::alloc::{AllocError, Global};
+use std::test::Fail;
+
+// The group of a line that is one.
+fn group(alloc: Global, line: &[u8]) -> Result<GroupRecord, AllocError>
+    requires { Lacks newline line.now }
+    ensures { IfOk result (IsWritten group_format) }
+{
+    match GroupRecord::read(alloc, line) {
+        Ok(record) => Ok(record),
+        Err(_) => Err(AllocError),
+    }
+}
+
+// Whether the table has these bytes.
+fn has(alloc: Global, table: &Table<GroupRecord>, wanted: &[u8]) -> Result<bool, AllocError> {
+    Ok(table.text(alloc)?.as_slice() == wanted)
+}
+
+#[test]
+fn a_line_without_an_end_gets_one_behind_which_is_added(rt: HostRuntime) -> Result<(), Fail> {
+    let alloc = rt.alloc();
+    let mut table: Table<GroupRecord> = Table::load(alloc, b"# x\na:x:1:")?;
+    assert_eq!(rt; table.append(group(alloc, b"b:x:02:,")?), Ok(()));
+    assert!(rt; has(alloc, &table, b"# x\na:x:1:\nb:x:2:\n".as_slice())?);
+    Ok(())
+}
+
+#[test]
+fn a_name_that_stands_twice_is_not_replaced(rt: HostRuntime) -> Result<(), Fail> {
+    let alloc = rt.alloc();
+    let mut table: Table<GroupRecord> = Table::load(alloc, b"a:x:1:\na:x:2:")?;
+    let replaced = table.replace(b"a", group(alloc, b"c:x:3:")?);
+    assert_eq!(rt; replaced, Err(TableFault::Multiple(2)));
+    assert_eq!(rt; table.remove(b"b"), Err(TableFault::Absent));
+    Ok(())
+}
+
+#[test]
+fn a_member_is_renamed_once(rt: HostRuntime) -> Result<(), Fail> {
+    let alloc = rt.alloc();
+    let mut table: Table<GroupRecord> = Table::load(alloc, b"a:x:1:n,o,n,o\nb:x:02:p,")?;
+    assert_eq!(rt; table.rename_in_lists(b"o", b"n"), Ok(()));
+    assert!(rt; has(alloc, &table, b"a:x:1:n\nb:x:02:p,".as_slice())?);
+    Ok(())
+}
+
+#[test]
+fn records_change_places_and_lines_keep_their_ends(rt: HostRuntime) -> Result<(), Fail> {
+    let alloc = rt.alloc();
+    let mut table: Table<GroupRecord> = Table::load(alloc, b"b:x:02:\noops\na:x:1:")?;
+    table.arrange(&[2, 0])?;
+    assert!(rt; has(alloc, &table, b"a:x:1:\noops\nb:x:02:".as_slice())?);
+    Ok(())
+}
+
+#[test]
+fn lines_are_set_and_moved_by_their_places(rt: HostRuntime) -> Result<(), Fail> {
+    let alloc = rt.alloc();
+    let mut table: Table<GroupRecord> = Table::load(alloc, b"a:x:1:")?;
+    table.insert_at(0, group(alloc, b"b:x:2:")?)?;
+    table.set_at(1, group(alloc, b"c:x:3:")?)?;
+    assert!(rt; has(alloc, &table, b"b:x:2:\nc:x:3:".as_slice())?);
+    Ok(())
+}
