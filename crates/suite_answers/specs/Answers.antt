@@ -1,0 +1,67 @@
+-- What a command answers beside the decisions of its tool: the outcome, no output, and one line on
+-- the error stream.
+use Rattle.std.specs.Prelude.{◌≡◌, ⊤, ℕ, List, [], codes}
+use Rattle.account_model.specs.declared.tool.Tool.{Tool}
+use Rattle.account_model.specs.declared.word_fault.WordFault.{WordFault}
+use Rattle.account_model.specs.declared.word_fault.WordFault.TheVariants.{Memory as NoMemory}
+use Rattle.account_model.specs.Messages.{message}
+use Rattle.account_model.specs.Options.{Word}
+use Rattle.account_model.specs.WordMessages.{word_fault_status, word_fault_message}
+use Rattle.acct_outside.specs.declared.CommitStage.TheVariants.{Before}
+use Rattle.suite_answers.specs.declared.answer.Answer.{Answer}
+use Rattle.suite_answers.specs.declared.cause.Cause.{Cause}
+use Rattle.suite_answers.specs.declared.cause.Cause.TheVariants.{Changed, Same, Refused, Syntax, NotBuilt, OutputFault, Memory}
+use Rattle.suite_answers.specs.Reasons.{status_of, reason_text}
+
+-- an answer that says why, and has no output
+abbrev pub says : Cause → ℕ → List ℕ → Answer
+says cause status message = record {
+  outcome = record { status = status; cause = cause };
+  out = [];
+  err = message;
+}
+
+-- ---- A cause
+
+-- what the tool says of the cause: what it decides brings its own text, as faults of words do, and
+-- nothing tells that the streams failed
+abbrev pub message_of : Tool → Cause → List ℕ
+message_of tool Changed = []
+message_of tool Same = []
+message_of tool (Refused refusal) = []
+message_of tool (Syntax fault) = []
+message_of tool (OutputFault stage) = []
+message_of tool NotBuilt = codes "accounts: form is not built\n"
+message_of tool cause = message tool (reason_text cause)
+
+-- the answer of the tool to the cause
+abbrev pub told : Tool → Cause → Answer
+told tool cause = says cause (status_of tool cause) (message_of tool cause)
+
+-- ---- Words
+
+-- the cause of a fault of words; to have no memory for them is want of memory
+abbrev pub cause_of_words : WordFault → Cause
+cause_of_words NoMemory = Memory Before
+cause_of_words fault = Syntax fault
+
+-- the answer to words with this first fault
+abbrev pub told_words : List Word → WordFault → Answer
+told_words words fault =
+    says (cause_of_words fault) (word_fault_status words fault) (word_fault_message words fault)
+
+-- ---- Any answer
+
+-- an answer with this cause is the one that the words or the tool have for it; what the tool
+-- decides and what a stream that failed leaves is said elsewhere
+abbrev pub SaysCause : List Word → Tool → Answer → Cause → Type 0
+SaysCause words tool answer Changed = ⊤
+SaysCause words tool answer Same = ⊤
+SaysCause words tool answer (Refused refusal) = ⊤
+SaysCause words tool answer (OutputFault stage) = ⊤
+SaysCause words tool answer (Syntax fault) = answer ≡ told_words words fault
+SaysCause words tool answer cause = answer ≡ told tool cause
+
+-- the answer of the tool to the words says its own cause
+abbrev pub Says : List Word → Tool → Answer → Type 0
+Says words tool answer = SaysCause words tool answer answer.outcome.cause

@@ -1,0 +1,21 @@
+//! What a command of the account suite answers: why, with which status, and what it says on the
+//! error stream. What a tool decides on the tables brings its own texts; all other answers are made
+//! here, for each of the twelve tools.
+#![tactic(auto)]
+
+mod answer;
+mod cause;
+mod memory;
+mod message;
+mod pieces;
+mod reason;
+mod word_message;
+
+pub use account_model::{LineProblem, Refusal, Tool, WordFault};
+pub use acct_outside::{CommitStage, Name, Token};
+pub use answer::Answer;
+pub use cause::{Cause, Outcome, Which};
+pub use memory::put_memory_text;
+
+#[cfg(test)]
+mod tests;

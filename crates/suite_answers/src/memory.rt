@@ -1,0 +1,28 @@
+// The line of `Memory`, which is put in pieces that take no memory to make.
+ghost use Rattle.acct_outside.specs.Faults.{CountsFailure};
+ghost use Rattle.acct_outside.specs.Streams.{WhereBytesTold};
+ghost use Rattle.suite_answers.specs.Reasons.{memory_message};
+ghost use Rattle.suite_answers.specs.Fronts.{PutsFront};
+
+use crate::{message, reason};
+use account_model::Tool;
+use acct_outside::{CommitStage, Sink, SinkFault};
+
+/// Puts the line of want of memory at a stage: of the tool, or of `accounts` where none is known.
+///
+/// At `Failed` and at `Memory`, which are the sink's, it holds a front of the line more.
+pub fn put_memory_text<E: Sink>(
+    err: &mut E,
+    tool: Option<Tool>,
+    stage: CommitStage,
+) -> Result<(), SinkFault>
+    ensures holds { WhereBytesTold (E.holds err.old) (E.holds err.new)
+        (PutsFront (memory_message tool stage) result) }
+    ensures faults { CountsFailure SinkFault.Failed (E.fault_count err.old) (E.fault_count err.new)
+        result }
+{
+    err.put(message::name(tool))?;
+    err.put(b": want of memory ")?;
+    err.put(reason::stage_text(stage))?;
+    err.put(b"\n")
+}
