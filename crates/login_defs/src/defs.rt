@@ -35,7 +35,7 @@ pub enum KeyFault {
 const USER_GROUPS: &[u8] = b"USERGROUPS_ENAB";
 
 /// The settings of login.defs: of each key what its last line gave.
-#[derive(Drop)]
+#[derive(Clone, Copy, Drop)]
 pub struct Defs {
     // by the place of the key: nothing, -1 as `None`, or a number
     values: [Option<Option<u32>>; COUNT],
