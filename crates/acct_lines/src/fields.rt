@@ -116,8 +116,8 @@ impl<'a> Fields<'a> {
     }
 }
 
-// The names between the commas of a text; empty ones are left out.
-fn cut_names(alloc: Global, text: &[u8]) -> Result<Names, AllocError>
+/// The names between the commas of a text (group(5), gshadow(5)); empty ones are left out.
+pub fn cut_names(alloc: Global, text: &[u8]) -> Result<Names, AllocError>
     ensures { IfOk result (λ names. names ≡ read_names text.now) }
 {
     let mut names = Names::new(alloc);

@@ -19,7 +19,8 @@ mod subid;
 pub use account_model::{
     GroupRecord, GshadowRecord, LineFault, PasswdRecord, ShadowRecord, SubidRecord,
 };
-pub use names::is_valid_name;
+pub use fields::cut_names;
+pub use names::{is_digits, is_valid_name};
 pub use record::{ReadFault, TableRecord};
 
 #[cfg(test)]

@@ -66,17 +66,17 @@ fn begins_with_hyphen(name: &[u8]) -> bool
     }
 }
 
-// Whether the name would be taken for a UID or a GID.
-fn is_digits(name: &[u8]) -> bool
-    ensures { result ≡ writes_digits name.now }
+/// Whether a text is one or more decimal digits, as a UID or a GID is written.
+pub fn is_digits(text: &[u8]) -> bool
+    ensures { result ≡ writes_digits text.now }
 {
-    !name.is_empty() && has_only_digits(name)
+    !text.is_empty() && has_only_digits(text)
 }
 
-fn has_only_digits(name: &[u8]) -> bool
-    ensures { result ≡ list_all (λ byte. is_decimal byte 10) name.now }
+fn has_only_digits(text: &[u8]) -> bool
+    ensures { result ≡ list_all (λ byte. is_decimal byte 10) text.now }
 {
-    name.iter().all(|byte| is_digit(*byte))
+    text.iter().all(|byte| is_digit(*byte))
 }
 
 fn is_digit(byte: u8) -> bool
