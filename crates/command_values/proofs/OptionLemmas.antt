@@ -1,0 +1,62 @@
+-- Claim: the values of the options from a place on begin with that of the option there
+-- (`values-from`), so the last is found in one walk over the options (`last-from`).
+use Rattle.std.proofs.Common.{◌≡◌, ℕ, ◌+◌, ◌<◌, Bool, ◌==◌, List, [], ◌∷◌, length, drop, get_or, refl, sym, ap, ◌∙◌, inl, inr}
+use Rattle.std.specs.Prelude.{Option, is_some, find, filter, filter_map}
+use Rattle.std.specs.Option.{option_or}
+use Rattle.std.specs.List.{list_any, cons_option}
+use Rattle.std.proofs.lemmas.Bool.{cases_Bool}
+use Rattle.std.proofs.lemmas.List.{drop_more}
+use Rattle.account_model.specs.declared.given.Given.{Given}
+use Rattle.account_model.specs.Text.{last_of}
+use Rattle.option_words.proofs.ReadingLemmas.{last_of-cons_option}
+use Rattle.command_values.specs.Options.{value_at}
+
+-- one is found exactly where one passes
+pub is_some-find :
+    {X : Type 0} (test : X → Bool) (xs : List X) → list_any test xs ≡ is_some (find test xs)
+is_some-find test [] = refl
+is_some-find test (x ∷ xs) = elim (cases_Bool (test x)) [
+  | inl passes ↦ rw passes refl
+  | inr fails ↦ rw fails (is_some-find test xs)
+]
+
+-- the values of a letter among options
+abbrev pub values_in : ℕ → List Given → List (List ℕ)
+values_in letter options =
+    filter_map (λ given. given.value) (filter (λ given. given.letter == letter) options)
+
+-- the value of an option stands before those of the options behind it
+pub values-first :
+    (letter : ℕ) (option : Given) (options : List Given)
+    → values_in letter (option ∷ options)
+    ≡ cons_option (value_at letter option) (values_in letter options)
+values-first letter option options = elim (cases_Bool (option.letter == letter)) [
+  | inl same ↦ rw same refl
+  | inr other ↦ rw other refl
+]
+
+-- the values from a place on, where an option stands
+pub values-from :
+    (letter : ℕ) (options : List Given) (place : ℕ) (option : Given)
+    → place < length options
+    → option ≡ get_or options place option
+    → values_in letter (drop place options)
+    ≡ cons_option (value_at letter option) (values_in letter (drop (place + 1) options))
+values-from letter options place option inside is =
+    let from : drop place options ≡ option ∷ drop (place + 1) options =
+    drop_more options place option inside ∙ ap (λ o. o ∷ drop (place + 1) options) (sym is) in
+    ap (values_in letter) from ∙ values-first letter option (drop (place + 1) options)
+
+-- the last value of the options from a place on, where an option stands
+pub last-from :
+    (letter : ℕ) (options : List Given) (place : ℕ) (option : Given) (before : Option (List ℕ))
+    → place < length options
+    → option ≡ get_or options place option
+    → option_or (last_of (values_in letter (drop place options))) before
+    ≡ option_or (last_of (values_in letter (drop (place + 1) options)))
+    (option_or (value_at letter option) before)
+last-from letter options place option before inside is =
+    let behind = values_in letter (drop (place + 1) options) in
+    ap (λ values. option_or (last_of values) before)
+    (values-from letter options place option inside is)
+    ∙ last_of-cons_option (value_at letter option) behind before

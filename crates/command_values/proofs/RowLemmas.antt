@@ -1,0 +1,267 @@
+-- Claim: what words ask for keeps the row of its tool (`asks-keeps_row`), so that an option which
+-- takes a value has one (`given-has_value`), and a tool of one operand has it (`one-operand`). Way:
+-- each way to spell an option tells its row of the tool's table, by its letter or by its long name,
+-- and no two rows of a tool have one letter (`letters-apart`). The row of `-P` counts for nothing
+-- among options without it.
+use Rattle.std.proofs.Common.{◌≡◌, ℕ, Bool, true, false, ◌==◌, List, [], ◌∷◌, length, refl, sym, ap, subst, ◌∙◌, inl, inr, eq-eqb, arith}
+use Rattle.std.specs.Prelude.{Option, Some, None, find, is_some}
+use Rattle.std.specs.List.{AllByRecursion}
+use Rattle.std.proofs.lemmas.Bool.{cases_Bool, eqb-true}
+use Rattle.account_model.specs.declared.given.Given.{Given}
+use Rattle.account_model.specs.declared.tool.Tool.{Tool}
+use Rattle.account_model.specs.declared.tool.Tool.TheVariants.{Useradd, Usermod, Userdel, Groupadd, Groupmod, Groupdel, Gpasswd, Chage, Chpasswd, Pwck, Grpck, Getsubids}
+use Rattle.account_model.specs.Options.{Word, OptionForm, prefix_letter, option_forms, own_options, operands_of}
+use Rattle.account_model.specs.Request.{Request, has_option, value_of, last_value, operand as operand_of}
+use Rattle.account_model.specs.Spelling.{form_of_letter, HasLetter, HasName, Spelled, nothing, end_of_options, operand, letter_flag, letter_bundle, letter_with_value, letter_then_value, name_flag, name_with_value, name_then_value}
+use Rattle.account_model.specs.Text.{last_of}
+use Rattle.account_model.specs.Words.{Asks, without_prefix}
+use Rattle.command_values.specs.Options.{IsOfTable, KeepsRow}
+use Rattle.command_values.proofs.OptionLemmas.{values_in}
+
+-- ---- One row for each letter
+
+-- the row of a letter is the only one with it
+abbrev IsOnlyRow : List OptionForm → OptionForm → Type 0
+IsOnlyRow table form = form_of_letter table form.letter ≡ Some form
+
+-- no two rows of a tool have one letter
+letters-apart : (tool : Tool) → AllByRecursion (IsOnlyRow (option_forms tool)) (option_forms tool)
+letters-apart Useradd = (
+  refl,
+  (
+    refl,
+    (
+      refl,
+      (
+        refl,
+        (
+          refl,
+          (
+            refl,
+            (
+              refl,
+              (
+                refl,
+                (
+                  refl,
+                  (
+                    refl,
+                    (refl, (refl, (refl, (refl, (refl, (refl, (refl, (refl, (refl, tt))))))))),
+                  ),
+                ),
+              ),
+            ),
+          ),
+        ),
+      ),
+    ),
+  ),
+)
+letters-apart Usermod = (
+  refl,
+  (
+    refl,
+    (
+      refl,
+      (
+        refl,
+        (
+          refl,
+          (
+            refl,
+            (
+              refl,
+              (
+                refl,
+                (
+                  refl,
+                  (
+                    refl,
+                    (refl, (refl, (refl, (refl, (refl, (refl, (refl, (refl, (refl, tt))))))))),
+                  ),
+                ),
+              ),
+            ),
+          ),
+        ),
+      ),
+    ),
+  ),
+)
+letters-apart Userdel = (refl, (refl, tt))
+letters-apart Groupadd = (refl, (refl, (refl, (refl, (refl, (refl, (refl, tt)))))))
+letters-apart Groupmod = (refl, (refl, (refl, (refl, (refl, tt)))))
+letters-apart Groupdel = (refl, (refl, tt))
+letters-apart Gpasswd = (refl, (refl, (refl, (refl, (refl, (refl, (refl, tt)))))))
+letters-apart Chage = (refl, (refl, (refl, (refl, (refl, (refl, (refl, (refl, tt))))))))
+letters-apart Chpasswd = (refl, (refl, tt))
+letters-apart Pwck = (refl, (refl, (refl, (refl, tt))))
+letters-apart Grpck = (refl, (refl, (refl, tt)))
+letters-apart Getsubids = (refl, (refl, tt))
+
+-- what holds of all holds of the one that is found
+holds-found :
+    {X : Type 0} (P : X → Type 0) (test : X → Bool) (xs : List X) (x : X)
+    → AllByRecursion P xs
+    → find test xs ≡ Some x
+    → P x
+holds-found P test [] x all found = absurd cc
+holds-found P test (first ∷ rest) x all found = elim (cases_Bool (test first)) [
+  | inl passes ↦
+      let same : Some first ≡ Some x = rw passes at found in
+      let is : first ≡ x = cc in subst P is all.0
+  | inr fails ↦ holds-found P test rest x all.1 (rw fails at found)
+]
+
+module _ (table : List OptionForm) (apart : AllByRecursion (IsOnlyRow table) table) where
+  -- an option by its long name is one by its letter
+  letter-of_name :
+      (name : Word) (letter : ℕ) (takes_value : Bool)
+      → HasName table name letter takes_value
+      → HasLetter table letter takes_value
+  letter-of_name name letter takes_value has = record {
+    form = has.form;
+    found = subst (λ letter. form_of_letter table letter ≡ Some has.form) has.letter_is
+        (holds-found (IsOnlyRow table) _ table has.form apart has.found);
+    value = has.value;
+  }
+
+  -- the options that words spell are those of the table
+  spelled-of_table :
+      (words : List Word) (options : List Given) (operands : List Word)
+      → Spelled table words options operands
+      → AllByRecursion (IsOfTable table) options
+  spelled-of_table _ _ _ nothing = tt
+  spelled-of_table _ _ _ end_of_options = tt
+  spelled-of_table _ _ _ (operand is rest) = spelled-of_table _ _ _ rest
+  spelled-of_table _ _ _ (letter_flag has rest) = (has, spelled-of_table _ _ _ rest)
+  spelled-of_table _ _ _ (letter_bundle has next rest) = (has, spelled-of_table _ _ _ rest)
+  spelled-of_table _ _ _ (letter_with_value has rest) = (has, spelled-of_table _ _ _ rest)
+  spelled-of_table _ _ _ (letter_then_value has rest) = (has, spelled-of_table _ _ _ rest)
+  spelled-of_table _ _ _ (name_flag has rest) =
+      (letter-of_name _ _ _ has, spelled-of_table _ _ _ rest)
+  spelled-of_table _ _ _ (name_with_value name is has rest) =
+      (letter-of_name _ _ _ has, spelled-of_table _ _ _ rest)
+  spelled-of_table _ _ _ (name_then_value has rest) =
+      (letter-of_name _ _ _ has, spelled-of_table _ _ _ rest)
+
+-- ---- The options but the prefix
+
+-- another letter than `-P` is one of the tool's own
+own-letter :
+    (tool : Tool) (letter : ℕ) (takes_value : Bool)
+    → (letter == prefix_letter) ≡ false
+    → HasLetter (option_forms tool) letter takes_value
+    → HasLetter (own_options tool) letter takes_value
+own-letter tool letter takes_value other has = elim (cases_Bool (prefix_letter == letter)) [
+  | inl same ↦
+      let turned : letter ≡ prefix_letter = sym (eqb-true prefix_letter letter same) in
+      let wrong : false ≡ true = sym other ∙ eq-eqb letter prefix_letter turned in absurd (cc)
+  | inr different ↦ record { form = has.form; found = rw different at has.found; value = has.value }
+]
+
+-- the options but the prefix are the tool's own
+own-options :
+    (tool : Tool) (options : List Given)
+    → AllByRecursion (IsOfTable (option_forms tool)) options
+    → AllByRecursion (IsOfTable (own_options tool)) (without_prefix options)
+own-options tool [] all = tt
+own-options tool (option ∷ options) all = elim (cases_Bool (option.letter == prefix_letter)) [
+  | inl prefix ↦ rw prefix (own-options tool options all.1)
+  | inr other ↦ rw other (
+    own-letter tool option.letter (is_some option.value) other all.0,
+    own-options tool options all.1,
+  )
+]
+
+-- what words ask for keeps the row of its tool
+pub asks-keeps_row :
+    (words : List Word) (request : Request) → Asks words request → KeepsRow request
+asks-keeps_row words request asks =
+    let tool = request.tool in
+    let all =
+    spelled-of_table (option_forms tool) (letters-apart tool) asks.arguments asks.given
+    request.operands asks.spelled in
+    record {
+      options = subst (AllByRecursion (IsOfTable (own_options tool))) (sym asks.options)
+          (own-options tool asks.given all);
+      operands = asks.operands;
+      rules = asks.rules;
+    }
+
+-- ---- What follows
+
+-- the last of some values is one
+last-stands : (value : List ℕ) (values : List (List ℕ)) → is_some (last_of (value ∷ values)) ≡ true
+last-stands value [] = refl
+last-stands value (next ∷ values) = last-stands next values
+
+-- two options of one letter take a value alike
+takes-alike :
+    (table : List OptionForm) (letter other : ℕ) (takes_value has_value : Bool)
+    → HasLetter table letter takes_value
+    → other ≡ letter
+    → HasLetter table other has_value
+    → has_value ≡ takes_value
+takes-alike table letter other takes_value has_value takes same has =
+    let found : form_of_letter table letter ≡ Some has.form =
+    subst (λ l. form_of_letter table l ≡ Some has.form) same has.found in
+    let one : has.form ≡ takes.form = let both = sym found ∙ takes.found in cc in
+    sym has.value ∙ ap (λ (form : OptionForm). form.takes_value) one ∙ takes.value
+
+-- an option with a value, in front of others, has a last value
+value-in_front :
+    (letter : ℕ) (option : Given) (options : List Given) (value : Option (List ℕ))
+    → (option.letter == letter) ≡ true
+    → option.value ≡ value
+    → is_some value ≡ true
+    → is_some (last_value letter (option ∷ options)) ≡ true
+value-in_front letter option options None same is stands = absurd cc
+value-in_front letter option options (Some value) same is stands =
+    rw (same, is) (last-stands value (values_in letter options))
+
+-- among options of the table, one that takes a value and is given has a value
+value-stands :
+    (table : List OptionForm) (letter : ℕ) (options : List Given)
+    → HasLetter table letter true
+    → AllByRecursion (IsOfTable table) options
+    → is_some (find (λ option. option.letter == letter) options) ≡ true
+    → is_some (last_value letter options) ≡ true
+value-stands table letter [] takes all given = absurd cc
+value-stands table letter (option ∷ options) takes all given =
+    elim (cases_Bool (option.letter == letter)) [
+      | inl same ↦ value-in_front letter option options option.value same refl
+          (takes-alike table letter option.letter true (is_some option.value) takes
+          (eqb-true option.letter letter same) all.0)
+      | inr other ↦ rw other
+          (value-stands table letter options takes all.1 (rw other at given))
+    ]
+
+-- an option that takes a value and is given has one
+pub given-has_value :
+    (request : Request) (letter : ℕ)
+    → KeepsRow request
+    → HasLetter (own_options request.tool) letter true
+    → has_option (letter ∷ []) request ≡ true
+    → is_some (value_of (letter ∷ []) request) ≡ true
+given-has_value request letter keeps takes given =
+    value-stands (own_options request.tool) letter request.options takes keeps.options given
+
+-- one operand is all operands
+only-operand :
+    (operands : List Word) (name : Word)
+    → length operands ≡ 1
+    → elim operands [ [] ↦ [] | first ∷ rest ↦ first ] ≡ name
+    → operands ≡ name ∷ []
+only-operand [] name one is = absurd cc
+only-operand (first ∷ []) name one is = ap (λ name. name ∷ []) is
+only-operand (first ∷ second ∷ rest) name one is = absurd (omega (arith, one))
+
+-- a tool of one operand has that one
+pub one-operand :
+    (request : Request)
+    → KeepsRow request
+    → operands_of request.tool ≡ 1
+    → request.operands ≡ operand_of request ∷ []
+one-operand request keeps one =
+    only-operand request.operands (operand_of request) (keeps.operands ∙ one) refl

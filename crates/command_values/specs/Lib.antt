@@ -1,0 +1,5 @@
+pub mod Options
+pub mod Forms
+pub mod Refusing
+pub mod Chosen
+pub mod Tables

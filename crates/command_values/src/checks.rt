@@ -1,0 +1,63 @@
+// What a tool refuses by the words of its command alone.
+ghost use Rattle.std.specs.Prelude.{◌≡◌, ◌∷◌, []};
+ghost use Rattle.account_model.specs.Refusals.{bad_value, bad_name, bad_list_name};
+ghost use Rattle.command_values.specs.Forms.{test_of};
+ghost use Rattle.command_values.specs.Refusing.{RefusesBy};
+
+use crate::form::has_byte;
+use crate::{Asked, Form, ToolFault};
+use account_model::Refusal;
+use acct_lines::is_valid_name;
+use acct_text::Bytes;
+use std::alloc::Global;
+
+impl Asked {
+    /// Refuses the value of the option, where it is given and isn't of the form: `BadValue`.
+    /// `Memory` comes only where there is no room for that refusal.
+    pub fn check_value(&self, alloc: Global, letter: u8, form: Form) -> Result<(), ToolFault>
+        ensures { RefusesBy (bad_value (letter ∷ []) (test_of form) self.now) result }
+    {
+        match self.value(letter) {
+            Some(value) if !form.allows(value) => {
+                let value = Bytes::of(alloc, value)?;
+                Err(ToolFault::Refused(Refusal::BadValue(letter, value)))
+            }
+            _ => Ok(()),
+        }
+    }
+}
+
+/// Refuses a name that a command would make and that isn't valid: `BadName`. `Memory` comes only
+/// where there is no room for that refusal.
+pub fn check_name(alloc: Global, name: &[u8]) -> Result<(), ToolFault>
+    ensures { RefusesBy (bad_name name.now) result }
+{
+    if is_valid_name(name) {
+        return Ok(());
+    }
+    Err(ToolFault::Refused(Refusal::BadName(Bytes::of(alloc, name)?)))
+}
+
+/// Refuses a name that a command would put into a list and that has a comma: `BadName`. `Memory`
+/// comes only where there is no room for that refusal.
+pub fn check_list_name(alloc: Global, name: &[u8]) -> Result<(), ToolFault>
+    ensures { RefusesBy (bad_list_name name.now) result }
+{
+    if !has_byte(name, b',') {
+        return Ok(());
+    }
+    Err(ToolFault::Refused(Refusal::BadName(Bytes::of(alloc, name)?)))
+}
+
+#[cfg(test)]
+mod tests {
+    use super::*;
+
+    #[test]
+    fn names_are_checked(rt: HostRuntime) {
+        assert!(rt; check_name(rt.alloc(), b"ann").is_ok());
+        assert!(rt; check_name(rt.alloc(), b"-ann").is_err());
+        assert!(rt; check_list_name(rt.alloc(), b"a b").is_ok());
+        assert!(rt; check_list_name(rt.alloc(), b"a,b").is_err());
+    }
+}

@@ -1,0 +1,133 @@
+// What the value of an option may be (useradd(8), usermod(8), groupadd(8), groupmod(8), chage(1)).
+ghost use Rattle.std.specs.Prelude.{◌≡◌, not, ◌&&◌, ◌||◌, is_some};
+ghost use Rattle.acct_text.specs.Numbers.{number_within};
+ghost use Rattle.acct_text.specs.Bytes.{newline, colon, is_empty};
+ghost use Rattle.account_model.specs.Records.{read_id as id_of_text};
+ghost use Rattle.account_model.specs.Text.{has_byte, slash, begins_with};
+ghost use Rattle.account_model.specs.Values.{days_value, is_field as stands_in_field, is_folder as is_folder_text, is_shell as is_shell_text};
+ghost use Rattle.command_values.specs.Forms.{test_of};
+
+use acct_lines::is_valid_name;
+use acct_text::read_decimal;
+
+// The greatest UID or GID.
+const GREATEST_ID: u32 = 4294967294;
+
+// The greatest number of days.
+const GREATEST_DAYS: u32 = 2147483647;
+
+/// What the value of an option has to be.
+#[derive(Clone, Copy)]
+pub enum Form {
+    /// A comment or a hash: it holds no `:` and no newline.
+    Field,
+    /// A home or a base folder: a field that begins with `/`.
+    Folder,
+    /// A shell: a field that is empty or begins with `/`.
+    Shell,
+    /// A UID or a GID: decimal digits, at most 4294967294.
+    Id,
+    /// A name that a command may make.
+    Name,
+    /// A number of days, at most 2147483647, or `-1`.
+    Days,
+}
+
+impl Form {
+    /// Whether a value is of the form.
+    pub fn allows(self, value: &[u8]) -> bool
+        ensures { result ≡ test_of self value.now }
+    {
+        match self {
+            Form::Field => is_field(value),
+            Form::Folder => is_field(value) && begins_with_slash(value),
+            Form::Shell => is_field(value) && (value.is_empty() || begins_with_slash(value)),
+            Form::Id => read_id(value).is_some(),
+            Form::Name => is_valid_name(value),
+            Form::Days => read_days(value).is_some(),
+        }
+    }
+}
+
+/// The UID or the GID that a text writes: decimal digits, at most 4294967294.
+pub fn read_id(text: &[u8]) -> Option<u32>
+    ensures { result ≡ id_of_text text.now }
+{
+    number_within(text, GREATEST_ID)
+}
+
+/// The number of days that a text writes, at most 2147483647. `-1` gives `Some(None)`, which
+/// empties a field (chage(1), `-m`).
+pub fn read_days(text: &[u8]) -> Option<Option<u32>>
+    ensures { result ≡ days_value text.now }
+{
+    if text == b"-1".as_slice() {
+        return Some(None);
+    }
+    number_within(text, GREATEST_DAYS).map(Some)
+}
+
+// The number, of at most `greatest`, that a text writes in decimal digits.
+fn number_within(text: &[u8], greatest: u32) -> Option<u32>
+    ensures { result ≡ number_within greatest text.now }
+{
+    match read_decimal(text, u64::from(greatest)) {
+        Ok(number) => Some(number as u32),
+        Err(_) => None,
+    }
+}
+
+// Whether the text can stand in a field of a line.
+fn is_field(text: &[u8]) -> bool
+    ensures { result ≡ stands_in_field text.now }
+{
+    !has_byte(text, b':') && !has_byte(text, b'\n')
+}
+
+/// Whether the text has the byte.
+pub(crate) fn has_byte(text: &[u8], byte: u8) -> bool
+    ensures { result ≡ has_byte byte text.now }
+{
+    text.iter().any(|other| *other == byte)
+}
+
+fn begins_with_slash(text: &[u8]) -> bool
+    ensures { result ≡ begins_with slash text.now }
+{
+    match text.first() {
+        Some(byte) => *byte == b'/',
+        None => false,
+    }
+}
+
+#[cfg(test)]
+mod tests {
+    use super::*;
+
+    #[test]
+    fn a_value_is_of_its_form(rt: HostRuntime) {
+        let cases = [
+            (Form::Field, b"".as_slice(), true),
+            (Form::Field, b"Ann,,,", true),
+            (Form::Field, b"a:b", false),
+            (Form::Field, b"a\nb", false),
+            (Form::Folder, b"/home/ann", true),
+            (Form::Folder, b"home/ann", false),
+            (Form::Folder, b"/home:x", false),
+            (Form::Shell, b"", true),
+            (Form::Shell, b"bin/sh", false),
+            (Form::Id, b"4294967294", true),
+            (Form::Id, b"4294967295", false),
+            (Form::Id, b"-1", false),
+            (Form::Id, b"", false),
+            (Form::Name, b"www-data", true),
+            (Form::Name, b"1000", false),
+            (Form::Days, b"-1", true),
+            (Form::Days, b"2147483647", true),
+            (Form::Days, b"2147483648", false),
+        ];
+        for (form, value, wanted) in cases {
+            assert_eq!(rt; form.allows(value), wanted);
+        }
+    }
+}
