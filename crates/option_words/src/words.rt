@@ -118,6 +118,7 @@ mod tests {
             (b"useradd -P R -aG sudo bob", WordFault::UnknownOption(3)),
             (b"adduser -P R ann", WordFault::UnknownTool),
             (b"userdel -P R -fr ann", WordFault::UnknownOption(3)),
+            (b"userdel -r ann", WordFault::UnknownOption(1)),
             (b"usermod -P R --comm x ann", WordFault::UnknownOption(3)),
             (b"useradd ann -rP", WordFault::MissingValue(2)),
             (
@@ -128,16 +129,67 @@ mod tests {
             (b"pwck -P R -r -- x", WordFault::TooMany(5)),
             (b"groupadd -P R --prefix= staff", WordFault::NoPrefix),
             (b"useradd -P R -o", WordFault::TooFew),
-            (b"useradd -P R -oNU -g 5 ann", WordFault::Clash(1)),
-            (b"usermod -P R -LU ann", WordFault::Clash(3)),
-            (b"usermod -P R ann", WordFault::Clash(4)),
-            (b"gpasswd -P R -a bob -M bob sudo", WordFault::Clash(2)),
-            (b"grpck -P R -sr", WordFault::Clash(2)),
         ];
         for (text, fault) in cases {
             assert_eq!(rt; fault_of(rt.alloc(), text)?, Some(fault));
         }
         assert_eq!(rt; read_words(rt.alloc(), &[]).err(), Some(WordFault::NoTool));
+        Ok(())
+    }
+
+    // The options of a command, and the number of the first rule that they break.
+    #[test]
+    fn each_rule_of_each_tool_is_told(rt: HostRuntime) -> Result<(), Fail> {
+        let cases = [
+            (b"useradd -P R -oNU -g 5 ann".as_slice(), 1),
+            (b"useradd -P R -oNU ann", 2),
+            (b"useradd -P R -oN -g 5 ann", 3),
+            (b"usermod -P R -aoLU ann", 1),
+            (b"usermod -P R -oLU ann", 2),
+            (b"usermod -P R -LU ann", 3),
+            (b"usermod -P R -L -p x ann", 3),
+            (b"usermod -P R ann", 4),
+            (b"groupadd -P R -o staff", 1),
+            (b"groupmod -P R -o staff", 1),
+            (b"groupmod -P R staff", 2),
+            (b"gpasswd -P R sudo", 1),
+            (b"gpasswd -P R -a bob -M bob sudo", 2),
+            (b"gpasswd -P R -rR sudo", 2),
+            (b"chage -P R ann", 1),
+            (b"chage -P R -l -m 5 ann", 2),
+            (b"chpasswd -P R", 1),
+            (b"pwck -P R -q", 1),
+            (b"pwck -P R -sr", 2),
+            (b"grpck -P R", 1),
+            (b"grpck -P R -sr", 2),
+        ];
+        for (text, rule) in cases {
+            let fault = fault_of(rt.alloc(), text)?;
+            assert_eq!(rt; fault, Some(WordFault::Clash(rule)));
+        }
+        Ok(())
+    }
+
+    // How many bytes the first word has, how many words of one byte follow, and whether each word
+    // keeps the limits: the place of the first that doesn't.
+    #[test]
+    fn words_and_bytes_have_a_limit(rt: HostRuntime) -> Result<(), Fail> {
+        let cases = [
+            (1, 511, WordFault::UnknownTool),
+            (1, 512, WordFault::WordLimit(512)),
+            (4096, 0, WordFault::UnknownTool),
+            (4097, 0, WordFault::WordLimit(0)),
+            (4097, 512, WordFault::WordLimit(0)),
+        ];
+        for (bytes, others, fault) in cases {
+            let mut words = Vec::new(rt.alloc());
+            let first = vec![in rt.alloc(); b'x'; bytes]?;
+            words.push(Word::of(rt.alloc(), first.as_slice())?)?;
+            for _ in 0..others {
+                words.push(Word::of(rt.alloc(), b"x")?)?;
+            }
+            assert_eq!(rt; read_words(rt.alloc(), words.as_slice()).err(), Some(fault));
+        }
         Ok(())
     }
 }
