@@ -1,0 +1,132 @@
+-- Claim: what is done with the line at a place is what the record there becomes (`change-other`, `change-stays`,
+-- `change-sets`, `change-goes`, `change-splits`). Way: the line at the place reads as the record that was found there
+-- (`record-here`), so the line becomes what `line_becomes` says of it (`becomes-read`).
+use Rattle.std.proofs.Common.{◌≡◌, ℕ, ◌+◌, ◌<◌, Bool, true, false, List, [], ◌∷◌, ◌++◌, length, map, take, drop, get_or, refl, sym, ◌∙◌, ap}
+use Rattle.std.specs.Prelude.{Option, Some, None, if◌then◌else◌}
+use Rattle.std.specs.List.{remove}
+use Rattle.std.proofs.lemmas.List.{drop_more}
+use Rattle.std.proofs.lemmas.Option.{slice_get-get_or}
+use Rattle.acct_text.specs.Lines.{Line}
+use Rattle.account_model.specs.Format.{Format}
+use Rattle.account_model.specs.Edits.{becomes, line_becomes, printed_line}
+use Rattle.account_model.specs.RecordEdits.{TellsSame}
+use Rattle.acct_tables.specs.TableLines.{record_at, changed_at, with_record}
+use Rattle.table_edits.specs.Places.{spliced_at}
+use Rattle.table_edits.proofs.Splices.{blank_line, spliced-is, spliced-same, spliced-one, spliced-none}
+
+-- the line at a place
+abbrev pub line_here : List Line → ℕ → Line
+line_here lines place = get_or lines place blank_line
+
+module _ {R : Type 0} (format : Format R) where
+  -- the record at a place is that of the line there
+  pub record-here :
+      (lines : List Line) (place : ℕ)
+      → place < length lines
+      → record_at format lines place ≡ format.read (line_here lines place).text
+  record-here lines place inside =
+      ap (λ found. elim found [ None ↦ None | Some line ↦ format.read line.text ])
+      (slice_get-get_or lines place blank_line inside)
+
+  -- a line of which the record becomes others
+  becomes-read :
+      (f : R → List R) (line : Line) (kept : Option R) (r : R)
+      → kept ≡ Some r
+      → (elim kept [ None ↦ line ∷ [] | Some s ↦ line_becomes format line s (f s) ])
+      ≡ line_becomes format line r (f r)
+  becomes-read f line None r is = absurd cc
+  becomes-read f line (Some s) r is =
+      let same : s ≡ r = cc in ap (λ t. line_becomes format line t (f t)) same
+
+  -- a record that stays leaves its line
+  stays :
+      (line : Line) (r : R) (same : Bool)
+      → same ≡ true
+      → (if same then line ∷ [] else record line { text = format.print r } ∷ []) ≡ line ∷ []
+  stays line r true is = refl
+  stays line r false is = absurd cc
+
+  -- one line is put, or stays where it is the same record
+  sets :
+      (line : Line) (s : R) (same : Bool)
+      → (if same then line ∷ [] else record line { text = format.print s } ∷ [])
+      ≡ (if same then line else record line { text = format.print s }) ∷ []
+  sets line s true = refl
+  sets line s false = refl
+
+  -- the line with the record, by the record that it has
+  with-record :
+      (line : Line) (kept : Option R) (r s : R)
+      → kept ≡ Some r
+      → (elim kept [
+        | None ↦ record line { text = format.print s }
+        | Some old ↦ if format.same old s then line else record line { text = format.print s }
+      ])
+      ≡ (if format.same r s then line else record line { text = format.print s })
+  with-record line None r s is = absurd cc
+  with-record line (Some old) r s is =
+      let same : old ≡ r = cc in
+      ap (λ t. if format.same t s then line else record line { text = format.print s }) same
+
+  module _ (f : R → List R) (lines : List Line) (place : ℕ) (inside : place < length lines) where
+    -- the lines from the place on
+    from-here : drop place lines ≡ line_here lines place ∷ drop (place + 1) lines
+    from-here = drop_more lines place blank_line inside
+
+    -- other text stays
+    pub change-other :
+        record_at format lines place ≡ None → lines ≡ spliced_at (becomes format f) place lines
+    change-other none =
+        let line = line_here lines place in
+        sym (spliced-same (becomes format f) lines place line from-here
+        (ap (λ kept. elim kept [ None ↦ line ∷ [] | Some r ↦ line_becomes format line r (f r) ])
+        (sym (record-here lines place inside) ∙ none)))
+
+    module _ (r : R) (found : record_at format lines place ≡ Some r) where
+      -- the line becomes what its record becomes
+      becomes-here :
+          becomes format f (line_here lines place) ≡ line_becomes format (line_here lines place) r (f r)
+      becomes-here =
+          becomes-read f (line_here lines place) (format.read (line_here lines place).text) r
+          (sym (record-here lines place inside) ∙ found)
+
+      -- a record that stays leaves the lines
+      pub change-stays :
+          TellsSame format → f r ≡ r ∷ [] → lines ≡ spliced_at (becomes format f) place lines
+      change-stays tells same =
+          let line = line_here lines place in
+          sym (spliced-same (becomes format f) lines place line from-here
+          (becomes-here ∙ ap (line_becomes format line r) same
+          ∙ stays line r (format.same r r) ((tells r r).1 refl)))
+
+      -- a record is put into the line
+      pub change-sets :
+          (s : R)
+          → f r ≡ s ∷ []
+          → changed_at (with_record format s) place lines ≡ spliced_at (becomes format f) place lines
+      change-sets s one =
+          let line = line_here lines place in
+          spliced-one (becomes format f) lines place line from-here (with_record format s)
+          (becomes-here ∙ ap (line_becomes format line r) one ∙ sets line s (format.same r s)
+          ∙ ap (λ l. l ∷ []) (sym (with-record line (format.read line.text) r s
+          (sym (record-here lines place inside) ∙ found))))
+
+      -- the line goes
+      pub change-goes : f r ≡ [] → remove lines place ≡ spliced_at (becomes format f) place lines
+      change-goes none =
+          let line = line_here lines place in
+          spliced-none (becomes format f) lines place line from-here
+          (becomes-here ∙ ap (line_becomes format line r) none)
+
+      -- two lines in place of one
+      pub change-splits :
+          (s t : R)
+          → f r ≡ s ∷ t ∷ []
+          → spliced_at (λ _. map (printed_line format) (s ∷ t ∷ [])) place lines
+          ≡ spliced_at (becomes format f) place lines
+      change-splits s t two =
+          let line = line_here lines place in
+          spliced-is (λ _. map (printed_line format) (s ∷ t ∷ [])) lines place line from-here
+          ∙ ap (λ middle. take place lines ++ middle ++ drop (place + 1) lines)
+          (sym (becomes-here ∙ ap (line_becomes format line r) two))
+          ∙ sym (spliced-is (becomes format f) lines place line from-here)

@@ -1,0 +1,74 @@
+-- Claim: the first record that is met among those from a place on is the one at the place, or else the first behind it
+-- (`met-here`, `passed-here`). Way: by the line at the place.
+use Rattle.std.proofs.Common.{◌≡◌, ℕ, ◌+◌, ◌<◌, Bool, true, false, List, length, drop, refl, sym, ◌∙◌, ap}
+use Rattle.std.specs.Prelude.{Option, Some, None, option_map, find, if◌then◌else◌}
+use Rattle.std.specs.List.{cons_option}
+use Rattle.std.proofs.lemmas.List.{at_drop_more}
+use Rattle.acct_text.specs.Lines.{Line}
+use Rattle.account_model.specs.Format.{Format, records_of}
+use Rattle.account_model.specs.Edits.{Edit}
+use Rattle.table_edits.specs.Touching.{is_met, first_touched, met_at}
+use Rattle.table_edits.proofs.Splices.{blank_line}
+use Rattle.table_edits.proofs.ChangedLines.{line_here, record-here}
+
+-- the first, else that of the others
+abbrev pub or_first : Option (List ℕ) → Option (List ℕ) → Option (List ℕ)
+or_first first others = elim first [ None ↦ others | Some name ↦ Some name ]
+
+module _ {R : Type 0} (format : Format R) (edits : List (Edit R)) where
+  -- by whether the record is met
+  met-by :
+      (r : R) (others : Option R) (met : Bool)
+      → option_map format.name (if met then Some r else others)
+      ≡ or_first (if met then Some (format.name r) else None) (option_map format.name others)
+  met-by r others true = refl
+  met-by r others false = refl
+
+  -- by what the line reads as
+  step-by :
+      (whole rest : List R) (kept : Option R)
+      → first_touched format edits whole (cons_option kept rest)
+      ≡ or_first
+      (elim kept [ None ↦ None | Some r ↦ if is_met format edits whole r then Some (format.name r) else None ])
+      (first_touched format edits whole rest)
+  step-by whole rest None = refl
+  step-by whole rest (Some r) =
+      met-by r (find (is_met format edits whole) rest) (is_met format edits whole r)
+
+  module _ (lines : List Line) where
+    -- the first that is met among the records from a place on
+    abbrev pub first_from : ℕ → Option (List ℕ)
+    first_from place =
+        first_touched format edits (records_of format lines) (records_of format (drop place lines))
+
+    -- it is the one here, or else the first behind
+    step-here :
+        (place : ℕ)
+        → place < length lines
+        → first_from place ≡ or_first (met_at format edits lines place) (first_from (place + 1))
+    step-here place inside =
+        let whole = records_of format lines in
+        let rest = records_of format (drop (place + 1) lines) in
+        at_drop_more (λ left. first_touched format edits whole (records_of format left)) lines place blank_line inside
+        ∙ step-by whole rest (format.read (line_here lines place).text)
+        ∙ ap (λ kept. or_first
+        (elim kept [ None ↦ None | Some r ↦ if is_met format edits whole r then Some (format.name r) else None ])
+        (first_touched format edits whole rest)) (sym (record-here format lines place inside))
+
+    -- it is the one here
+    pub met-here :
+        (place : ℕ) (name : List ℕ)
+        → place < length lines
+        → met_at format edits lines place ≡ Some name
+        → first_from place ≡ Some name
+    met-here place name inside met =
+        step-here place inside ∙ ap (λ first. or_first first (first_from (place + 1))) met
+
+    -- it is one behind
+    pub passed-here :
+        (place : ℕ)
+        → place < length lines
+        → met_at format edits lines place ≡ None
+        → first_from place ≡ first_from (place + 1)
+    passed-here place inside passed =
+        step-here place inside ∙ ap (λ first. or_first first (first_from (place + 1))) passed

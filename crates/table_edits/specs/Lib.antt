@@ -1,0 +1,11 @@
+pub mod SeenEdits
+pub mod Places
+pub mod Touching
+pub mod GroupChanges
+pub mod GshadowChanges
+pub mod PasswdChanges
+pub mod ShadowChanges
+pub mod SubidChanges
+pub mod SeenScript
+pub mod LoadedTables
+pub mod Acting

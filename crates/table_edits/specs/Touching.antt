@@ -1,0 +1,27 @@
+-- Which edit touches a record, and the first record that is touched among several of its name (passwd(5), shadow(5),
+-- group(5), gshadow(5)).
+use Rattle.std.specs.Prelude.{ℕ, Bool, ◌&&◌, List, [], ◌∷◌, Option, Some, None, option_map, find, if◌then◌else◌}
+use Rattle.acct_text.specs.Lines.{Line}
+use Rattle.account_model.specs.Format.{Format, records_of}
+use Rattle.account_model.specs.Edits.{Edit, touches, is_multiple}
+use Rattle.acct_tables.specs.TableLines.{record_at}
+
+-- whether the edit touches a record of the old table, were it the only one
+abbrev pub touches_alone : {R : Type 0} → Format R → Edit R → R → Bool
+touches_alone format edit r = touches format (edit ∷ []) r
+
+-- whether the edits touch the record, and its name is multiple in the whole table
+abbrev pub is_met : {R : Type 0} → Format R → List (Edit R) → List R → R → Bool
+is_met format edits whole r = touches format edits r && is_multiple format whole r
+
+-- the name of the first of these records that is met so
+abbrev pub first_touched :
+    {R : Type 0} → Format R → List (Edit R) → List R → List R → Option (List ℕ)
+first_touched format edits whole records = option_map format.name (find (is_met format edits whole) records)
+
+-- the name of the record at a place, where it is met so
+abbrev pub met_at : {R : Type 0} → Format R → List (Edit R) → List Line → ℕ → Option (List ℕ)
+met_at format edits lines place = elim (record_at format lines place) [
+  | None ↦ None
+  | Some r ↦ if is_met format edits (records_of format lines) r then Some (format.name r) else None
+]

@@ -1,0 +1,157 @@
+// What a command decides once none of its refusals is there, by its script.
+ghost use Rattle.std.specs.Prelude.{◌≡◌, ◌++◌, IfOk, OnOk, option_and_then};
+ghost use Rattle.std.specs.List.{AllByRecursion};
+ghost use Rattle.std.specs.Option.{option_copied};
+ghost use Rattle.acct_text.specs.Contents.{same_content};
+ghost use Rattle.account_model.specs.Action.{multiple_entries, multiple_in, outcome_of};
+ghost use Rattle.account_model.specs.Answer.{files_eq};
+ghost use Rattle.account_model.specs.Edits.{first_multiple};
+ghost use Rattle.account_model.specs.Format.{records_of};
+ghost use Rattle.account_model.specs.Messages.{message, messages};
+ghost use Rattle.account_model.specs.RecordEdits.{IsWrittenEdit};
+ghost use Rattle.account_model.specs.WrittenScript.{IsWrittenScript};
+ghost use Rattle.acct_tables.specs.Decisions.{Decides, refusal_output};
+ghost use Rattle.table_edits.specs.Acting.{acting};
+ghost use Rattle.table_edits.specs.SeenEdits.{seen_edits};
+ghost use Rattle.table_edits.specs.SeenScript.{seen_script};
+
+use crate::{Edit, EditedRecord, Report, Script, Tables, first_multiple};
+use account_model::{Refusal, Tool};
+use acct_tables::{Decision, Output, Table, refusal_status, refusal_text};
+use acct_text::{Bytes, Files, Names, Tab};
+use std::alloc::{AllocError, Global};
+
+/// What a command decides that has no refusal of its own: it refuses at the first record that it
+/// would touch and whose name has several records in its table, in the order passwd, shadow,
+/// group, gshadow; else all tables stay, or become those of the script.
+pub fn decide_by(
+    alloc: Global,
+    tool: Tool,
+    files: &Files,
+    tables: Tables,
+    script: &Script,
+    report: Report,
+) -> Result<Decision, AllocError>
+    requires loaded { tables ≡ files.now }
+    requires written { IsWrittenScript (seen_script script.now) }
+    ensures { IfOk result (λ decision. Decides tool files.now
+        (outcome_of (acting (seen_script script.now) report) files.now) decision) }
+{
+    if let Some(refusal) = multiple_entries(alloc, &tables, script)? {
+        return refuse(alloc, tool, refusal);
+    }
+    let new = tables.edited(alloc, script)?;
+    let output = Output {
+        status: report.status,
+        out: report.out,
+        err: messages(alloc, tool, &report.notices)?,
+    };
+    if are_same(files, &new) {
+        Ok(Decision::Same(output))
+    } else {
+        Ok(Decision::Change(new, output))
+    }
+}
+
+/// The decision of a tool that refuses: all tables stay, and one line tells why.
+pub fn refuse(alloc: Global, tool: Tool, refusal: Refusal) -> Result<Decision, AllocError>
+    ensures { IfOk result (λ decision. decision ≡
+        Decision.Refuse refusal (refusal_output tool refusal)) }
+{
+    let text = refusal_text(alloc, &refusal)?;
+    let mut err = Bytes::new(alloc);
+    push_message(&mut err, tool, text.as_slice())?;
+    let output = Output {
+        status: refusal_status(tool, &refusal),
+        out: Bytes::new(alloc),
+        err,
+    };
+    Ok(Decision::Refuse(refusal, output))
+}
+
+// The refusal of the first touched record whose name has several records in its table.
+fn multiple_entries(
+    alloc: Global,
+    tables: &Tables,
+    script: &Script,
+) -> Result<Option<Refusal>, AllocError>
+    requires { IsWrittenScript (seen_script script.now) }
+    ensures { IfOk result (λ refusal. refusal ≡
+        multiple_entries (seen_script script.now) tables.now) }
+{
+    if let Some(name) = multiple_in(alloc, tables.passwd(), &script.passwd)? {
+        return Ok(Some(Refusal::Multiple(Tab::Passwd, name)));
+    }
+    if let Some(name) = multiple_in(alloc, tables.shadow(), &script.shadow)? {
+        return Ok(Some(Refusal::Multiple(Tab::Shadow, name)));
+    }
+    if let Some(name) = multiple_in(alloc, tables.group(), &script.group)? {
+        return Ok(Some(Refusal::Multiple(Tab::Group, name)));
+    }
+    if let Some(name) = multiple_in(alloc, tables.gshadow(), &script.gshadow)? {
+        return Ok(Some(Refusal::Multiple(Tab::Gshadow, name)));
+    }
+    Ok(None)
+}
+
+// The name of the first touched record of a table that has several; none where there is no table.
+fn multiple_in<R: EditedRecord + Drop>(
+    alloc: Global,
+    table: Option<&Table<R>>,
+    edits: &[Edit<R, R::Change>],
+) -> Result<Option<Bytes>, AllocError>
+    requires { AllByRecursion (IsWrittenEdit R.format) (seen_edits R.becomes edits.now) }
+    ensures { IfOk result (λ name. name ≡ option_and_then
+        (λ lines. first_multiple R.format (seen_edits R.becomes edits.now)
+        (records_of R.format lines))
+        (option_copied table.entry)) }
+{
+    match table {
+        Some(table) => first_multiple(alloc, table, edits),
+        None => Ok(None),
+    }
+}
+
+// Whether all six files are equal.
+fn are_same(old: &Files, new: &Files) -> bool
+    ensures { result ≡ files_eq old.now new.now }
+{
+    same_content(&old.passwd, &new.passwd)
+        && same_content(&old.shadow, &new.shadow)
+        && same_content(&old.group, &new.group)
+        && same_content(&old.gshadow, &new.gshadow)
+        && same_content(&old.subuid, &new.subuid)
+        && same_content(&old.subgid, &new.subgid)
+}
+
+// Whether a file is absent in both, or has the same bytes.
+fn same_content(old: &Option<Bytes>, new: &Option<Bytes>) -> bool
+    ensures { result ≡ same_content old.now new.now }
+{
+    match (old, new) {
+        (Some(old), Some(new)) => old.as_slice() == new.as_slice(),
+        (None, None) => true,
+        _ => false,
+    }
+}
+
+// The notices on the error stream.
+fn messages(alloc: Global, tool: Tool, notices: &Names) -> Result<Bytes, AllocError>
+    ensures { IfOk result (λ err. err ≡ messages tool notices.now) }
+{
+    let mut err = Bytes::new(alloc);
+    for notice in notices.as_slice() {
+        push_message(&mut err, tool, notice.as_slice())?;
+    }
+    Ok(err)
+}
+
+// One line on the error stream, behind the tool's name.
+fn push_message(err: &mut Bytes, tool: Tool, text: &[u8]) -> Result<(), AllocError>
+    ensures { OnOk result (err.new ≡ err.old ++ message tool text.now) }
+{
+    err.push(tool.name().as_bytes())?;
+    err.push(b": ")?;
+    err.push(text)?;
+    err.push(b"\n")
+}

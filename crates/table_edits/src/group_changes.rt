@@ -1,0 +1,84 @@
+// What the tools do with records of group (group(5)).
+ghost use Rattle.std.specs.Prelude.{◌≡◌, IfOk};
+ghost use Rattle.account_model.specs.declared.records.GroupRecord.{GroupRecord};
+ghost use Rattle.table_edits.specs.GroupChanges.{group_after};
+
+use crate::lists::{with_name, without_name};
+use crate::{Becoming, EditedRecord};
+use acct_lines::{GroupRecord, TableRecord};
+use acct_text::{Bytes, Names};
+use std::alloc::{AllocError, Global};
+
+/// What is done with a record of group.
+#[derive(Drop)]
+pub enum GroupAct {
+    /// The group gets the GID.
+    SetGid(u32),
+    /// The group gets the name.
+    Rename(Bytes),
+    /// The password field becomes this one.
+    SetPassword(Bytes),
+    /// The user goes behind the last member, where it is none.
+    AddMember(Bytes),
+    /// The user is no member any more.
+    RemoveMember(Bytes),
+    /// The members become these.
+    SetMembers(Names),
+}
+
+/// What becomes of the records of group.
+#[derive(Drop)]
+pub enum GroupChange {
+    /// The act is done with the records of the name. Others stay.
+    Named(Bytes, GroupAct),
+    /// The act is done with all records.
+    All(GroupAct),
+    /// The records of the name go.
+    Remove(Bytes),
+}
+
+impl EditedRecord for GroupRecord {
+    ghost use Rattle.table_edits.specs.GroupChanges.{group_becomes};
+
+    type Change = GroupChange;
+
+    ghost becomes = { group_becomes };
+
+    fn copy(&self, _alloc: Global) -> Result<Self, AllocError> {
+        Ok(GroupRecord {
+            name: self.name.copy()?,
+            password: self.password.copy()?,
+            gid: self.gid,
+            members: self.members.copy()?,
+        })
+    }
+
+    fn becoming(&self, alloc: Global, change: &GroupChange) -> Result<Becoming<Self>, AllocError> {
+        match change {
+            GroupChange::Named(name, act) if self.name() == name.as_slice() => {
+                Ok(Becoming::Changes(acted(alloc, self, act)?))
+            }
+            GroupChange::All(act) => Ok(Becoming::Changes(acted(alloc, self, act)?)),
+            GroupChange::Remove(name) if self.name() == name.as_slice() => Ok(Becoming::Goes),
+            _ => Ok(Becoming::Stays),
+        }
+    }
+}
+
+// The record after the act.
+fn acted(alloc: Global, old: &GroupRecord, act: &GroupAct) -> Result<GroupRecord, AllocError>
+    ensures { IfOk result (λ new. new ≡ group_after act.now old.now) }
+{
+    let mut new = old.copy(alloc)?;
+    match act {
+        GroupAct::SetGid(gid) => new.gid = *gid,
+        GroupAct::Rename(name) => new.name = name.copy()?,
+        GroupAct::SetPassword(password) => new.password = password.copy()?,
+        GroupAct::AddMember(user) => new.members = with_name(&old.members, user.as_slice())?,
+        GroupAct::RemoveMember(user) => {
+            new.members = without_name(alloc, &old.members, user.as_slice())?
+        }
+        GroupAct::SetMembers(members) => new.members = members.copy()?,
+    }
+    Ok(new)
+}

@@ -1,0 +1,133 @@
+// Which records the edits of a table touch, and the first of them whose name has several records.
+ghost use Rattle.std.specs.Prelude.{◌≡◌, not, IfOk};
+ghost use Rattle.std.specs.List.{AllByRecursion};
+ghost use Rattle.account_model.specs.Edits.{first_multiple, touches};
+ghost use Rattle.account_model.specs.Edits as model;
+ghost use Rattle.account_model.specs.Format.{records_of};
+ghost use Rattle.account_model.specs.RecordEdits.{IsWrittenEdit};
+ghost use Rattle.account_model.specs.Written.{IsWritten};
+ghost use Rattle.table_edits.specs.SeenEdits.{seen_edit, seen_edits};
+ghost use Rattle.table_edits.specs.Touching.{is_met, met_at, touches_alone};
+
+use crate::{Becoming, Edit, EditedRecord};
+use acct_tables::Table;
+use acct_text::Bytes;
+use std::alloc::{AllocError, Global};
+
+/// The name of the first record that the edits touch and whose name has two or more records; none
+/// where there is no such record.
+pub fn first_multiple<R: EditedRecord + Drop>(
+    alloc: Global,
+    table: &Table<R>,
+    edits: &[Edit<R, R::Change>],
+) -> Result<Option<Bytes>, AllocError>
+    requires { AllByRecursion (IsWrittenEdit R.format) (seen_edits R.becomes edits.now) }
+    ensures { IfOk result (λ name. name ≡
+        first_multiple R.format (seen_edits R.becomes edits.now) (records_of R.format table.now)) }
+{
+    'places: for place in 0..table.len() {
+        if let Some(name) = met_at(alloc, table, edits, place)? {
+            return Ok(Some(name));
+        }
+    }
+    Ok(None)
+}
+
+// The name of the record at a place, where the edits touch it and its name has several records.
+fn met_at<R: EditedRecord + Drop>(
+    alloc: Global,
+    table: &Table<R>,
+    edits: &[Edit<R, R::Change>],
+    place: usize,
+) -> Result<Option<Bytes>, AllocError>
+    requires { AllByRecursion (IsWrittenEdit R.format) (seen_edits R.becomes edits.now) }
+    ensures { IfOk result (λ name. name ≡
+        met_at R.format (seen_edits R.becomes edits.now) table.now place) }
+{
+    let Some(item) = table.at(place) else {
+        return Ok(None);
+    };
+    if !is_met(alloc, table, edits, item)? {
+        return Ok(None);
+    }
+    Ok(Some(Bytes::of(alloc, item.name())?))
+}
+
+// Whether the edits touch the record and its name has several records.
+fn is_met<R: EditedRecord + Drop>(
+    alloc: Global,
+    table: &Table<R>,
+    edits: &[Edit<R, R::Change>],
+    item: &R,
+) -> Result<bool, AllocError>
+    requires edits { AllByRecursion (IsWrittenEdit R.format) (seen_edits R.becomes edits.now) }
+    requires written { IsWritten R.format item.now }
+    ensures { IfOk result (λ met. met ≡
+        is_met R.format (seen_edits R.becomes edits.now) (records_of R.format table.now) item.now) }
+{
+    Ok(is_touched(alloc, edits, item)? && table.count(item.name()) >= 2)
+}
+
+// Whether one of the edits touches the record.
+fn is_touched<R: EditedRecord + Drop>(
+    alloc: Global,
+    edits: &[Edit<R, R::Change>],
+    item: &R,
+) -> Result<bool, AllocError>
+    requires edits { AllByRecursion (IsWrittenEdit R.format) (seen_edits R.becomes edits.now) }
+    requires written { IsWritten R.format item.now }
+    ensures { IfOk result (λ touched. touched ≡
+        touches R.format (seen_edits R.becomes edits.now) item.now) }
+{
+    'edits: for edit in edits {
+        if touches(alloc, edit, item)? {
+            return Ok(true);
+        }
+    }
+    Ok(false)
+}
+
+// Whether the edit touches the record.
+fn touches<R: EditedRecord + Drop>(
+    alloc: Global,
+    edit: &Edit<R, R::Change>,
+    item: &R,
+) -> Result<bool, AllocError>
+    requires edit { IsWrittenEdit R.format (seen_edit R.becomes edit.now) }
+    requires written { IsWritten R.format item.now }
+    ensures { IfOk result (λ touched. touched ≡
+        touches_alone R.format (seen_edit R.becomes edit.now) item.now) }
+{
+    match edit {
+        Edit::Become(change) => changes(alloc, change, item),
+        Edit::Put(new) => Ok(item.name() == new.name()),
+        Edit::Add(_) | Edit::AddMissing(_) => Ok(false),
+    }
+}
+
+// Whether the record becomes others, or goes.
+fn changes<R: EditedRecord + Drop>(
+    alloc: Global,
+    change: &R::Change,
+    item: &R,
+) -> Result<bool, AllocError>
+    requires edit { IsWrittenEdit R.format (model.Become (R.becomes change.now)) }
+    requires written { IsWritten R.format item.now }
+    ensures { IfOk result (λ changes. changes ≡
+        touches_alone R.format (model.Become (R.becomes change.now)) item.now) }
+{
+    match item.becoming(alloc, change)? {
+        Becoming::Stays => Ok(false),
+        Becoming::Changes(new) => differ(alloc, item, &new),
+        Becoming::Goes | Becoming::Splits(..) => Ok(true),
+    }
+}
+
+// Whether the records differ: their lines do.
+fn differ<R: EditedRecord + Drop>(alloc: Global, old: &R, new: &R) -> Result<bool, AllocError>
+    requires old_written { IsWritten R.format old.now }
+    requires new_written { IsWritten R.format new.now }
+    ensures { IfOk result (λ differ. differ ≡ not (R.format.same old.now new.now)) }
+{
+    Ok(old.print(alloc)?.as_slice() != new.print(alloc)?.as_slice())
+}

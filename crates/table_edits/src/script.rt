@@ -1,0 +1,42 @@
+// The edits of a command, table by table.
+ghost use Rattle.std.specs.Prelude.{◌≡◌};
+ghost use Rattle.account_model.specs.Tables.{no_edits};
+
+use crate::{Edit, GroupChange, GshadowChange, PasswdChange, ShadowChange, SubidChange};
+use acct_lines::{GroupRecord, GshadowRecord, PasswdRecord, ShadowRecord, SubidRecord};
+use std::alloc::Global;
+
+/// The edits of a command. Those of an absent table do nothing.
+#[derive(Drop)]
+pub struct Script {
+    /// Those of passwd(5).
+    pub passwd: Vec<Edit<PasswdRecord, PasswdChange>>,
+    /// Those of shadow(5).
+    pub shadow: Vec<Edit<ShadowRecord, ShadowChange>>,
+    /// Those of group(5).
+    pub group: Vec<Edit<GroupRecord, GroupChange>>,
+    /// Those of gshadow(5).
+    pub gshadow: Vec<Edit<GshadowRecord, GshadowChange>>,
+    /// Those of subuid(5).
+    pub subuid: Vec<Edit<SubidRecord, SubidChange>>,
+    /// Those of subgid(5).
+    pub subgid: Vec<Edit<SubidRecord, SubidChange>>,
+}
+
+impl Script {
+    ghost use Rattle.table_edits.specs.SeenScript.{seen_script};
+
+    /// A script without edits, which allocates nothing.
+    pub fn new(alloc: Global) -> Self
+        ensures { seen_script result ≡ no_edits }
+    {
+        Script {
+            passwd: Vec::new(alloc),
+            shadow: Vec::new(alloc),
+            group: Vec::new(alloc),
+            gshadow: Vec::new(alloc),
+            subuid: Vec::new(alloc),
+            subgid: Vec::new(alloc),
+        }
+    }
+}
