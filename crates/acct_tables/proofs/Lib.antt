@@ -9,3 +9,4 @@ pub mod RenamingLemmas
 pub mod OrderLemmas
 pub mod ArrangeLemmas
 pub mod RefusalLemmas
+pub mod FirstRefusal

@@ -6,3 +6,4 @@ pub mod Lists
 pub mod Order
 pub mod Renaming
 pub mod RenamedRecords
+pub mod Refusing

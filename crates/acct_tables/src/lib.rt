@@ -14,6 +14,7 @@ mod refusal;
 mod renaming;
 mod status;
 mod table;
+mod tool_fault;
 
 pub use account_model::{LineProblem, Refusal};
 pub use acct_lines::TableRecord;
@@ -23,6 +24,7 @@ pub use list_record::ListRecord;
 pub use refusal::refusal_text;
 pub use status::refusal_status;
 pub use table::Table;
+pub use tool_fault::ToolFault;
 
 #[cfg(test)]
 mod tests;

@@ -2,7 +2,7 @@
 ghost use Rattle.std.specs.Prelude.{◌≡◌, ◌∷◌, []};
 ghost use Rattle.account_model.specs.Refusals.{bad_value, bad_name, bad_list_name};
 ghost use Rattle.command_values.specs.Forms.{test_of};
-ghost use Rattle.command_values.specs.Refusing.{RefusesBy};
+ghost use Rattle.acct_tables.specs.Refusing.{RefusesBy};
 
 use crate::form::has_byte;
 use crate::{Asked, Form, ToolFault};

@@ -7,7 +7,7 @@ ghost use Rattle.account_model.specs.GivenGroups.{find_gid as first_of_gid, find
 ghost use Rattle.account_model.specs.Ids.{used_gids as gids_of};
 ghost use Rattle.account_model.specs.Refusals.{missing_group};
 ghost use Rattle.id_choice.specs.Used.{AreThoseOf};
-ghost use Rattle.command_values.specs.Refusing.{RefusesBy};
+ghost use Rattle.acct_tables.specs.Refusing.{RefusesBy};
 ghost use Rattle.command_values.specs.Tables.{WithGroups};
 
 use crate::{ToolFault, read_id};

@@ -13,7 +13,6 @@ mod groups;
 mod lists;
 mod row_law;
 mod settings;
-mod tool_fault;
 mod users;
 
 pub use asked::Asked;
@@ -23,5 +22,5 @@ pub use groups::{check_group, find_gid, find_group, used_gids};
 pub use lists::{is_listed, list_value};
 pub use row_law::requests_keep_their_row;
 pub use settings::free_id;
-pub use tool_fault::ToolFault;
+pub use acct_tables::ToolFault;
 pub use users::{check_user, check_users, first_of_group, used_uids};

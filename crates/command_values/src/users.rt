@@ -6,7 +6,7 @@ ghost use Rattle.account_model.specs.Records.{passwd_format};
 ghost use Rattle.account_model.specs.Ids.{used_uids as uids_of};
 ghost use Rattle.account_model.specs.Refusals.{missing_user, missing_users};
 ghost use Rattle.id_choice.specs.Used.{AreThoseOf};
-ghost use Rattle.command_values.specs.Refusing.{RefusesBy};
+ghost use Rattle.acct_tables.specs.Refusing.{RefusesBy};
 ghost use Rattle.command_values.specs.Tables.{WithUsers};
 
 use crate::ToolFault;

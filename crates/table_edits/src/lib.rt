@@ -26,7 +26,7 @@ pub use account_model::{Refusal, Tool};
 pub use acct_lines::{
     GroupRecord, GshadowRecord, PasswdRecord, ShadowRecord, SubidRecord, TableRecord,
 };
-pub use acct_tables::{Decision, Output, Table};
+pub use acct_tables::{Decision, Output, Table, ToolFault};
 pub use apply::apply_edits;
 pub use decide::{decide_by, refuse};
 pub use edit::{Becoming, Edit, EditedRecord};
@@ -34,7 +34,7 @@ pub use group_changes::{GroupAct, GroupChange};
 pub use gshadow_changes::{GshadowAct, GshadowChange};
 pub use multiple::first_multiple;
 pub use passwd_changes::{PasswdAct, PasswdChange};
-pub use report::{Report, ToolFault};
+pub use report::Report;
 pub use script::Script;
 pub use shadow_changes::{ShadowAct, ShadowChange};
 pub use subid_changes::SubidChange;

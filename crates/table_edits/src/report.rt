@@ -1,7 +1,6 @@
-// What a tool reports beside its edits, and why a test of its refusals ended.
-use account_model::Refusal;
+// What a tool reports beside its edits.
 use acct_text::{Bytes, Names};
-use std::alloc::{AllocError, Global};
+use std::alloc::Global;
 
 /// What a tool that doesn't refuse prints, and its status.
 #[derive(Drop)]
@@ -26,25 +25,5 @@ impl Report {
             out: Bytes::new(alloc),
             notices: Names::new(alloc),
         }
-    }
-}
-
-/// Why a tool's test of its refusals ended.
-#[derive(Drop)]
-pub enum ToolFault {
-    /// The tool refuses, for this cause.
-    Refused(Refusal),
-    /// There was no memory for the test.
-    Memory,
-}
-
-impl From<AllocError> for ToolFault {
-    ghost use Rattle.std.specs.Prelude.{◌≡◌};
-    ghost use Rattle.table_edits.specs.declared.report.ToolFault.TheVariants.{Memory};
-
-    ghost from_gives = { λ _ fault. fault ≡ Memory };
-
-    fn from(_error: AllocError) -> ToolFault {
-        ToolFault::Memory
     }
 }

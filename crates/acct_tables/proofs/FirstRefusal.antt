@@ -7,9 +7,9 @@ use Rattle.std.proofs.lemmas.Bool.{cases_Bool}
 use Rattle.account_model.specs.declared.refusal.Refusal.{Refusal}
 use Rattle.account_model.specs.Refusals.{refuse_if}
 use Rattle.account_model.specs.Text.{first_some}
-use Rattle.command_values.specs.declared.tool_fault.ToolFault.{ToolFault}
-use Rattle.command_values.specs.declared.tool_fault.ToolFault.TheVariants.{Refused, Memory}
-use Rattle.command_values.specs.Refusing.{IsFaultOf, RefusesBy}
+use Rattle.acct_tables.specs.declared.tool_fault.ToolFault.{ToolFault}
+use Rattle.acct_tables.specs.declared.tool_fault.ToolFault.TheVariants.{Refused, Memory}
+use Rattle.acct_tables.specs.Refusing.{IsFaultOf, RefusesBy}
 
 -- nothing is refused without a refusal
 never : (fault : ToolFault) → IsFaultOf None fault → ⊥

@@ -13,7 +13,7 @@ pub enum ToolFault {
 
 impl From<AllocError> for ToolFault {
     ghost use Rattle.std.specs.Prelude.{◌≡◌};
-    ghost use Rattle.command_values.specs.declared.tool_fault.ToolFault.TheVariants.{Memory};
+    ghost use Rattle.acct_tables.specs.declared.tool_fault.ToolFault.TheVariants.{Memory};
 
     ghost from_gives = { λ _ fault. fault ≡ Memory };
 

@@ -1,8 +1,8 @@
 -- What a check answers where a tool may refuse; no manual page has this.
 use Rattle.std.specs.Prelude.{◌≡◌, Option, Some, None, Result, Ok, Err, IsSome}
 use Rattle.account_model.specs.declared.refusal.Refusal.{Refusal}
-use Rattle.command_values.specs.declared.tool_fault.ToolFault.{ToolFault}
-use Rattle.command_values.specs.declared.tool_fault.ToolFault.TheVariants.{Refused, Memory}
+use Rattle.acct_tables.specs.declared.tool_fault.ToolFault.{ToolFault}
+use Rattle.acct_tables.specs.declared.tool_fault.ToolFault.TheVariants.{Refused, Memory}
 
 -- the fault of a check that has this refusal; memory is wanted only for one
 abbrev pub IsFaultOf : Option Refusal → ToolFault → Type 0
