@@ -129,6 +129,20 @@ impl Keeper<Unknown> {
     }
 }
 
+impl Keeper<Clean> {
+    /// The keeper as one that may know anything of the intent: it frees its lock all the same.
+    pub fn forget(self) -> Keeper<Unknown>
+        ensures { result ≡ self }
+    {
+        Keeper {
+            holder: self.holder,
+            number: self.number,
+            lower: self.lower,
+            knowing: PhantomData,
+        }
+    }
+}
+
 impl<K: Knowing> Keeper<K> {
     /// How many of the lower locks are left to remove.
     pub fn lower(&self) -> usize
