@@ -21,7 +21,7 @@ mod SettledSteps
 mod Commitments
 pub mod Settles
 mod Places
-mod Once
+pub mod Once
 pub mod Whole
 mod RowSteps
 mod Staff

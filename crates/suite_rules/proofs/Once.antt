@@ -240,6 +240,29 @@ module _ (deeds : SuiteDeeds) (first : Folder) (event : Event) (history : Histor
                 (ap made_number commits_it.keeper.keeps) asked)));
           }
 
+-- a number that a session keeps or kept stays so after the next event
+kept-later : (deeds : SuiteDeeds) (first : Folder) (event : Event) (history : History) →
+    Lawful deeds first history → IsNext deeds first history event → (token : Token) (number : ℕ) →
+    kept_number (standing token history).own ≡ Some number →
+    kept_number (standing token (event ∷ history)).own ≡ Some number
+kept-later deeds first event history lawful next token number kept =
+    each (λ asked. kept_number (standing asked history).own ≡ Some number →
+    kept_number (standing asked (event ∷ history)).own ≡ Some number)
+    event.token (own-kept deeds first event history lawful next number)
+    (λ other differs. λ is. ap (λ (one : Standing). kept_number one.own)
+    (other-standing event history other differs) ∙ is)
+    token kept
+
+-- so it does whatever comes later
+pub kept-stays : (deeds : SuiteDeeds) (first : Folder) (newer older : History) →
+    Lawful deeds first (newer ++ older) → (token : Token) (number : ℕ) →
+    kept_number (standing token older).own ≡ Some number →
+    kept_number (standing token (newer ++ older)).own ≡ Some number
+kept-stays deeds first [] older lawful token number kept = kept
+kept-stays deeds first (event ∷ newer) older (goes_on _ _ lawful next) token number kept =
+    kept-later deeds first event (newer ++ older) lawful next token number
+    (kept-stays deeds first newer older lawful token number kept)
+
 -- a session whose commit was done has committed once
 once : (deeds : SuiteDeeds) (first : Folder) (history : History) → Lawful deeds first history →
     (token : Token) → (standing token history).commit ≡ commit_done → Once history token
