@@ -20,7 +20,7 @@ pub mod Changed
 mod SettledSteps
 mod Commitments
 pub mod Settles
-mod Places
+pub mod Places
 pub mod Once
 pub mod Whole
 mod RowSteps
