@@ -1,8 +1,9 @@
 -- Claims: where a read of the inputs leads on, the session stands with one more input seen
--- (`load-leads`), and where it refuses the keeper is clean (`load-refuses`). A clean keeper that
--- hasn't called its commit stands at the start (`starts-reading`), and one that has read all is
--- clean (`loaded-clean`) and has seen the inputs (`loaded-seen`). Way: a keeper that knows of no intent counts what it reads, and of a
--- table and login.defs each read counts under its own name.
+-- (`load-leads`), and where it refuses the keeper is clean, or has seen the absent table and all
+-- before it (`load-refuses`). A clean keeper that hasn't called its commit stands at the start
+-- (`starts-reading`), and one that has read all is clean (`loaded-clean`) and has seen the inputs
+-- (`loaded-seen`). Way: a keeper that knows of no intent counts what it reads, and of a table and
+-- login.defs each read counts under its own name.
 use Rattle.std.proofs.Common.{◌≡◌, refl, sym, ap, subst, ◌∙◌, ℕ, Bool, true, false, if◌then◌else◌, Option, Some, None, Result, Ok, Err, true≢false}
 use Rattle.std.specs.Prelude.{IfOk, IfErr}
 use Rattle.acct_text.specs.declared.Tab.{Tab}
@@ -35,9 +36,9 @@ use Rattle.commit_steps.specs.declared.Loading.{Loading}
 use Rattle.commit_steps.specs.declared.Loading.TheVariants.{More, Done}
 use Rattle.commit_steps.specs.declared.LoadEnd.{LoadEnd}
 use Rattle.commit_steps.specs.declared.LoadEnd.TheVariants.{Fault, TooLarge, NoTable}
-use Rattle.commit_steps.specs.States.{Reader, Inputs, is_before, inputs_of, next_name, read_on, start_of, table_after, with_table}
-use Rattle.commit_steps.specs.Stands.{HasRead, HasLoaded, KnowsSome, KnowsInputs, StandsLoading, StandsEnded}
-use Rattle.commit_steps.specs.Outcomes.{Loads}
+use Rattle.commit_steps.specs.States.{AreSound, Reader, Inputs, is_before, inputs_of, next_name, read_on, start_of, table_after, with_table}
+use Rattle.commit_steps.specs.Stands.{HasRead, HasLoaded, HasMissed, KnowsSome, KnowsInputs, StandsLoading, StandsEnded}
+use Rattle.commit_steps.specs.Outcomes.{Loads, is_missing}
 use Rattle.commit_steps.proofs.TablesLemmas.{with_table-same, with_table-other, before-after}
 
 -- the next name is one of the folder
@@ -118,6 +119,15 @@ input-seen : (next : Option Tab) (found : Found) (knows : Knowledge) (seen : See
 input-seen None found knows seen clean = ap (λ (known : Knowledge). input_step Defs found known) clean
 input-seen (Some table) found knows seen clean =
     ap (λ (known : Knowledge). input_step (Table table) found known) clean
+
+-- a table of which bytes are there isn't missing
+pub never-missing : (table : Tab) (bytes : Bytes) → is_missing table (Some bytes) ≡ true → ⊥
+never-missing Passwd bytes is = true≢false (sym is)
+never-missing Group bytes is = true≢false (sym is)
+never-missing Shadow bytes is = true≢false (sym is)
+never-missing Gshadow bytes is = true≢false (sym is)
+never-missing Subuid bytes is = true≢false (sym is)
+never-missing Subgid bytes is = true≢false (sym is)
 
 -- What a read leads to, by the next of the inputs.
 module _ (keeper : Kept) (files : Files) where
@@ -241,6 +251,22 @@ module _ (keeper : Kept) (files : Files) where
         subst (λ (other : Kept). StandsIn admits now token (Keeps other KnowsNone)) (sym is)
         (read-done next (Keeps keeper KnowsNone) found (clean-after-read next found) stands tells)
 
+    -- a read of a table that is absent, and must stand
+    table-missed : (table missing : Tab) (kept : Kept) → missing ≡ table → kept ≡ keeper →
+        AreSound (Some table) files → StandsIn before_admits before token (HasRead (at (Some table))) →
+        Tells before_admits before now token (reads (Table table)) (Ok found_absent) →
+        StandsIn admits now token (HasMissed missing kept)
+    table-missed table missing kept is same sound stands tells =
+        subst (λ (other : Tab). StandsIn admits now token (HasMissed other kept)) (sym is)
+        (subst (λ (other : Kept). StandsIn admits now token (HasMissed table other)) (sym same)
+        (read-done (Some table) (HasMissed table keeper) found_absent
+        (λ stood held. record {
+          files = files;
+          sound = sound;
+          is_read = reads-on table None found_absent refl stood held;
+        })
+        stands tells))
+
     -- a read that leads on
     pub load-leads :
         (next : Option Tab) (answer : Result Found FolderFault) (result : Result Loading LoadEnd)
@@ -268,31 +294,31 @@ module _ (keeper : Kept) (files : Files) where
     -- a read that refuses
     pub load-refuses :
         (next : Option Tab) (answer : Result Found FolderFault) (result : Result Loading LoadEnd)
+        → AreSound next files
         → Loads (at next) answer result
         → StandsIn before_admits before token (HasRead (at next))
         → Tells before_admits before now token (reads (next_name next)) answer
         → IfErr result (StandsEnded admits now token)
-    load-refuses next (Ok found_too_large) (Err (TooLarge name kept)) shown stands tells =
+    load-refuses next (Ok found_too_large) (Err (TooLarge name kept)) sound shown stands tells =
         handed-back next found_too_large kept shown.1 stands tells
-    load-refuses (Some table) (Ok found_absent) (Err (NoTable missing kept)) shown stands tells =
-        handed-back (Some table) found_absent kept shown.2 stands tells
+    load-refuses (Some table) (Ok found_absent) (Err (NoTable missing kept)) sound shown stands tells =
+        table-missed table missing kept shown.1 shown.2 sound stands tells
     load-refuses (Some table) (Ok (found_bytes bytes)) (Err (NoTable missing kept))
-        shown stands tells =
-        handed-back (Some table) (found_bytes bytes) kept shown.2 stands tells
-    load-refuses None (Ok found_absent) (Err (NoTable missing kept)) shown stands tells =
+        sound shown stands tells = absurd (never-missing table bytes shown.0)
+    load-refuses None (Ok found_absent) (Err (NoTable missing kept)) sound shown stands tells =
         absurd shown
-    load-refuses None (Ok (found_bytes bytes)) (Err (NoTable missing kept)) shown stands tells =
+    load-refuses None (Ok (found_bytes bytes)) (Err (NoTable missing kept)) sound shown stands tells =
         absurd shown
-    load-refuses (Some table) (Ok found_absent) (Err (TooLarge name kept)) shown stands tells =
+    load-refuses (Some table) (Ok found_absent) (Err (TooLarge name kept)) sound shown stands tells =
         absurd shown
     load-refuses (Some table) (Ok (found_bytes bytes)) (Err (TooLarge name kept))
-        shown stands tells = absurd shown
-    load-refuses None (Ok found_absent) (Err (TooLarge name kept)) shown stands tells = absurd shown
-    load-refuses None (Ok (found_bytes bytes)) (Err (TooLarge name kept)) shown stands tells =
+        sound shown stands tells = absurd shown
+    load-refuses None (Ok found_absent) (Err (TooLarge name kept)) sound shown stands tells = absurd shown
+    load-refuses None (Ok (found_bytes bytes)) (Err (TooLarge name kept)) sound shown stands tells =
         absurd shown
-    load-refuses next (Ok found_too_large) (Err (NoTable missing kept)) shown stands tells =
+    load-refuses next (Ok found_too_large) (Err (NoTable missing kept)) sound shown stands tells =
         absurd shown
-    load-refuses next (Err fault) (Err (TooLarge name kept)) shown stands tells = absurd shown
-    load-refuses next (Err fault) (Err (NoTable missing kept)) shown stands tells = absurd shown
-    load-refuses next answer (Err (Fault fault)) shown stands tells = tt
-    load-refuses next answer (Ok loading) shown stands tells = tt
+    load-refuses next (Err fault) (Err (TooLarge name kept)) sound shown stands tells = absurd shown
+    load-refuses next (Err fault) (Err (NoTable missing kept)) sound shown stands tells = absurd shown
+    load-refuses next answer (Err (Fault fault)) sound shown stands tells = tt
+    load-refuses next answer (Ok loading) sound shown stands tells = tt

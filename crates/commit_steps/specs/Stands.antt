@@ -1,7 +1,8 @@
 -- The standing of a session in each state of a commit (docs/ARCHITECTURE.md, "Typed steps"). Each is
 -- found from the session's own events alone.
-use Rattle.std.specs.Prelude.{◌≡◌, ⊤, Bool, true, List, slice_get, take, All, Option, Some, IfSome, IsSomeAnd}
+use Rattle.std.specs.Prelude.{◌≡◌, ⊤, Bool, true, List, slice_get, take, All, Option, Some, None, IfSome, IsSomeAnd}
 use Rattle.acct_text.specs.declared.Tab.{Tab}
+use Rattle.acct_text.specs.declared.files.Files.{Files}
 use Rattle.acct_text.specs.Files.{table_of}
 use Rattle.acct_outside.specs.declared.Name.TheVariants.{Table, Staged, BackupStage, IntentStage, Defs}
 use Rattle.acct_outside.specs.declared.CommitStage.{CommitStage}
@@ -22,7 +23,7 @@ use Rattle.commit_steps.specs.declared.Loading.{Loading}
 use Rattle.commit_steps.specs.declared.Loading.TheVariants.{More, Done}
 use Rattle.commit_steps.specs.declared.LoadEnd.{LoadEnd}
 use Rattle.commit_steps.specs.declared.LoadEnd.TheVariants.{Fault, TooLarge, NoTable}
-use Rattle.commit_steps.specs.States.{Reader, Inputs, Change, Walker, is_before, new_files, changed, intended, old_bytes}
+use Rattle.commit_steps.specs.States.{AreSound, Reader, Inputs, Change, Walker, is_before, read_on, new_files, changed, intended, old_bytes}
 
 -- It knows that no intent stands, and has since seen each table before the next.
 pub record KnowsSome (reader : Reader) (knows : Knowledge) : Type 0 where
@@ -35,6 +36,13 @@ pub record KnowsSome (reader : Reader) (knows : Knowledge) : Type 0 where
 pub record HasRead (reader : Reader) (standing : Standing) : Type 0 where
   pub keeps : Keeps reader.keeper (KnowsSome reader) standing
   pub uncommitted : standing.commit ≡ commit_uncalled
+
+-- It has read the table as absent, and before it those that come first, which stand as they must.
+pub record HasMissed (table : Tab) (keeper : Kept) (standing : Standing) : Type 0 where
+  pub files : Files
+  pub sound : AreSound (Some table) files
+  pub is_read : HasRead
+      (read_on (record { keeper = keeper; files = files; next = Some table }) table None) standing
 
 -- It knows that no intent stands, and has since seen the six tables and login.defs.
 pub record KnowsInputs (inputs : Inputs) (knows : Knowledge) : Type 0 where
@@ -112,10 +120,11 @@ abbrev pub StandsLoading : Admission → Option Past → Token → Loading → T
 StandsLoading admits told token (More reader) = StandsIn admits told token (HasRead reader)
 StandsLoading admits told token (Done inputs) = StandsIn admits told token (HasLoaded inputs)
 
--- after a read that leads no further: a refusal hands the clean keeper back
+-- after a read that leads no further: a refusal hands the clean keeper back, and of an absent table
+-- all is known that was read before it
 abbrev pub StandsEnded : Admission → Option Past → Token → LoadEnd → Type 0
 StandsEnded admits told token (Fault fault) = ⊤
 StandsEnded admits told token (TooLarge name keeper) =
     StandsIn admits told token (Keeps keeper KnowsNone)
 StandsEnded admits told token (NoTable table keeper) =
-    StandsIn admits told token (Keeps keeper KnowsNone)
+    StandsIn admits told token (HasMissed table keeper)

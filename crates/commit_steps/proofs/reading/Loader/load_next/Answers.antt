@@ -1,10 +1,10 @@
-use Rattle.std.proofs.Common.{refl, ap, ◌∙◌}
+use Rattle.std.proofs.Common.{refl, ap, subst, ◌∙◌}
 use Rattle.acct_outside.specs.Calls.{reads}
 use Rattle.acct_outside.specs.Contract.{found_result}
 use Rattle.suite_rules.specs.Rules.{free_read}
 use Rattle.suite_rules.specs.Steps.{own_command}
 use Rattle.suite_rules.proofs.StepLemmas.{makes-call, leaves, stays-lawful}
-use Rattle.commit_steps.specs.States.{Reader, next_name}
+use Rattle.commit_steps.specs.States.{AreSound, Reader, next_name}
 use Rattle.commit_steps.specs.Stands.{HasRead}
 use Rattle.commit_steps.proofs.ReadsLemmas.{load-leads, load-refuses, next-told}
 use Rattle.commit_steps.proofs.reading.Loader.load_next.Goals as goal
@@ -21,13 +21,15 @@ returns g c =
     let told = next-told next c.next_name-name.result c.next_name-name.ensures _ _ _ _ token
     (c.token.ensures ∙ ap (λ (reader : Reader). reader.keeper.token) c.self.view_is)
     c.read-found.result c.read-found.ensures.told in
+    let sound = subst (λ (reader : Reader). AreSound reader.next reader.files) c.self.view_is
+    c.self.invariant in
     record {
       call = makes-call _ _ narrows token (reads (next_name next)) tt (HasRead reader) _
           answer _ _ c.requires told shown;
       next = load-leads reader.keeper reader.files _ _ narrows token _ _ next
           answer c.after_read.result shown c.requires told;
       refused = load-refuses reader.keeper reader.files _ _ narrows token _ _ next
-          answer c.after_read.result shown c.requires told;
+          answer c.after_read.result sound shown c.requires told;
       own = leaves _ _ narrows token (reads (next_name next)) tt (HasRead reader)
           own_command (λ result stood held. refl) answer _ _ c.requires told;
       lawful = λ deeds. stays-lawful deeds _ token (reads (next_name next)) tt (HasRead reader)
