@@ -1,3 +1,3 @@
-pub mod LastLineLemmas
-pub mod GroupLineLemmas
-pub mod RefusalLemmas
+pub mod GroupLemmas
+pub mod GroupaddLemmas
+pub mod DecisionLemmas

@@ -1,3 +1,5 @@
-pub mod Addition
-pub mod GroupLine
-pub mod LastLine
+pub mod Acts
+pub mod Additions
+pub mod Decided
+pub mod Stopping
+pub mod GroupaddGid

@@ -1,0 +1,81 @@
+// What a command on groups decides: its tool is asked for its script, which is carried out.
+ghost use Rattle.std.specs.Prelude.{◌≡◌, IfOk};
+ghost use Rattle.group_commands.specs.Acts.{IsGroupTool};
+ghost use Rattle.group_commands.specs.Decided.{IsHeld, ActsUnder, DecidesUnder};
+
+use crate::gpasswd::gpasswd;
+use crate::groupadd::groupadd;
+use crate::groupdel::groupdel;
+use crate::groupmod::groupmod;
+use crate::{Decision, GroupRequest};
+use account_model::{Tool, tools_are_written};
+use acct_text::Files;
+use command_values::{Asked, ToolFault};
+use login_defs::Defs;
+use std::alloc::{AllocError, Global};
+use table_edits::{Report, Script, Tables, decide_by, refuse};
+
+/// What the command decides on these files, by the settings: it is refused, or all tables stay as
+/// they are, or they become others. No tool of groups needs the day, in days since 1970-01-01. An
+/// absent passwd or group has no records here; the fault is for the caller to find before.
+pub fn decide(
+    alloc: Global,
+    request: &GroupRequest,
+    files: &Files,
+    defs: &Defs,
+    _day: u32,
+) -> Result<Decision, AllocError>
+    requires held { IsHeld defs.now }
+    ensures { IfOk result (DecidesUnder defs.now request.now files.now) }
+{
+    let tables = Tables::load(alloc, files)?;
+    decide_on(alloc, request.asked(), files, tables, defs)
+}
+
+// The same, by the tables of the files.
+fn decide_on(
+    alloc: Global,
+    asked: &Asked,
+    files: &Files,
+    tables: Tables,
+    defs: &Defs,
+) -> Result<Decision, AllocError>
+    requires tool { IsGroupTool asked.now.tool }
+    requires loaded { tables ≡ files.now }
+    requires held { IsHeld defs.now }
+    ensures { IfOk result (DecidesUnder defs.now asked.now files.now) }
+{
+    match script_of(alloc, asked, &tables, defs) {
+        Ok(script) => {
+            tools_are_written();
+            decide_by(
+                alloc,
+                asked.tool(),
+                files,
+                tables,
+                &script,
+                Report::silent(alloc),
+            )
+        }
+        Err(ToolFault::Refused(refusal)) => refuse(alloc, asked.tool(), refusal),
+        Err(ToolFault::Memory) => Err(AllocError),
+    }
+}
+
+// The script of the tool that is asked for.
+fn script_of(
+    alloc: Global,
+    asked: &Asked,
+    tables: &Tables,
+    defs: &Defs,
+) -> Result<Script, ToolFault>
+    requires tool { IsGroupTool asked.now.tool }
+    ensures { ActsUnder defs.now asked.now tables.now result }
+{
+    match asked.tool() {
+        Tool::Groupadd => groupadd(alloc, asked, tables, defs),
+        Tool::Groupmod => groupmod(alloc, asked, tables),
+        Tool::Groupdel => groupdel(alloc, asked, tables),
+        _ => gpasswd(alloc, asked, tables),
+    }
+}

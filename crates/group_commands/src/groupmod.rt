@@ -1,0 +1,192 @@
+// groupmod GROUP (groupmod(8)): changes a group's GID, name or password.
+ghost use Rattle.std.specs.Prelude.{◌≡◌, ◌||◌, codes, IfOk, OnOk};
+ghost use Rattle.account_model.specs.Action.{with_option};
+ghost use Rattle.account_model.specs.Hashes.{set_group_hash};
+ghost use Rattle.account_model.specs.Groupmod.{groupmod, groupmod_used_gid, groupmod_script, taken_group_name, gid_script, set_gid, rename_group};
+ghost use Rattle.account_model.specs.Refusals.{refuse_value};
+ghost use Rattle.account_model.specs.Users.{has_group, has_gshadow};
+ghost use Rattle.acct_tables.specs.Refusing.{RefusesBy};
+ghost use Rattle.table_edits.specs.SeenScript.{seen_script};
+ghost use Rattle.group_commands.specs.Acts.{ActsBy};
+ghost use Rattle.group_commands.specs.Additions.{HasAlso};
+
+use crate::edits::{change_group, change_gshadow, set_group_hash};
+use crate::lookups::{check_group, group_named, gshadow_named, is_gid_used};
+use account_model::{GroupRecord, Refusal};
+use acct_text::Bytes;
+use command_values::{Asked, Form, ToolFault};
+use std::alloc::{AllocError, Global};
+use table_edits::{Edit, GroupAct, GshadowAct, PasswdAct, PasswdChange, Script, Tables};
+
+/// The script that changes the group: the hash of `-p`, the GID of `-g`, and at last the name of
+/// `-n`, as the others find the group by the old one.
+///
+/// `BadValue` refuses a value of `-g`, `-n` or `-p`, `NoGroup` a group that isn't there,
+/// `GroupExists` another name that is taken, and without `-o` `GidInUse` another group's GID.
+pub(crate) fn groupmod(alloc: Global, asked: &Asked, tables: &Tables) -> Result<Script, ToolFault>
+    ensures { ActsBy (groupmod asked.now tables.now) result }
+{
+    let group = asked.operand();
+    asked.check_value(alloc, b'g', Form::Id)?;
+    asked.check_value(alloc, b'n', Form::Name)?;
+    asked.check_value(alloc, b'p', Form::Field)?;
+    check_group(alloc, tables, group)?;
+    check_new_name(alloc, asked, tables, group)?;
+    check_new_gid(asked, tables, group)?;
+    Ok(changed_group(alloc, asked, tables, group)?)
+}
+
+// Refuses a name of `-n` that differs from the group's and is taken: `GroupExists`.
+fn check_new_name(
+    alloc: Global,
+    asked: &Asked,
+    tables: &Tables,
+    group: &[u8],
+) -> Result<(), ToolFault>
+    ensures { RefusesBy
+        (refuse_value (codes "n") asked.now (taken_group_name group.now tables.now)) result }
+{
+    match asked.value(b'n') {
+        Some(name) => check_name_free(alloc, tables, group, name),
+        None => Ok(()),
+    }
+}
+
+// Refuses a name that differs from the group's and is taken in group or gshadow: `GroupExists`.
+fn check_name_free(
+    alloc: Global,
+    tables: &Tables,
+    group: &[u8],
+    name: &[u8],
+) -> Result<(), ToolFault>
+    ensures { RefusesBy (taken_group_name group.now tables.now name.now) result }
+{
+    if name == group || !is_taken(tables, name) {
+        return Ok(());
+    }
+    Err(ToolFault::Refused(Refusal::GroupExists(Bytes::of(alloc, name)?)))
+}
+
+// Whether a record of group or gshadow has the name.
+fn is_taken(tables: &Tables, name: &[u8]) -> bool
+    ensures { result ≡ has_group name.now tables.now || has_gshadow name.now tables.now }
+{
+    group_named(tables, name).is_some() || gshadow_named(tables, name).is_some()
+}
+
+// Refuses a GID of `-g` that is another group's where `-o` isn't given: `GidInUse`.
+fn check_new_gid(asked: &Asked, tables: &Tables, group: &[u8]) -> Result<(), ToolFault>
+    ensures { RefusesBy (groupmod_used_gid group.now asked.now tables.now) result }
+{
+    if asked.has(b'o') {
+        return Ok(());
+    }
+    match (asked.id(b'g'), group_named(tables, group)) {
+        (Some(gid), Some(old)) if gid != old.gid && is_gid_used(tables, gid) => {
+            Err(ToolFault::Refused(Refusal::GidInUse(gid)))
+        }
+        _ => Ok(()),
+    }
+}
+
+// The edits of a group that can be changed so.
+fn changed_group(
+    alloc: Global,
+    asked: &Asked,
+    tables: &Tables,
+    group: &[u8],
+) -> Result<Script, AllocError>
+    ensures { IfOk result (λ script.
+        seen_script script ≡ groupmod_script group.now asked.now tables.now) }
+{
+    let mut script = Script::new(alloc);
+    write_hash(alloc, &mut script, asked, tables, group)?;
+    write_gid(alloc, &mut script, asked, tables, group)?;
+    write_name(alloc, &mut script, asked, group)?;
+    Ok(script)
+}
+
+// Sets the hash of `-p`.
+fn write_hash(
+    alloc: Global,
+    script: &mut Script,
+    asked: &Asked,
+    tables: &Tables,
+    group: &[u8],
+) -> Result<(), AllocError>
+    ensures { OnOk result (HasAlso
+        (with_option (codes "p") asked.now (λ hash. set_group_hash group.now hash tables.now))
+        script.old script.new) }
+{
+    match asked.value(b'p') {
+        Some(hash) => set_group_hash(alloc, script, tables, group, hash),
+        None => Ok(()),
+    }
+}
+
+// Sets the GID of `-g`.
+fn write_gid(
+    alloc: Global,
+    script: &mut Script,
+    asked: &Asked,
+    tables: &Tables,
+    group: &[u8],
+) -> Result<(), AllocError>
+    ensures { OnOk result
+        (HasAlso (gid_script group.now asked.now tables.now) script.old script.new) }
+{
+    match (asked.id(b'g'), group_named(tables, group)) {
+        (Some(gid), Some(old)) => set_gid(alloc, script, group, gid, old),
+        _ => Ok(()),
+    }
+}
+
+// Sets the name of `-n`.
+fn write_name(
+    alloc: Global,
+    script: &mut Script,
+    asked: &Asked,
+    group: &[u8],
+) -> Result<(), AllocError>
+    ensures { OnOk result (HasAlso
+        (with_option (codes "n") asked.now (rename_group group.now)) script.old script.new) }
+{
+    match asked.value(b'n') {
+        Some(name) => rename_group(alloc, script, group, name),
+        None => Ok(()),
+    }
+}
+
+// Gives the group the GID, and so every user whose primary group had the old one.
+fn set_gid(
+    alloc: Global,
+    script: &mut Script,
+    group: &[u8],
+    gid: u32,
+    old: &GroupRecord,
+) -> Result<(), AllocError>
+    ensures { OnOk result (HasAlso (set_gid group.now gid old.now) script.old script.new) }
+{
+    change_group(alloc, script, group, GroupAct::SetGid(gid))?;
+    let change = PasswdChange::OfGroup(old.gid, PasswdAct::SetGid(gid));
+    script.passwd.push(Edit::Become(change))?;
+    Ok(())
+}
+
+// Gives the group the name, in group and gshadow.
+fn rename_group(
+    alloc: Global,
+    script: &mut Script,
+    old: &[u8],
+    new: &[u8],
+) -> Result<(), AllocError>
+    ensures { OnOk result (HasAlso (rename_group old.now new.now) script.old script.new) }
+{
+    change_group(alloc, script, old, GroupAct::Rename(Bytes::of(alloc, new)?))?;
+    change_gshadow(
+        alloc,
+        script,
+        old,
+        GshadowAct::Rename(Bytes::of(alloc, new)?),
+    )
+}
