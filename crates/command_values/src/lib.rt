@@ -15,6 +15,7 @@ mod row_law;
 mod settings;
 mod users;
 
+pub use acct_tables::ToolFault;
 pub use asked::Asked;
 pub use checks::{check_list_name, check_name};
 pub use form::{Form, read_id};
@@ -22,5 +23,4 @@ pub use groups::{check_group, find_gid, find_group, used_gids};
 pub use lists::{is_listed, list_value};
 pub use row_law::requests_keep_their_row;
 pub use settings::free_id;
-pub use acct_tables::ToolFault;
 pub use users::{check_user, check_users, first_of_group, used_uids};
