@@ -1,5 +1,20 @@
-pub mod ToldCalls
-pub mod ProceedsLemmas
-pub mod FileStepLemmas
-pub mod TextLemmas
-pub mod FormLemmas
+mod AnswerLemmas
+mod CommittingTurns
+mod CourseLemmas
+mod DecidingLemmas
+mod DeedLemmas
+mod DueLemmas
+mod LeadsLemmas
+mod LeftLemmas
+mod LoadingTurns
+mod LockingLemmas
+mod LockingTurns
+mod PlaceLemmas
+mod RanLemmas
+mod RecoveringTurns
+mod RuleLemmas
+mod SessionTurns
+mod TurnLemmas
+mod UnlockingTurns
+mod FinishLemmas
+mod TopLemmas

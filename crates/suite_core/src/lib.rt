@@ -1,15 +1,26 @@
-//! The top call of the account suite: what a list of words does to the account files of a folder.
+//! The session of a command, and the top call of the account suite.
+//!
+//! A session takes the lock, carries out an intent that another left, loads the files, lets the tool
+//! decide, commits through an intent of its own, frees the lock and answers. `State` names each step,
+//! with the one call of the folder that it makes next. `run_suite` reads the words, asks the clock,
+//! turns a session to its end and serves the streams.
 #![tactic(auto)]
 
-mod begin;
-mod cause;
-mod files;
-mod form;
-mod message;
+mod committing;
+mod course;
+mod deciding;
+mod deeds;
+mod loading;
+mod locking;
+mod recovering;
+mod runner;
+mod session;
+mod state;
+mod streams;
 mod top;
+mod unlocking;
 
-pub use cause::{Cause, Outcome, Which};
+pub use deeds::tools_have_deeds;
+pub use session::Session;
+pub use suite_answers::{Answer, Cause, Outcome, Which};
 pub use top::run_suite;
-
-#[cfg(test)]
-mod tests;

@@ -1,91 +1,114 @@
-use Rattle.std.proofs.Common.{◌≡◌, sym, ap, subst, inl, inr, Err}
-use Rattle.acct_outside.specs.Calls.{answers}
-use Rattle.acct_outside.specs.Folder.{Folder}
-use Rattle.acct_outside.specs.Gives.{GivesResult}
-use Rattle.acct_outside.specs.History.{after}
-use Rattle.suite_core.specs.declared.cause.Cause.{Cause}
-use Rattle.suite_core.specs.declared.cause.Cause.TheVariants.{Changed}
-use Rattle.suite_core.specs.declared.form.Form.{Form}
-use Rattle.suite_core.specs.Causes.{Becomes, IsOutputFault}
-use Rattle.suite_core.specs.Form.{form_of}
-use Rattle.suite_core.specs.Plain.{Answers}
-use Rattle.suite_core.specs.Proceeds.{Proceeds, Seen, WhereAlone, seen}
-use Rattle.suite_core.proofs.FileStepLemmas.{answers-becomes, answers-begun, is_clock_fault, becomes-clock, becomes-disk, clock-elsewhere, output-elsewhere}
-use Rattle.suite_core.proofs.ProceedsLemmas.{alone-none, alone-then, proceeds-then, risen-later}
-use Rattle.suite_core.proofs.ToldCalls.{answered-alone}
+use Rattle.std.proofs.Common.{◌≡◌, ◌⊎◌, ◌∙◌, ℕ, inl, inr, refl, sym, ap, subst, [], Option, Some}
+use Rattle.account_model.specs.declared.word_fault.WordFault.TheVariants.{Memory as NoMemory}
+use Rattle.acct_outside.specs.declared.CommitStage.TheVariants.{Before}
+use Rattle.acct_outside.specs.Faults.{HasRisen}
+use Rattle.account_model.specs.declared.tool.Tool.{Tool}
+use Rattle.account_model.specs.Request.{Request}
+use Rattle.option_words.specs.Parsed.{request_in}
+use Rattle.suite_answers.specs.declared.cause.Cause.TheVariants.{ClockFault, NotBuilt}
+use Rattle.suite_answers.specs.Answers.{told, told_words}
+use Rattle.suite_core.specs.Answers.{memory_answer}
+use Rattle.suite_core.specs.Moment.{moment}
+use Rattle.suite_core.specs.Runner.{Question}
+use Rattle.suite_core.specs.Streams.{streams}
+use Rattle.suite_core.specs.Course.{Finished}
+use Rattle.suite_core.specs.Top.{EndsEarly, Ran, is_built, named_tool}
+use Rattle.suite_core.proofs.RanLemmas.{finished-ran}
+use Rattle.suite_core.proofs.TopLemmas.{memory-early, named-asked, no-fault, one-request}
 use Rattle.suite_core.proofs.top.run_suite.Goals as goal
 
--- from the begin to the change: one step that answers the form
-changed : (form : Form) (cause : Cause) (entry begun here : Seen)
-    → Proceeds entry begun Changed (λ before now. now ≡ before)
-    → Proceeds begun here cause (Answers form cause)
-    → Proceeds entry here cause (Answers form cause)
-changed form cause entry begun here one two =
-    proceeds-then (λ before now. now ≡ before) (Answers form cause) (Answers form cause)
-    (λ x y z same answered. subst (λ (f : Folder). Answers form cause f z) same answered) one two
+-- words with a fault: it is the one that was found, or there was no memory
+pub returns-in-Err-clause-syntax : goal.returns-in-Err-clause-syntax
+returns-in-Err-clause-syntax g c = λ found is. (
+  refl,
+  refl,
+  c.refuse_words.ensures (told_words c.args.words.now found) (elim c.in-Err.ensures.first_fault [
+    | inl other ↦ inr (ap (told_words c.args.words.now)
+        (let same : Some found ≡ Some c.in-Err.fault = sym is ∙ other in cc same))
+    | inr memory ↦ inl memory
+  ]),
+)
 
-pub returns-in-Ok-clause-answers : goal.returns-in-Ok-clause-answers
-returns-in-Ok-clause-answers g c =
-    let form = c.in-Ok.session.form in
-    let cause = c.change-cause.result in
-    let final = c.of-outcome.result.cause in
-    let status = c.of-outcome.result.status in
-    let token = c.in-Ok.session.token in
-    let entry = seen (g.F.Folder.admits c.args.folder.now) (g.F.Folder.told c.args.folder.now) (g.F.Folder.fault_count c.args.folder.now) in
-    let begun = seen (g.F.Folder.admits c.begin.new.folder) (g.F.Folder.told c.begin.new.folder) (g.F.Folder.fault_count c.begin.new.folder) in
-    let here = seen (g.F.Folder.admits c.change-cause.new.folder) (g.F.Folder.told c.change-cause.new.folder) (g.F.Folder.fault_count c.change-cause.new.folder) in
-    let end = seen (g.F.Folder.admits c.answered.new.self) (g.F.Folder.told c.answered.new.self) (g.F.Folder.fault_count c.answered.new.self) in
-    let becomes : Becomes cause final = rw c.of-outcome.ensures.cause c.tell.ensures.becomes in
-    let step : Proceeds entry here cause (Answers form cause) =
-    changed form cause entry begun here (c.in-Ok.ensures.proceeds (λ clock. cc clock)) c.change-cause.ensures.proceeds in
-    rw c.in-Ok.ensures.form
-    (alone-then (Answers form cause) (λ old new. new ≡ old) (Answers form final)
-    (λ x y z answered same. subst (λ (f : Folder). Answers form final x f) (sym same) (answers-becomes form cause final x y becomes answered))
-    entry here end step.narrows step.alone
-    (answered-alone here end token status (λ first between r. GivesResult (after first between) between token (answers status) r) c.answered.ensures.told))
+pub returns-in-Err-clause-not_built : goal.returns-in-Err-clause-not_built
+returns-in-Err-clause-not_built g c = λ request asks other.
+    let was = streams (g.O.Sink.holds c.args.out.now) (g.O.Sink.fault_count c.args.out.now)
+    (g.E.Sink.holds c.args.err.now) (g.E.Sink.fault_count c.args.err.now) in
+    let holds = streams (g.O.Sink.holds c.refuse_words.new.out)
+    (g.O.Sink.fault_count c.refuse_words.new.out) (g.E.Sink.holds c.refuse_words.new.err)
+    (g.E.Sink.fault_count c.refuse_words.new.err) in (
+      refl,
+      refl,
+      subst (λ (one : Option Tool).
+          EndsEarly one (told request.tool NotBuilt) was holds c.refuse_words.result)
+          (named-asked c.args.words.now request asks)
+          (c.refuse_words.ensures (told request.tool NotBuilt) (elim c.in-Err.ensures.first_fault [
+            | inl found ↦ absurd (no-fault c.args.words.now request c.in-Err.fault asks found)
+            | inr memory ↦ inl memory
+          ])),
+    )
 
-pub returns-in-Ok-clause-clock_fault : goal.returns-in-Ok-clause-clock_fault
-returns-in-Ok-clause-clock_fault g c = λ clock.
-    let cause = c.change-cause.result in
-    let becomes : Becomes cause c.of-outcome.result.cause = rw c.of-outcome.ensures.cause c.tell.ensures.becomes in
-    absurd (c.change-cause.ensures.proceeds.of_folder (clock-elsewhere cause (becomes-clock cause c.of-outcome.result.cause becomes clock)))
-
-pub returns-in-Ok-clause-disk_fault : goal.returns-in-Ok-clause-disk_fault
-returns-in-Ok-clause-disk_fault g c = λ fault.
-    let form = c.in-Ok.session.form in
-    let cause = c.change-cause.result in
-    let entry = seen (g.F.Folder.admits c.args.folder.now) (g.F.Folder.told c.args.folder.now) (g.F.Folder.fault_count c.args.folder.now) in
-    let begun = seen (g.F.Folder.admits c.begin.new.folder) (g.F.Folder.told c.begin.new.folder) (g.F.Folder.fault_count c.begin.new.folder) in
-    let here = seen (g.F.Folder.admits c.change-cause.new.folder) (g.F.Folder.told c.change-cause.new.folder) (g.F.Folder.fault_count c.change-cause.new.folder) in
-    let becomes : Becomes cause c.of-outcome.result.cause = rw c.of-outcome.ensures.cause c.tell.ensures.becomes in
-    let step : Proceeds entry here cause (Answers form cause) =
-    changed form cause entry begun here (c.in-Ok.ensures.proceeds (λ clock. cc clock)) c.change-cause.ensures.proceeds in
-    risen-later entry.count here.count (g.F.Folder.fault_count c.answered.new.self) step.never_falls
-    (step.risen (becomes-disk cause c.of-outcome.result.cause becomes fault)) c.answered.ensures.faults
-
-pub returns-in-Ok-clause-output_fault : goal.returns-in-Ok-clause-output_fault
-returns-in-Ok-clause-output_fault g c = λ fault.
-    c.tell.ensures.fault (subst IsOutputFault c.of-outcome.ensures.cause fault)
-
-pub returns-in-Ok-clause-said : goal.returns-in-Ok-clause-said
-returns-in-Ok-clause-said g c =
-    rw c.of-outcome.ensures.cause (c.change-cause.result, c.tell.ensures.becomes, c.tell.ensures.holds)
-
-pub tell-requires : goal.tell-requires
-tell-requires g c = λ fault. c.change-cause.ensures.proceeds.of_folder (output-elsewhere c.change-cause.result fault)
-
-pub returns-in-Err-clause-answers : goal.returns-in-Err-clause-answers
-returns-in-Err-clause-answers g c =
-    let cause = c.in-Err.cause in
-    let final = c.of.result.cause in
-    let entry = seen (g.F.Folder.admits c.args.folder.now) (g.F.Folder.told c.args.folder.now) (g.F.Folder.fault_count c.args.folder.now) in
-    let begun = seen (g.F.Folder.admits c.begin.new.folder) (g.F.Folder.told c.begin.new.folder) (g.F.Folder.fault_count c.begin.new.folder) in
-    let becomes : Becomes cause final = rw c.of.ensures.cause c.tell-in-Err.ensures.becomes in
-    let alone : WhereAlone entry begun (λ old new. new ≡ old) = elim (is_clock_fault cause) [
-      | inl clock ↦
-          let same = c.in-Err.ensures.early (ap Err clock) in
-          subst (λ folder. WhereAlone entry (seen (g.F.Folder.admits folder) (g.F.Folder.told folder) (g.F.Folder.fault_count folder)) (λ old new. new ≡ old))
-          (sym same) (alone-none entry)
-      | inr other ↦ (c.in-Err.ensures.proceeds (λ clock. other (let e = clock in cc e))).alone
+pub returns-in-Err-clause-ran : goal.returns-in-Err-clause-ran
+returns-in-Err-clause-ran g c = λ request asks built.
+    let was = streams (g.O.Sink.holds c.args.out.now) (g.O.Sink.fault_count c.args.out.now)
+    (g.E.Sink.holds c.args.err.now) (g.E.Sink.fault_count c.args.err.now) in
+    let holds = streams (g.O.Sink.holds c.refuse_words.new.out)
+    (g.O.Sink.fault_count c.refuse_words.new.out) (g.E.Sink.holds c.refuse_words.new.err)
+    (g.E.Sink.fault_count c.refuse_words.new.err) in
+    let memory = elim c.in-Err.ensures.first_fault as (λ one. c.in-Err.fault ≡ NoMemory) [
+      | inl found ↦ absurd (no-fault c.args.words.now request c.in-Err.fault asks found)
+      | inr memory ↦ memory
     ] in
-    answers-begun (form_of c.args.words.now) cause final entry begun c.in-Err.ensures.built c.in-Err.ensures.before becomes alone
+    inl (
+      refl,
+      λ told_clock. absurd (memory-early (named_tool c.args.words.now) was holds
+          c.refuse_words.result (c.refuse_words.ensures (memory_answer Before) (inl memory)) told_clock),
+      subst (λ (one : Option Tool).
+          EndsEarly one (told request.tool ClockFault) was holds c.refuse_words.result)
+          (named-asked c.args.words.now request asks)
+          (c.refuse_words.ensures (told request.tool ClockFault) (inl memory)),
+    )
+
+-- words that ask for something
+pub returns-in-Ok-clause-syntax : goal.returns-in-Ok-clause-syntax
+returns-in-Ok-clause-syntax g c = λ found is. absurd
+    (no-fault c.args.words.now (request_in c.in-Ok.parsed) found c.in-Ok.ensures.request is)
+
+pub returns-in-Ok-clause-not_built : goal.returns-in-Ok-clause-not_built
+returns-in-Ok-clause-not_built g c = λ request asks other.
+    let was = streams (g.O.Sink.holds c.args.out.now) (g.O.Sink.fault_count c.args.out.now)
+    (g.E.Sink.holds c.args.err.now) (g.E.Sink.fault_count c.args.err.now) in
+    let holds = streams (g.O.Sink.holds c.run_request.new.out)
+    (g.O.Sink.fault_count c.run_request.new.out) (g.E.Sink.holds c.run_request.new.err)
+    (g.E.Sink.fault_count c.run_request.new.err) in
+    let same = one-request c.args.words.now (request_in c.in-Ok.parsed) request
+    c.in-Ok.ensures.request asks in
+    subst (λ (one : Request). (c.run_request.new.folder ≡ c.args.folder.now)
+    × (c.run_request.new.clock ≡ c.args.clock.now)
+    × EndsEarly (Some one.tool) (told one.tool NotBuilt) was holds c.run_request.result) same
+    (c.run_request.ensures.not_built (ap (λ (one : Request). is_built one.tool) same ∙ other))
+
+pub returns-in-Ok-clause-ran : goal.returns-in-Ok-clause-ran
+returns-in-Ok-clause-ran g c = λ request asks built.
+    let entry = moment (g.F.Folder.admits c.args.folder.now) (g.F.Folder.told c.args.folder.now)
+    (g.F.Folder.fault_count c.args.folder.now) in
+    let now = moment (g.F.Folder.admits c.run_request.new.folder)
+    (g.F.Folder.told c.run_request.new.folder) (g.F.Folder.fault_count c.run_request.new.folder) in
+    let was = streams (g.O.Sink.holds c.args.out.now) (g.O.Sink.fault_count c.args.out.now)
+    (g.E.Sink.holds c.args.err.now) (g.E.Sink.fault_count c.args.err.now) in
+    let holds = streams (g.O.Sink.holds c.run_request.new.out)
+    (g.O.Sink.fault_count c.run_request.new.out) (g.E.Sink.holds c.run_request.new.err)
+    (g.E.Sink.fault_count c.run_request.new.err) in
+    let same = one-request c.args.words.now (request_in c.in-Ok.parsed) request
+    c.in-Ok.ensures.request asks in
+    subst (λ (one : Request). ((c.run_request.new.folder ≡ c.args.folder.now)
+    × (c.run_request.result.cause ≡ ClockFault → HasRisen (g.C.Clock.fault_count c.args.clock.now)
+    (g.C.Clock.fault_count c.run_request.new.clock))
+    × EndsEarly (Some one.tool) (told one.tool ClockFault) was holds c.run_request.result)
+    ⊎ ((day : ℕ) × (g.C.Clock.gave c.run_request.new.clock ≡ Some day) × Ran (record {
+      command = record { words = c.args.words.now; input = []; day = day };
+      request = one;
+    }) entry now was holds c.run_request.result)) same
+    (elim (c.run_request.ensures.ran (ap (λ (one : Request). is_built one.tool) same ∙ built)) [
+      | inl early ↦ inl early
+      | inr ran ↦ inr (ran.0, ran.1, finished-ran _ entry now was holds c.run_request.result ran.2)
+    ])

@@ -1,0 +1,446 @@
+-- Claims: a read of the inputs leads to the next read, or to what the tool decides on them
+-- (`loads-stands`), and one that leads no further to the way out or to the answer of a fault
+-- (`ended-stands`). Each is nearer to the answer (`loads-left`, `ended-left`).
+-- Way: what the read shows names the keeper and what comes next; the typed step gives the standing,
+-- of which the answer is due (proofs/AnswerLemmas).
+use Rattle.std.proofs.Common.{◌≡◌, refl, sym, ap, subst, ◌∙◌, ◌<◌, ℕ, false, true, inr, Option, Some, None, IfSome, Result, Ok, Err, arith, rules}
+use Rattle.acct_text.specs.declared.Tab.{Tab}
+use Rattle.acct_text.specs.declared.Tab.TheVariants.{Passwd, Shadow, Group, Gshadow, Subuid, Subgid}
+use Rattle.acct_text.specs.Bytes.{Bytes}
+use Rattle.acct_outside.specs.declared.FolderFault.{FolderFault}
+use Rattle.acct_outside.specs.declared.FolderFault.TheVariants.{Failed}
+use Rattle.acct_outside.specs.declared.StageFault.{StageFault}
+use Rattle.acct_outside.specs.declared.CommitStage.TheVariants.{Before}
+use Rattle.acct_outside.specs.declared.Name.{Name}
+use Rattle.acct_outside.specs.Calls.{Found, found_absent, found_bytes, found_too_large, reads}
+use Rattle.acct_outside.specs.Contract.{Past}
+use Rattle.account_model.specs.declared.tool.Tool.{Tool}
+use Rattle.account_model.specs.Answer.{Changed as ChangedTo, new_files}
+use Rattle.account_model.proofs.DeedLaws.{deed-is}
+use Rattle.acct_text.specs.declared.files.Files.{Files}
+use Rattle.acct_text.specs.Contents.{IsChange}
+use Rattle.acct_text.specs.Files.{table_of}
+use Rattle.suite_rules.specs.Standing.{Commit, commit_uncalled}
+use Rattle.suite_rules.specs.Steps.{StandsIn, MakesCall}
+use Rattle.suite_rules.specs.Outcomes.{before_commit}
+use Rattle.suite_rules.proofs.StepLemmas.{stands-weaker}
+use Rattle.lock_steps.specs.States.{Kept}
+use Rattle.lock_steps.specs.Stands.{Keeps, KnowsAnything, KnowsNone}
+use Rattle.commit_steps.specs.declared.Loading.{Loading as Loaded}
+use Rattle.commit_steps.specs.declared.Loading.TheVariants.{More, Done}
+use Rattle.commit_steps.specs.declared.LoadEnd.{LoadEnd}
+use Rattle.commit_steps.specs.declared.LoadEnd.TheVariants.{Fault, TooLarge, NoTable}
+use Rattle.commit_steps.specs.States.{Reader, Inputs, Walker, inputs_of, next_name, read_on, steps_left, table_after, walk_of}
+use Rattle.commit_steps.specs.Stands.{BacksUp, HasRead, HasLoaded, HasMissed, StandsLoading, StandsEnded}
+use Rattle.commit_steps.specs.Outcomes.{Loads, LoadsContent, is_missing}
+use Rattle.commit_steps.proofs.BackupLemmas.{starts-backing}
+use Rattle.commit_steps.proofs.ReadsLemmas.{never-missing}
+use Rattle.suite_answers.specs.declared.cause.Which.TheVariants.{File}
+use Rattle.suite_answers.specs.declared.cause.Cause.TheVariants.{TooLarge as IsTooLarge, NoTable as HasNoTable, Memory}
+use Rattle.suite_answers.specs.declared.answer.Answer.{Answer as FinalAnswer}
+use Rattle.suite_core.specs.declared.state.State.{State}
+use Rattle.suite_core.specs.declared.state.State.TheVariants.{BackingUp, Unlocking, Answering}
+use Rattle.suite_core.specs.declared.deciding.Decided.{Decided}
+use Rattle.suite_core.specs.declared.deciding.Decided.TheVariants.{Change as Changes}
+use Rattle.account_model.specs.Words.{Asks}
+use Rattle.suite_core.specs.Runner.{Question, Runner}
+use Rattle.suite_core.specs.Moment.{Moment, commit_at, Runs, At}
+use Rattle.suite_core.specs.Answers.{answer_on, IsAnswerOn, given_for}
+use Rattle.suite_core.specs.Deeds.{is_change}
+use Rattle.suite_core.specs.Due.{IsDue}
+use Rattle.suite_core.specs.Left.{ranked, reads_left, turns_left}
+use Rattle.suite_core.specs.Loading.{DecidesOn, DecidesTo, EndsAt, LoadsTo}
+use Rattle.suite_core.specs.Locking.{cause_of_fault}
+use Rattle.suite_core.specs.Stands.{IsDiskFault, LeavesWith, StandsAs, StandsChanging, StandsUnlocking, TellsDiskFault}
+use Rattle.suite_core.proofs.TurnLemmas.{goes-on, answers-turn, answers-fault, leaves-turn, leaves-fault}
+use Rattle.suite_core.proofs.UnlockingTurns.{fault-stage, fault-plain, fault-failed}
+use Rattle.suite_core.proofs.LeftLemmas.{rank-drops, steps-drop, answer-drops, answers-left, leaves-left}
+use Rattle.suite_core.proofs.AnswerLemmas.{answer-says, answer-quiet, stay-stage, stay-shown, missed-shown}
+
+-- ---- What a read shows
+
+-- of one that leads to the next
+content-more : (reader more : Reader) (next : Option Tab) (content : Option Bytes) →
+    LoadsContent reader next content (Ok (More more)) →
+    (table : Tab) × (next ≡ Some table) × (more ≡ read_on reader table content)
+content-more reader more (Some table) content shown = (table, refl, shown.1)
+content-more reader more None content shown = absurd shown
+
+pub more-shown : (reader more : Reader) (answer : Result Found FolderFault) →
+    Loads reader answer (Ok (More more)) →
+    (content : Option Bytes) × ((table : Tab) × (reader.next ≡ Some table)
+    × (more ≡ read_on reader table content))
+more-shown reader more (Ok found_absent) shown =
+    (None, content-more reader more reader.next None shown)
+more-shown reader more (Ok (found_bytes bytes)) shown =
+    (Some bytes, content-more reader more reader.next (Some bytes) shown)
+more-shown reader more (Ok found_too_large) shown = absurd shown
+more-shown reader more (Err fault) shown = absurd shown
+
+-- of the last
+content-done : (reader : Reader) (inputs : Inputs) (next : Option Tab) (content : Option Bytes) →
+    LoadsContent reader next content (Ok (Done inputs)) → inputs ≡ inputs_of reader content
+content-done reader inputs None content shown = shown
+content-done reader inputs (Some table) content shown = absurd shown
+
+pub done-keeper : (reader : Reader) (inputs : Inputs) (answer : Result Found FolderFault) →
+    Loads reader answer (Ok (Done inputs)) → inputs.keeper ≡ reader.keeper
+done-keeper reader inputs (Ok found_absent) shown = ap (λ (one : Inputs). one.keeper)
+    (content-done reader inputs reader.next None shown)
+done-keeper reader inputs (Ok (found_bytes bytes)) shown = ap (λ (one : Inputs). one.keeper)
+    (content-done reader inputs reader.next (Some bytes) shown)
+done-keeper reader inputs (Ok found_too_large) shown = absurd shown
+done-keeper reader inputs (Err fault) shown = absurd shown
+
+-- of one that finds no table
+content-missing : (reader : Reader) (missing : Tab) (kept : Kept) (next : Option Tab) →
+    LoadsContent reader next None (Err (NoTable missing kept)) →
+    (is_missing missing None ≡ true) × (kept ≡ reader.keeper)
+content-missing reader missing kept (Some table) shown = (
+  subst (λ (one : Tab). is_missing one None ≡ true) (sym shown.1) shown.0,
+  shown.2,
+)
+content-missing reader missing kept None shown = absurd shown
+
+content-there : (reader : Reader) (missing : Tab) (kept : Kept) (next : Option Tab)
+    (bytes : Bytes) → LoadsContent reader next (Some bytes) (Err (NoTable missing kept)) → ⊥
+content-there reader missing kept (Some table) bytes shown = never-missing table bytes shown.0
+content-there reader missing kept None bytes shown = absurd shown
+
+missing-shown : (reader : Reader) (missing : Tab) (kept : Kept)
+    (answer : Result Found FolderFault) → Loads reader answer (Err (NoTable missing kept)) →
+    (is_missing missing None ≡ true) × (kept ≡ reader.keeper)
+missing-shown reader missing kept (Ok found_absent) shown =
+    content-missing reader missing kept reader.next shown
+missing-shown reader missing kept (Ok (found_bytes bytes)) shown =
+    absurd (content-there reader missing kept reader.next bytes shown)
+missing-shown reader missing kept (Ok found_too_large) shown = absurd shown
+missing-shown reader missing kept (Err fault) shown = absurd shown
+
+-- of one that finds too much
+content-small : (reader : Reader) (name : Name) (kept : Kept) (next : Option Tab)
+    (content : Option Bytes) → LoadsContent reader next content (Err (TooLarge name kept)) → ⊥
+content-small reader name kept (Some table) content shown = shown
+content-small reader name kept None content shown = shown
+
+large-keeper : (reader : Reader) (name : Name) (kept : Kept) (answer : Result Found FolderFault) →
+    Loads reader answer (Err (TooLarge name kept)) → kept ≡ reader.keeper
+large-keeper reader name kept (Ok found_too_large) shown = shown.1
+large-keeper reader name kept (Ok found_absent) shown =
+    absurd (content-small reader name kept reader.next None shown)
+large-keeper reader name kept (Ok (found_bytes bytes)) shown =
+    absurd (content-small reader name kept reader.next (Some bytes) shown)
+large-keeper reader name kept (Err fault) shown = absurd shown
+
+-- of a fault
+content-faultless : (reader : Reader) (fault : StageFault) (next : Option Tab)
+    (content : Option Bytes) → LoadsContent reader next content (Err (Fault fault)) → ⊥
+content-faultless reader fault (Some table) content shown = shown
+content-faultless reader fault None content shown = shown
+
+fault-before : (reader : Reader) (fault : StageFault) (answer : Result Found FolderFault) →
+    Loads reader answer (Err (Fault fault)) → fault.stage ≡ Before
+fault-before reader fault (Err came) shown = ap (λ (one : StageFault). one.stage) shown
+fault-before reader fault (Ok found_absent) shown =
+    absurd (content-faultless reader fault reader.next None shown)
+fault-before reader fault (Ok (found_bytes bytes)) shown =
+    absurd (content-faultless reader fault reader.next (Some bytes) shown)
+fault-before reader fault (Ok found_too_large) shown = absurd shown
+
+-- ---- The standing after it
+
+module _ (before now : Moment) (runner : Runner) (reader : Reader)
+    (stands : At before runner commit_uncalled (HasRead reader))
+    (same : reader.keeper.token ≡ runner.token) where
+  module _ (inputs : Inputs) (token : inputs.keeper.token ≡ runner.token)
+      (loaded : At now runner commit_uncalled (HasLoaded inputs)) where
+    -- a change is backed up
+    backs-stands : (walker : Walker) (answer : FinalAnswer) →
+        DecidesTo runner inputs (BackingUp walker answer) →
+        StandsChanging now runner walker.change (BacksUp walker) answer
+    backs-stands walker answer decided = record {
+      same = ap (λ (one : Inputs). one.keeper.token) decided.1 ∙ token;
+      stands = stands-weaker now.admits runner.token
+          (Runs runner commit_uncalled (HasLoaded inputs))
+          (Runs runner commit_uncalled (BacksUp walker))
+          (λ stood runs. record {
+            holds = subst (λ (one : Walker). BacksUp one stood) (sym decided.0)
+                (starts-backing walker.change stood
+                (subst (λ (one : Inputs). HasLoaded one stood) (sym decided.1) runs.holds));
+            asked = runs.asked;
+            commits = runs.commits;
+          })
+          now.told loaded;
+      of_change = decided.2;
+    }
+
+    -- an answer with which all tables stay is due
+    stay-due : (answer : FinalAnswer) →
+        IsAnswerOn runner.asked inputs.files inputs.defs answer →
+        is_change (answer_on runner.asked inputs.files inputs.defs).cause ≡ false →
+        (told : Option Past) →
+        StandsIn now.admits told runner.token (Runs runner commit_uncalled (HasLoaded inputs)) →
+        IfSome told (IsDue runner answer)
+    stay-due answer is_answer stays None stood = tt
+    stay-due answer is_answer stays (Some past) stood = record {
+      asked = stood.holds.asked;
+      commits = stood.holds.commits ∙ ap commit_at
+          (sym (stay-stage runner.asked inputs.files inputs.defs answer is_answer stays));
+      shown = stay-shown runner inputs answer past.history stood.holds.holds is_answer stays;
+    }
+
+    -- it is given once the lock is free
+    stays-stands : (keeper : Kept) (answer : FinalAnswer) →
+        DecidesTo runner inputs (Unlocking keeper answer) →
+        StandsUnlocking now runner keeper answer
+    stays-stands keeper answer decided = record {
+      same = ap (λ (one : Kept). one.token) decided.0 ∙ token;
+      stands = subst (λ (one : Commit). At now runner one (Keeps keeper KnowsAnything))
+          (ap commit_at
+          (sym (stay-stage runner.asked inputs.files inputs.defs answer decided.1 decided.2)))
+          (stands-weaker now.admits runner.token
+          (Runs runner commit_uncalled (HasLoaded inputs))
+          (Runs runner commit_uncalled (Keeps keeper KnowsAnything))
+          (λ stood runs. record {
+            holds = subst (λ (one : Kept). Keeps one KnowsAnything stood) (sym decided.0)
+                (record { locks = runs.holds.keeps.locks; knows = tt });
+            asked = runs.asked;
+            commits = runs.commits;
+          })
+          now.told loaded);
+      quiet = answer-quiet runner.asked inputs.files inputs.defs answer decided.1;
+      gives = record {
+        says = answer-says runner.asked inputs.files inputs.defs answer decided.1;
+        due = stay-due answer decided.1 decided.2 now.told loaded;
+      };
+    }
+
+  module _ (loading : Loaded)
+      (made : MakesCall before.admits now.admits before.told now.told reader.keeper.token
+      (reads (next_name reader.next)) (λ answer. Loads reader answer (Ok loading))) where
+    -- after the last read the tool decided
+    decided-stands : (inputs : Inputs) (state : State) → DecidesTo runner inputs state →
+        inputs.keeper.token ≡ runner.token →
+        StandsIn now.admits now.told reader.keeper.token (HasLoaded inputs) →
+        StandsAs now runner state
+    decided-stands inputs (BackingUp walker answer) decided token next =
+        backs-stands inputs token
+        (goes-on before now runner commit_uncalled (HasRead reader) stands reader.keeper.token same
+        (reads (next_name reader.next)) tt _ (λ result stood. refl) made (HasLoaded inputs) next)
+        walker answer decided
+    decided-stands inputs (Unlocking keeper answer) decided token next =
+        stays-stands inputs token
+        (goes-on before now runner commit_uncalled (HasRead reader) stands reader.keeper.token same
+        (reads (next_name reader.next)) tt _ (λ result stood. refl) made (HasLoaded inputs) next)
+        keeper answer decided
+    decided-stands inputs (Answering answer) decided token next =
+        answers-turn before now runner commit_uncalled (HasRead reader) stands reader.keeper.token
+        same (reads (next_name reader.next)) tt _ (λ result stood. refl) made (Memory Before)
+        (Answering answer) (inr decided) tt refl
+    decided-stands inputs state decided token next = absurd decided
+
+  -- after a read that leads on
+  pub loads-stands : (loading : Loaded) (state : State) → LoadsTo runner loading state →
+      MakesCall before.admits now.admits before.told now.told reader.keeper.token
+      (reads (next_name reader.next)) (λ answer. Loads reader answer (Ok loading)) →
+      StandsLoading now.admits now.told reader.keeper.token loading → StandsAs now runner state
+  loads-stands (More more) state leads made next =
+      subst (StandsAs now runner) (sym leads) (
+        ap (λ (one : Reader). one.keeper.token)
+            (more-shown reader more made.answer made.shown).1.2 ∙ same,
+        goes-on before now runner commit_uncalled (HasRead reader) stands reader.keeper.token same
+            (reads (next_name reader.next)) tt _ (λ result stood. refl) made (HasRead more) next,
+      )
+  loads-stands (Done inputs) state leads made next =
+      decided-stands (Done inputs) made inputs state leads
+      (ap (λ (one : Kept). one.token) (done-keeper reader inputs made.answer made.shown) ∙ same)
+      next
+
+  -- the answer that a table is absent is due
+  missed-due : (table : Tab) (keeper : Kept) → is_missing table None ≡ true →
+      (told : Option Past) →
+      StandsIn now.admits told runner.token
+      (Runs runner commit_uncalled (HasMissed table keeper)) →
+      IfSome told (IsDue runner (given_for runner.asked.request.tool (HasNoTable table)))
+  missed-due table keeper missing None stood = tt
+  missed-due table keeper missing (Some past) stood = record {
+    asked = stood.holds.asked;
+    commits = stood.holds.commits;
+    shown = missed-shown runner table keeper _ missing stood.holds.holds;
+  }
+
+  missed-stands : (table : Tab) (keeper : Kept) → is_missing table None ≡ true →
+      keeper.token ≡ runner.token →
+      At now runner commit_uncalled (HasMissed table keeper) →
+      StandsUnlocking now runner keeper (given_for runner.asked.request.tool (HasNoTable table))
+  missed-stands table keeper missing token missed = record {
+    same = token;
+    stands = stands-weaker now.admits runner.token
+        (Runs runner commit_uncalled (HasMissed table keeper))
+        (Runs runner commit_uncalled (Keeps keeper KnowsAnything))
+        (λ stood runs. record {
+          holds = record { locks = runs.holds.is_read.keeps.locks; knows = tt };
+          asked = runs.asked;
+          commits = runs.commits;
+        })
+        now.told missed;
+    quiet = λ fault. fault;
+    gives = record { says = refl; due = missed-due table keeper missing now.told missed };
+  }
+
+  -- after one that finds no table
+  missing-stands : (table : Tab) (kept : Kept) (state : State) →
+      LeavesWith runner.asked.request.tool kept (HasNoTable table) state →
+      MakesCall before.admits now.admits before.told now.told reader.keeper.token
+      (reads (next_name reader.next)) (λ answer. Loads reader answer (Err (NoTable table kept))) →
+      StandsIn now.admits now.told reader.keeper.token (HasMissed table kept) →
+      StandsAs now runner state
+  missing-stands table kept (Unlocking keeper answer) leaves made next =
+      let shown = missing-shown reader table kept made.answer made.shown in
+      subst (λ (one : Kept). StandsUnlocking now runner one answer) (sym leaves.0)
+      (subst (λ (one : FinalAnswer). StandsUnlocking now runner kept one) (sym leaves.1)
+      (missed-stands table kept shown.0 (ap (λ (one : Kept). one.token) shown.1 ∙ same)
+      (goes-on before now runner commit_uncalled (HasRead reader) stands reader.keeper.token same
+      (reads (next_name reader.next)) tt _ (λ result stood. refl) made (HasMissed table kept)
+      next)))
+  missing-stands table kept (Answering answer) leaves made next =
+      answers-turn before now runner commit_uncalled (HasRead reader) stands reader.keeper.token
+      same (reads (next_name reader.next)) tt _ (λ result stood. refl) made (Memory Before)
+      (Answering answer) (inr leaves) tt refl
+  missing-stands table kept state leaves made next = absurd leaves
+
+  -- after one that leads no further
+  pub ended-stands : (end : LoadEnd) (state : State) →
+      EndsAt runner.asked.request.tool end state →
+      MakesCall before.admits now.admits before.told now.told reader.keeper.token
+      (reads (next_name reader.next)) (λ answer. Loads reader answer (Err end)) →
+      StandsEnded now.admits now.told reader.keeper.token end → StandsAs now runner state
+  ended-stands (Fault fault) state ends made next =
+      answers-turn before now runner commit_uncalled (HasRead reader) stands reader.keeper.token
+      same (reads (next_name reader.next)) tt _ (λ result stood. refl) made
+      (cause_of_fault fault.stage fault.fault) state ends (fault-plain fault.stage fault.fault)
+      (ap commit_at (sym (fault-stage fault.stage fault.fault
+      ∙ fault-before reader fault made.answer made.shown)))
+  ended-stands (TooLarge name kept) state ends made next =
+      leaves-turn before now runner commit_uncalled (HasRead reader) stands reader.keeper.token
+      same (reads (next_name reader.next)) tt _ (λ result stood. refl) made kept
+      (IsTooLarge (File name)) state ends tt (λ fault. fault) refl
+      (ap (λ (one : Kept). one.token) (large-keeper reader name kept made.answer made.shown) ∙ same)
+      (stands-weaker now.admits reader.keeper.token (Keeps kept KnowsNone)
+      (Keeps kept KnowsAnything)
+      (λ stood keeps. record { locks = keeps.locks; knows = tt }) now.told next)
+  ended-stands (NoTable table kept) state ends made next =
+      missing-stands table kept state ends made next
+
+-- ---- Faults of the folder
+
+-- one that leads on tells of none
+decided-quiet : (runner : Runner) (inputs : Inputs) (state : State) →
+    DecidesTo runner inputs state → TellsDiskFault state → ⊥
+decided-quiet runner inputs (Answering answer) decided fault =
+    subst IsDiskFault (ap (λ (one : FinalAnswer). one.outcome.cause) decided) fault
+decided-quiet runner inputs (BackingUp walker answer) decided fault = fault
+decided-quiet runner inputs (Unlocking keeper answer) decided fault = fault
+decided-quiet runner inputs state decided fault = absurd decided
+
+pub loads-quiet : (runner : Runner) (loading : Loaded) (state : State) →
+    LoadsTo runner loading state → TellsDiskFault state → ⊥
+loads-quiet runner (More more) state leads fault = subst TellsDiskFault leads fault
+loads-quiet runner (Done inputs) state leads fault = decided-quiet runner inputs state leads fault
+
+-- one that leads no further tells of one only where the folder failed
+pub ended-failed : (tool : Tool) (end : LoadEnd) (state : State) → EndsAt tool end state →
+    (reader : Reader) (answer : Result Found FolderFault) → Loads reader answer (Err end) →
+    TellsDiskFault state → end ≡ Fault (before_commit Failed)
+ended-failed tool (Fault fault) state ends reader answer shown told =
+    let failed = fault-failed fault.stage fault.fault
+    (answers-fault tool (cause_of_fault fault.stage fault.fault) state ends told) in
+    ap Fault (λ i. record { fault = failed i; stage = fault-before reader fault answer shown i })
+ended-failed tool (TooLarge name kept) state ends reader answer shown told =
+    absurd (leaves-fault tool kept (IsTooLarge (File name)) state ends told)
+ended-failed tool (NoTable table kept) state ends reader answer shown told =
+    absurd (leaves-fault tool kept (HasNoTable table) state ends told)
+
+-- ---- What the tool decided
+
+-- a change is one, by the law of the tools
+pub change-is : (asked : Question) (files : Files) (defs : Option Bytes) (new : Files) →
+    (answer_on asked files defs).cause ≡ ChangedTo new → IsChange (table_of files) (table_of new)
+change-is asked files defs new is = deed-is asked.request asked.command.input asked.command.day
+    files defs new (ap new_files is)
+
+-- the tool decides the same on the same
+pub decides-on : (asked same_asked : Question) (files same_files : Files)
+    (defs same_defs : Option Bytes) (decided : Decided) → asked ≡ same_asked →
+    files ≡ same_files → defs ≡ same_defs → DecidesOn asked files defs decided →
+    DecidesOn same_asked same_files same_defs decided
+decides-on asked same_asked files same_files defs same_defs decided one two three decides =
+    subst (λ (other : Option Bytes). DecidesOn same_asked same_files other decided) three
+    (subst (λ (other : Files). DecidesOn same_asked other defs decided) two
+    (subst (λ (other : Question). DecidesOn other files defs decided) one decides))
+
+-- a change that it decided is backed up, with its answer
+pub of-change : (runner : Runner) (inputs : Inputs) (new : Files) (answer : FinalAnswer) →
+    Asks runner.asked.command.words runner.asked.request →
+    DecidesOn runner.asked inputs.files inputs.defs (Changes new answer) → (walker : Walker) →
+    walker ≡ walk_of (record { inputs = inputs; new = new }) →
+    DecidesTo runner inputs (BackingUp walker answer)
+of-change runner inputs new answer asks decides walker is =
+    subst (λ (one : Walker). DecidesTo runner inputs (BackingUp one answer)) (sym is) (
+      refl,
+      refl,
+      record { asks = asks; is_answer = decides.0; is_change = decides.1 },
+    )
+
+-- ---- What is left
+
+-- a table read leaves fewer reads
+reads-drop : (table : Tab) →
+    ranked 6 (reads_left (table_after table)) < ranked 6 (reads_left (Some table))
+reads-drop Passwd = steps-drop 6 7 6 (search (arith, rules)) (search (arith, rules))
+reads-drop Shadow = steps-drop 6 6 5 (search (arith, rules)) (search (arith, rules))
+reads-drop Group = steps-drop 6 5 4 (search (arith, rules)) (search (arith, rules))
+reads-drop Gshadow = steps-drop 6 4 3 (search (arith, rules)) (search (arith, rules))
+reads-drop Subuid = steps-drop 6 3 2 (search (arith, rules)) (search (arith, rules))
+reads-drop Subgid = steps-drop 6 2 1 (search (arith, rules)) (search (arith, rules))
+
+-- what the tool decides is of a lower rank
+decided-left : (runner : Runner) (inputs : Inputs) (state : State) →
+    DecidesTo runner inputs state → (more : ℕ) → turns_left state < ranked 6 more
+decided-left runner inputs (Answering answer) decided more =
+    answer-drops 6 more (search (arith, rules))
+decided-left runner inputs (BackingUp walker answer) decided more =
+    rank-drops 5 6 (steps_left walker) more (search (arith, rules))
+decided-left runner inputs (Unlocking keeper answer) decided more =
+    rank-drops 2 6 _ more (search (arith, rules))
+decided-left runner inputs state decided more = absurd decided
+
+pub loads-left : (runner : Runner) (reader : Reader) (loading : Loaded) (state : State)
+    (answer : Result Found FolderFault) → LoadsTo runner loading state →
+    Loads reader answer (Ok loading) → turns_left state < ranked 6 (reads_left reader.next)
+loads-left runner reader (More more) state answer leads shown =
+    let next = (more-shown reader more answer shown).1 in
+    subst (λ (one : State). turns_left one < ranked 6 (reads_left reader.next)) (sym leads)
+    (subst (λ (one : Reader). ranked 6 (reads_left one.next) < ranked 6 (reads_left reader.next))
+    (sym next.2)
+    (subst (λ (one : Option Tab).
+    ranked 6 (reads_left (table_after next.0)) < ranked 6 (reads_left one)) (sym next.1)
+    (reads-drop next.0)))
+loads-left runner reader (Done inputs) state answer leads shown =
+    decided-left runner inputs state leads (reads_left reader.next)
+
+-- so is a way out, and an answer
+pub ended-left : (tool : Tool) (end : LoadEnd) (state : State) → EndsAt tool end state →
+    (more : ℕ) → turns_left state < ranked 6 more
+ended-left tool (Fault fault) state ends more =
+    subst (λ (left : ℕ). left < ranked 6 more)
+    (sym (answers-left tool (cause_of_fault fault.stage fault.fault) state ends))
+    (answer-drops 6 more (search (arith, rules)))
+ended-left tool (TooLarge name kept) state ends more =
+    let leaves = leaves-left tool kept (IsTooLarge (File name)) state ends in
+    let lower = rank-drops 3 6 0 more (search (arith, rules)) in
+    omega (arith, leaves, lower)
+ended-left tool (NoTable table kept) state ends more =
+    let leaves = leaves-left tool kept (HasNoTable table) state ends in
+    let lower = rank-drops 3 6 0 more (search (arith, rules)) in
+    omega (arith, leaves, lower)

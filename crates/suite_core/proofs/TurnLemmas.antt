@@ -1,0 +1,351 @@
+-- Claim: a turn that makes one call of the folder, which neither begins, commits nor answers, leads
+-- from the session's standing to that of the call's step (`turns`), or to an answer that is due
+-- (`stops`).
+-- Way: such a call leaves what the session was asked and how far its own commit is (`leaves` of
+-- suite_rules); the rest are the clauses of the typed step, by the session's token.
+use Rattle.std.proofs.Common.{◌≡◌, ◌⊎◌, refl, sym, ap, subst, ◌∙◌, ◌≤◌, ◌++◌, ◌∷◌, [], inl, inr, Option, Some, None, IfSome, Result, Ok, Err}
+use Rattle.acct_outside.specs.declared.CommitStage.{CommitStage}
+use Rattle.acct_outside.specs.declared.FolderFault.{FolderFault}
+use Rattle.acct_outside.specs.declared.FolderFault.TheVariants.{Failed, Memory as NoMemory}
+use Rattle.acct_outside.specs.Tokens.{Token}
+use Rattle.acct_outside.specs.Calls.{Call, Answer, CallResult}
+use Rattle.acct_outside.specs.History.{Event, History}
+use Rattle.acct_outside.specs.Others.{Admission, ByOthers, none_came, one_came, ByOthersThen}
+use Rattle.acct_outside.specs.Contract.{Past, Tells as OutsideTells}
+use Rattle.acct_outside.specs.Faults.{HasRisen}
+use Rattle.suite_rules.specs.Standing.{Commit, Standing, standing, standing_step}
+use Rattle.suite_rules.specs.Steps.{StandsIn, AlwaysStaysLawful, Leaves, MakesCall}
+use Rattle.suite_rules.proofs.StepLemmas.{IsNoAnswer, leaves, stands-left, stands-weaker}
+use Rattle.lock_steps.specs.States.{Kept}
+use Rattle.lock_steps.specs.Stands.{Keeps, KnowsAnything}
+use Rattle.suite_rules.specs.Steps.{OwnCommand, own_command}
+use Rattle.account_model.specs.declared.tool.Tool.{Tool}
+use Rattle.suite_answers.specs.declared.cause.Cause.{Cause}
+use Rattle.suite_answers.specs.declared.cause.Cause.TheVariants.{Changed, Same, Refused, Syntax, NotBuilt, Held, Gone, Raced, Outrun, LockDamaged, Exhausted, IntentDamaged, TooLarge, NoTable, BadSetting, DiskFault, InputFault, OutputFault, ClockFault, Memory}
+use Rattle.suite_answers.specs.declared.answer.Answer.{Answer as FinalAnswer}
+use Rattle.suite_answers.specs.Reasons.{stage_of}
+use Rattle.suite_core.specs.declared.state.State.{State}
+use Rattle.suite_core.specs.declared.state.State.TheVariants.{Unlocking, Answering}
+use Rattle.suite_core.specs.Runner.{Question, Runner}
+use Rattle.suite_core.specs.Moment.{Moment, commit_at, Runs, At}
+use Rattle.suite_core.specs.Answers.{given_for, IsTold, Says}
+use Rattle.suite_core.specs.Due.{IsShown, IsDue}
+use Rattle.suite_core.specs.Stands.{Extends, MayGive, StandsAs, AnswersWith, LeavesWith, IsDiskFault, TellsDiskFault, Turns}
+
+-- what the runner was asked, and this commit
+abbrev own_of : Runner → Commit → OwnCommand
+own_of runner commit = record { command = Some runner.asked.command; commit = commit }
+
+-- a typed step asks for the runner's standing by the token that it keeps
+pub may-step : (now : Moment) (runner : Runner) (commit : Commit) (Holds : Standing → Type 0)
+    (token : Token) → token ≡ runner.token → At now runner commit Holds →
+    StandsIn now.admits now.told token Holds
+may-step now runner commit Holds token same stands =
+    stands-weaker now.admits token (Runs runner commit Holds) Holds (λ stood runs. runs.holds)
+    now.told
+    (subst (λ one. StandsIn now.admits now.told one (Runs runner commit Holds)) (sym same) stands)
+
+-- the answer to a cause has it
+given-cause : (tool : Tool) (cause : Cause) → (given_for tool cause).outcome.cause ≡ cause
+given-cause tool Changed = refl
+given-cause tool Same = refl
+given-cause tool (Refused refusal) = refl
+given-cause tool (Syntax fault) = refl
+given-cause tool NotBuilt = refl
+given-cause tool (Held token) = refl
+given-cause tool (Gone number) = refl
+given-cause tool (Raced number) = refl
+given-cause tool (Outrun number greater) = refl
+given-cause tool (LockDamaged number) = refl
+given-cause tool Exhausted = refl
+given-cause tool (IntentDamaged part) = refl
+given-cause tool (TooLarge which) = refl
+given-cause tool (NoTable table) = refl
+given-cause tool (BadSetting line) = refl
+given-cause tool (DiskFault stage) = refl
+given-cause tool InputFault = refl
+given-cause tool (OutputFault stage) = refl
+given-cause tool ClockFault = refl
+given-cause tool (Memory stage) = refl
+
+-- an answer that tells a cause has it, or that there was no memory at its stage
+pub told-cause : (tool : Tool) (cause : Cause) (answer : FinalAnswer) → IsTold tool cause answer →
+    (answer.outcome.cause ≡ cause) ⊎ (answer.outcome.cause ≡ Memory (stage_of cause))
+told-cause tool cause answer (inl is) =
+    inl (ap (λ (given : FinalAnswer). given.outcome.cause) is ∙ given-cause tool cause)
+told-cause tool cause answer (inr is) = inr (ap (λ (given : FinalAnswer). given.outcome.cause) is)
+
+-- it has its stage, also where there was no memory to tell it
+pub told-stage : (tool : Tool) (cause : Cause) (answer : FinalAnswer) → IsTold tool cause answer →
+    stage_of answer.outcome.cause ≡ stage_of cause
+told-stage tool cause answer told = elim (told-cause tool cause answer told) [
+  | inl is ↦ ap stage_of is
+  | inr is ↦ ap stage_of is
+]
+
+-- nothing but its own call is to be shown of a cause that is no tool's answer
+abbrev pub IsPlain : Cause → Type 0
+IsPlain Changed = ⊥
+IsPlain Same = ⊥
+IsPlain (Refused refusal) = ⊥
+IsPlain (Syntax fault) = ⊥
+IsPlain (BadSetting line) = ⊥
+IsPlain (NoTable table) = ⊥
+IsPlain cause = Unit {0}
+
+-- it says what tells its cause
+plain-says : (asked : Question) (answer : FinalAnswer) (cause : Cause) → IsPlain cause →
+    answer ≡ given_for asked.request.tool cause → Says asked answer cause
+plain-says asked answer NotBuilt plain is = is
+plain-says asked answer (Held token) plain is = is
+plain-says asked answer (Gone number) plain is = is
+plain-says asked answer (Raced number) plain is = is
+plain-says asked answer (Outrun number greater) plain is = is
+plain-says asked answer (LockDamaged number) plain is = is
+plain-says asked answer Exhausted plain is = is
+plain-says asked answer (IntentDamaged part) plain is = is
+plain-says asked answer (TooLarge which) plain is = is
+plain-says asked answer (DiskFault stage) plain is = is
+plain-says asked answer InputFault plain is = is
+plain-says asked answer (OutputFault stage) plain is =
+    ap (λ (given : FinalAnswer). given.outcome.status) is
+plain-says asked answer ClockFault plain is = is
+plain-says asked answer (Memory stage) plain is =
+    ap (λ (given : FinalAnswer). given.outcome.status) is
+plain-says asked answer Changed plain is = absurd plain
+plain-says asked answer Same plain is = absurd plain
+plain-says asked answer (Refused refusal) plain is = absurd plain
+plain-says asked answer (Syntax fault) plain is = absurd plain
+plain-says asked answer (BadSetting line) plain is = absurd plain
+plain-says asked answer (NoTable table) plain is = absurd plain
+
+-- and nothing is to be shown
+pub plain-shown : (runner : Runner) (answer : FinalAnswer) (history : History) (cause : Cause) →
+    IsPlain cause → IsShown runner answer history cause
+plain-shown runner answer history NotBuilt plain = tt
+plain-shown runner answer history (Held token) plain = tt
+plain-shown runner answer history (Gone number) plain = tt
+plain-shown runner answer history (Raced number) plain = tt
+plain-shown runner answer history (Outrun number greater) plain = tt
+plain-shown runner answer history (LockDamaged number) plain = tt
+plain-shown runner answer history Exhausted plain = tt
+plain-shown runner answer history (IntentDamaged part) plain = tt
+plain-shown runner answer history (TooLarge which) plain = tt
+plain-shown runner answer history (DiskFault stage) plain = tt
+plain-shown runner answer history InputFault plain = tt
+plain-shown runner answer history (OutputFault stage) plain = tt
+plain-shown runner answer history ClockFault plain = tt
+plain-shown runner answer history (Memory stage) plain = tt
+plain-shown runner answer history Changed plain = absurd plain
+plain-shown runner answer history Same plain = absurd plain
+plain-shown runner answer history (Refused refusal) plain = absurd plain
+plain-shown runner answer history (Syntax fault) plain = absurd plain
+plain-shown runner answer history (BadSetting line) plain = absurd plain
+plain-shown runner answer history (NoTable table) plain = absurd plain
+
+-- an answer that tells a plain cause has a plain one
+pub told-plain : (asked : Question) (cause : Cause) (answer : FinalAnswer) → IsPlain cause →
+    IsTold asked.request.tool cause answer → IsPlain answer.outcome.cause
+told-plain asked cause answer plain told =
+    elim (told-cause asked.request.tool cause answer told) [
+      | inl is ↦ subst IsPlain (sym is) plain
+      | inr is ↦ subst IsPlain (sym is) tt
+    ]
+
+-- and says what tells it
+pub told-says : (asked : Question) (cause : Cause) (answer : FinalAnswer) → IsPlain cause →
+    IsTold asked.request.tool cause answer → Says asked answer answer.outcome.cause
+told-says asked cause answer plain (inl is) =
+    subst (λ one. Says asked answer one)
+    (sym (ap (λ (given : FinalAnswer). given.outcome.cause) is
+    ∙ given-cause asked.request.tool cause))
+    (plain-says asked answer cause plain is)
+told-says asked cause answer plain (inr is) =
+    subst (λ one. Says asked answer one)
+    (sym (ap (λ (given : FinalAnswer). given.outcome.cause) is))
+    (ap (λ (given : FinalAnswer). given.outcome.status) is)
+
+-- a state that answers with a cause tells of a fault of the folder where the cause is one
+pub answers-fault : (tool : Tool) (cause : Cause) (state : State) → AnswersWith tool cause state →
+    TellsDiskFault state → IsDiskFault cause
+answers-fault tool cause (Answering answer) told fault = elim (told-cause tool cause answer told) [
+  | inl is ↦ subst IsDiskFault is fault
+  | inr is ↦ absurd (subst IsDiskFault is fault)
+]
+answers-fault tool cause state told fault = absurd told
+
+-- one that leaves with a cause tells of a fault only where the cause is one
+pub leaves-fault : (tool : Tool) (keeper : Kept) (cause : Cause) (state : State) →
+    LeavesWith tool keeper cause state → TellsDiskFault state → IsDiskFault cause
+leaves-fault tool keeper cause (Answering answer) is fault =
+    absurd (subst IsDiskFault (ap (λ (given : FinalAnswer). given.outcome.cause) is) fault)
+leaves-fault tool keeper cause (Unlocking kept answer) is fault = absurd fault
+leaves-fault tool keeper cause state is fault = absurd is
+
+-- nothing is to be shown of a plain answer
+shown-now : (runner : Runner) (answer : FinalAnswer) (told : Option Past) →
+    IsPlain answer.outcome.cause →
+    IfSome told (λ past. IsShown runner answer past.history answer.outcome.cause)
+shown-now runner answer None plain = tt
+shown-now runner answer (Some past) plain =
+    plain-shown runner answer past.history answer.outcome.cause plain
+
+-- admitted events of others extend a history
+others-extend : (admits : Admission) (old new : History) → ByOthers admits old new →
+    (newer : History) × (new ≡ newer ++ old)
+others-extend admits old _ none_came = ([], refl)
+others-extend admits old _ (one_came event new came admitted) =
+    let before = others-extend admits old new came in
+    (event ∷ before.0, ap (λ (events : History). event ∷ events) before.1)
+
+-- an event after them does too
+event-extends : (admits : Admission) (own : Event) (old new : History) →
+    ByOthersThen admits old own new → (newer : History) × (new ≡ newer ++ old)
+event-extends admits own old new then =
+    let before = others-extend admits old then.between then.others in
+    (own ∷ before.0, then.last ∙ ap (λ (events : History). own ∷ events) before.1)
+
+-- whatever a call answered, it extends the history
+pub tells-extend : (admits : Admission) (token : Token) (call : Call)
+    (answer : Result (Answer call) FolderFault) (before now : Option Past) →
+    OutsideTells admits before now token call answer → Extends before now
+tells-extend admits token call answer None None tells = tt
+tells-extend admits token call (Ok answer) (Some before) (Some now) tells =
+    (tells.0, event-extends admits _ before.history now.history tells.1.others_then)
+tells-extend admits token call (Err Failed) (Some before) (Some now) tells =
+    (tells.0, event-extends admits _ before.history now.history tells.1.1.others_then)
+tells-extend admits token call (Err NoMemory) (Some before) (Some now) tells =
+    (tells.0, others-extend admits before.history now.history tells.1)
+tells-extend admits token call answer None (Some now) tells = absurd tells
+tells-extend admits token call answer (Some before) None tells = absurd tells
+
+module _ (before now : Moment) (runner : Runner) (commit : Commit) (Held : Standing → Type 0)
+    (stands : At before runner commit Held) (token : Token) (same : token ≡ runner.token)
+    (call : Call) (no_answer : IsNoAnswer call)
+    (Shows : Result (Answer call) FolderFault → Type 0)
+    (quiet : (result : CallResult (Answer call)) (stood : Standing) →
+    own_command (standing_step call result stood) ≡ own_command stood)
+    (made : MakesCall before.admits now.admits before.told now.told token call Shows) where
+  -- the call by the runner's token
+  by-runner : MakesCall before.admits now.admits before.told now.told runner.token call Shows
+  by-runner = subst
+      (λ one. MakesCall before.admits now.admits before.told now.told one call Shows) same made
+
+  -- the runner's command and its commit are as before the call
+  left : Leaves own_command runner.token before.told now.told
+  left = leaves before.admits now.admits made.narrows runner.token call no_answer
+      (Runs runner commit Held) own_command (λ result stood held. quiet result stood)
+      by-runner.answer before.told now.told stands by-runner.told
+
+  -- the standing at the next moment is that of the step
+  pub goes-on : (Holds : Standing → Type 0) → StandsIn now.admits now.told token Holds →
+      At now runner commit Holds
+  goes-on Holds stands_now = stands-weaker now.admits runner.token
+      (λ stood. Holds stood × (own_command stood ≡ own_of runner commit)) (Runs runner commit Holds)
+      (λ stood both. record {
+        holds = both.0;
+        asked = ap (λ (own : OwnCommand). own.command) both.1;
+        commits = ap (λ (own : OwnCommand). own.commit) both.1;
+      })
+      now.told
+      (stands-left own_command (own_of runner commit) (Runs runner commit Held) Holds
+      (λ stood runs. λ i. record { command = runs.asked i; commit = runs.commits i })
+      before.admits now.admits runner.token before.told now.told stands left
+      (subst (λ one. StandsIn now.admits now.told one Holds) same stands_now))
+
+  -- the history is extended
+  pub extended : Extends before.told now.told
+  extended = tells-extend before.admits runner.token call by-runner.answer before.told now.told
+      by-runner.told
+
+  -- an answer of this commit is due, where its cause is shown
+  pub is-due : (answer : FinalAnswer) → commit ≡ commit_at (stage_of answer.outcome.cause) →
+      (was now_told : Option Past) →
+      StandsIn before.admits was runner.token (Runs runner commit Held) →
+      Leaves own_command runner.token was now_told →
+      IfSome now_told (λ past. IsShown runner answer past.history answer.outcome.cause) →
+      IfSome now_told (IsDue runner answer)
+  is-due answer is None None stood kept shown = tt
+  is-due answer is (Some was) (Some past) stood kept shown = record {
+    asked = ap (λ (own : OwnCommand). own.command) kept.1 ∙ stood.holds.asked;
+    commits = ap (λ (own : OwnCommand). own.commit) kept.1 ∙ (stood.holds.commits ∙ is);
+    shown = shown;
+  }
+  is-due answer is None (Some past) stood kept shown = absurd kept
+  is-due answer is (Some was) None stood kept shown = absurd kept
+
+  -- a plain answer of this commit is due, and the runner may give it
+  pub may-give : (answer : FinalAnswer) → commit ≡ commit_at (stage_of answer.outcome.cause) →
+      Says runner.asked answer answer.outcome.cause → IsPlain answer.outcome.cause →
+      MayGive now runner answer
+  may-give answer is says plain =
+      let shown = shown-now runner answer now.told plain in
+      record {
+        may_answer = by-runner.may_answer;
+        gives = record {
+          says = says;
+          due = is-due answer is before.told now.told stands left shown;
+        };
+      }
+
+  -- so it stands in a state that answers with a plain cause
+  pub answers-turn : (cause : Cause) (state : State) →
+      AnswersWith runner.asked.request.tool cause state → IsPlain cause →
+      commit ≡ commit_at (stage_of cause) → StandsAs now runner state
+  answers-turn cause (Answering answer) told plain is =
+      may-give answer (is ∙ ap commit_at (sym (told-stage runner.asked.request.tool cause answer told)))
+      (told-says runner.asked cause answer plain told) (told-plain runner.asked cause answer plain told)
+  answers-turn cause state told plain is = absurd told
+
+  -- or in one that leaves with a plain cause
+  pub leaves-turn : (keeper : Kept) (cause : Cause) (state : State) →
+      LeavesWith runner.asked.request.tool keeper cause state → IsPlain cause →
+      (IsDiskFault cause → ⊥) → commit ≡ commit_at (stage_of cause) →
+      keeper.token ≡ runner.token →
+      StandsIn now.admits now.told token (Keeps keeper KnowsAnything) → StandsAs now runner state
+  leaves-turn keeper cause (Unlocking kept answer) shown plain quiet is owned next =
+      let tool = runner.asked.request.tool in
+      let has = ap (λ (given : FinalAnswer). given.outcome.cause) shown.1 ∙ given-cause tool cause in
+      let at = is ∙ ap (λ (one : Cause). commit_at (stage_of one)) (sym has) in
+      record {
+        same = ap (λ (one : Kept). one.token) shown.0 ∙ owned;
+        stands = subst (λ (one : Commit). At now runner one (Keeps kept KnowsAnything)) at
+            (goes-on (Keeps kept KnowsAnything)
+            (subst (λ (one : Kept). StandsIn now.admits now.told token (Keeps one KnowsAnything))
+            (sym shown.0) next));
+        quiet = λ fault. quiet (subst IsDiskFault has fault);
+        gives = (may-give answer at (told-says runner.asked cause answer plain (inl shown.1))
+            (told-plain runner.asked cause answer plain (inl shown.1))).gives;
+      }
+  leaves-turn keeper cause (Answering answer) shown plain quiet is owned next =
+      answers-turn cause (Answering answer) (inr shown) plain is
+  leaves-turn keeper cause state shown plain quiet is owned next = absurd shown
+
+  module _ (lawful : AlwaysStaysLawful before.admits before.told now.told)
+      (never_falls : before.faults ≤ now.faults) where
+    -- a turn to a state that tells of no fault
+    pub turns : (state : State) → StandsAs now runner state → (TellsDiskFault state → ⊥) →
+        Turns before now runner state
+    turns state stood quiet_state = record {
+      stands = stood;
+      extends = extended;
+      lawful = λ deeds ours. lawful deeds;
+      narrows = made.narrows;
+      never_falls = never_falls;
+      risen = λ fault. absurd (quiet_state fault);
+    }
+
+    -- a turn to the answer of a plain cause
+    pub stops : (cause : Cause) (state : State) →
+        AnswersWith runner.asked.request.tool cause state → IsPlain cause →
+        commit ≡ commit_at (stage_of cause) → (IsDiskFault cause → HasRisen before.faults now.faults)
+        → Turns before now runner state
+    stops cause state told plain is failed = record {
+      stands = answers-turn cause state told plain is;
+      extends = extended;
+      lawful = λ deeds ours. lawful deeds;
+      narrows = made.narrows;
+      never_falls = never_falls;
+      risen = λ fault.
+          failed (answers-fault runner.asked.request.tool cause state told fault);
+    }

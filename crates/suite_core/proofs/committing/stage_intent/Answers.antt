@@ -1,0 +1,57 @@
+use Rattle.std.proofs.Common.{refl, sym, ap, ◌∙◌, Err}
+use Rattle.acct_outside.specs.declared.CommitStage.TheVariants.{Before}
+use Rattle.acct_outside.specs.declared.Name.TheVariants.{IntentStage}
+use Rattle.acct_outside.specs.Calls.{writes}
+use Rattle.intent_file.specs.Intent.{intent_text}
+use Rattle.suite_rules.specs.Standing.{commit_uncalled}
+use Rattle.commit_steps.specs.States.{intended}
+use Rattle.commit_steps.specs.Walks.{token_of}
+use Rattle.commit_steps.specs.Stands.{BacksUp}
+use Rattle.suite_core.specs.declared.state.State.TheVariants.{Committing}
+use Rattle.suite_core.specs.Moment.{moment, commit_at}
+use Rattle.suite_core.specs.Locking.{cause_of_fault}
+use Rattle.suite_core.proofs.TurnLemmas.{turns, stops}
+use Rattle.suite_core.proofs.UnlockingTurns.{fault-stage, fault-plain}
+use Rattle.suite_core.proofs.LeadsLemmas.{leads-stage, leads-failed}
+use Rattle.suite_core.proofs.CommittingTurns.{stages-intent}
+use Rattle.suite_core.proofs.committing.stage_intent.Goals as goal
+
+pub returns-in-Ok-clause-turns : goal.returns-in-Ok-clause-turns
+returns-in-Ok-clause-turns g c =
+    let before = moment (g.F.Folder.admits c.args.folder.now) (g.F.Folder.told c.args.folder.now)
+    (g.F.Folder.fault_count c.args.folder.now) in
+    let now = moment (g.F.Folder.admits c.stage_intent.new.folder)
+    (g.F.Folder.told c.stage_intent.new.folder)
+    (g.F.Folder.fault_count c.stage_intent.new.folder) in
+    turns before now c.args.runner.now commit_uncalled (BacksUp c.args.backing)
+    c.requires.stands.stands (token_of c.args.backing) c.requires.stands.same
+    (writes IntentStage (intent_text (intended c.args.backing.change))) tt _ (λ result stood. refl)
+    c.in-Ok.ensures.call
+    c.stage_intent.ensures.lawful c.stage_intent.ensures.faults.never_falls
+    (Committing c.in-Ok.staged c.args.answer)
+    (stages-intent before now c.args.runner.now c.args.answer c.args.backing c.requires.stands
+    (writes IntentStage (intent_text (intended c.args.backing.change))) tt (λ result stood. refl)
+    c.in-Ok.staged c.in-Ok.ensures.call c.in-Ok.ensures.next)
+    (λ fault. fault)
+
+pub returns-in-Err-clause-turns : goal.returns-in-Err-clause-turns
+returns-in-Err-clause-turns g c =
+    let before = moment (g.F.Folder.admits c.args.folder.now) (g.F.Folder.told c.args.folder.now)
+    (g.F.Folder.fault_count c.args.folder.now) in
+    let now = moment (g.F.Folder.admits c.stage_intent.new.folder)
+    (g.F.Folder.told c.stage_intent.new.folder)
+    (g.F.Folder.fault_count c.stage_intent.new.folder) in
+    let fault = c.in-Err.fault in
+    let stage = leads-stage (c.args.backing.change) Before c.in-Err.ensures.call.answer fault
+    c.in-Err.ensures.call.shown in
+    stops before now c.args.runner.now commit_uncalled (BacksUp c.args.backing)
+    c.requires.stands.stands (token_of c.args.backing) c.requires.stands.same
+    (writes IntentStage (intent_text (intended c.args.backing.change))) tt _
+    (λ result stood. refl) c.in-Err.ensures.call
+    c.stage_intent.ensures.lawful c.stage_intent.ensures.faults.never_falls
+    (cause_of_fault fault.stage fault.fault) c.stopped.result c.stopped.ensures
+    (fault-plain fault.stage fault.fault)
+    (ap commit_at (sym (fault-stage fault.stage fault.fault ∙ stage)))
+    (λ told. c.stage_intent.ensures.faults.failed (c.in-Err.is
+    ∙ ap Err (leads-failed (c.args.backing.change) Before c.in-Err.ensures.call.answer fault
+    c.in-Err.ensures.call.shown told)))

@@ -1,0 +1,23 @@
+use Rattle.std.proofs.Common.{◌≡◌, sym, ◌∙◌}
+use Rattle.suite_core.specs.Moment.{moment}
+use Rattle.suite_core.proofs.CourseLemmas.{comes-first, comes-turn, none-of}
+use Rattle.suite_core.proofs.course.to_answer.Goals as goal
+
+pub loop-session-init : goal.loop-session-init
+loop-session-init g c = λ asked is. comes-first asked _ c.args.session is
+
+pub loop-session-preserved : goal.loop-session-preserved
+loop-session-preserved g c = λ asked is.
+    let entry = moment (g.F.Folder.admits c.args.folder.now) (g.F.Folder.told c.args.folder.now)
+    (g.F.Folder.fault_count c.args.folder.now) in
+    let between = moment (g.F.Folder.admits c.loop-session.folder)
+    (g.F.Folder.told c.loop-session.folder) (g.F.Folder.fault_count c.loop-session.folder) in
+    let now = moment (g.F.Folder.admits c.turn.new.folder) (g.F.Folder.told c.turn.new.folder)
+    (g.F.Folder.fault_count c.turn.new.folder) in
+    comes-turn asked entry between now c.loop-session.session c.turn.new.self
+    (c.loop-session.invariant asked is)
+    (none-of _ (sym c.is_going.ensures ∙ c.loop-session-test.true)) c.turn.ensures.turns
+
+pub loop-session-smaller : goal.loop-session-smaller
+loop-session-smaller g c = c.turn.ensures.nearer
+    (none-of _ (sym c.is_going.ensures ∙ c.loop-session-test.true))

@@ -1,0 +1,41 @@
+use Rattle.std.proofs.Common.{refl, sym, ap, ◌∙◌, Err}
+use Rattle.suite_core.specs.declared.state.State.TheVariants.{Claiming}
+use Rattle.acct_outside.specs.Calls.{asks}
+use Rattle.suite_rules.specs.Standing.{commit_uncalled}
+use Rattle.lock_steps.specs.Stands.{HasReadHeld, HasJudged}
+use Rattle.suite_core.specs.Moment.{moment, commit_at}
+use Rattle.suite_core.proofs.TurnLemmas.{may-step, goes-on, turns, stops}
+use Rattle.suite_core.proofs.LockingLemmas.{end-plain, end-stage, end-failed, asks-token}
+use Rattle.suite_core.proofs.locking.ask.Goals as goal
+
+pub returns-in-Ok-clause-turns : goal.returns-in-Ok-clause-turns
+returns-in-Ok-clause-turns g c =
+    let before = moment (g.F.Folder.admits c.args.folder.now) (g.F.Folder.told c.args.folder.now)
+    (g.F.Folder.fault_count c.args.folder.now) in
+    let now = moment (g.F.Folder.admits c.ask.new.folder) (g.F.Folder.told c.ask.new.folder)
+    (g.F.Folder.fault_count c.ask.new.folder) in
+    turns before now c.args.runner.now commit_uncalled (HasReadHeld c.args.asking) c.requires.1
+    c.args.asking.token c.requires.0 (asks c.args.asking.asked) tt _ (λ result stood. refl)
+    c.ask.ensures.call
+    c.ask.ensures.lawful c.ask.ensures.faults.never_falls (Claiming c.in-Ok.judged) (
+      asks-token _ _ _ c.in-Ok.ensures.call.shown ∙ c.requires.0,
+      goes-on before now c.args.runner.now commit_uncalled (HasReadHeld c.args.asking) c.requires.1
+          c.args.asking.token c.requires.0 (asks c.args.asking.asked) tt _ (λ result stood. refl)
+          c.ask.ensures.call
+          (HasJudged c.in-Ok.judged) c.in-Ok.ensures.next,
+    )
+    (λ fault. fault)
+
+pub returns-in-Err-clause-turns : goal.returns-in-Err-clause-turns
+returns-in-Err-clause-turns g c =
+    let before = moment (g.F.Folder.admits c.args.folder.now) (g.F.Folder.told c.args.folder.now)
+    (g.F.Folder.fault_count c.args.folder.now) in
+    let now = moment (g.F.Folder.admits c.ask.new.folder) (g.F.Folder.told c.ask.new.folder)
+    (g.F.Folder.fault_count c.ask.new.folder) in
+    stops before now c.args.runner.now commit_uncalled (HasReadHeld c.args.asking) c.requires.1
+    c.args.asking.token c.requires.0 (asks c.args.asking.asked) tt _ (λ result stood. refl)
+    c.ask.ensures.call
+    c.ask.ensures.lawful c.ask.ensures.faults.never_falls _ c.stopped.result
+    c.stopped.ensures (end-plain c.in-Err.end) (ap commit_at (sym (end-stage c.in-Err.end)))
+    (λ fault. c.ask.ensures.faults.failed
+    (c.in-Err.is ∙ ap Err (end-failed c.in-Err.end fault)))

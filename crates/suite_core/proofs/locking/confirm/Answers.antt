@@ -1,0 +1,38 @@
+use Rattle.std.proofs.Common.{refl, sym, ap, ◌∙◌, Err}
+use Rattle.acct_outside.specs.Calls.{lists}
+use Rattle.suite_rules.specs.Standing.{commit_uncalled}
+use Rattle.lock_steps.specs.Stands.{HasMade}
+use Rattle.suite_core.specs.Moment.{moment, commit_at}
+use Rattle.suite_core.proofs.TurnLemmas.{may-step, turns, stops}
+use Rattle.suite_core.proofs.LockingLemmas.{end-plain, end-stage, end-failed}
+use Rattle.suite_core.proofs.LockingTurns.{confirm-stands, confirm-quiet}
+use Rattle.suite_core.proofs.locking.confirm.Goals as goal
+
+pub returns-in-Ok-clause-turns : goal.returns-in-Ok-clause-turns
+returns-in-Ok-clause-turns g c =
+    let before = moment (g.F.Folder.admits c.args.folder.now) (g.F.Folder.told c.args.folder.now)
+    (g.F.Folder.fault_count c.args.folder.now) in
+    let now = moment (g.F.Folder.admits c.confirm.new.folder) (g.F.Folder.told c.confirm.new.folder)
+    (g.F.Folder.fault_count c.confirm.new.folder) in
+    rw c.after_listing.ensures
+    (turns before now c.args.runner.now commit_uncalled (HasMade c.args.claimed) c.requires.1
+    c.args.claimed.token c.requires.0 (lists) tt _ (λ result stood. refl)
+    c.confirm.ensures.call
+    c.confirm.ensures.lawful c.confirm.ensures.faults.never_falls _
+    (confirm-stands before now c.args.runner.now c.args.claimed c.requires.1 c.requires.0
+    c.in-Ok.confirmed c.in-Ok.ensures.call c.in-Ok.ensures.next)
+    (confirm-quiet c.in-Ok.confirmed))
+
+pub returns-in-Err-clause-turns : goal.returns-in-Err-clause-turns
+returns-in-Err-clause-turns g c =
+    let before = moment (g.F.Folder.admits c.args.folder.now) (g.F.Folder.told c.args.folder.now)
+    (g.F.Folder.fault_count c.args.folder.now) in
+    let now = moment (g.F.Folder.admits c.confirm.new.folder) (g.F.Folder.told c.confirm.new.folder)
+    (g.F.Folder.fault_count c.confirm.new.folder) in
+    stops before now c.args.runner.now commit_uncalled (HasMade c.args.claimed) c.requires.1
+    c.args.claimed.token c.requires.0 (lists) tt _ (λ result stood. refl)
+    c.confirm.ensures.call
+    c.confirm.ensures.lawful c.confirm.ensures.faults.never_falls _ c.stopped.result
+    c.stopped.ensures (end-plain c.in-Err.end) (ap commit_at (sym (end-stage c.in-Err.end)))
+    (λ fault. c.confirm.ensures.faults.failed
+    (c.in-Err.is ∙ ap Err (end-failed c.in-Err.end fault)))

@@ -1,0 +1,38 @@
+use Rattle.std.proofs.Common.{refl, sym, ap, ◌∙◌, Err}
+use Rattle.acct_outside.specs.declared.Name.TheVariants.{Lock}
+use Rattle.acct_outside.specs.Calls.{reads}
+use Rattle.suite_rules.specs.Standing.{commit_uncalled}
+use Rattle.lock_steps.specs.Stands.{HasLooked}
+use Rattle.suite_core.specs.Moment.{moment, commit_at}
+use Rattle.suite_core.proofs.TurnLemmas.{may-step, turns, stops}
+use Rattle.suite_core.proofs.LockingLemmas.{end-plain, end-stage, end-failed}
+use Rattle.suite_core.proofs.LockingTurns.{read-stands, read-quiet}
+use Rattle.suite_core.proofs.locking.read.Goals as goal
+
+pub returns-in-Ok-clause-turns : goal.returns-in-Ok-clause-turns
+returns-in-Ok-clause-turns g c =
+    let before = moment (g.F.Folder.admits c.args.folder.now) (g.F.Folder.told c.args.folder.now)
+    (g.F.Folder.fault_count c.args.folder.now) in
+    let now = moment (g.F.Folder.admits c.read.new.folder) (g.F.Folder.told c.read.new.folder)
+    (g.F.Folder.fault_count c.read.new.folder) in
+    rw c.after_read.ensures
+    (turns before now c.args.runner.now commit_uncalled (HasLooked c.args.seen) c.requires.2
+    c.args.seen.token c.requires.0 (reads (Lock c.args.seen.greatest)) tt _ (λ result stood. refl)
+    c.read.ensures.call
+    c.read.ensures.lawful c.read.ensures.faults.never_falls _
+    (read-stands before now c.args.runner.now c.args.seen c.requires.2 c.requires.0 c.in-Ok.told
+    c.in-Ok.ensures.call c.in-Ok.ensures.next) (read-quiet c.in-Ok.told))
+
+pub returns-in-Err-clause-turns : goal.returns-in-Err-clause-turns
+returns-in-Err-clause-turns g c =
+    let before = moment (g.F.Folder.admits c.args.folder.now) (g.F.Folder.told c.args.folder.now)
+    (g.F.Folder.fault_count c.args.folder.now) in
+    let now = moment (g.F.Folder.admits c.read.new.folder) (g.F.Folder.told c.read.new.folder)
+    (g.F.Folder.fault_count c.read.new.folder) in
+    stops before now c.args.runner.now commit_uncalled (HasLooked c.args.seen) c.requires.2
+    c.args.seen.token c.requires.0 (reads (Lock c.args.seen.greatest)) tt _ (λ result stood. refl)
+    c.read.ensures.call
+    c.read.ensures.lawful c.read.ensures.faults.never_falls _ c.stopped.result
+    c.stopped.ensures (end-plain c.in-Err.end) (ap commit_at (sym (end-stage c.in-Err.end)))
+    (λ fault. c.read.ensures.faults.failed
+    (c.in-Err.is ∙ ap Err (end-failed c.in-Err.end fault)))

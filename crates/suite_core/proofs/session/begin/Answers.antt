@@ -1,0 +1,41 @@
+use Rattle.std.proofs.Common.{refl, ap, subst, ◌∙◌, Ok, Err}
+use Rattle.acct_outside.specs.Calls.{Command}
+use Rattle.acct_outside.specs.Contract.{WhereTold, TellsBegin}
+use Rattle.suite_answers.specs.declared.cause.Cause.{Cause}
+use Rattle.suite_core.specs.Answers.{IsTold}
+use Rattle.suite_core.specs.Moment.{moment}
+use Rattle.suite_core.proofs.SessionTurns.{asked-command, begins-turn, unbegun}
+use Rattle.suite_core.proofs.session.begin.Goals as goal
+
+pub returns-in-Ok-clause-turns : goal.returns-in-Ok-clause-turns
+returns-in-Ok-clause-turns g c =
+    let before = moment (g.F.Folder.admits c.args.folder.now) (g.F.Folder.told c.args.folder.now)
+    (g.F.Folder.fault_count c.args.folder.now) in
+    let now = moment (g.F.Folder.admits c.begin.new.self) (g.F.Folder.told c.begin.new.self)
+    (g.F.Folder.fault_count c.begin.new.self) in
+    let same = asked-command c.asked.inside.input c.asked.inside.day c.args.asked
+    c.deref.ensures.value c.asked.view_is in (
+      refl,
+      begins-turn before now (record { token = c.in-Ok.token; asked = c.args.asked })
+          (subst (λ (command : Command). WhereTold before.told now.told
+          (TellsBegin before.admits command (Ok c.in-Ok.token))) same c.in-Ok.ensures.told)
+          c.in-Ok.ensures.own c.begin.ensures.narrows
+          c.begin.ensures.faults.never_falls c.first_state-state.result c.first_state-state.ensures,
+    )
+
+pub returns-in-Err-clause-turns : goal.returns-in-Err-clause-turns
+returns-in-Err-clause-turns g c =
+    let before = moment (g.F.Folder.admits c.args.folder.now) (g.F.Folder.told c.args.folder.now)
+    (g.F.Folder.fault_count c.args.folder.now) in
+    let now = moment (g.F.Folder.admits c.begin.new.self) (g.F.Folder.told c.begin.new.self)
+    (g.F.Folder.fault_count c.begin.new.self) in
+    let same = asked-command c.asked.inside.input c.asked.inside.day c.args.asked
+    c.deref.ensures.value c.asked.view_is in
+    unbegun before now c.args.asked c.in-Err.fault
+    (subst (λ (command : Command). WhereTold before.told now.told
+    (TellsBegin before.admits command (Err c.in-Err.fault))) same c.in-Err.ensures.told)
+    c.tell.result
+    (subst (λ (cause : Cause). IsTold c.args.asked.request.tool cause c.tell.result)
+    c.cause_of_fault-cause.ensures c.tell.ensures)
+    c.begin.ensures.narrows c.begin.ensures.faults.never_falls
+    (λ is. c.begin.ensures.faults.failed (c.in-Err.is ∙ ap Err is))

@@ -1,0 +1,72 @@
+-- What a command answers on given files by what its tool decides (account_model/specs/Answer).
+use Rattle.std.specs.Prelude.{◌≡◌, ℕ, Bool, false, List, [], find, Option, Some, None, unwrap_or}
+use Rattle.acct_text.specs.declared.Tab.{Tab}
+use Rattle.acct_text.specs.declared.files.Files.{Files}
+use Rattle.acct_text.specs.Bytes.{Bytes}
+use Rattle.acct_text.specs.Files.{table_of}
+use Rattle.acct_text.specs.Tables.{all_tables}
+use Rattle.acct_outside.specs.declared.Name.TheVariants.{Table}
+use Rattle.account_model.specs.Action.{outcome_of}
+use Rattle.account_model.specs.Answer.{passes_limit}
+use Rattle.account_model.specs.Change.{action_of}
+use Rattle.account_model.specs.Settings.{Setting}
+use Rattle.login_defs.specs.declared.defs.Defs.{Defs}
+use Rattle.login_defs.specs.declared.defs.DefsFault.{DefsFault}
+use Rattle.login_defs.specs.declared.defs.DefsFault.TheVariants.{BadNumber}
+use Rattle.login_defs.specs.Held.{HasSettings}
+use Rattle.acct_tables.specs.declared.decision.Output.{Output}
+use Rattle.acct_tables.specs.declared.decision.Decision.{Decision}
+use Rattle.acct_tables.specs.declared.decision.Decision.TheVariants.{Change, Same, Refuse}
+use Rattle.acct_tables.specs.Decisions.{Decides}
+use Rattle.suite_answers.specs.declared.cause.Which.TheVariants.{File}
+use Rattle.suite_answers.specs.declared.cause.Cause.{Cause}
+use Rattle.suite_answers.specs.declared.cause.Cause.TheVariants.{Changed, Same as IsSame, Refused, TooLarge}
+use Rattle.suite_answers.specs.declared.answer.Answer.{Answer}
+use Rattle.suite_core.specs.declared.deciding.Decided.{Decided}
+use Rattle.suite_core.specs.declared.deciding.Decided.TheVariants.{Change as Changes, Stay}
+use Rattle.suite_core.specs.Runner.{Question}
+use Rattle.suite_core.specs.Answers.{given_for}
+
+-- the bytes of login.defs; an absent one counts as empty
+abbrev pub settings_text : Option Bytes → Bytes
+settings_text defs = unwrap_or defs []
+
+-- the bad line of a settings file, counted from 1
+abbrev pub bad_line : DefsFault → ℕ
+bad_line (BadNumber line) = line
+
+-- the tool decides so on the files, whichever settings these are
+abbrev pub ToolDecides : Question → Defs → Files → Decision → Type 0
+ToolDecides asked defs files decision = (settings : List Setting) → HasSettings defs settings →
+    Decides asked.request.tool files
+    (outcome_of (action_of asked.request asked.command.input asked.command.day files settings) files)
+    decision
+
+-- the table passes the limit
+abbrev pub is_large : Option Bytes → Bool
+is_large None = false
+is_large (Some bytes) = passes_limit bytes
+
+-- the first table that passes it
+abbrev pub large_table : Files → Option Tab
+large_table files = find (λ table. is_large (table_of files table)) all_tables
+
+-- the answer with this cause and what the tool prints
+abbrev pub with_output : Cause → Output → Answer
+with_output cause output = record {
+  outcome = record { status = output.status; cause = cause };
+  out = output.out;
+  err = output.err;
+}
+
+-- the answer to a decision: a change of which a table passes the limit leaves all as they are
+abbrev pub AnswersDecision : Question → Decision → Decided → Type 0
+AnswersDecision asked (Refuse refusal output) (Stay given) =
+    given ≡ with_output (Refused refusal) output
+AnswersDecision asked (Same output) (Stay given) = given ≡ with_output IsSame output
+AnswersDecision asked (Change new output) (Changes files given) = (files ≡ new)
+    × (large_table new ≡ None) × (given ≡ with_output Changed output)
+AnswersDecision asked (Change new output) (Stay given) = (table : Tab)
+    × (large_table new ≡ Some table)
+    × (given ≡ given_for asked.request.tool (TooLarge (File (Table table))))
+AnswersDecision asked decision decided = ⊥

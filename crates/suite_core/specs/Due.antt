@@ -1,0 +1,85 @@
+-- What the own events of a session show of the answer that it gives.
+use Rattle.std.specs.Prelude.{◌≡◌, ⊤, ◌++◌, ℕ, Option, Some}
+use Rattle.acct_text.specs.Bytes.{Bytes}
+use Rattle.acct_text.specs.declared.files.Files.{Files}
+use Rattle.acct_text.specs.declared.Tab.{Tab}
+use Rattle.acct_text.specs.Files.{table_of}
+use Rattle.acct_outside.specs.declared.Name.TheVariants.{Table, Defs}
+use Rattle.acct_outside.specs.History.{History}
+use Rattle.acct_outside.specs.Contract.{Past}
+use Rattle.suite_rules.specs.OwnLock.{kept_number}
+use Rattle.suite_rules.specs.Knowledge.{Seen, knows_none}
+use Rattle.suite_rules.specs.Standing.{Standing, standing}
+use Rattle.suite_rules.specs.Laws.{IsCleanKeeper}
+use Rattle.suite_answers.specs.declared.cause.Cause.{Cause}
+use Rattle.suite_answers.specs.declared.cause.Cause.TheVariants.{Changed, Same, Refused, NoTable, BadSetting}
+use Rattle.suite_answers.specs.declared.answer.Answer.{Answer}
+use Rattle.suite_answers.specs.Reasons.{stage_of}
+use Rattle.suite_core.specs.Runner.{Runner}
+use Rattle.suite_core.specs.Moment.{commit_at}
+use Rattle.suite_core.specs.Answers.{IsAnswerOn}
+
+-- the session has seen the six tables and login.defs
+pub record HasSeenAll (seen : Seen) (files : Files) (defs : Option Bytes) : Type 0 where
+  pub each_table : (table : Tab) → seen.file (Table table) ≡ Some (table_of files table)
+  pub settings : seen.file Defs ≡ Some defs
+
+-- the files agree with what the session has seen of them
+pub record AgreeWith (seen : Seen) (files : Files) (defs : Option Bytes) : Type 0 where
+  pub each_table : (table : Tab) (content : Option Bytes) →
+      seen.file (Table table) ≡ Some content → content ≡ table_of files table
+  pub settings : (content : Option Bytes) → seen.file Defs ≡ Some content → content ≡ defs
+
+-- The session is or was keeper, knows of no intent, and has seen all: its answer is that on these.
+pub record AnswersAll (runner : Runner) (answer : Answer) (standing : Standing) : Type 0 where
+  pub number : ℕ
+  pub kept : kept_number standing.own ≡ Some number
+  pub seen : Seen
+  pub clean : standing.knows ≡ knows_none seen
+  pub files : Files
+  pub defs : Option Bytes
+  pub all : HasSeenAll seen files defs
+  pub is_answer : IsAnswerOn runner.asked files defs answer
+
+-- The same where it has seen some: its answer is that on all files that agree with these.
+pub record AnswersSome (runner : Runner) (answer : Answer) (standing : Standing) : Type 0 where
+  pub number : ℕ
+  pub kept : kept_number standing.own ≡ Some number
+  pub seen : Seen
+  pub clean : standing.knows ≡ knows_none seen
+  pub is_answer : (files : Files) (defs : Option Bytes) → AgreeWith seen files defs →
+      IsAnswerOn runner.asked files defs answer
+
+-- At an earlier moment of the history the session was a clean keeper that had seen all, and its
+-- answer is that on these.
+pub record AnsweredAll (runner : Runner) (answer : Answer) (history : History) : Type 0 where
+  pub newer : History
+  pub older : History
+  pub parts : history ≡ newer ++ older
+  pub number : ℕ
+  pub seen : Seen
+  pub clean : IsCleanKeeper older runner.token number seen
+  pub files : Files
+  pub defs : Option Bytes
+  pub all : HasSeenAll seen files defs
+  pub is_answer : IsAnswerOn runner.asked files defs answer
+
+-- what shows the cause of an answer that is a tool's
+abbrev pub IsShown : Runner → Answer → History → Cause → Type 0
+IsShown runner answer history Changed = AnsweredAll runner answer history
+IsShown runner answer history Same = AnswersAll runner answer (standing runner.token history)
+IsShown runner answer history (Refused refusal) =
+    AnswersAll runner answer (standing runner.token history)
+IsShown runner answer history (BadSetting line) =
+    AnswersAll runner answer (standing runner.token history)
+IsShown runner answer history (NoTable table) =
+    AnswersSome runner answer (standing runner.token history)
+IsShown runner answer history cause = ⊤
+
+-- the session was asked this, its own commit came as far as the answer's cause says, and its events
+-- show the cause
+pub record IsDue (runner : Runner) (answer : Answer) (past : Past) : Type 0 where
+  pub asked : (standing runner.token past.history).command ≡ Some runner.asked.command
+  pub commits : (standing runner.token past.history).commit
+      ≡ commit_at (stage_of answer.outcome.cause)
+  pub shown : IsShown runner answer past.history answer.outcome.cause

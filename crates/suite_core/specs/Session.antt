@@ -1,0 +1,116 @@
+-- A session: how it stands at a moment, and what one turn of it does.
+use Rattle.std.specs.Prelude.{◌≡◌, ◌⊎◌, ⊤, ◌∷◌, ℕ, Option, Some, None, IfSome}
+use Rattle.acct_outside.specs.Calls.{Command, answers, done}
+use Rattle.acct_outside.specs.History.{History}
+use Rattle.acct_outside.specs.Contract.{Past, Narrows}
+use Rattle.account_model.specs.Words.{Asks}
+use Rattle.acct_outside.specs.declared.CommitStage.TheVariants.{Before}
+use Rattle.suite_answers.specs.declared.cause.Cause.TheVariants.{DiskFault, Memory}
+use Rattle.acct_outside.specs.declared.streams.SinkFault.{SinkFault}
+use Rattle.suite_answers.specs.declared.cause.Outcome.{Outcome}
+use Rattle.suite_core.specs.Streams.{after_fault}
+use Rattle.suite_answers.specs.declared.answer.Answer.{Answer}
+use Rattle.suite_core.specs.declared.state.State.{State}
+use Rattle.suite_core.specs.declared.state.State.TheVariants.{Looking, Answering}
+use Rattle.suite_core.specs.declared.session.Phase.{Phase}
+use Rattle.suite_core.specs.declared.session.Phase.TheVariants.{Waiting, Begun, Over}
+use Rattle.suite_core.specs.Runner.{Question, Runner}
+use Rattle.suite_core.specs.Moment.{Moment}
+use Rattle.suite_core.specs.Answers.{Says, memory_answer}
+use Rattle.suite_core.specs.Due.{IsDue}
+use Rattle.suite_core.specs.Left.{ranked, turns_left}
+use Rattle.suite_core.specs.Stands.{IsDiskFault, StandsAs, TurnsTo, Turns}
+
+-- the session hasn't begun, and was asked this by words that ask for something
+abbrev pub IsStarted : Command → Phase → Type 0
+IsStarted command (Waiting asked) = (asked.command ≡ command) × Asks command.words asked.request
+IsStarted command phase = ⊥
+
+-- the session hasn't begun
+abbrev pub IsWaiting : Phase → Type 0
+IsWaiting (Waiting asked) = ⊤
+IsWaiting phase = ⊥
+
+-- the answer that a state gives
+abbrev pub given_in : State → Option Answer
+given_in (Answering answer) = Some answer
+given_in state = None
+
+-- the session's answer, once no call but that of the answer is left
+abbrev pub answer_of : Phase → Option Answer
+answer_of (Waiting asked) = None
+answer_of (Begun runner state) = given_in state
+answer_of (Over answer) = Some answer
+
+-- the outcome of a session that has answered
+abbrev pub outcome_of : Phase → Option Outcome
+outcome_of (Over answer) = Some answer.outcome
+outcome_of phase = None
+
+-- the state after a fault of a stream, which changes an answer alone
+abbrev pub state_failed : SinkFault → State → State
+state_failed fault (Answering answer) = Answering (after_fault fault answer)
+state_failed fault state = state
+
+-- the session after a fault of a stream
+abbrev pub output_failed : SinkFault → Phase → Phase
+output_failed fault (Waiting asked) = Waiting asked
+output_failed fault (Begun runner state) = Begun runner (state_failed fault state)
+output_failed fault (Over answer) = Over (after_fault fault answer)
+
+-- the turns that a session has left at most, before its answer
+abbrev pub phase_left : Phase → ℕ
+phase_left (Waiting asked) = ranked 14 0
+phase_left (Begun runner state) = turns_left state
+phase_left (Over answer) = 0
+
+-- the first state: it lists the locks, or there was no memory for that
+abbrev pub IsFirst : Runner → State → Type 0
+IsFirst runner (Looking looking) = looking ≡ runner.token
+IsFirst runner (Answering answer) = answer ≡ memory_answer Before
+IsFirst runner state = ⊥
+
+-- the session stands so at the moment
+abbrev pub SessionStands : Moment → Phase → Type 0
+SessionStands now (Begun runner state) = StandsAs now runner state
+SessionStands now phase = ⊤
+
+-- the last event of the history is the session's answer, which is due
+pub record HasAnswered (runner : Runner) (answer : Answer) (past : Past) : Type 0 where
+  pub older : History
+  pub last : past.history ≡ record {
+    token = runner.token;
+    call = answers answer.outcome.status;
+    result = done tt;
+  } ∷ older
+  pub due : IsDue runner answer past
+
+-- the session has given this answer
+pub record Gave (now : Moment) (runner : Runner) (answer : Answer) : Type 0 where
+  pub says : Says runner.asked answer answer.outcome.cause
+  pub answered : IfSome now.told (HasAnswered runner answer)
+
+-- a begin that gave no token: the folder failed, or there was no memory
+pub record IsUnbegun (asked : Question) (answer : Answer) : Type 0 where
+  pub says : Says asked answer answer.outcome.cause
+  pub plain : (answer.outcome.cause ≡ DiskFault Before) ⊎ (answer.outcome.cause ≡ Memory Before)
+
+-- the folder tells what it told
+pub record Stays (before now : Moment) : Type 0 where
+  pub told : now.told ≡ before.told
+  pub narrows : Narrows before.admits now.admits
+  pub faults : now.faults ≡ before.faults
+
+-- One turn of a session: its begin, a step, or its answer. A begin that gave no token is told as a
+-- fault, and leaves nothing to call.
+abbrev pub SessionTurns : Moment → Moment → Phase → Phase → Type 0
+SessionTurns before now (Waiting asked) (Begun runner state) =
+    (runner.asked ≡ asked) × Turns before now runner state
+SessionTurns before now (Waiting asked) (Over answer) =
+    TurnsTo before now (IsUnbegun asked answer) (IsDiskFault answer.outcome.cause)
+SessionTurns before now (Begun runner state) (Begun same next) =
+    (same ≡ runner) × Turns before now runner next
+SessionTurns before now (Begun runner state) (Over answer) =
+    (state ≡ Answering answer) × TurnsTo before now (Gave now runner answer) ⊥
+SessionTurns before now (Over answer) (Over same) = (same ≡ answer) × Stays before now
+SessionTurns before now old new = ⊥

@@ -1,0 +1,152 @@
+-- What the top call answers: how a command ends that asks for nothing or isn't built, and what the
+-- history of a folder shows of one that ran.
+use Rattle.std.specs.Prelude.{◌≡◌, ◌⊎◌, ⊤, ◌∷◌, ◌++◌, [], ℕ, Bool, true, false, Some, None, Option, List, slice_get, Result}
+use Rattle.acct_text.specs.declared.Tab.{Tab}
+use Rattle.acct_outside.specs.declared.CommitStage.TheVariants.{Before}
+use Rattle.acct_outside.specs.declared.streams.SinkFault.{SinkFault}
+use Rattle.acct_outside.specs.Tokens.{Token}
+use Rattle.acct_outside.specs.Faults.{HasRisen}
+use Rattle.acct_outside.specs.Folder.{Folder, settings_file}
+use Rattle.acct_outside.specs.Calls.{answers, done}
+use Rattle.acct_outside.specs.History.{History, after}
+use Rattle.acct_outside.specs.Contract.{WhereTold}
+use Rattle.account_model.specs.declared.tool.Tool.{Tool}
+use Rattle.account_model.specs.declared.tool.Tool.TheVariants.{Groupadd, Groupmod, Groupdel, Gpasswd}
+use Rattle.account_model.specs.Options.{Word}
+use Rattle.account_model.specs.Words.{tool_named}
+use Rattle.suite_rules.specs.Deeds.{SuiteDeeds}
+use Rattle.suite_rules.specs.Standing.{standing}
+use Rattle.suite_rules.specs.OwnLock.{kept_number}
+use Rattle.suite_rules.specs.Lawful.{Lawful}
+use Rattle.suite_rules.specs.Settled.{settled}
+use Rattle.suite_rules.specs.Committed.{committed, commitments_of, place, folded}
+use Rattle.suite_rules.specs.Steps.{LawfulOthers}
+use Rattle.suite_answers.specs.declared.cause.Outcome.{Outcome}
+use Rattle.suite_answers.specs.declared.cause.Cause.{Cause}
+use Rattle.suite_answers.specs.declared.cause.Cause.TheVariants.{Changed, Same, Refused, NoTable, BadSetting, DiskFault, Memory}
+use Rattle.suite_answers.specs.declared.answer.Answer.{Answer}
+use Rattle.suite_answers.specs.Reasons.{stage_of}
+use Rattle.suite_core.specs.Runner.{Question}
+use Rattle.suite_core.specs.Moment.{Moment, commit_at}
+use Rattle.suite_core.specs.Answers.{IsAnswerOn, memory_answer, Says}
+use Rattle.suite_core.specs.Deeds.{AreOfTools, files_of}
+use Rattle.suite_core.specs.Stands.{IsDiskFault}
+use Rattle.suite_core.specs.Streams.{Streams, Serves, after_streams}
+
+-- the tools that are built
+abbrev pub is_built : Tool → Bool
+is_built Groupadd = true
+is_built Groupmod = true
+is_built Groupdel = true
+is_built Gpasswd = true
+is_built tool = false
+
+-- ---- What the history shows
+
+-- for the deeds of the tools, and where all that the folder admits is lawful, a history that was
+-- lawful before has this now
+abbrev pub WhereLawful : Moment → Moment →
+    (SuiteDeeds → (first : Folder) → (old new : History) → Type 0) → Type 0
+WhereLawful before now P = WhereTold before.told now.told (λ first old new.
+    (deeds : SuiteDeeds) → AreOfTools deeds → LawfulOthers deeds before.admits first →
+    Lawful deeds first old → P deeds first old new)
+
+-- the history is a longer one, and lawful
+pub record ExtendsLawfully (deeds : SuiteDeeds) (first : Folder) (old new : History) : Type 0 where
+  pub newer : History
+  pub parts : new ≡ newer ++ old
+  pub lawful : Lawful deeds first new
+
+-- after each part of the history the settled files are the fold of what was committed by then
+abbrev pub IsAlwaysSettled : SuiteDeeds → Folder → History → Type 0
+IsAlwaysSettled deeds first new = (newer older : History) → new ≡ newer ++ older → (table : Tab) →
+    settled (after first older) table ≡ folded deeds first (committed older) table
+
+-- the answer is that on the fold of the place of a number, under the first login.defs
+abbrev pub IsAnswerAt : SuiteDeeds → Question → Folder → History → ℕ → Answer → Type 0
+IsAnswerAt deeds asked first history number given = IsAnswerOn asked
+    (files_of (folded deeds first (place number (committed history)))) (settings_file first) given
+
+-- the session of this token, which was asked this, answered with its last event; its own commit came
+-- as far as the outcome's cause says
+pub record Answered (asked : Question) (outcome : Outcome) (token : Token) (history : History)
+    : Type 0 where
+  pub older : History
+  pub last : history
+      ≡ record { token = token; call = answers outcome.status; result = done tt } ∷ older
+  pub began : (standing token history).command ≡ Some asked.command
+  pub commits : (standing token history).commit ≡ commit_at (stage_of outcome.cause)
+
+-- the session has committed once, and its answer is that at its place
+pub record HasChanged (deeds : SuiteDeeds) (asked : Question) (first : Folder) (history : History)
+    (token : Token) (given : Answer) : Type 0 where
+  pub number : ℕ
+  pub once : commitments_of token (committed history)
+      ≡ record { token = token; number = number; command = asked.command } ∷ []
+  pub at_place : IsAnswerAt deeds asked first history number given
+
+-- the session has committed nothing, and its answer is that at the place of its number
+pub record HasStayed (deeds : SuiteDeeds) (asked : Question) (first : Folder) (history : History)
+    (token : Token) (given : Answer) : Type 0 where
+  pub number : ℕ
+  pub kept : kept_number (standing token history).own ≡ Some number
+  pub none : commitments_of token (committed history) ≡ []
+  pub at_place : IsAnswerAt deeds asked first history number given
+
+-- what a lawful history shows of an answer with this cause
+abbrev pub IsShownAt : SuiteDeeds → Question → Folder → History → Token → Answer → Cause → Type 0
+IsShownAt deeds asked first history token given Changed =
+    HasChanged deeds asked first history token given
+IsShownAt deeds asked first history token given Same =
+    HasStayed deeds asked first history token given
+IsShownAt deeds asked first history token given (Refused refusal) =
+    HasStayed deeds asked first history token given
+IsShownAt deeds asked first history token given (NoTable table) =
+    HasStayed deeds asked first history token given
+IsShownAt deeds asked first history token given (BadSetting line) =
+    HasStayed deeds asked first history token given
+IsShownAt deeds asked first history token given cause = ⊤
+
+-- the begin gave no token: the folder failed, or there was no memory, before any commit
+abbrev pub HasNoToken : Answer → Type 0
+HasNoToken given =
+    (given.outcome.cause ≡ DiskFault Before) ⊎ (given.outcome.cause ≡ Memory Before)
+
+-- the tool that the first word names
+abbrev pub named_tool : List Word → Option Tool
+named_tool words = elim (slice_get words 0) [ None ↦ None | Some word ↦ tool_named word ]
+
+-- the streams got this answer, and the outcome is what they left of it
+pub record Ends (tool : Option Tool) (given : Answer) (was holds : Streams) (outcome : Outcome)
+    : Type 0 where
+  pub put : Result (Unit {0}) SinkFault
+  pub served : Serves tool given was holds put
+  pub left : outcome ≡ (after_streams put given).outcome
+
+-- The command asked for nothing that runs. The streams got this answer, or that there was no memory
+-- for it, and the outcome is that.
+pub record EndsEarly (tool : Option Tool) (answer : Answer) (was holds : Streams)
+    (outcome : Outcome) : Type 0 where
+  pub given : Answer
+  pub is : (given ≡ answer) ⊎ (given ≡ memory_answer Before)
+  pub ends : Ends tool given was holds outcome
+
+-- The command ran. Its session gave an answer, which the streams left so, and the outcome is that. A
+-- fault of the folder is told only where its count rose. A lawful history stays lawful, and always
+-- settles to the fold of its commitments. The session's last event is its answer, and the history
+-- shows what the cause of that says.
+pub record Ran (asked : Question) (before now : Moment) (was holds : Streams) (outcome : Outcome)
+    : Type 0 where
+  pub given : Answer
+  pub says : Says asked given given.outcome.cause
+  pub put : Result (Unit {0}) SinkFault
+  pub served : Serves (Some asked.request.tool) given was holds put
+  pub ends : outcome ≡ (after_streams put given).outcome
+  pub failed : IsDiskFault outcome.cause → HasRisen before.faults now.faults
+  pub lawful : WhereLawful before now ExtendsLawfully
+  pub settles : WhereLawful before now (λ deeds first old new. IsAlwaysSettled deeds first new)
+  pub answered : WhereTold before.told now.told (λ first old new.
+      ((token : Token) × Answered asked outcome token new) ⊎ HasNoToken given)
+  pub shown : WhereLawful before now (λ deeds first old new.
+      (token : Token) → Answered asked outcome token new →
+      IsShownAt deeds asked first new token (after_streams put given) outcome.cause)

@@ -1,0 +1,164 @@
+// What a command answers on the files that were loaded. `decide_tool` alone knows of the tools: one
+// that is added is one arm there.
+ghost use Rattle.std.specs.Prelude.{◌≡◌, ◌≤◌, Some, IfOk, IfSome, IsSome, length};
+ghost use Rattle.std.specs.Result.{result_err};
+ghost use Rattle.std.specs.Option.{option_copied};
+ghost use Rattle.acct_text.specs.declared.Tab.{Tab as Table};
+ghost use Rattle.acct_text.specs.Bytes.{Bytes as Text};
+ghost use Rattle.acct_text.specs.Files.{table_of};
+ghost use Rattle.acct_text.specs.Limits.{table_limit};
+ghost use Rattle.account_model.specs.Settings.{settings_of};
+ghost use Rattle.login_defs.specs.Faults.{file_fault};
+ghost use Rattle.login_defs.specs.Held.{HasSettings};
+ghost use Rattle.group_commands.specs.Decided.{IsHeld};
+ghost use Rattle.suite_core.specs.Answers.{given_for};
+ghost use Rattle.suite_core.specs.Deciding.{AnswersDecision, ToolDecides, bad_line, is_large, large_table, settings_text, with_output};
+ghost use Rattle.suite_core.specs.Loading.{DecidesOn};
+
+use crate::runner::Asked;
+use acct_outside::Name;
+use acct_tables::{Decision, Output};
+use acct_text::{Bytes, Files, Tab};
+use group_commands::GroupRequest;
+use login_defs::{Defs, DefsFault};
+use option_words::Tool;
+use std::alloc::{AllocError, Global};
+use suite_answers::{Answer, Cause, Outcome, Which};
+
+/// The most bytes of a table.
+const TABLE_LIMIT: usize = 16_777_216;
+
+/// What a command does on given files.
+#[derive(Drop)]
+pub(crate) enum Decided {
+    /// The tables become these, with this answer.
+    Change(Files, Answer),
+    /// All tables stay as they are, with this answer.
+    Stay(Answer),
+}
+
+/// What the command answers on these files and this login.defs. The error says that memory ran out.
+pub(crate) fn decide(
+    alloc: Global,
+    asked: &Asked,
+    files: &Files,
+    defs: Option<&Bytes>,
+) -> Result<Decided, AllocError>
+    requires passwd { IsSome files.now.passwd }
+    requires group { IsSome files.now.group }
+    requires small { (table : Table) (bytes : Text) → table_of files.now table ≡ Some bytes
+        → length bytes ≤ table_limit }
+    requires small_defs { IfSome (option_copied defs) (λ bytes. length bytes ≤ table_limit) }
+    ensures { IfOk result (DecidesOn asked.now files.now (option_copied defs.entry)) }
+{
+    match settings_in(defs) {
+        Ok(settings) => {
+            let decision = decide_tool(alloc, asked, files, &settings)?;
+            answer_to(alloc, asked, decision)
+        }
+        Err(fault) => bad_setting(alloc, asked, fault),
+    }
+}
+
+/// The answer to a settings file with this fault.
+fn bad_setting(alloc: Global, asked: &Asked, fault: DefsFault) -> Result<Decided, AllocError>
+    ensures { IfOk result (λ decided. decided ≡ Decided.Stay
+        (given_for asked.now.request.tool (Cause.BadSetting (bad_line fault)))) }
+{
+    let DefsFault::BadNumber(line) = fault;
+    Ok(Decided::Stay(asked.try_to_tell(alloc, Cause::BadSetting(line))?))
+}
+
+/// The settings of login.defs, where it may be absent; `BadNumber` names its first bad line.
+fn settings_in(defs: Option<&Bytes>) -> Result<Defs, DefsFault>
+    requires { IfSome (option_copied defs) (λ bytes. length bytes ≤ table_limit) }
+    ensures settings { IfOk result (λ held.
+        HasSettings held (settings_of (settings_text (option_copied defs.entry)))) }
+    ensures fault { result_err result ≡ file_fault (settings_text (option_copied defs.entry)) }
+{
+    match defs {
+        Some(text) => Defs::read(text.as_slice()),
+        None => Ok(Defs::absent()),
+    }
+}
+
+/// What the tool that is asked for decides on the files, by the settings.
+fn decide_tool(
+    alloc: Global,
+    asked: &Asked,
+    files: &Files,
+    settings: &Defs,
+) -> Result<Decision, AllocError>
+    requires { IsHeld settings.now }
+    ensures { IfOk result (ToolDecides asked.now settings.now files.now) }
+{
+    match asked.tool() {
+        Tool::Groupadd | Tool::Groupmod | Tool::Groupdel | Tool::Gpasswd => {
+            let request = GroupRequest::from_words(alloc, &asked.parsed, &asked.input)?;
+            group_commands::decide(alloc, &request, files, settings, asked.day)
+        }
+        _ => Err(AllocError),
+    }
+}
+
+/// The answer to what the tool decides.
+fn answer_to(alloc: Global, asked: &Asked, decision: Decision) -> Result<Decided, AllocError>
+    ensures { IfOk result (AnswersDecision asked.now decision) }
+{
+    match decision {
+        Decision::Change(new, output) => change(alloc, asked, new, output),
+        Decision::Same(output) => Ok(Decided::Stay(with_output(Cause::Same, output))),
+        Decision::Refuse(refusal, output) => {
+            Ok(Decided::Stay(with_output(Cause::Refused(refusal), output)))
+        }
+    }
+}
+
+/// The answer to a change, of which each table must keep its limit.
+fn change(alloc: Global, asked: &Asked, new: Files, output: Output) -> Result<Decided, AllocError>
+    ensures { IfOk result (AnswersDecision asked.now (Decision.Change new output)) }
+{
+    match large_table(&new) {
+        Some(table) => {
+            let cause = Cause::TooLarge(Which::File(Name::Table(table)));
+            Ok(Decided::Stay(asked.try_to_tell(alloc, cause)?))
+        }
+        None => Ok(Decided::Change(new, with_output(Cause::Changed, output))),
+    }
+}
+
+/// The first table that has more bytes than it may have.
+fn large_table(files: &Files) -> Option<Tab>
+    ensures { result ≡ large_table files.now }
+{
+    for table in &Tab::all() {
+        if is_large(files.table(*table)) {
+            return Some(*table);
+        }
+    }
+    None
+}
+
+/// Whether the table has more bytes than it may have.
+fn is_large(table: Option<&Bytes>) -> bool
+    ensures { result ≡ is_large (option_copied table.entry) }
+{
+    match table {
+        Some(bytes) => bytes.as_slice().len() > TABLE_LIMIT,
+        None => false,
+    }
+}
+
+/// The answer with this cause and what the tool prints.
+fn with_output(cause: Cause, output: Output) -> Answer
+    ensures { result ≡ with_output cause output }
+{
+    Answer {
+        outcome: Outcome {
+            status: output.status,
+            cause,
+        },
+        out: output.out,
+        err: output.err,
+    }
+}

@@ -1,0 +1,52 @@
+// The states of a session that has begun, in the order in which they follow. Each names the call of
+// the folder that it makes next; a step out of order can't be written.
+//
+// 1. Taking the lock: `Looking`, `Reading`, `Asking`, `Claiming`, `Confirming`, and `Withdrawing`
+//    where a greater lock outran the own one.
+// 2. Carrying out an intent that another session left: `ReadingIntent`, `Recovering`, `Moving`.
+// 3. Loading the files: `Loading`. After the last read the tool decides.
+// 4. Committing a change: `BackingUp`, `Committing`, `Installing`.
+// 5. Freeing the lock: `Unlocking`, `Freeing`.
+// 6. Answering.
+
+use commit_steps::{Backing, Installing, IntentStaged, Loader};
+use lock_steps::{Asking, Claimed, Freeing, Judged, Keeper, Looking, Loser, Seen, Unknown};
+use recovery::{Moving, Recovering};
+use suite_answers::Answer;
+
+/// What a session does next.
+#[derive(Drop)]
+pub(crate) enum State {
+    /// It lists the locks.
+    Looking(Looking),
+    /// It reads the greatest lock.
+    Reading(Seen),
+    /// It asks whether the session that holds the greatest lock still runs.
+    Asking(Asking),
+    /// It creates a lock of its own.
+    Claiming(Judged),
+    /// It lists the locks again.
+    Confirming(Claimed),
+    /// It removes its own lock, which was outrun.
+    Withdrawing(Loser),
+    /// It reads the intent.
+    ReadingIntent(Keeper<Unknown>),
+    /// It stages a table that the intent lists, or removes the intent once none is left.
+    Recovering(Recovering),
+    /// It moves the staged table to its place.
+    Moving(Moving),
+    /// It reads the next table, or login.defs. Once all are read, the tool decides.
+    Loading(Loader),
+    /// It stages or moves the next backup, or stages the intent once all are moved.
+    BackingUp(Backing, Answer),
+    /// It moves the intent to its name: the commit.
+    Committing(IntentStaged, Answer),
+    /// It stages or moves the next table, or removes the intent once all are moved.
+    Installing(Installing, Answer),
+    /// It removes a lower lock, or stages the free text once none is left.
+    Unlocking(Keeper<Unknown>, Answer),
+    /// It moves the free text to its lock.
+    Freeing(Freeing, Answer),
+    /// It answers: no other call is left.
+    Answering(Answer),
+}
