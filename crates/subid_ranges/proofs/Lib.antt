@@ -1,0 +1,3 @@
+pub mod PlacedRanges
+pub mod LeastStart
+pub mod FileLines

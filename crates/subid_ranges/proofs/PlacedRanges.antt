@@ -1,0 +1,216 @@
+-- Claim: what a search has left at a place is by the range there, and by what is left behind it
+-- (`ranges-left`, `meeting-here`, `meeting-behind`, `owned-left`). Way: what is left begins with the
+-- line at the place.
+use Rattle.std.proofs.Common.{◌≡◌, ℕ, zero, suc, ◌+◌, ◌-◌, ◌<◌, ◌≤◌, Bool, true, false, List, [], ◌∷◌, length, drop, get_or, refl, sym, ◌∙◌, ap, arith}
+use Rattle.std.specs.Prelude.{Option, Some, None, ◌||◌, not, is_none, is_some, map, filter, if◌then◌else◌}
+use Rattle.std.specs.List.{AllByRecursion, cons_option, list_any, position_from}
+use Rattle.std.proofs.lemmas.List.{at_drop_more}
+use Rattle.std.proofs.lemmas.Bool.{le-leb, true≢false}
+use Rattle.acct_text.specs.Lines.{Line}
+use Rattle.account_model.specs.declared.records.SubidRecord.{SubidRecord}
+use Rattle.account_model.specs.FreeRange.{Meeting, fits_at, meets}
+use Rattle.account_model.specs.Records.{last_id, subid_format}
+use Rattle.account_model.specs.SubidOwner.{is_owned}
+use Rattle.account_model.specs.UsermodRanges.{line_meets}
+use Rattle.acct_tables.specs.TableLines.{record_at}
+use Rattle.subid_ranges.specs.Owned.{first_and_count, owned_one, owned_ranges}
+use Rattle.subid_ranges.specs.RangeLines.{ids_from, meeting_line, meets_at, ranges_of}
+
+-- a line without text
+abbrev blank_line : Line
+blank_line = record { text = []; ended = false }
+
+-- the line at a place
+abbrev line_here : List Line → ℕ → Line
+line_here lines place = get_or lines place blank_line
+
+-- what is found at a place is what its line reads as
+record-here :
+    (lines : List Line) (place : ℕ)
+    → place < length lines
+    → record_at subid_format lines place ≡ subid_format.read (line_here lines place).text
+record-here [] place inside = absurd (omega arith)
+record-here (line ∷ lines) zero inside = refl
+record-here (line ∷ lines) (suc place) inside = record-here lines place (omega arith)
+
+-- the ranges of an owner with one more in front, by whether it is the owner's
+owned-test :
+    (name : List ℕ) (uid : Option ℕ) (r : SubidRecord) (rest : List SubidRecord) (test : Bool)
+    → is_owned name uid r ≡ test
+    → map first_and_count (filter (is_owned name uid) (r ∷ rest))
+    ≡ cons_option (owned_one name uid (Some r)) (map first_and_count (filter (is_owned name uid) rest))
+owned-test name uid r rest true is = rw is refl
+owned-test name uid r rest false is = rw is refl
+
+-- and by whether there is one more
+owned-by :
+    (name : List ℕ) (uid : Option ℕ) (found : Option SubidRecord) (rest : List SubidRecord)
+    → map first_and_count (filter (is_owned name uid) (cons_option found rest))
+    ≡ cons_option (owned_one name uid found) (map first_and_count (filter (is_owned name uid) rest))
+owned-by name uid None rest = refl
+owned-by name uid (Some r) rest = owned-test name uid r rest (is_owned name uid r) refl
+
+module _ (lines : List Line) (place : ℕ) (inside : place < length lines) where
+  -- the ranges of the lines left
+  pub ranges-left :
+      ranges_of (drop place lines)
+      ≡ cons_option (record_at subid_format lines place) (ranges_of (drop (place + 1) lines))
+  ranges-left =
+      at_drop_more ranges_of lines place blank_line inside
+      ∙ ap (λ r. cons_option r (ranges_of (drop (place + 1) lines)))
+      (sym (record-here lines place inside))
+
+  module _ (first last : ℕ) where
+    -- whether the line at the place meets the IDs
+    meets-here :
+        meets_at first last (record_at subid_format lines place)
+        ≡ line_meets (ids_from first last) (line_here lines place)
+    meets-here = ap (meets_at first last) (record-here lines place inside)
+
+    -- the line at the place is the first that meets the IDs
+    pub meeting-here :
+        meets_at first last (record_at subid_format lines place) ≡ true
+        → position_from (line_meets (ids_from first last)) (place + 1) (drop place lines)
+        ≡ Some (place + 1)
+    meeting-here meets =
+        at_drop_more (position_from (line_meets (ids_from first last)) (place + 1)) lines place
+        blank_line inside
+        ∙ ap (λ test. if test then Some (place + 1) else position_from
+        (line_meets (ids_from first last)) (place + 1 + 1) (drop (place + 1) lines))
+        (sym meets-here ∙ meets)
+
+    -- or the first is behind it
+    pub meeting-behind :
+        meets_at first last (record_at subid_format lines place) ≡ false
+        → position_from (line_meets (ids_from first last)) (place + 1) (drop place lines)
+        ≡ position_from (line_meets (ids_from first last)) (place + 1 + 1) (drop (place + 1) lines)
+    meeting-behind apart =
+        at_drop_more (position_from (line_meets (ids_from first last)) (place + 1)) lines place
+        blank_line inside
+        ∙ ap (λ test. if test then Some (place + 1) else position_from
+        (line_meets (ids_from first last)) (place + 1 + 1) (drop (place + 1) lines))
+        (sym meets-here ∙ apart)
+
+  module _ (name : List ℕ) (uid : Option ℕ) where
+    -- the ranges of an owner, by that at the place
+    pub owned-left :
+        owned_ranges name uid (drop place lines)
+        ≡ cons_option (owned_one name uid (record_at subid_format lines place))
+        (owned_ranges name uid (drop (place + 1) lines))
+    owned-left =
+        ap (λ rs. map first_and_count (filter (is_owned name uid) rs)) ranges-left
+        ∙ owned-by name uid (record_at subid_format lines place) (ranges_of (drop (place + 1) lines))
+
+    -- the range at the place is the owner's
+    pub owned-here :
+        (range : ℕ × ℕ)
+        → owned_one name uid (record_at subid_format lines place) ≡ Some range
+        → owned_ranges name uid (drop place lines)
+        ≡ range ∷ owned_ranges name uid (drop (place + 1) lines)
+    owned-here range is =
+        owned-left ∙ ap (λ found. cons_option found (owned_ranges name uid (drop (place + 1) lines))) is
+
+    -- or there is none of the owner
+    pub owned-behind :
+        owned_one name uid (record_at subid_format lines place) ≡ None
+        → owned_ranges name uid (drop place lines) ≡ owned_ranges name uid (drop (place + 1) lines)
+    owned-behind is =
+        owned-left ∙ ap (λ found. cons_option found (owned_ranges name uid (drop (place + 1) lines))) is
+
+-- by whether the first line meets the IDs
+meeting-by :
+    (first last : ℕ) (found : Option SubidRecord) (rest : List SubidRecord) (start : ℕ)
+    (later : Option ℕ)
+    → is_none later ≡ not (list_any (meets first last) rest)
+    → is_none (if meets_at first last found then Some start else later)
+    ≡ not (list_any (meets first last) (cons_option found rest))
+meeting-by first last None rest start later is = is
+meeting-by first last (Some r) rest start later is =
+    meeting-test first last r rest start later (meets first last r) refl is where
+      meeting-test :
+          (first last : ℕ) (r : SubidRecord) (rest : List SubidRecord) (start : ℕ)
+          (later : Option ℕ) (test : Bool)
+          → meets first last r ≡ test
+          → is_none later ≡ not (list_any (meets first last) rest)
+          → is_none (if meets first last r then Some start else later)
+          ≡ not (list_any (meets first last) (r ∷ rest))
+      meeting-test first last r rest start later true met is = rw met refl
+      meeting-test first last r rest start later false met is = rw met is
+
+-- no line meets the IDs where no range does
+pub meeting-any :
+    (first last : ℕ) (lines : List Line) (start : ℕ)
+    → is_none (position_from (line_meets (ids_from first last)) start lines)
+    ≡ not (list_any (meets first last) (ranges_of lines))
+meeting-any first last [] start = refl
+meeting-any first last (line ∷ lines) start =
+    meeting-by first last (subid_format.read line.text) (ranges_of lines) start
+    (position_from (line_meets (ids_from first last)) (start + 1) lines)
+    (meeting-any first last lines (start + 1))
+
+-- the test whether there is none, by that whether there is one
+none-is : (found : Option ℕ) (none : Bool) → is_some found ≡ not none → none ≡ is_none found
+none-is None true is = refl
+none-is None false is = absurd cc
+none-is (Some n) true is = absurd cc
+none-is (Some n) false is = refl
+
+-- a place within the bounds fits where no line meets its IDs
+pub fits-where :
+    (low high count start last : ℕ) (lines : List Line) (none : Bool) (found : Option ℕ)
+    → low ≤ start
+    → last ≤ high
+    → last ≡ start + count - 1
+    → found ≡ meeting_line start last lines
+    → is_some found ≡ not none
+    → none ≡ fits_at low high count (ranges_of lines) start
+fits-where low high count start last lines none found above below is met answer =
+    let apart : none ≡ not (list_any (meets start (start + count - 1)) (ranges_of lines)) =
+    none-is found none answer ∙ ap is_none met ∙ meeting-any start last lines 1
+    ∙ ap (λ n. not (list_any (meets start n) (ranges_of lines))) is in
+    let small : start + count - 1 ≤ high = omega (arith, below, is) in
+    rw (le-leb low start above, le-leb (start + count - 1) high small) apart
+
+-- a range whose IDs aren't among these
+apart-by :
+    (first last : ℕ) (r : SubidRecord) (test : Bool)
+    → meets first last r ≡ test
+    → test ≡ false
+    → Meeting first last r
+    → ⊥
+apart-by first last r true is none meeting = cc
+apart-by first last r false is none meeting =
+    let before = le-leb r.first last meeting.begins_before in
+    let behind = le-leb first (last_id r) meeting.ends_behind in
+    let both : meets first last r ≡ true = rw (before, behind) refl in
+    true≢false (sym both ∙ is)
+
+-- both tests are false where neither is true
+or_false : (a b : Bool) → (a || b) ≡ false → (a ≡ false) × (b ≡ false)
+or_false true b none = absurd cc
+or_false false b none = (refl, none)
+
+-- no range among these has one of the IDs
+apart-all :
+    (first last : ℕ) (records : List SubidRecord)
+    → list_any (meets first last) records ≡ false
+    → AllByRecursion (λ r. Meeting first last r → ⊥) records
+apart-all first last [] none = tt
+apart-all first last (r ∷ records) none =
+    let parts = or_false (meets first last r) (list_any (meets first last) records) none in
+    (apart-by first last r (meets first last r) refl parts.0, apart-all first last records parts.1)
+
+-- a test that is false where its opposite is true
+not-true : (test : Bool) → true ≡ not test → test ≡ false
+not-true true is = absurd cc
+not-true false is = refl
+
+-- where no line meets the IDs, no range has one of them
+pub meeting-none :
+    (first last : ℕ) (lines : List Line)
+    → meeting_line first last lines ≡ None
+    → AllByRecursion (λ r. Meeting first last r → ⊥) (ranges_of lines)
+meeting-none first last lines none =
+    apart-all first last (ranges_of lines)
+    (not-true (list_any (meets first last) (ranges_of lines))
+    (sym (ap is_none none) ∙ meeting-any first last lines 1))

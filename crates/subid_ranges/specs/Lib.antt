@@ -1,0 +1,4 @@
+pub mod RangeLines
+pub mod Owned
+pub mod FirstFit
+pub mod Refusals

@@ -1,0 +1,16 @@
+//! The ranges of subordinate IDs of users: where a new one fits, and the line that it gets (useradd(8), usermod(8), subuid(5), subgid(5)).
+//!
+//! `Ranges` holds the lines of the file. Other text is never touched, and a line that loses no ID
+//! keeps its bytes. After a refusal and after want of memory all lines are as before the call.
+#![tactic(auto)]
+
+mod fault;
+mod owned;
+mod ranges;
+
+pub use fault::RangeFault;
+pub use owned::OwnedRanges;
+pub use ranges::Ranges;
+
+#[cfg(test)]
+mod tests;

@@ -1,0 +1,249 @@
+// The ranges of a file of subuid or subgid: where a new one fits, and the edits (subuid(5),
+// subgid(5)).
+ghost use Rattle.std.specs.Prelude.{◌≡◌, ◌+◌, ◌-◌, ◌<◌, ◌≤◌, IfOk, IfSome, OnOk, OnErr, Some};
+ghost use Rattle.std.specs.List.{AllByRecursion};
+ghost use Rattle.acct_text.specs.Lines.{lines_of, file_bytes};
+ghost use Rattle.account_model.specs.FreeRange.{FitsAt, Meeting, fits_at, free_range};
+ghost use Rattle.account_model.specs.Ids.{IsLeast};
+ghost use Rattle.account_model.specs.Records.{greatest_id, last_id, subid_format};
+ghost use Rattle.account_model.specs.Written.{IsNameField, IsSubid, IsWritten};
+ghost use Rattle.acct_tables.specs.TableLines.{record_at};
+ghost use Rattle.subid_ranges.specs.FirstFit.{kept, lesser, start_behind};
+ghost use Rattle.subid_ranges.specs.Owned.{owned_ranges};
+ghost use Rattle.subid_ranges.specs.RangeLines.{is_bad, meets_at, meeting_line, new_range, ranges_of, with_range};
+ghost use Rattle.subid_ranges.specs.Refusals.{AnswersRange, add_refusal, gap_refusal};
+
+use crate::{OwnedRanges, RangeFault};
+use acct_lines::SubidRecord;
+use acct_tables::Table;
+use acct_text::Bytes;
+use std::alloc::{AllocError, Global};
+use std::marker::Model;
+
+// The greatest ID that a user can have (useradd(8), `-u`).
+const GREATEST_ID: u32 = u32::MAX - 1;
+
+/// The lines of a file of subordinate IDs, each a range of an owner or other text.
+#[derive(Drop)]
+pub struct Ranges {
+    table: Table<SubidRecord>,
+}
+
+impl Model for Ranges {
+    ghost use Rattle.std.specs.Prelude.{List};
+    ghost use Rattle.acct_text.specs.Lines.{Line};
+    ghost use Rattle.subid_ranges.specs.RangeLines.{AreOfFile};
+
+    ghost Value = { List Line };
+
+    ghost view = { λ r. r.table };
+
+    ghost invariant = { λ r. AreOfFile r.table };
+}
+
+impl Ranges {
+    /// The ranges of a file with these bytes.
+    pub fn load(alloc: Global, text: &[u8]) -> Result<Ranges, AllocError>
+        ensures lines { IfOk result (λ ranges. ranges ≡ lines_of text.now) }
+        ensures same_bytes { IfOk result (λ ranges. file_bytes ranges ≡ text.now) }
+    {
+        Ok(Ranges {
+            table: Table::load(alloc, text)?,
+        })
+    }
+
+    /// The least start, from `min` on, of `count` IDs of which none passes `max` and none lies in a
+    /// range of any owner; none where there is no such start.
+    pub fn free_gap(&self, min: u32, max: u32, count: u32) -> Option<u32>
+        requires some { 0 < count }
+        requires small { max ≤ greatest_id }
+        ensures { result ≡ free_range min max count (ranges_of self.now) }
+    {
+        let mut least = self.kept(min, max, count, None, min);
+        'places: for place in 0..self.table.len() {
+            if let Some(start) = self.start_behind(place) {
+                least = self.kept(min, max, count, least, start);
+            }
+        }
+        least
+    }
+
+    /// Allots `count` IDs to the owner at the least free start, which it gives: the line
+    /// `owner:start:count` comes behind the last line, which gets an end where it had none.
+    ///
+    /// `NoGap` comes exactly where `free_gap` is none. At any fault the ranges are as before.
+    pub fn allot(
+        &mut self,
+        alloc: Global,
+        owner: &[u8],
+        min: u32,
+        max: u32,
+        count: u32,
+    ) -> Result<u32, RangeFault>
+        requires some { 0 < count }
+        requires small { max ≤ greatest_id }
+        requires named { IsNameField owner.now }
+        ensures refused { AnswersRange result (gap_refusal min max count self.old) }
+        ensures found { IfOk result (λ start.
+            free_range min max count (ranges_of self.old) ≡ Some start) }
+        ensures least { IfOk result (IsLeast (FitsAt min max count (ranges_of self.old))) }
+        ensures allotted { IfOk result (λ start.
+            self.new ≡ with_range owner.now start count self.old) }
+        ensures unchanged { OnErr result (self.new ≡ self.old) }
+    {
+        let Some(start) = self.free_gap(min, max, count) else {
+            return Err(RangeFault::NoGap);
+        };
+        self.append(alloc, owner, start, count)?;
+        Ok(start)
+    }
+
+    /// Adds the IDs from the first to the last to the owner's: the line `owner:first:count` comes
+    /// behind the last line, which gets an end where it had none (usermod(8), `-v` and `-w`).
+    ///
+    /// `BadRange` comes where `first` passes `last` or `last` passes 4294967294. Else `Overlap`
+    /// comes with the number of the first line, counted from 1 over all lines, whose range has an
+    /// ID in common, of any owner. At any fault the ranges are as before.
+    pub fn add(
+        &mut self,
+        alloc: Global,
+        owner: &[u8],
+        first: u32,
+        last: u32,
+    ) -> Result<(), RangeFault>
+        requires { IsNameField owner.now }
+        ensures refused { AnswersRange result (add_refusal first last self.old) }
+        ensures apart { OnOk result
+            (AllByRecursion (λ r. Meeting first last r → ⊥) (ranges_of self.old)) }
+        ensures added { OnOk result
+            (self.new ≡ with_range owner.now first (last + 1 - first) self.old) }
+        ensures unchanged { OnErr result (self.new ≡ self.old) }
+    {
+        if is_bad(first, last) {
+            return Err(RangeFault::BadRange);
+        }
+        if let Some(line) = self.meeting_line(first, last) {
+            return Err(RangeFault::Overlap(line));
+        }
+        self.append(alloc, owner, first, last - first + 1)?;
+        Ok(())
+    }
+
+    /// The first ID and the count of each range whose owner is the name, or the decimal text of the
+    /// UID, in the order of lines.
+    pub fn of_owner<'a>(&'a self, owner: &'a [u8], uid: Option<u32>) -> OwnedRanges<'a>
+        ensures { result ≡ owned_ranges owner.now uid self.now }
+    {
+        OwnedRanges::new(&self.table, owner, uid)
+    }
+
+    /// The bytes of the file: those of its lines, one behind the other.
+    pub fn text(&self, alloc: Global) -> Result<Bytes, AllocError>
+        ensures { IfOk result (λ bytes. bytes ≡ file_bytes self.now) }
+    {
+        self.table.text(alloc)
+    }
+
+    // Adds a range behind the last line.
+    fn append(
+        &mut self,
+        alloc: Global,
+        owner: &[u8],
+        first: u32,
+        count: u32,
+    ) -> Result<(), AllocError>
+        requires { IsSubid (new_range owner.now first count) }
+        ensures appended { OnOk result (self.new ≡ with_range owner.now first count self.old) }
+        ensures unchanged { OnErr result (self.new ≡ self.old) }
+    {
+        let owner = Bytes::of(alloc, owner)?;
+        self.table.append_any(SubidRecord {
+            owner,
+            first,
+            count,
+        })
+    }
+
+    // The lesser of two starts, where the second one fits; else the first, where there is one.
+    fn kept(&self, min: u32, max: u32, count: u32, least: Option<u32>, start: u32) -> Option<u32>
+        requires { 0 < count }
+        ensures { result ≡ kept (fits_at min max count (ranges_of self.now)) least start }
+    {
+        if self.fits_at(min, max, count, start) {
+            lesser(least, start)
+        } else {
+            least
+        }
+    }
+
+    // Whether so many IDs from a start on lie within the bounds and in no range.
+    fn fits_at(&self, min: u32, max: u32, count: u32, start: u32) -> bool
+        requires { 0 < count }
+        ensures { result ≡ fits_at min max count (ranges_of self.now) start }
+    {
+        let last = u64::from(start) + u64::from(count) - 1;
+        if start < min {
+            return false;
+        }
+        if last > u64::from(max) {
+            return false;
+        }
+        self.meeting_line(start, last as u32).is_none()
+    }
+
+    // The number of the first line, counted from 1, whose range has one of these IDs.
+    fn meeting_line(&self, first: u32, last: u32) -> Option<usize>
+        ensures { result ≡ meeting_line first last self.now }
+    {
+        'places: for place in 0..self.table.len() {
+            if self.meets_at(place, first, last) {
+                return Some(place + 1);
+            }
+        }
+        None
+    }
+
+    // Whether the line at a place has a range with one of these IDs.
+    fn meets_at(&self, place: usize, first: u32, last: u32) -> bool
+        ensures { result ≡ meets_at first last (record_at subid_format self.now place) }
+    {
+        match self.table.at(place) {
+            Some(range) => range.first <= last && first <= last_id(range),
+            None => false,
+        }
+    }
+
+    // The number behind the range at a place.
+    fn start_behind(&self, place: usize) -> Option<u32>
+        ensures { result ≡ start_behind (record_at subid_format self.now place) }
+    {
+        let range = self.table.at(place)?;
+        Some(last_id(range) + 1)
+    }
+}
+
+// The last ID of a range.
+fn last_id(range: &SubidRecord) -> u32
+    requires { IsWritten subid_format range.now }
+    ensures is { result ≡ last_id range.now }
+    ensures small { result ≤ greatest_id }
+{
+    range.first + (range.count - 1)
+}
+
+// Whether there is no range from the first ID to the last.
+fn is_bad(first: u32, last: u32) -> bool
+    ensures { result ≡ is_bad first last }
+{
+    first > last || last > GREATEST_ID
+}
+
+// The lesser of two starts, where there is a first.
+fn lesser(least: Option<u32>, start: u32) -> Option<u32>
+    ensures { result ≡ Some (lesser least start) }
+{
+    match least {
+        Some(other) => Some(other.min(start)),
+        None => Some(start),
+    }
+}
