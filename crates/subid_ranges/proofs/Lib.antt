@@ -1,3 +1,5 @@
 pub mod PlacedRanges
 pub mod LeastStart
 pub mod FileLines
+pub mod CutLines
+pub mod DecimalTexts

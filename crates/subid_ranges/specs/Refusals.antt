@@ -13,6 +13,10 @@ AnswersRange (Ok done) refusal = refusal ≡ None
 AnswersRange (Err Memory) refusal = refusal ≡ None
 AnswersRange (Err fault) refusal = refusal ≡ Some fault
 
+-- the refusal of IDs that are no range
+abbrev pub bad_refusal : ℕ → ℕ → Option RangeFault
+bad_refusal first last = if is_bad first last then Some BadRange else None
+
 -- the refusal of a new range: it is none, or it meets a line
 abbrev pub add_refusal : ℕ → ℕ → List Line → Option RangeFault
 add_refusal first last lines =

@@ -1,9 +1,11 @@
-//! The ranges of subordinate IDs of users: where a new one fits, and the line that it gets (useradd(8), usermod(8), subuid(5), subgid(5)).
+//! The ranges of subordinate IDs of users: where a new one fits, and the lines that a range comes
+//! into or goes out of (useradd(8), usermod(8), subuid(5), subgid(5)).
 //!
 //! `Ranges` holds the lines of the file. Other text is never touched, and a line that loses no ID
 //! keeps its bytes. After a refusal and after want of memory all lines are as before the call.
 #![tactic(auto)]
 
+mod cut;
 mod fault;
 mod owned;
 mod ranges;

@@ -10,9 +10,10 @@ ghost use Rattle.account_model.specs.Written.{IsNameField, IsSubid, IsWritten};
 ghost use Rattle.acct_tables.specs.TableLines.{record_at};
 ghost use Rattle.subid_ranges.specs.FirstFit.{kept, lesser, start_behind};
 ghost use Rattle.subid_ranges.specs.Owned.{owned_ranges};
-ghost use Rattle.subid_ranges.specs.RangeLines.{is_bad, meets_at, meeting_line, new_range, ranges_of, with_range};
-ghost use Rattle.subid_ranges.specs.Refusals.{AnswersRange, add_refusal, gap_refusal};
+ghost use Rattle.subid_ranges.specs.RangeLines.{is_bad, meets_at, meeting_line, new_range, ranges_of, with_range, without_range};
+ghost use Rattle.subid_ranges.specs.Refusals.{AnswersRange, add_refusal, bad_refusal, gap_refusal};
 
+use crate::cut::{Cut, table_without};
 use crate::{OwnedRanges, RangeFault};
 use acct_lines::SubidRecord;
 use acct_tables::Table;
@@ -129,6 +130,41 @@ impl Ranges {
         Ok(())
     }
 
+    /// Takes the IDs from the first to the last out of each line whose owner is the name, or the
+    /// decimal text of the UID (usermod(8), `-V` and `-W`).
+    ///
+    /// What is left below stays in the line's place, what is left above follows it as a line of the
+    /// same owner, and a line with nothing left goes. A line that becomes one line keeps its end or
+    /// the want of one; two lines both have an end.
+    ///
+    /// `BadRange` comes where `first` passes `last` or `last` passes 4294967294. At any fault the
+    /// ranges are as before.
+    pub fn take_away(
+        &mut self,
+        alloc: Global,
+        owner: &[u8],
+        uid: Option<u32>,
+        first: u32,
+        last: u32,
+    ) -> Result<(), RangeFault>
+        ensures refused { AnswersRange result (bad_refusal first last) }
+        ensures taken { OnOk result
+            (self.new ≡ without_range owner.now uid first last self.old) }
+        ensures unchanged { OnErr result (self.new ≡ self.old) }
+    {
+        if is_bad(first, last) {
+            return Err(RangeFault::BadRange);
+        }
+        let cut = Cut {
+            owner,
+            uid,
+            first,
+            last,
+        };
+        self.table = table_without(alloc, &self.table, &cut)?;
+        Ok(())
+    }
+
     /// The first ID and the count of each range whose owner is the name, or the decimal text of the
     /// UID, in the order of lines.
     pub fn of_owner<'a>(&'a self, owner: &'a [u8], uid: Option<u32>) -> OwnedRanges<'a>
@@ -223,7 +259,7 @@ impl Ranges {
 }
 
 // The last ID of a range.
-fn last_id(range: &SubidRecord) -> u32
+pub(crate) fn last_id(range: &SubidRecord) -> u32
     requires { IsWritten subid_format range.now }
     ensures is { result ≡ last_id range.now }
     ensures small { result ≤ greatest_id }

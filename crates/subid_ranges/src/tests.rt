@@ -70,6 +70,16 @@ fn a_range_is_added_where_none_meets_it(rt: HostRuntime) -> Result<(), Fail> {
 }
 
 #[test]
+fn ids_go_out_of_the_ranges_of_their_owner(rt: HostRuntime) -> Result<(), Fail> {
+    let alloc = rt.alloc();
+    let mut ranges = Ranges::load(alloc, b"a:10:010\n7:12:4\nb:12:4\na:30:09\na:13:9")?;
+    assert_eq!(rt; ranges.take_away(alloc, b"a", Some(7), 12, 15), Ok(()));
+    let wanted = b"a:10:2\na:16:4\nb:12:4\na:30:09\na:16:6".as_slice();
+    assert!(rt; has(alloc, &ranges, wanted)?);
+    Ok(())
+}
+
+#[test]
 fn the_ranges_of_an_owner_come_in_their_order(rt: HostRuntime) -> Result<(), Fail> {
     let ranges = Ranges::load(rt.alloc(), b"a:30:1\n07:1:1\nb:2:2\n7:0:1\n")?;
     let mut owned = ranges.of_owner(b"a", Some(7));
