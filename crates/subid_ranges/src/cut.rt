@@ -55,11 +55,7 @@ pub(crate) fn table_without(
 }
 
 // The text of the file without the IDs of the cut.
-fn text_without(
-    alloc: Global,
-    text: &[u8],
-    cut: &Cut<'_>,
-) -> Result<Bytes, AllocError>
+fn text_without(alloc: Global, text: &[u8], cut: &Cut<'_>) -> Result<Bytes, AllocError>
     requires { cut.now.first ≤ cut.now.last }
     ensures { IfOk result (λ left. left ≡ file_bytes
         (without_range cut.now.owner.now cut.now.uid cut.now.first cut.now.last
@@ -132,9 +128,7 @@ fn is_cut(range: &SubidRecord, cut: &Cut<'_>) -> bool
     ensures { result ≡
         is_cut cut.now.owner.now cut.now.uid cut.now.first cut.now.last range.now }
 {
-    is_owned(range, cut.owner, cut.uid)
-        && range.first <= cut.last
-        && cut.first <= last_id(range)
+    is_owned(range, cut.owner, cut.uid) && range.first <= cut.last && cut.first <= last_id(range)
 }
 
 // Adds what is left of a range that has one of the IDs.
