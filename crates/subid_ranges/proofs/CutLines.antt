@@ -1,6 +1,6 @@
--- Claim: a line that loses no ID stays (`stays-bytes`), and one that does becomes the lines of what is
--- left of its range (`cut-line`). Way: a range that loses an ID is none of its pieces, and one that
--- loses none is left whole.
+-- Claim: a line that loses no ID stays (`stays-bytes`), and one that does becomes the lines of what
+-- is left of its range (`cut-line`). Way: a range that loses an ID is none of its pieces, and one
+-- that loses none is left whole.
 use Rattle.std.proofs.Common.{◌≡◌, ◌⊎◌, ℕ, ◌+◌, ◌-◌, ◌<◌, ◌≤◌, min, max, Bool, true, false, ◌&&◌, List, [], ◌∷◌, ◌++◌, refl, ◌∙◌, ap, subst, arith, inl, inr}
 use Rattle.std.specs.Prelude.{Option, Some, None, ◌||◌, nat_le, nat_lt, if◌then◌else◌}
 use Rattle.std.proofs.lemmas.Bool.{and_parts, false_from_ne_true, leb-true, leb-false, ltb-true}
@@ -66,14 +66,18 @@ left-by :
     → first ≤ last_id r
     → 0 < r.count
     → line_becomes subid_format (line_of text ended) r
-    ((if below then piece_below first r ∷ [] else []) ++ (if above then piece_above last r ∷ [] else []))
+    ((if below then piece_below first r ∷ [] else [])
+    ++ (if above then piece_above last r ∷ [] else []))
     ≡ lines_of_ranges (below && above || ended)
-    ((if below then piece_below first r ∷ [] else []) ++ (if above then piece_above last r ∷ [] else []))
+    ((if below then piece_below first r ∷ [] else [])
+    ++ (if above then piece_above last r ∷ [] else []))
 left-by first last text ended r true true is_below is_above before behind some = refl
 left-by first last text ended r true false is_below is_above before behind some =
     let less : r.first < first = ltb-true r.first first is_below in
     other-line text ended r (piece_below first r)
-    (λ same. let count : r.count ≡ min (last_id r + 1) first - r.first = ap count_of same in omega arith)
+    (λ same.
+    let count : r.count ≡ min (last_id r + 1) first - r.first = ap count_of same in
+    omega arith)
 left-by first last text ended r false true is_below is_above before behind some =
     other-line text ended r (piece_above last r)
     (λ same. let start : r.first ≡ max r.first (last + 1) = ap first_of same in omega arith)
@@ -87,8 +91,10 @@ apart-by :
     → (before && behind) ≡ false
     → (last_id r < first) ⊎ (last < r.first)
 apart-by first last r true true is_before is_behind apart = absurd cc
-apart-by first last r true false is_before is_behind apart = inl (leb-false first (last_id r) is_behind)
-apart-by first last r false behind is_before is_behind apart = inr (leb-false r.first last is_before)
+apart-by first last r true false is_before is_behind apart =
+    inl (leb-false first (last_id r) is_behind)
+apart-by first last r false behind is_before is_behind apart =
+    inr (leb-false r.first last is_before)
 
 -- what a line becomes, by what it reads as
 abbrev found_becomes : Line → (SubidRecord → List SubidRecord) → Option SubidRecord → List Line

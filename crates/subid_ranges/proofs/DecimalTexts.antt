@@ -1,7 +1,7 @@
--- Claim: a text with a leading zero is no decimal text (`decimal-zero`), and any other is that of a
--- number where it reads as the number (`decimal-tells`). Way: digits without a leading zero are what
--- is printed of their value.
-use Rattle.std.proofs.Common.{zero, suc, ◌≡◌, refl, sym, subst, ap, ◌∙◌, ℕ, ◌<◌, ◌^◌, Bool, true, false, ◌&&◌, List, [], ◌∷◌, length, Option, Some, None, Ok, decimal, arith, lit<, true≢false, bytes_eq, get_or}
+-- Claim: a text with a leading zero is no decimal text (`decimal-zero`), and any other is that of
+-- a number where it reads as the number (`decimal-tells`). Way: digits without a leading zero are
+-- what is printed of their value.
+use Rattle.std.proofs.Common.{zero, suc, ◌≡◌, refl, sym, subst, ap, ◌∙◌, ℕ, ◌<◌, ◌^◌, Bool, true, false, List, [], ◌∷◌, length, Option, Some, None, Ok, decimal, arith, lit<, true≢false, bytes_eq, get_or}
 use Rattle.std.specs.Prelude.{Result, Err, nat_lt, ◌==◌}
 use Rattle.std.specs.Option.{ok_or}
 use Rattle.std.specs.Str.Parse.{AllDigits}

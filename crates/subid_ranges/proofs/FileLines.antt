@@ -1,7 +1,8 @@
 -- Claim: lines that are those of a file stay so when a range comes into them (`range-of_file`) or
--- IDs go out of them (`cut-of_file`, `left-lines`). Way: each edit prints only ranges that read back.
-use Rattle.std.proofs.Common.{◌≡◌, ℕ, ◌+◌, ◌-◌, ◌<◌, ◌≤◌, min, max, Bool, true, false, List, [], ◌∷◌, ◌++◌, refl, sym, ◌∙◌, ap, subst, arith}
-use Rattle.std.specs.Prelude.{Option, Some, None, Result, Ok, Err, OnOk, OnErr, nat_lt, if◌then◌else◌}
+-- IDs go out of them (`cut-of_file`), and are then those of the text that is left (`left-lines`).
+-- Way: each edit prints only ranges that read back.
+use Rattle.std.proofs.Common.{◌≡◌, ℕ, ◌+◌, ◌-◌, ◌<◌, ◌≤◌, min, max, Bool, true, false, List, [], ◌∷◌, refl, sym, ◌∙◌, ap, subst, arith}
+use Rattle.std.specs.Prelude.{Option, Result, Ok, Err, OnOk, OnErr, nat_lt, if◌then◌else◌}
 use Rattle.std.specs.List.{AllByRecursion}
 use Rattle.std.proofs.lemmas.Bool.{ltb-true}
 use Rattle.acct_text.specs.Lines.{Line, file_bytes, lines_of}
@@ -54,7 +55,8 @@ either-of_file (Err fault) old new edited is after ok err = subst AreOfFile (sym
 
 -- lines of a file with one more range
 pub range-of_file :
-    {X E : Type 0} (owner copy : List ℕ) (first count : ℕ) (old new : List Line) (result : Result X E)
+    {X E : Type 0} (owner copy : List ℕ) (first count : ℕ) (old new : List Line)
+    (result : Result X E)
     → AreOfFile old
     → IsSubid (new_range owner first count)
     → copy ≡ owner
@@ -88,7 +90,10 @@ above-held :
     → nat_lt last (last_id r) ≡ behind
     → IsSubid r
     → AllByRecursion IsSubid (if behind
-    then record r { first = max r.first (last + 1); count = last_id r + 1 - max r.first (last + 1) } ∷ []
+    then record r {
+      first = max r.first (last + 1);
+      count = last_id r + 1 - max r.first (last + 1);
+    } ∷ []
     else [])
 above-held last r false is held = tt
 above-held last r true is held =
@@ -124,7 +129,8 @@ pub cut-of_file :
     → AreOfFile (without_range name uid first last lines)
 cut-of_file name uid first last lines is =
     edit-of_file (cut_range (owner_of name uid) (ids_from first last)) lines
-    (λ text r lacks read. left-written first last r (is_owned name uid r) (subid-holds.read text r lacks read))
+    (λ text r lacks read. left-written first last r (is_owned name uid r)
+    (subid-holds.read text r lacks read))
     is
 
 -- the lines of the text that is left, of lines of a file
@@ -136,5 +142,6 @@ pub left-lines :
     → lines_of left ≡ without_range name uid first last lines
 left-lines name uid first last lines text left is whole cut =
     ap lines_of
-    (cut ∙ ap (λ found. file_bytes (without_range name uid first last found)) (ap lines_of whole ∙ is))
+    (cut
+    ∙ ap (λ found. file_bytes (without_range name uid first last found)) (ap lines_of whole ∙ is))
     ∙ cut-of_file name uid first last lines is

@@ -1,6 +1,6 @@
 -- The lines of a file of subordinate IDs, and what comes into them or goes out of them (useradd(8),
 -- usermod(8), `-v`, `-V`, `-w` and `-W`; subuid(5), subgid(5)).
-use Rattle.std.specs.Prelude.{◌≡◌, ℕ, Bool, true, false, ◌&&◌, ◌||◌, not, List, [], ◌∷◌, nat_le, nat_lt, map, Option, Some, None, if◌then◌else◌}
+use Rattle.std.specs.Prelude.{◌≡◌, ℕ, Bool, false, ◌&&◌, ◌||◌, not, List, [], ◌∷◌, nat_le, nat_lt, map, Option, Some, None, if◌then◌else◌}
 use Rattle.std.specs.List.{position_from}
 use Rattle.acct_text.specs.Lines.{Line, lines_of, file_bytes}
 use Rattle.account_model.specs.declared.records.SubidRecord.{SubidRecord}

@@ -1,6 +1,5 @@
 use Rattle.std.proofs.Common.{◌≡◌, map, take}
 use Rattle.acct_text.specs.Lines.{file_bytes}
-use Rattle.account_model.specs.Edits.{becomes}
 use Rattle.acct_tables.proofs.LoadedLines.{line_at}
 use Rattle.subid_ranges.specs.RangeLines.{without_range}
 use Rattle.subid_ranges.proofs.cut.text_without.Given as goal
