@@ -80,6 +80,13 @@ impl MemoryFolder {
         self.log.store.get(name)
     }
 
+    /// Whether the session has begun, and has neither died nor answered.
+    pub fn runs(&self, token: &Token) -> bool
+        ensures { result ≡ is_running token.now (past_of self.now).history }
+    {
+        self.log.runs(token)
+    }
+
     /// Records that the session died within the call, which did this as far as it can have.
     pub fn die(&mut self, by: &Token, call: Call, effect: Effect) -> Result<(), AllocError>
         requires running { Runs self.old by.now }

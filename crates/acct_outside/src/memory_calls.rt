@@ -228,7 +228,9 @@ mod tests {
         let alloc = rt.alloc();
         let mut folder = folder_with(alloc, Vec::new(alloc), 0, Effect::Nothing)?;
         let token = folder.begin(&[], &Bytes::new(alloc), 20000)?;
+        assert!(rt; folder.runs(&token));
         folder.die(&token, Call::Create(3), Effect::Happened)?;
+        assert!(rt; !folder.runs(&token));
         let other = folder.begin(&[], &Bytes::new(alloc), 20000)?;
         assert_eq!(rt; other.as_slice(), b"m2".as_slice());
         assert_eq!(rt; folder.verdict(&other, &token)?, Verdict::Dead);
