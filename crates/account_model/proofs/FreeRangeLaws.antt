@@ -48,7 +48,7 @@ apart-by first last r records false m e rest =
     ((λ meeting. true≢false (sym (meets-yes first last r meeting) ∙ m)), rest e)
 
 -- what fails all tests is apart from all
-apart-is :
+pub apart-is :
     (first last : ℕ) (records : List SubidRecord)
     → list_any (meets first last) records ≡ false
     → AllByRecursion (λ r. Meeting first last r → ⊥) records

@@ -72,7 +72,7 @@ values-ordered (value ∷ values) = values-by (range_value value) (filter_map ra
     (λ ids e. pieces-ordered (cut_at hyphen value) ids e) (values-ordered values)
 
 -- what is left below, by whether there is some
-below-by :
+pub below-by :
     (first : ℕ) (r : SubidRecord) (before : Bool)
     → nat_lt r.first first ≡ before
     → IsSubid r
@@ -85,7 +85,7 @@ below-by first r true is held =
     in (record { owner = held.owner; some = omega arith; last = omega arith }, tt)
 
 -- what is left above, by whether there is some
-above-by :
+pub above-by :
     (last : ℕ) (r : SubidRecord) (behind : Bool)
     → nat_lt last (last_id r) ≡ behind
     → IsSubid r
@@ -100,7 +100,7 @@ above-by last r true is held =
     in (record { owner = held.owner; some = omega arith; last = omega arith }, tt)
 
 -- what is left of a range can stand in lines
-left-held :
+pub left-held :
     (first last : ℕ) (r : SubidRecord)
     → IsSubid r
     → AllByRecursion IsSubid (left_without first last r)
