@@ -11,7 +11,7 @@ use std::marker::Model;
 /// A set of used IDs, which grows.
 #[derive(Drop)]
 pub struct UsedIds {
-    // in the order in which they came; `add` lets none in twice
+    // in the order in which they came, and as often: a choice asks for members alone
     ids: Vec<u32>,
 }
 
@@ -36,9 +36,7 @@ impl UsedIds {
         ensures added { OnOk result (AreThoseOf self.new (id ∷ self.old)) }
         ensures unchanged { OnErr result (self.new ≡ self.old) }
     {
-        if !self.holds(id) {
-            self.ids.push(id)?;
-        }
+        self.ids.push(id)?;
         Ok(())
     }
 
