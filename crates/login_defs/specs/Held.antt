@@ -16,6 +16,11 @@ pub record HasSettings (defs : Defs) (settings : List Setting) : Type 0 where
   pub values : (key : Key) → held_value defs key ≡ given_value key settings
   pub flag : defs.user_groups ≡ user_groups settings
 
+-- the values are those of some settings
+pub record IsHeld (defs : Defs) : Type 0 where
+  pub settings : List Setting
+  pub held : HasSettings defs settings
+
 -- the new hold one setting more, behind those that the old hold
 abbrev pub Adds : Defs → Defs → Setting → Type 0
 Adds old new setting = (settings : List Setting) → HasSettings old settings

@@ -140,8 +140,8 @@ impl Defs {
         if low <= high { Some((low, high)) } else { None }
     }
 
-    // The number of a key; -1 is none.
-    fn value(&self, key: Key) -> Option<u32>
+    /// The number of a key, as `number` gives it, and none in place of -1.
+    pub fn value(&self, key: Key) -> Option<u32>
         ensures { Gives self.now (number_of key) result }
     {
         match self.given(key) {
