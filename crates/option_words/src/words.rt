@@ -104,6 +104,20 @@ mod tests {
                 b"useradd -K=UID_MIN=5 ann",
             ),
             (b"pwck -qr -P R", b"pwck -q -r"),
+            (
+                b"groupadd --prefix R -fo -g5 -- staff",
+                b"groupadd -f -o -g=5 staff",
+            ),
+            (b"usermod -P R -l bea -e  ann", b"usermod -l=bea -e= ann"),
+            (
+                b"usermod -P R -v 5-9 -v 7-8 ann",
+                b"usermod -v=5-9 -v=7-8 ann",
+            ),
+            (b"useradd -P R -s -r ann", b"useradd -s=-r ann"),
+            (b"chage -P R -M -1 bob", b"chage -M=-1 bob"),
+            (b"chpasswd -eP R", b"chpasswd -e"),
+            (b"getsubids -gP R bob", b"getsubids -g bob"),
+            (b"grpck --prefix=R -s", b"grpck -s"),
         ];
         for (text, wanted) in cases {
             assert_eq!(rt; shown(rt.alloc(), text)?.as_slice(), wanted);
@@ -129,6 +143,12 @@ mod tests {
             (b"pwck -P R -r -- x", WordFault::TooMany(5)),
             (b"groupadd -P R --prefix= staff", WordFault::NoPrefix),
             (b"useradd -P R -o", WordFault::TooFew),
+            (b"getsubids -P R", WordFault::TooFew),
+            (b"usermod -P R -l", WordFault::MissingValue(3)),
+            (b"groupmod -P R --gid", WordFault::MissingValue(3)),
+            (b"userdel -P", WordFault::MissingValue(1)),
+            (b"useradd -P R -- -x y", WordFault::TooMany(5)),
+            (b"groupdel -P R -fx staff", WordFault::UnknownOption(3)),
         ];
         for (text, fault) in cases {
             assert_eq!(rt; fault_of(rt.alloc(), text)?, Some(fault));
