@@ -10,3 +10,4 @@ pub mod OrderLemmas
 pub mod ArrangeLemmas
 pub mod RefusalLemmas
 pub mod FirstRefusal
+pub mod DecimalTexts

@@ -7,3 +7,4 @@ pub mod Order
 pub mod Renaming
 pub mod RenamedRecords
 pub mod Refusing
+pub mod DecimalTexts

@@ -74,6 +74,13 @@ impl<R: TableRecord + Drop> TableLine<R> {
         self.record.as_ref()
     }
 
+    /// The bytes of the line, without its newline.
+    pub(crate) fn text(&self) -> &[u8]
+        ensures { result.now ≡ self.now.text }
+    {
+        self.text.as_slice()
+    }
+
     /// Whether the line is a record of the name.
     pub(crate) fn is_named(&self, name: &[u8]) -> bool
         ensures { result ≡ line_is_named R.format name.now self.now }

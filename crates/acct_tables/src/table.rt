@@ -5,6 +5,7 @@ ghost use Rattle.acct_text.specs.Lines.{lines_of, file_bytes};
 ghost use Rattle.account_model.specs.Format.{records_of, find_named, count_named};
 ghost use Rattle.account_model.specs.Written.{IsWritten};
 ghost use Rattle.acct_tables.specs.TableLines.{record_at, IsOnlyPlace};
+ghost use Rattle.acct_tables.specs.Order.{text_at};
 ghost use Rattle.acct_tables.specs.Refusals.{single_refusal};
 
 use crate::TableFault;
@@ -89,6 +90,17 @@ impl<R: TableRecord + Drop> Table<R> {
         ensures written { IfSome (option_copied result) (IsWritten R.format) }
     {
         self.lines.get(place)?.record()
+    }
+
+    /// The text of the line at a place, counted from 0 over all lines, without its newline; empty
+    /// past the end.
+    pub fn line_text(&self, place: usize) -> &[u8]
+        ensures { result.now ≡ text_at self.now place }
+    {
+        match self.lines.get(place) {
+            Some(line) => line.text(),
+            None => &[],
+        }
     }
 
     // The place of the only record of the name.

@@ -70,5 +70,8 @@ fn lines_are_set_and_moved_by_their_places(rt: HostRuntime) -> Result<(), Fail> 
     table.insert_at(0, group(alloc, b"b:x:2:")?)?;
     table.set_at(1, group(alloc, b"c:x:3:")?)?;
     assert!(rt; has(alloc, &table, b"b:x:2:\nc:x:3:".as_slice())?);
+    table.append_any(group(alloc, b"b:x:4:")?)?;
+    table.remove_at(0)?;
+    assert!(rt; has(alloc, &table, b"c:x:3:\nb:x:4:\n".as_slice())?);
     Ok(())
 }

@@ -1,0 +1,59 @@
+// Whose a range of subordinate IDs is, and where it ends (subuid(5), subgid(5)).
+ghost use Rattle.std.specs.Prelude.{◌≡◌, ◌≤◌, bytes_eq};
+ghost use Rattle.std.specs.Fmt.{decimal};
+ghost use Rattle.acct_text.specs.Numbers.{number_of};
+ghost use Rattle.account_model.specs.Records.{greatest_id, last_id, subid_format};
+ghost use Rattle.account_model.specs.SubidOwner.{is_owned};
+ghost use Rattle.account_model.specs.Written.{IsWritten};
+ghost use Rattle.acct_tables.specs.DecimalTexts.{has_leading_zero, is_number};
+
+use acct_lines::{SubidRecord, TableRecord};
+use acct_text::read_decimal;
+
+/// The last ID of a range.
+pub fn last_id(range: &SubidRecord) -> u32
+    requires { IsWritten subid_format range.now }
+    ensures is { result ≡ last_id range.now }
+    ensures small { result ≤ greatest_id }
+{
+    range.first + (range.count - 1)
+}
+
+/// Whether the owner of a range is the name, or the decimal text of the UID.
+pub fn is_owned(range: &SubidRecord, name: &[u8], uid: Option<u32>) -> bool
+    ensures { result ≡ is_owned name.now uid range.now }
+{
+    let owner = range.name();
+    owner == name
+        || match uid {
+            Some(uid) => is_decimal(owner, uid),
+            None => false,
+        }
+}
+
+// Whether the text is the decimal text of the number, which has no leading zero.
+fn is_decimal(text: &[u8], number: u32) -> bool
+    ensures { result ≡ bytes_eq text.now (decimal number) }
+{
+    if has_leading_zero(text) {
+        return false;
+    }
+    reads_as(text, number)
+}
+
+// Whether the text begins with a `0` that isn't all of it.
+fn has_leading_zero(text: &[u8]) -> bool
+    ensures { result ≡ has_leading_zero text.now }
+{
+    text.len() > 1 && text[0] == b'0'
+}
+
+// Whether the text is all digits, and the number is their value.
+fn reads_as(text: &[u8], number: u32) -> bool
+    ensures { result ≡ is_number number (number_of number text.now) }
+{
+    match read_decimal(text, u64::from(number)) {
+        Ok(value) => value == u64::from(number),
+        Err(_) => false,
+    }
+}
