@@ -2,4 +2,3 @@ pub mod PlacedRanges
 pub mod LeastStart
 pub mod FileLines
 pub mod CutLines
-pub mod DecimalTexts

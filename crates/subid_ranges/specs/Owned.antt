@@ -1,6 +1,5 @@
 -- The ranges of one owner, as a caller sees them (getsubids(1)).
-use Rattle.std.specs.Prelude.{ℕ, Bool, false, ◌&&◌, ◌==◌, List, length, get_or, map, filter, nat_lt, Option, Some, None, Result, Ok, Err, if◌then◌else◌}
-use Rattle.acct_text.specs.declared.numbers.NumberFault.{NumberFault}
+use Rattle.std.specs.Prelude.{ℕ, List, map, filter, Option, Some, None, if◌then◌else◌}
 use Rattle.acct_text.specs.Lines.{Line}
 use Rattle.account_model.specs.declared.records.SubidRecord.{SubidRecord}
 use Rattle.account_model.specs.Format.{records_of}
@@ -20,18 +19,3 @@ owned_one name uid (Some r) = if is_owned name uid r then Some (first_and_count 
 abbrev pub owned_ranges : List ℕ → Option ℕ → List Line → List (ℕ × ℕ)
 owned_ranges name uid lines =
     map first_and_count (filter (is_owned name uid) (records_of subid_format lines))
-
--- ---- The decimal text of a UID
-
--- the byte of `0`
-abbrev pub zero_digit : ℕ
-zero_digit = 48
-
--- the text begins with a `0` that isn't all of it
-abbrev pub has_leading_zero : List ℕ → Bool
-has_leading_zero text = nat_lt 1 (length text) && (get_or text 0 0 == zero_digit)
-
--- what was read is this number
-abbrev pub is_number : ℕ → Result ℕ NumberFault → Bool
-is_number number (Ok value) = value == number
-is_number number (Err fault) = false

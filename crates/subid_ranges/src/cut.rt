@@ -10,10 +10,8 @@ ghost use Rattle.account_model.specs.SubidOwner.{left_above, left_below};
 ghost use Rattle.account_model.specs.Written.{IsWritten};
 ghost use Rattle.subid_ranges.specs.RangeLines.{AreOfFile, is_cut, left_ended, left_lines, line_of, lines_of_ranges, new_range, range_cut, without_ids, without_range};
 
-use crate::owned::is_owned;
-use crate::ranges::last_id;
 use acct_lines::{ReadFault, SubidRecord, TableRecord};
-use acct_tables::Table;
+use acct_tables::{Table, is_owned, last_id};
 use acct_text::{Bytes, lines, push_decimal};
 use std::alloc::{AllocError, Global};
 

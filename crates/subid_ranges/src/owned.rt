@@ -1,15 +1,11 @@
 // The ranges of one owner (getsubids(1), usermod(8)).
-ghost use Rattle.std.specs.Prelude.{◌≡◌, bytes_eq};
-ghost use Rattle.std.specs.Fmt.{decimal};
-ghost use Rattle.acct_text.specs.Numbers.{number_of};
-ghost use Rattle.account_model.specs.SubidOwner.{is_owned};
+ghost use Rattle.std.specs.Prelude.{◌≡◌};
 ghost use Rattle.account_model.specs.Records.{subid_format};
 ghost use Rattle.acct_tables.specs.TableLines.{record_at};
-ghost use Rattle.subid_ranges.specs.Owned.{has_leading_zero, is_number, owned_one, owned_ranges};
+ghost use Rattle.subid_ranges.specs.Owned.{owned_one, owned_ranges};
 
-use acct_lines::{SubidRecord, TableRecord};
-use acct_tables::Table;
-use acct_text::read_decimal;
+use acct_lines::SubidRecord;
+use acct_tables::{Table, is_owned};
 use std::marker::Model;
 
 /// The ranges of an owner that are left, in the order of lines: the first ID and the count of each.
@@ -80,43 +76,4 @@ fn owned_at(
         return None;
     }
     Some((range.first, range.count))
-}
-
-/// Whether the owner of a range is the name, or the decimal text of the UID.
-pub(crate) fn is_owned(range: &SubidRecord, name: &[u8], uid: Option<u32>) -> bool
-    ensures { result ≡ is_owned name.now uid range.now }
-{
-    let owner = range.name();
-    owner == name
-        || match uid {
-            Some(uid) => is_decimal(owner, uid),
-            None => false,
-        }
-}
-
-// Whether the text is the decimal text of the number, which has no leading zero.
-fn is_decimal(text: &[u8], number: u32) -> bool
-    ensures { result ≡ bytes_eq text.now (decimal number) }
-{
-    if has_leading_zero(text) {
-        return false;
-    }
-    reads_as(text, number)
-}
-
-// Whether the text begins with a `0` that isn't all of it.
-fn has_leading_zero(text: &[u8]) -> bool
-    ensures { result ≡ has_leading_zero text.now }
-{
-    text.len() > 1 && text[0] == b'0'
-}
-
-// Whether the text is all digits, and the number is their value.
-fn reads_as(text: &[u8], number: u32) -> bool
-    ensures { result ≡ is_number number (number_of number text.now) }
-{
-    match read_decimal(text, u64::from(number)) {
-        Ok(value) => value == u64::from(number),
-        Err(_) => false,
-    }
 }

@@ -5,8 +5,8 @@ ghost use Rattle.std.specs.List.{AllByRecursion};
 ghost use Rattle.acct_text.specs.Lines.{lines_of, file_bytes};
 ghost use Rattle.account_model.specs.FreeRange.{FitsAt, Meeting, fits_at, free_range};
 ghost use Rattle.account_model.specs.Ids.{IsLeast};
-ghost use Rattle.account_model.specs.Records.{greatest_id, last_id, subid_format};
-ghost use Rattle.account_model.specs.Written.{IsNameField, IsSubid, IsWritten};
+ghost use Rattle.account_model.specs.Records.{greatest_id, subid_format};
+ghost use Rattle.account_model.specs.Written.{IsNameField, IsSubid};
 ghost use Rattle.acct_tables.specs.TableLines.{record_at};
 ghost use Rattle.subid_ranges.specs.FirstFit.{kept, lesser, start_behind};
 ghost use Rattle.subid_ranges.specs.Owned.{owned_ranges};
@@ -16,7 +16,7 @@ ghost use Rattle.subid_ranges.specs.Refusals.{AnswersRange, add_refusal, bad_ref
 use crate::cut::{Cut, table_without};
 use crate::{OwnedRanges, RangeFault};
 use acct_lines::SubidRecord;
-use acct_tables::Table;
+use acct_tables::{Table, last_id};
 use acct_text::Bytes;
 use std::alloc::{AllocError, Global};
 use std::marker::Model;
@@ -256,15 +256,6 @@ impl Ranges {
         let range = self.table.at(place)?;
         Some(last_id(range) + 1)
     }
-}
-
-// The last ID of a range.
-pub(crate) fn last_id(range: &SubidRecord) -> u32
-    requires { IsWritten subid_format range.now }
-    ensures is { result ≡ last_id range.now }
-    ensures small { result ≤ greatest_id }
-{
-    range.first + (range.count - 1)
 }
 
 // Whether there is no range from the first ID to the last.
