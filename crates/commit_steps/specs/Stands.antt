@@ -37,7 +37,7 @@ pub record HasRead (reader : Reader) (standing : Standing) : Type 0 where
   pub keeps : Keeps reader.keeper (KnowsSome reader) standing
   pub uncommitted : standing.commit ≡ commit_uncalled
 
--- It has read the table as absent, and before it those that come first, which stand as they must.
+-- it has read the table as absent, and before it those that come first, which stand as they must.
 pub record HasMissed (table : Tab) (keeper : Kept) (standing : Standing) : Type 0 where
   pub files : Files
   pub sound : AreSound (Some table) files

@@ -15,7 +15,7 @@ ghost use Rattle.acct_outside.specs.Contract.{IsWithinLimit, found_result};
 ghost use Rattle.acct_outside.specs.Faults.{CountsFailure};
 ghost use Rattle.suite_rules.specs.Steps.{StandsIn, MakesCall, AlwaysStaysLawful, Leaves, own_command};
 ghost use Rattle.suite_rules.specs.Outcomes.{before_commit};
-ghost use Rattle.commit_steps.specs.States.{next_name, table_after, with_table, start_of, walk_of};
+ghost use Rattle.commit_steps.specs.States.{AreSound, next_name, table_after, with_table, start_of, walk_of};
 ghost use Rattle.commit_steps.specs.Stands.{HasRead, StandsLoading, StandsEnded};
 ghost use Rattle.commit_steps.specs.Outcomes.{Loads, LoadsContent, LoadsTable, is_missing};
 
@@ -93,6 +93,14 @@ impl Loader {
             files,
             next: Some(Tab::Passwd),
         }
+    }
+
+    /// A law: of the tables that it has read, passwd and group stand, and each is within its limit.
+    pub fn is_sound(&self)
+        ensures { AreSound self.now.next self.now.files }
+    {
+        // The invariant is known where a field is used.
+        let _ = &self.next;
     }
 
     /// Reads the next table, or login.defs once all tables are read.
