@@ -4,3 +4,8 @@ pub mod FirstPlace
 pub mod EditLists
 pub mod TouchedRecords
 pub mod LoadedFiles
+pub mod RecordLemmas
+pub mod TableLemmas
+pub mod DecidingLemmas
+pub mod ActingLemmas
+pub mod RepeatLemmas

@@ -1,11 +1,21 @@
--- What a tool does once none of its refusals is there.
-use Rattle.std.specs.Prelude.{[]}
+-- What a tool answers, and what it does once none of its refusals is there ("EXIT VALUES" of each page).
+use Rattle.std.specs.Prelude.{◌≡◌, ◌≤◌, ⊤, ℕ, List, [], Some, None, Result, Ok, Err}
+use Rattle.acct_text.specs.declared.files.Files.{Files}
 use Rattle.account_model.specs.Action.{Action}
-use Rattle.account_model.specs.Tables.{Script}
+use Rattle.account_model.specs.Change.{action_of}
+use Rattle.account_model.specs.Records.{greatest_days}
+use Rattle.account_model.specs.Request.{Request}
+use Rattle.account_model.specs.Settings.{Setting}
+use Rattle.account_model.specs.Tables as model
+use Rattle.account_model.specs.Text.{first_some}
+use Rattle.acct_tables.specs.declared.tool_fault.ToolFault.{ToolFault}
+use Rattle.acct_tables.specs.declared.tool_fault.ToolFault.TheVariants.{Refused, Memory}
 use Rattle.table_edits.specs.declared.report.Report.{Report}
+use Rattle.table_edits.specs.declared.script.Script.{Script}
+use Rattle.table_edits.specs.SeenScript.{seen_script}
 
 -- the action with this script and this report, of which nothing but a multiple entry refuses
-abbrev pub acting : Script → Report → Action
+abbrev pub acting : model.Script → Report → Action
 acting script report = record {
   refusals = [];
   script = script;
@@ -13,3 +23,30 @@ acting script report = record {
   output = report.out;
   notices = report.notices;
 }
+
+-- none of the action's refusals is there, and the script has its edits
+pub record IsScriptOf (action : Action) (script : Script) : Type 0 where
+  pub unrefused : first_some action.refusals ≡ None
+  pub edits : seen_script script ≡ action.script
+
+-- the tool answers the script of the action, or its first refusal; want of memory may come anywhere
+abbrev pub ActsBy : Action → Result Script ToolFault → Type 0
+ActsBy action (Ok script) = IsScriptOf action script
+ActsBy action (Err (Refused refusal)) = first_some action.refusals ≡ Some refusal
+ActsBy action (Err Memory) = ⊤
+
+-- the report has what the action prints, with its status
+pub record IsReportOf (action : Action) (report : Report) : Type 0 where
+  pub status : report.status ≡ action.status
+  pub output : report.out ≡ action.output
+  pub notices : report.notices ≡ action.notices
+
+-- some tool answers so, on a day that shadow(5) holds
+pub record IsOfTool (answer : Result Script ToolFault) : Type 0 where
+  pub request : Request
+  pub input : List ℕ
+  pub day : ℕ
+  pub files : Files
+  pub settings : List Setting
+  pub in_time : day ≤ greatest_days
+  pub acts : ActsBy (action_of request input day files settings) answer

@@ -4,8 +4,9 @@ use Rattle.account_model.specs.declared.records.GroupRecord.{GroupRecord}
 use Rattle.account_model.specs.Format.{is_named}
 use Rattle.account_model.specs.Members.{with_name, without_name}
 use Rattle.account_model.specs.Records.{group_format}
+use Rattle.table_edits.specs.Memberships.{group_by}
 use Rattle.table_edits.specs.declared.group_changes.GroupAct.{GroupAct}
-use Rattle.table_edits.specs.declared.group_changes.GroupAct.TheVariants.{SetGid, Rename, SetPassword, AddMember, RemoveMember, SetMembers}
+use Rattle.table_edits.specs.declared.group_changes.GroupAct.TheVariants.{SetGid, Rename, SetPassword, AddMember, RemoveMember, SetMembers, SetMembership}
 use Rattle.table_edits.specs.declared.group_changes.GroupChange.{GroupChange}
 use Rattle.table_edits.specs.declared.group_changes.GroupChange.TheVariants.{Named, All, Remove}
 
@@ -17,6 +18,7 @@ group_after (SetPassword password) r = record r { password = password }
 group_after (AddMember user) r = record r { members = with_name user r.members }
 group_after (RemoveMember user) r = record r { members = without_name user r.members }
 group_after (SetMembers members) r = record r { members = members }
+group_after (SetMembership membership) r = group_by membership r
 
 -- the records that a record becomes by a change
 abbrev pub group_becomes : GroupChange → GroupRecord → List GroupRecord

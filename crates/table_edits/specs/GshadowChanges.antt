@@ -4,8 +4,9 @@ use Rattle.account_model.specs.declared.records.GshadowRecord.{GshadowRecord}
 use Rattle.account_model.specs.Format.{is_named}
 use Rattle.account_model.specs.Members.{with_name, without_name}
 use Rattle.account_model.specs.Records.{gshadow_format}
+use Rattle.table_edits.specs.Memberships.{gshadow_by}
 use Rattle.table_edits.specs.declared.gshadow_changes.GshadowAct.{GshadowAct}
-use Rattle.table_edits.specs.declared.gshadow_changes.GshadowAct.TheVariants.{Rename, SetPassword, SetAdministrators, AddMember, RemoveMember, SetMembers, RemoveUser}
+use Rattle.table_edits.specs.declared.gshadow_changes.GshadowAct.TheVariants.{Rename, SetPassword, SetAdministrators, AddMember, RemoveMember, SetMembers, RemoveUser, SetMembership}
 use Rattle.table_edits.specs.declared.gshadow_changes.GshadowChange.{GshadowChange}
 use Rattle.table_edits.specs.declared.gshadow_changes.GshadowChange.TheVariants.{Named, All, Remove}
 
@@ -25,6 +26,7 @@ gshadow_after (AddMember user) r = record r { members = with_name user r.members
 gshadow_after (RemoveMember user) r = record r { members = without_name user r.members }
 gshadow_after (SetMembers members) r = record r { members = members }
 gshadow_after (RemoveUser user) r = without_user user r
+gshadow_after (SetMembership membership) r = gshadow_by membership r
 
 -- the records that a record becomes by a change
 abbrev pub gshadow_becomes : GshadowChange → GshadowRecord → List GshadowRecord

@@ -9,3 +9,9 @@ pub mod SubidChanges
 pub mod SeenScript
 pub mod LoadedTables
 pub mod Acting
+pub mod Additions
+pub mod TablesOfLines
+pub mod Stopping
+pub mod HashChanges
+pub mod Memberships
+pub mod Repeats

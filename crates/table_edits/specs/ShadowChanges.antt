@@ -1,17 +1,33 @@
 -- What the changes of users make of a record of shadow (shadow(5)).
-use Rattle.std.specs.Prelude.{List, [], ◌∷◌, Some, if◌then◌else◌}
+use Rattle.std.specs.Prelude.{List, [], ◌∷◌, Some, unwrap_or, if◌then◌else◌}
 use Rattle.account_model.specs.declared.records.ShadowRecord.{ShadowRecord}
 use Rattle.account_model.specs.Format.{is_named}
 use Rattle.account_model.specs.Records.{shadow_format}
+use Rattle.table_edits.specs.HashChanges.{hash_by}
+use Rattle.table_edits.specs.declared.shadow_changes.ShadowFields.{ShadowFields}
 use Rattle.table_edits.specs.declared.shadow_changes.ShadowAct.{ShadowAct}
-use Rattle.table_edits.specs.declared.shadow_changes.ShadowAct.TheVariants.{SetHash, SetLastChange}
+use Rattle.table_edits.specs.declared.shadow_changes.ShadowAct.TheVariants.{SetHash, SetLastChange, ChangeHash, SetFields}
 use Rattle.table_edits.specs.declared.shadow_changes.ShadowChange.{ShadowChange}
 use Rattle.table_edits.specs.declared.shadow_changes.ShadowChange.TheVariants.{Named, Remove}
+
+-- the record with the fields that are given (usermod(8), `-e`, `-f` and `-l`; chage(1))
+abbrev pub with_shadow_fields : ShadowFields → ShadowRecord → ShadowRecord
+with_shadow_fields fields r = record r {
+  name = unwrap_or fields.name r.name;
+  last_change = unwrap_or fields.last_change r.last_change;
+  minimum = unwrap_or fields.minimum r.minimum;
+  maximum = unwrap_or fields.maximum r.maximum;
+  warning = unwrap_or fields.warning r.warning;
+  inactive = unwrap_or fields.inactive r.inactive;
+  expiration = unwrap_or fields.expiration r.expiration;
+}
 
 -- the record after an act
 abbrev pub shadow_after : ShadowAct → ShadowRecord → ShadowRecord
 shadow_after (SetHash hash) r = record r { hash = hash }
 shadow_after (SetLastChange day) r = record r { last_change = Some day }
+shadow_after (ChangeHash change) r = record r { hash = hash_by change r.hash }
+shadow_after (SetFields fields) r = with_shadow_fields fields r
 
 -- the records that a record becomes by a change
 abbrev pub shadow_becomes : ShadowChange → ShadowRecord → List ShadowRecord

@@ -112,8 +112,8 @@ fn multiple_in<R: EditedRecord + Drop>(
     }
 }
 
-// Whether all six files are equal.
-fn are_same(old: &Files, new: &Files) -> bool
+/// Whether all six files are equal, each absent in both or with the same bytes.
+pub fn are_same(old: &Files, new: &Files) -> bool
     ensures { result ≡ files_eq old.now new.now }
 {
     same_content(&old.passwd, &new.passwd)

@@ -1,5 +1,6 @@
 // The edits of a table as data, and what a record has so that edits can be made of it.
 ghost use Rattle.std.specs.Prelude.{◌≡◌, List, IfOk};
+ghost use Rattle.account_model.specs.Written.{IsWritten};
 ghost use Rattle.table_edits.specs.SeenEdits.{records_in};
 
 use acct_lines::TableRecord;
@@ -45,6 +46,7 @@ pub trait EditedRecord: TableRecord {
 
     /// What becomes of the record by the change.
     fn becoming(&self, alloc: Global, change: &Self::Change) -> Result<Becoming<Self>, AllocError>
+        requires { IsWritten Self.format self.now }
         ensures { IfOk result (λ becoming.
             records_in self.now becoming ≡ becomes change.now self.now) };
 }

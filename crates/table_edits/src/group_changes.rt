@@ -4,7 +4,7 @@ ghost use Rattle.account_model.specs.declared.records.GroupRecord.{GroupRecord};
 ghost use Rattle.table_edits.specs.GroupChanges.{group_after};
 
 use crate::lists::{with_name, without_name};
-use crate::{Becoming, EditedRecord};
+use crate::{Becoming, EditedRecord, Membership};
 use acct_lines::{GroupRecord, TableRecord};
 use acct_text::{Bytes, Names};
 use std::alloc::{AllocError, Global};
@@ -24,6 +24,8 @@ pub enum GroupAct {
     RemoveMember(Bytes),
     /// The members become these.
     SetMembers(Names),
+    /// The user joins or leaves the group, and has the new name in it.
+    SetMembership(Membership),
 }
 
 /// What becomes of the records of group.
@@ -79,6 +81,10 @@ fn acted(alloc: Global, old: &GroupRecord, act: &GroupAct) -> Result<GroupRecord
             new.members = without_name(alloc, &old.members, user.as_slice())?
         }
         GroupAct::SetMembers(members) => new.members = members.copy()?,
+        GroupAct::SetMembership(membership) => {
+            new.members = membership.members(alloc, old.name.as_slice(), &old.members)?;
+            return membership.renamed(alloc, &new);
+        }
     }
     Ok(new)
 }

@@ -3,7 +3,7 @@ ghost use Rattle.std.specs.Prelude.{◌≡◌, IfOk};
 ghost use Rattle.table_edits.specs.GshadowChanges.{gshadow_after, without_user};
 
 use crate::lists::{with_name, without_name};
-use crate::{Becoming, EditedRecord};
+use crate::{Becoming, EditedRecord, Membership};
 use acct_lines::{GshadowRecord, TableRecord};
 use acct_text::{Bytes, Names};
 use std::alloc::{AllocError, Global};
@@ -25,6 +25,8 @@ pub enum GshadowAct {
     SetMembers(Names),
     /// The user is neither administrator nor member any more.
     RemoveUser(Bytes),
+    /// The user joins or leaves the group, and has the new name in it.
+    SetMembership(Membership),
 }
 
 /// What becomes of the records of gshadow.
@@ -85,6 +87,10 @@ fn acted(alloc: Global, old: &GshadowRecord, act: &GshadowAct) -> Result<Gshadow
         }
         GshadowAct::SetMembers(members) => new.members = members.copy()?,
         GshadowAct::RemoveUser(user) => return without_user(alloc, old, user.as_slice()),
+        GshadowAct::SetMembership(membership) => {
+            new.members = membership.members(alloc, old.name.as_slice(), &old.members)?;
+            return membership.renamed(alloc, &new);
+        }
     }
     Ok(new)
 }

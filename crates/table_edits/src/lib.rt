@@ -2,25 +2,38 @@
 //! interpreter that carries them out (passwd(5), shadow(5), group(5), gshadow(5), subuid(5),
 //! subgid(5)).
 //!
-//! A tool loads the `Tables`, tests its refusals on them, builds a `Script`, and hands both to
-//! `decide_by`, which refuses where an edit touches one of several records of a name. `edit` has
-//! the edits, `group_changes` and its like what becomes of a record, `apply` and `multiple` the
-//! interpreter.
+//! A tool loads the `Tables`, looks up users and groups there for its refusals, and builds a
+//! `Script`. `decide_as` takes its answer: a refusal, or the script, which is refused where an edit
+//! touches one of several records of a name. `edit` has the edits, `group_changes` and its like
+//! what becomes of a record, `group_edits` and `user_edits` the edits that several tools make,
+//! `apply` and `multiple` the interpreter.
 #![tactic(auto)]
 
 mod apply;
 mod decide;
+mod deciding;
 mod edit;
+mod fields;
 mod group_changes;
+mod group_edits;
+mod groups;
 mod gshadow_changes;
+mod hash_change;
 mod lists;
+mod lookups;
+mod memberships;
 mod multiple;
+mod new_groups;
 mod passwd_changes;
+mod repeats;
 mod report;
 mod script;
+mod search;
 mod shadow_changes;
 mod subid_changes;
 mod tables;
+mod user_edits;
+mod users;
 
 pub use account_model::{Refusal, Tool};
 pub use acct_lines::{
@@ -28,14 +41,22 @@ pub use acct_lines::{
 };
 pub use acct_tables::{Decision, Output, Table, ToolFault};
 pub use apply::apply_edits;
-pub use decide::{decide_by, refuse};
+pub use decide::{are_same, decide_by, refuse};
+pub use deciding::decide_as;
 pub use edit::{Becoming, Edit, EditedRecord};
 pub use group_changes::{GroupAct, GroupChange};
 pub use gshadow_changes::{GshadowAct, GshadowChange};
+pub use hash_change::HashChange;
+pub use memberships::{Membership, UserGroups};
 pub use multiple::first_multiple;
-pub use passwd_changes::{PasswdAct, PasswdChange};
+pub use passwd_changes::{PasswdAct, PasswdChange, UserFields};
 pub use report::Report;
 pub use script::Script;
-pub use shadow_changes::{ShadowAct, ShadowChange};
-pub use subid_changes::SubidChange;
+pub use search::{RecordTest, first_passing};
+pub use shadow_changes::{ShadowAct, ShadowChange, ShadowFields};
+pub use subid_changes::{RangeCut, SubidChange};
 pub use tables::Tables;
+pub use user_edits::hash_alone;
+
+#[cfg(test)]
+mod tests;

@@ -31,8 +31,8 @@ pub(crate) fn without_name(alloc: Global, names: &Names, name: &[u8]) -> Result<
     Ok(list)
 }
 
-// Whether the name is among the names.
-fn is_listed(names: &[Bytes], name: &[u8]) -> bool
+/// Whether the name is among the names.
+pub(crate) fn is_listed(names: &[Bytes], name: &[u8]) -> bool
     ensures { result ≡ is_listed name.now names.now }
 {
     names.iter().any(|other| other.as_slice() == name)

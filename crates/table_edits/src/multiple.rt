@@ -1,5 +1,5 @@
 // Which records the edits of a table touch, and the first of them whose name has several records.
-ghost use Rattle.std.specs.Prelude.{◌≡◌, not, IfOk};
+ghost use Rattle.std.specs.Prelude.{◌≡◌, List, not, IfOk};
 ghost use Rattle.std.specs.List.{AllByRecursion};
 ghost use Rattle.account_model.specs.Edits.{first_multiple, touches};
 ghost use Rattle.account_model.specs.Edits as model;
@@ -7,12 +7,15 @@ ghost use Rattle.account_model.specs.Format.{records_of};
 ghost use Rattle.account_model.specs.RecordEdits.{IsWrittenEdit};
 ghost use Rattle.account_model.specs.Written.{IsWritten};
 ghost use Rattle.table_edits.specs.SeenEdits.{seen_edit, seen_edits};
+ghost use Rattle.table_edits.specs.Repeats.{TellsRepeats};
 ghost use Rattle.table_edits.specs.Touching.{is_met, met_at, touches_alone};
 
+use crate::repeats::{is_repeated, repeats};
 use crate::{Becoming, Edit, EditedRecord};
 use acct_tables::Table;
 use acct_text::Bytes;
 use std::alloc::{AllocError, Global};
+use std::collections::HashMap;
 
 /// The name of the first record that the edits touch and whose name has two or more records; none
 /// where there is no such record.
@@ -25,47 +28,54 @@ pub fn first_multiple<R: EditedRecord + Drop>(
     ensures { IfOk result (λ name. name ≡
         first_multiple R.format (seen_edits R.becomes edits.now) (records_of R.format table.now)) }
 {
+    let repeats = repeats(alloc, table)?;
     'places: for place in 0..table.len() {
-        if let Some(name) = met_at(alloc, table, edits, place)? {
+        if let Some(name) = met_at(alloc, table, edits, &repeats, place)? {
             return Ok(Some(name));
         }
     }
     Ok(None)
 }
 
-// The name of the record at a place, where the edits touch it and its name has several records.
+// The name of the record at a place, where its name has several records and the edits touch it.
 fn met_at<R: EditedRecord + Drop>(
     alloc: Global,
     table: &Table<R>,
     edits: &[Edit<R, R::Change>],
+    repeats: &HashMap<&[u8], bool>,
     place: usize,
 ) -> Result<Option<Bytes>, AllocError>
-    requires { AllByRecursion (IsWrittenEdit R.format) (seen_edits R.becomes edits.now) }
+    requires edits { AllByRecursion (IsWrittenEdit R.format) (seen_edits R.becomes edits.now) }
+    requires told { TellsRepeats R.format (records_of R.format table.now) repeats.now }
     ensures { IfOk result (λ name. name ≡
         met_at R.format (seen_edits R.becomes edits.now) table.now place) }
 {
     let Some(item) = table.at(place) else {
         return Ok(None);
     };
-    if !is_met(alloc, table, edits, item)? {
+    if !is_met(alloc, edits, repeats, item)? {
         return Ok(None);
     }
     Ok(Some(Bytes::of(alloc, item.name())?))
 }
 
-// Whether the edits touch the record and its name has several records.
+// Whether the name of the record has several records, by what the table tells, and the edits touch
+// the record.
 fn is_met<R: EditedRecord + Drop>(
     alloc: Global,
-    table: &Table<R>,
     edits: &[Edit<R, R::Change>],
+    repeats: &HashMap<&[u8], bool>,
     item: &R,
 ) -> Result<bool, AllocError>
     requires edits { AllByRecursion (IsWrittenEdit R.format) (seen_edits R.becomes edits.now) }
     requires written { IsWritten R.format item.now }
-    ensures { IfOk result (λ met. met ≡
-        is_met R.format (seen_edits R.becomes edits.now) (records_of R.format table.now) item.now) }
+    ensures { IfOk result (λ met. (records : List R) → TellsRepeats R.format records repeats.now
+        → met ≡ is_met R.format (seen_edits R.becomes edits.now) records item.now) }
 {
-    Ok(is_touched(alloc, edits, item)? && table.count(item.name()) >= 2)
+    if !is_repeated(repeats, item.name()) {
+        return Ok(false);
+    }
+    is_touched(alloc, edits, item)
 }
 
 // Whether one of the edits touches the record.

@@ -1,8 +1,9 @@
 // What the tools do with records of passwd (passwd(5)).
 ghost use Rattle.std.specs.Prelude.{◌≡◌, IfOk};
-ghost use Rattle.table_edits.specs.PasswdChanges.{passwd_after};
+ghost use Rattle.table_edits.specs.PasswdChanges.{passwd_after, with_user_fields};
 
-use crate::{Becoming, EditedRecord};
+use crate::fields::copy_or;
+use crate::{Becoming, EditedRecord, HashChange};
 use acct_lines::{PasswdRecord, TableRecord};
 use acct_text::Bytes;
 use std::alloc::{AllocError, Global};
@@ -14,6 +15,27 @@ pub enum PasswdAct {
     SetPassword(Bytes),
     /// The user gets the primary group of the GID.
     SetGid(u32),
+    /// The password field changes so, where it holds the hash.
+    ChangePassword(HashChange),
+    /// The fields become these, as far as they are given.
+    SetFields(UserFields),
+}
+
+/// Fields of a record of passwd that a tool sets. One that is none stays as it is.
+#[derive(Drop)]
+pub struct UserFields {
+    /// The name of the user.
+    pub name: Option<Bytes>,
+    /// The UID.
+    pub uid: Option<u32>,
+    /// The GID of the primary group.
+    pub gid: Option<u32>,
+    /// The comment, which is mostly the full name.
+    pub comment: Option<Bytes>,
+    /// The home folder.
+    pub home: Option<Bytes>,
+    /// The shell, or empty.
+    pub shell: Option<Bytes>,
 }
 
 /// What becomes of the records of passwd.
@@ -68,6 +90,23 @@ fn acted(alloc: Global, old: &PasswdRecord, act: &PasswdAct) -> Result<PasswdRec
     match act {
         PasswdAct::SetPassword(password) => new.password = password.copy()?,
         PasswdAct::SetGid(gid) => new.gid = *gid,
+        PasswdAct::ChangePassword(change) => new.password = change.of(alloc, &old.password)?,
+        PasswdAct::SetFields(fields) => return with_fields(old, fields),
     }
     Ok(new)
+}
+
+// The record with the fields that are given.
+fn with_fields(old: &PasswdRecord, fields: &UserFields) -> Result<PasswdRecord, AllocError>
+    ensures { IfOk result (λ new. new ≡ with_user_fields fields.now old.now) }
+{
+    Ok(PasswdRecord {
+        name: copy_or(&fields.name, &old.name)?,
+        password: old.password.copy()?,
+        uid: fields.uid.unwrap_or(old.uid),
+        gid: fields.gid.unwrap_or(old.gid),
+        comment: copy_or(&fields.comment, &old.comment)?,
+        home: copy_or(&fields.home, &old.home)?,
+        shell: copy_or(&fields.shell, &old.shell)?,
+    })
 }

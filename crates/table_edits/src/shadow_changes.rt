@@ -1,8 +1,9 @@
 // What the tools do with records of shadow (shadow(5)).
-ghost use Rattle.std.specs.Prelude.{◌≡◌, IfOk};
-ghost use Rattle.table_edits.specs.ShadowChanges.{shadow_after};
+ghost use Rattle.std.specs.Prelude.{◌≡◌, None, IfOk};
+ghost use Rattle.table_edits.specs.ShadowChanges.{shadow_after, with_shadow_fields};
 
-use crate::{Becoming, EditedRecord};
+use crate::fields::copy_or;
+use crate::{Becoming, EditedRecord, HashChange};
 use acct_lines::{ShadowRecord, TableRecord};
 use acct_text::Bytes;
 use std::alloc::{AllocError, Global};
@@ -14,6 +15,55 @@ pub enum ShadowAct {
     SetHash(Bytes),
     /// The last change becomes this day, counted from 1970-01-01.
     SetLastChange(u32),
+    /// The hash changes so.
+    ChangeHash(HashChange),
+    /// The fields become these, as far as they are given.
+    SetFields(ShadowFields),
+}
+
+/// Fields of a record of shadow that a tool sets. One that is none stays as it is. Of the days and
+/// numbers of days, `Some(None)` empties the field.
+#[derive(Drop)]
+pub struct ShadowFields {
+    /// The name of the user.
+    pub name: Option<Bytes>,
+    /// The day of the last change of the password, counted from 1970-01-01.
+    pub last_change: Option<Option<u32>>,
+    /// The days that have to pass before the password may be changed again.
+    pub minimum: Option<Option<u32>>,
+    /// The days after which the password has to be changed.
+    pub maximum: Option<Option<u32>>,
+    /// The days before that end on which the user is warned.
+    pub warning: Option<Option<u32>>,
+    /// The days after that end on which the password is still taken.
+    pub inactive: Option<Option<u32>>,
+    /// The day on which the account expires, counted from 1970-01-01.
+    pub expiration: Option<Option<u32>>,
+}
+
+impl ShadowFields {
+    /// No field, so that all of a record stay.
+    pub fn none() -> Self
+        ensures { result ≡ record {
+          name = None;
+          last_change = None;
+          minimum = None;
+          maximum = None;
+          warning = None;
+          inactive = None;
+          expiration = None;
+        } }
+    {
+        ShadowFields {
+            name: None,
+            last_change: None,
+            minimum: None,
+            maximum: None,
+            warning: None,
+            inactive: None,
+            expiration: None,
+        }
+    }
 }
 
 /// What becomes of the records of shadow.
@@ -65,6 +115,25 @@ fn acted(alloc: Global, old: &ShadowRecord, act: &ShadowAct) -> Result<ShadowRec
     match act {
         ShadowAct::SetHash(hash) => new.hash = hash.copy()?,
         ShadowAct::SetLastChange(day) => new.last_change = Some(*day),
+        ShadowAct::ChangeHash(change) => new.hash = change.of(alloc, &old.hash)?,
+        ShadowAct::SetFields(fields) => return with_fields(old, fields),
     }
     Ok(new)
+}
+
+// The record with the fields that are given.
+fn with_fields(old: &ShadowRecord, fields: &ShadowFields) -> Result<ShadowRecord, AllocError>
+    ensures { IfOk result (λ new. new ≡ with_shadow_fields fields.now old.now) }
+{
+    Ok(ShadowRecord {
+        name: copy_or(&fields.name, &old.name)?,
+        hash: old.hash.copy()?,
+        last_change: fields.last_change.unwrap_or(old.last_change),
+        minimum: fields.minimum.unwrap_or(old.minimum),
+        maximum: fields.maximum.unwrap_or(old.maximum),
+        warning: fields.warning.unwrap_or(old.warning),
+        inactive: fields.inactive.unwrap_or(old.inactive),
+        expiration: fields.expiration.unwrap_or(old.expiration),
+        rest: old.rest.copy()?,
+    })
 }

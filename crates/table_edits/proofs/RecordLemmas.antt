@@ -1,0 +1,117 @@
+-- Claim: the records of the lines from a place on begin with the record there (`records-from`), so
+-- a table is searched place by place (`find-met`, `find-passed`, `find-other`), and its IDs are
+-- gathered so (`ids-more`, `ids-other`, `ids-all`).
+use Rattle.std.proofs.Common.{◌≡◌, ℕ, zero, suc, ◌+◌, ◌<◌, Bool, true, false, List, [], ◌∷◌, length, drop, map, refl, sym, ◌∙◌, ap, arith, add-one}
+use Rattle.std.specs.Prelude.{Option, Some, None, find, ◌||◌, ◌==◌}
+use Rattle.std.specs.List.{cons_option}
+use Rattle.acct_text.specs.Lines.{Line}
+use Rattle.account_model.specs.Format.{Format, records_of}
+use Rattle.account_model.specs.Ids.{is_used}
+use Rattle.acct_tables.specs.TableLines.{record_at}
+use Rattle.id_choice.specs.Used.{AreThoseOf}
+
+-- what lies behind a place is the same behind one more line
+drop-next :
+    {X : Type 0} (x : X) (xs : List X) (place : ℕ)
+    → drop (place + 1) xs ≡ drop (suc place + 1) (x ∷ xs)
+drop-next x xs place = rw (add-one place, add-one (suc place)) refl
+
+-- the records from a place on begin with that of the line there
+pub records-from :
+    {R : Type 0} (format : Format R) (lines : List Line) (place : ℕ)
+    → place < length lines
+    → records_of format (drop place lines)
+    ≡ cons_option (record_at format lines place) (records_of format (drop (place + 1) lines))
+records-from format [] place inside = absurd (omega arith)
+records-from format (line ∷ lines) zero inside = refl
+records-from format (line ∷ lines) (suc place) inside =
+    records-from format lines place (omega arith)
+    ∙ ap (λ rest. cons_option (record_at format lines place) (records_of format rest))
+    (drop-next line lines place)
+
+module _ {R : Type 0} (format : Format R) (lines : List Line) (place : ℕ)
+    (inside : place < length lines) where
+  -- the records from a place on, by what stands there
+  pub records-by :
+      (found : Option R)
+      → record_at format lines place ≡ found
+      → records_of format (drop place lines)
+      ≡ cons_option found (records_of format (drop (place + 1) lines))
+  records-by found is =
+      records-from format lines place inside
+      ∙ ap (λ found. cons_option found (records_of format (drop (place + 1) lines))) is
+
+  -- a record that passes is the first that is found
+  pub find-met :
+      (test : R → Bool) (r : R)
+      → record_at format lines place ≡ Some r
+      → test r ≡ true
+      → find test (records_of format (drop place lines)) ≡ Some r
+  find-met test r is passes = ap (find test) (records-by (Some r) is) ∙ rw passes refl
+
+  -- one that doesn't isn't
+  pub find-passed :
+      (test : R → Bool) (r : R)
+      → record_at format lines place ≡ Some r
+      → test r ≡ false
+      → find test (records_of format (drop (place + 1) lines))
+      ≡ find test (records_of format (drop place lines))
+  find-passed test r is fails = sym (ap (find test) (records-by (Some r) is) ∙ rw fails refl)
+
+  -- and other text isn't
+  pub find-other :
+      (test : R → Bool)
+      → record_at format lines place ≡ None
+      → find test (records_of format (drop (place + 1) lines))
+      ≡ find test (records_of format (drop place lines))
+  find-other test is = sym (ap (find test) (records-by None is))
+
+-- the tests of three parts in another order
+reordered :
+    (first second third : Bool)
+    → ((first || second) || third) ≡ (second || (first || third))
+reordered true true third = refl
+reordered true false third = refl
+reordered false true third = refl
+reordered false false third = refl
+
+module _ {R : Type 0} (format : Format R) (number : R → ℕ) (lines : List Line) where
+  -- the IDs of the records from a place on
+  abbrev pub ids_from : ℕ → List ℕ
+  ids_from place = map number (records_of format (drop place lines))
+
+  -- the IDs that are used, with those from a place on, are those of all records
+  abbrev pub Gathers : List ℕ → ℕ → Type 0
+  Gathers used place =
+      (id : ℕ)
+      → (is_used used id || is_used (ids_from place) id)
+      ≡ is_used (map number (records_of format lines)) id
+
+  -- the ID of the record at a place is one more that is used
+  pub ids-more :
+      (old new : List ℕ) (place : ℕ) (r : R)
+      → place < length lines
+      → record_at format lines place ≡ Some r
+      → AreThoseOf new (number r ∷ old)
+      → Gathers old place
+      → Gathers new (place + 1)
+  ids-more old new place r inside is added gathers = λ id.
+      let rest = is_used (ids_from (place + 1)) id in
+      let from : is_used (ids_from place) id ≡ ((number r == id) || rest) =
+      ap (λ records. is_used (map number records) id)
+      (records-by format lines place inside (Some r) is)
+      in ap (λ used. used || rest) (added id)
+      ∙ reordered (number r == id) (is_used old id) rest
+      ∙ ap (λ behind. is_used old id || behind) (sym from) ∙ gathers id
+
+  -- other text has none
+  pub ids-other :
+      (used : List ℕ) (place : ℕ)
+      → place < length lines
+      → record_at format lines place ≡ None
+      → Gathers used place
+      → Gathers used (place + 1)
+  ids-other used place inside is gathers = λ id.
+      ap (λ records. is_used used id || is_used (map number records) id)
+      (sym (records-by format lines place inside None is))
+      ∙ gathers id
