@@ -1,6 +1,6 @@
 pub mod OptionLemmas
-pub mod RecordLemmas
 pub mod ListLemmas
 pub mod SettingLemmas
 pub mod RowLemmas
-pub mod TableLemmas
+pub mod DayLemmas
+pub mod RangePieces

@@ -1,7 +1,8 @@
 -- Claim: the values of the options from a place on begin with that of the option there
--- (`values-from`), so the last is found in one walk over the options (`last-from`).
+-- (`values-from`), so the last is found in one walk over the options (`last-from`), and so is the
+-- first that is bad (`find-passed`).
 use Rattle.std.proofs.Common.{◌≡◌, ℕ, ◌+◌, ◌<◌, Bool, ◌==◌, List, [], ◌∷◌, length, drop, get_or, refl, sym, ap, ◌∙◌, inl, inr}
-use Rattle.std.specs.Prelude.{Option, is_some, find, filter, filter_map}
+use Rattle.std.specs.Prelude.{Option, Some, None, not, is_some, find, filter, filter_map, option_and_then}
 use Rattle.std.specs.Option.{option_or}
 use Rattle.std.specs.List.{list_any, cons_option}
 use Rattle.std.proofs.lemmas.Bool.{cases_Bool}
@@ -9,7 +10,9 @@ use Rattle.std.proofs.lemmas.List.{drop_more}
 use Rattle.account_model.specs.declared.given.Given.{Given}
 use Rattle.account_model.specs.Text.{last_of}
 use Rattle.option_words.proofs.ReadingLemmas.{last_of-cons_option}
+use Rattle.command_values.specs.Forms.{form_refusal, test_of}
 use Rattle.command_values.specs.Options.{value_at}
+use Rattle.command_values.specs.declared.form.Form.{Form}
 
 -- one is found exactly where one passes
 pub is_some-find :
@@ -60,3 +63,15 @@ last-from letter options place option before inside is =
     ap (λ values. option_or (last_of values) before)
     (values-from letter options place option inside is)
     ∙ last_of-cons_option (value_at letter option) behind before
+
+-- a value that has no refusal is passed
+pub find-passed :
+    (letter : ℕ) (form : Form) (value : Option (List ℕ)) (rest : List (List ℕ))
+    → option_and_then (form_refusal letter form) value ≡ None
+    → find (λ v. not (test_of form v)) (cons_option value rest)
+    ≡ find (λ v. not (test_of form v)) rest
+find-passed letter form None rest none = refl
+find-passed letter form (Some value) rest none = elim (cases_Bool (test_of form value)) [
+  | inl fits ↦ rw fits refl
+  | inr other ↦ absurd (cc (rw other at none))
+]

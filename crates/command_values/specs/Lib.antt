@@ -1,4 +1,5 @@
 pub mod Options
 pub mod Forms
 pub mod Chosen
-pub mod Tables
+pub mod FieldNumbers
+pub mod Ranges

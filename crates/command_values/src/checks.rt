@@ -1,9 +1,11 @@
 // What a tool refuses by the words of its command alone.
-ghost use Rattle.std.specs.Prelude.{◌≡◌, ◌∷◌, []};
-ghost use Rattle.account_model.specs.Refusals.{bad_value, bad_name, bad_list_name};
-ghost use Rattle.command_values.specs.Forms.{test_of};
+ghost use Rattle.std.specs.Prelude.{◌≡◌, ◌∷◌, [], option_and_then};
+ghost use Rattle.std.specs.Option.{option_copied};
+ghost use Rattle.account_model.specs.Refusals.{bad_value, bad_values, bad_name, bad_list_name};
+ghost use Rattle.command_values.specs.Forms.{form_refusal, test_of};
 ghost use Rattle.acct_tables.specs.Refusing.{RefusesBy};
 
+use crate::asked::value_at;
 use crate::form::has_byte;
 use crate::{Asked, Form, ToolFault};
 use account_model::Refusal;
@@ -17,13 +19,32 @@ impl Asked {
     pub fn check_value(&self, alloc: Global, letter: u8, form: Form) -> Result<(), ToolFault>
         ensures { RefusesBy (bad_value (letter ∷ []) (test_of form) self.now) result }
     {
-        match self.value(letter) {
-            Some(value) if !form.allows(value) => {
-                let value = Bytes::of(alloc, value)?;
-                Err(ToolFault::Refused(Refusal::BadValue(letter, value)))
-            }
-            _ => Ok(()),
+        check_form(alloc, letter, form, self.value(letter))
+    }
+
+    /// Refuses the first value of the option that isn't of the form, where each of its values
+    /// counts: `BadValue`. `Memory` comes only where there is no room for that refusal.
+    pub fn check_values(&self, alloc: Global, letter: u8, form: Form) -> Result<(), ToolFault>
+        ensures { RefusesBy (bad_values (letter ∷ []) (test_of form) self.now) result }
+    {
+        for option in self.options() {
+            check_form(alloc, letter, form, value_at(option, letter))?;
         }
+        Ok(())
+    }
+}
+
+// Refuses a value of the option, where there is one and it isn't of the form: `BadValue`.
+fn check_form(alloc: Global, letter: u8, form: Form, value: Option<&[u8]>) -> Result<(), ToolFault>
+    ensures { RefusesBy
+        (option_and_then (form_refusal letter form) (option_copied value.entry)) result }
+{
+    match value {
+        Some(value) if !form.allows(value) => {
+            let value = Bytes::of(alloc, value)?;
+            Err(ToolFault::Refused(Refusal::BadValue(letter, value)))
+        }
+        _ => Ok(()),
     }
 }
 

@@ -4,17 +4,15 @@ ghost use Rattle.acct_text.specs.Numbers.{number_within};
 ghost use Rattle.acct_text.specs.Bytes.{newline, colon, is_empty};
 ghost use Rattle.account_model.specs.Records.{read_id as id_of_text};
 ghost use Rattle.account_model.specs.Text.{has_byte, slash, begins_with};
-ghost use Rattle.account_model.specs.Values.{days_value, is_field as stands_in_field, is_folder as is_folder_text, is_shell as is_shell_text};
+ghost use Rattle.account_model.specs.Values.{is_field as stands_in_field, is_folder as is_folder_text, is_shell as is_shell_text};
 ghost use Rattle.command_values.specs.Forms.{test_of};
 
+use crate::{read_date, read_days, read_expiration, read_range};
 use acct_lines::is_valid_name;
 use acct_text::read_decimal;
 
 // The greatest UID or GID.
 const GREATEST_ID: u32 = 4294967294;
-
-// The greatest number of days.
-const GREATEST_DAYS: u32 = 2147483647;
 
 /// What the value of an option has to be.
 #[derive(Clone, Copy)]
@@ -31,6 +29,12 @@ pub enum Form {
     Name,
     /// A number of days, at most 2147483647, or `-1`.
     Days,
+    /// A day: its number, at most 2147483647, a date YYYY-MM-DD from 1970-01-01 on, or `-1`.
+    Date,
+    /// A day as in `Date`, or nothing.
+    Expiration,
+    /// `FIRST-LAST`, two IDs of which the first doesn't pass the last.
+    Range,
 }
 
 impl Form {
@@ -45,6 +49,9 @@ impl Form {
             Form::Id => read_id(value).is_some(),
             Form::Name => is_valid_name(value),
             Form::Days => read_days(value).is_some(),
+            Form::Date => read_date(value).is_some(),
+            Form::Expiration => read_expiration(value).is_some(),
+            Form::Range => read_range(value).is_some(),
         }
     }
 }
@@ -56,19 +63,8 @@ pub fn read_id(text: &[u8]) -> Option<u32>
     number_within(text, GREATEST_ID)
 }
 
-/// The number of days that a text writes, at most 2147483647. `-1` gives `Some(None)`, which
-/// empties a field (chage(1), `-m`).
-pub fn read_days(text: &[u8]) -> Option<Option<u32>>
-    ensures { result ≡ days_value text.now }
-{
-    if text == b"-1".as_slice() {
-        return Some(None);
-    }
-    number_within(text, GREATEST_DAYS).map(Some)
-}
-
-// The number, of at most `greatest`, that a text writes in decimal digits.
-fn number_within(text: &[u8], greatest: u32) -> Option<u32>
+/// The number, of at most `greatest`, that a text writes in decimal digits.
+pub(crate) fn number_within(text: &[u8], greatest: u32) -> Option<u32>
     ensures { result ≡ number_within greatest text.now }
 {
     match read_decimal(text, u64::from(greatest)) {
@@ -125,6 +121,9 @@ mod tests {
             (Form::Days, b"-1", true),
             (Form::Days, b"2147483647", true),
             (Form::Days, b"2147483648", false),
+            (Form::Date, b"2024-02-29", true),
+            (Form::Date, b"", false),
+            (Form::Expiration, b"", true),
         ];
         for (form, value, wanted) in cases {
             assert_eq!(rt; form.allows(value), wanted);

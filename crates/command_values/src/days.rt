@@ -1,0 +1,77 @@
+// Numbers of days and dates, as the values of options write them (useradd(8), usermod(8), chage(1)).
+ghost use Rattle.std.specs.Prelude.{◌≡◌, ℕ, Option};
+ghost use Rattle.account_model.specs.Values.{days_value, date_value, expiration_value};
+ghost use Rattle.command_values.specs.FieldNumbers.{IsFieldNumber};
+
+use crate::form::number_within;
+use acct_dates::read_day;
+
+// The greatest number of days.
+const GREATEST_DAYS: u32 = 2147483647;
+
+/// The number of days that a text writes, at most 2147483647. `-1` gives `Some(None)`, which
+/// empties a field (chage(1), `-m`).
+pub fn read_days(text: &[u8]) -> Option<Option<u32>>
+    ensures { result ≡ days_value text.now }
+{
+    if text == b"-1".as_slice() {
+        return Some(None);
+    }
+    number_within(text, GREATEST_DAYS).map(Some)
+}
+
+/// The day that a text writes, counted from 1970-01-01: a number up to 2147483647, or a date
+/// YYYY-MM-DD. `-1` gives `Some(None)`, which empties a field (chage(1), `-d` and `-E`).
+pub fn read_date(text: &[u8]) -> Option<Option<u32>>
+    ensures { result ≡ date_value text.now }
+{
+    match read_day(text) {
+        Ok(day) => Some(field_number(day)),
+        Err(_) => None,
+    }
+}
+
+/// The same, and an empty text empties the field as well (useradd(8) and usermod(8), `-e`).
+pub fn read_expiration(text: &[u8]) -> Option<Option<u32>>
+    ensures { result ≡ expiration_value text.now }
+{
+    if text.is_empty() {
+        return Some(None);
+    }
+    read_date(text)
+}
+
+// A number as a field has it: none for -1.
+fn field_number(number: i64) -> Option<u32>
+    ensures { (wanted : Option ℕ) → IsFieldNumber number wanted → result ≡ wanted }
+{
+    u32::try_from(number).ok()
+}
+
+#[cfg(test)]
+mod tests {
+    use super::*;
+
+    // Each text, and the day that -e of useradd(8) takes it for.
+    #[test]
+    fn a_text_is_a_day(rt: HostRuntime) {
+        let cases = [
+            (b"2024-10-04".as_slice(), Some(Some(20000))),
+            (b"1970-01-01", Some(Some(0))),
+            (b"020000", Some(Some(20000))),
+            (b"2147483647", Some(Some(2147483647))),
+            (b"-1", Some(None)),
+            (b"", Some(None)),
+            (b"2147483648", None),
+            (b"2024-02-30", None),
+            (b"1969-12-31", None),
+            (b"2024-2-3", None),
+            (b"tomorrow", None),
+        ];
+        for (text, wanted) in cases {
+            assert_eq!(rt; read_expiration(text), wanted);
+        }
+        assert_eq!(rt; read_date(b""), None);
+        assert_eq!(rt; read_days(b"-1"), Some(None));
+    }
+}
