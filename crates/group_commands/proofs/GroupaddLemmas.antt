@@ -16,40 +16,9 @@ use Rattle.acct_tables.specs.declared.tool_fault.ToolFault.TheVariants.{Refused,
 use Rattle.acct_tables.specs.Refusing.{IsFaultOf}
 use Rattle.table_edits.specs.declared.script.Script.{Script}
 use Rattle.table_edits.specs.SeenScript.{seen_script}
-use Rattle.group_commands.specs.Acts.{ActsBy, IsScriptOf}
-use Rattle.group_commands.specs.Stopping.{StopsBy}
-
--- ---- The first of two lists
-
--- what is first among some is first with more behind them
-first_some-before :
-    {X : Type 0} (some more : List (Option X)) (first : X)
-    → first_some some ≡ Some first
-    → first_some (some ++ more) ≡ Some first
-first_some-before [] more first is = absurd cc
-first_some-before (None ∷ some) more first is = first_some-before some more first is
-first_some-before (Some x ∷ some) more first is = is
-
--- where some are none, the first is one of those behind them
-first_some-behind :
-    {X : Type 0} (some more : List (Option X))
-    → first_some some ≡ None
-    → first_some (some ++ more) ≡ first_some more
-first_some-behind [] more none = refl
-first_some-behind (None ∷ some) more none = first_some-behind some more none
-first_some-behind (Some x ∷ some) more none = absurd cc
-
--- ---- The action
-
--- a fault that is handed on is the tool's answer
-pub acts-handed :
-    (action : Action) (result : Result Script ToolFault) (fault : ToolFault)
-    → IsErrAnd result (λ found. found ≡ fault)
-    → ActsBy action (Err fault)
-    → ActsBy action result
-acts-handed action (Ok script) fault handed is = absurd handed
-acts-handed action (Err found) fault handed is =
-    subst (λ fault. ActsBy action (Err fault)) (sym handed) is
+use Rattle.table_edits.specs.Acting.{ActsBy, IsScriptOf}
+use Rattle.table_edits.specs.Stopping.{StopsBy}
+use Rattle.table_edits.proofs.ActingLemmas.{first_some-before, first_some-behind}
 
 module _ (name : List ℕ) (request : Request) (files : Files) (settings : List Setting) where
   -- what groupadd does, by whether the group exists and `-f` is given

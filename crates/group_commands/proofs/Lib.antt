@@ -1,3 +1,2 @@
-pub mod GroupLemmas
 pub mod GroupaddLemmas
 pub mod DecisionLemmas

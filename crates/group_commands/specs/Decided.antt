@@ -11,13 +11,8 @@ use Rattle.acct_tables.specs.declared.decision.Decision.{Decision}
 use Rattle.acct_tables.specs.declared.tool_fault.ToolFault.{ToolFault}
 use Rattle.login_defs.specs.declared.defs.Defs.{Defs}
 use Rattle.login_defs.specs.Held.{HasSettings}
+use Rattle.table_edits.specs.Acting.{ActsBy}
 use Rattle.table_edits.specs.declared.script.Script.{Script}
-use Rattle.group_commands.specs.Acts.{ActsBy}
-
--- the values are those of some settings
-pub record IsHeld (defs : Defs) : Type 0 where
-  pub settings : List Setting
-  pub held : HasSettings defs settings
 
 -- the tool acts as it has to on any input and any day, whichever settings the values are those of
 abbrev pub ActsUnder : Defs → Request → Files → Result Script ToolFault → Type 0

@@ -1,5 +1,3 @@
-pub mod Acts
-pub mod Additions
+pub mod GroupTools
 pub mod Decided
-pub mod Stopping
 pub mod GroupaddGid

@@ -1,19 +1,20 @@
 // What a command on groups decides: its tool is asked for its script, which is carried out.
-ghost use Rattle.std.specs.Prelude.{◌≡◌, IfOk};
-ghost use Rattle.group_commands.specs.Acts.{IsGroupTool};
-ghost use Rattle.group_commands.specs.Decided.{IsHeld, ActsUnder, DecidesUnder};
+ghost use Rattle.std.specs.Prelude.{IfOk};
+ghost use Rattle.login_defs.specs.Held.{IsHeld};
+ghost use Rattle.group_commands.specs.Decided.{ActsUnder, DecidesUnder};
+ghost use Rattle.group_commands.specs.GroupTools.{IsGroupTool};
 
 use crate::gpasswd::gpasswd;
 use crate::groupadd::groupadd;
 use crate::groupdel::groupdel;
 use crate::groupmod::groupmod;
 use crate::{Decision, GroupRequest};
-use account_model::{Tool, tools_are_written};
+use account_model::Tool;
 use acct_text::Files;
 use command_values::{Asked, ToolFault};
 use login_defs::Defs;
 use std::alloc::{AllocError, Global};
-use table_edits::{Report, Script, Tables, decide_by, refuse};
+use table_edits::{Report, Script, Tables, decide_as};
 
 /// What the command decides on these files, by the settings: it is refused, or all tables stay as
 /// they are, or they become others. No tool of groups needs the day, in days since 1970-01-01. An
@@ -28,38 +29,11 @@ pub fn decide(
     requires held { IsHeld defs.now }
     ensures { IfOk result (DecidesUnder defs.now request.now files.now) }
 {
+    let asked = request.asked();
     let tables = Tables::load(alloc, files)?;
-    decide_on(alloc, request.asked(), files, tables, defs)
-}
-
-// The same, by the tables of the files.
-fn decide_on(
-    alloc: Global,
-    asked: &Asked,
-    files: &Files,
-    tables: Tables,
-    defs: &Defs,
-) -> Result<Decision, AllocError>
-    requires tool { IsGroupTool asked.now.tool }
-    requires loaded { tables ≡ files.now }
-    requires held { IsHeld defs.now }
-    ensures { IfOk result (DecidesUnder defs.now asked.now files.now) }
-{
-    match script_of(alloc, asked, &tables, defs) {
-        Ok(script) => {
-            tools_are_written();
-            decide_by(
-                alloc,
-                asked.tool(),
-                files,
-                tables,
-                &script,
-                Report::silent(alloc),
-            )
-        }
-        Err(ToolFault::Refused(refusal)) => refuse(alloc, asked.tool(), refusal),
-        Err(ToolFault::Memory) => Err(AllocError),
-    }
+    let answer = script_of(alloc, asked, &tables, defs);
+    let report = Report::silent(alloc);
+    decide_as(alloc, asked.tool(), files, tables, answer, report)
 }
 
 // The script of the tool that is asked for.

@@ -6,11 +6,9 @@ ghost use Rattle.account_model.specs.Request.{operand};
 ghost use Rattle.account_model.specs.Text.{first_some, is_listed as stands_in};
 ghost use Rattle.account_model.specs.Values.{list_value as names_of_list};
 ghost use Rattle.acct_tables.specs.Refusing.{RefusesBy};
-ghost use Rattle.group_commands.specs.Acts.{ActsBy};
-ghost use Rattle.group_commands.specs.Stopping.{StopsBy};
+ghost use Rattle.table_edits.specs.Acting.{ActsBy};
+ghost use Rattle.table_edits.specs.Stopping.{StopsBy};
 
-use crate::lookups::{check_group, group_named, gshadow_named};
-use crate::users::{check_user, check_users};
 use account_model::Refusal;
 use acct_text::Bytes;
 use command_values::{Asked, ToolFault, check_list_name, is_listed, list_value};
@@ -36,7 +34,7 @@ fn check_names(alloc: Global, asked: &Asked, tables: &Tables) -> Result<(), Tool
     ensures { StopsBy
         (first_some (gpasswd_refusals (operand asked.now) asked.now tables.now)) result }
 {
-    check_group(alloc, tables, asked.operand())?;
+    tables.check_group(alloc, asked.operand())?;
     check_added(alloc, asked, tables)?;
     check_removed(alloc, asked, tables)?;
     check_list(alloc, asked, tables, b'A')?;
@@ -50,7 +48,7 @@ fn check_added(alloc: Global, asked: &Asked, tables: &Tables) -> Result<(), Tool
         (refuse_value (codes "a") asked.now (λ user. missing_user user tables.now)) result }
 {
     match asked.value(b'a') {
-        Some(user) => check_user(alloc, tables, user),
+        Some(user) => tables.check_user(alloc, user),
         None => Ok(()),
     }
 }
@@ -88,7 +86,7 @@ fn is_member(tables: &Tables, user: &[u8], group: &[u8]) -> bool
 fn is_group_member(tables: &Tables, user: &[u8], group: &[u8]) -> bool
     ensures { result ≡ stands_in user.now (members_of group.now tables.now) }
 {
-    match group_named(tables, group) {
+    match tables.group_named(group) {
         Some(group) => is_listed(user, group.members.as_slice()),
         None => false,
     }
@@ -98,7 +96,7 @@ fn is_group_member(tables: &Tables, user: &[u8], group: &[u8]) -> bool
 fn is_gshadow_member(tables: &Tables, user: &[u8], group: &[u8]) -> bool
     ensures { result ≡ stands_in user.now (gshadow_members_of group.now tables.now) }
 {
-    match gshadow_named(tables, group) {
+    match tables.gshadow_named(group) {
         Some(group) => is_listed(user, group.members.as_slice()),
         None => false,
     }
@@ -120,7 +118,7 @@ fn check_listed(alloc: Global, tables: &Tables, users: &[u8]) -> Result<(), Tool
     ensures { StopsBy (missing_users (names_of_list users.now) tables.now) result }
 {
     let names = list_value(alloc, users)?;
-    check_users(alloc, tables, names.as_slice())
+    tables.check_users(alloc, names.as_slice())
 }
 
 // Refuses a user of `-a` who can't stand in a list.

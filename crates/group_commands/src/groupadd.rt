@@ -2,7 +2,7 @@
 ghost use Rattle.std.specs.Prelude.{◌≡◌, List, IfOk};
 ghost use Rattle.account_model.specs.Groupadd.{groupadd, groupadd_checks, groupadd_used_gid, is_content, is_gid_taken, new_gid};
 ghost use Rattle.account_model.specs.Ids.{used_gids as gids_of};
-ghost use Rattle.account_model.specs.NewAccount.{add_group, new_group, new_gshadow, settings_for};
+ghost use Rattle.account_model.specs.NewAccount.{settings_for};
 ghost use Rattle.account_model.specs.Request.{operand};
 ghost use Rattle.account_model.specs.Settings.{Setting};
 ghost use Rattle.account_model.specs.Text.{first_some};
@@ -10,18 +10,16 @@ ghost use Rattle.acct_tables.specs.Refusing.{RefusesBy};
 ghost use Rattle.command_values.specs.Chosen.{AddsSettings};
 ghost use Rattle.id_choice.specs.Used.{AreThoseOf};
 ghost use Rattle.login_defs.specs.Held.{HasSettings};
-ghost use Rattle.table_edits.specs.SeenScript.{seen_script};
-ghost use Rattle.group_commands.specs.Acts.{ActsBy};
+ghost use Rattle.table_edits.specs.Acting.{ActsBy};
 ghost use Rattle.group_commands.specs.GroupaddGid.{GivesGid};
 
-use crate::lookups::group_named;
-use account_model::{GroupRecord, GshadowRecord, IdSort, Refusal};
-use acct_text::{Bytes, Names};
+use account_model::{IdSort, Refusal};
+use acct_text::Bytes;
 use command_values::{Asked, Form, ToolFault, check_name, free_id};
 use id_choice::UsedIds;
 use login_defs::Defs;
-use std::alloc::{AllocError, Global};
-use table_edits::{Edit, Script, Tables};
+use std::alloc::Global;
+use table_edits::{Script, Tables};
 
 /// The edits that make the group of the name, with the GID of `-g` or a chosen one.
 ///
@@ -43,7 +41,9 @@ pub(crate) fn groupadd(
     }
     let gid = gid_without_conflict(alloc, asked, tables, &settings)?;
     let hash = asked.value_or(b'p', b"!");
-    Ok(add_group(alloc, asked.operand(), hash, gid, tables)?)
+    let mut script = Script::new(alloc);
+    script.add_group(alloc, tables, asked.operand(), hash, gid)?;
+    Ok(script)
 }
 
 // Refuses a bad name and bad values, and gives the settings with those of the `-K` words.
@@ -63,7 +63,7 @@ fn check_words(alloc: Global, asked: &Asked, defs: &Defs) -> Result<Defs, ToolFa
 fn is_content(asked: &Asked, tables: &Tables) -> bool
     ensures { result ≡ is_content (operand asked.now) asked.now tables.now }
 {
-    asked.has(b'f') && group_named(tables, asked.operand()).is_some()
+    asked.has(b'f') && tables.group_named(asked.operand()).is_some()
 }
 
 // The GID of the new group, where neither its name nor its GID is taken.
@@ -76,22 +76,12 @@ fn gid_without_conflict(
     ensures { GivesGid asked.now tables.now settings.now result }
 {
     let name = asked.operand();
-    if group_named(tables, name).is_some() {
+    if tables.group_named(name).is_some() {
         return Err(ToolFault::Refused(Refusal::GroupExists(Bytes::of(alloc, name)?)));
     }
-    let used = used_gids(alloc, tables)?;
+    let used = tables.used_gids(alloc)?;
     check_given_gid(asked, tables, &used)?;
     new_gid(asked, tables, settings, &used).ok_or(ToolFault::Refused(Refusal::NoFreeGid))
-}
-
-// The GIDs of all groups.
-fn used_gids(alloc: Global, tables: &Tables) -> Result<UsedIds, AllocError>
-    ensures { IfOk result (λ used. AreThoseOf used (gids_of tables.now)) }
-{
-    match tables.group() {
-        Some(groups) => command_values::used_gids(alloc, groups),
-        None => Ok(UsedIds::new(alloc)),
-    }
 }
 
 // Refuses the GID of `-g` where it is taken: `GidInUse`. With `-f` another one is chosen.
@@ -125,57 +115,4 @@ fn new_gid(asked: &Asked, tables: &Tables, settings: &Defs, used: &UsedIds) -> O
         Some(gid) if !(asked.has(b'f') && is_gid_taken(asked, tables, used, gid)) => Some(gid),
         _ => free_id(IdSort::Gid, asked.kind(), settings, used),
     }
-}
-
-// The lines of the group. The hash stands in gshadow, and without gshadow in group.
-fn add_group(
-    alloc: Global,
-    name: &[u8],
-    hash: &[u8],
-    gid: u32,
-    tables: &Tables,
-) -> Result<Script, AllocError>
-    ensures { IfOk result (λ script.
-        seen_script script ≡ add_group name.now hash.now gid tables.now) }
-{
-    let password = if tables.gshadow().is_some() {
-        b"x"
-    } else {
-        hash
-    };
-    let mut script = Script::new(alloc);
-    let line = new_group(alloc, name, password, gid)?;
-    script.group.push(Edit::Add(line))?;
-    let line = new_gshadow(alloc, name, hash)?;
-    script.gshadow.push(Edit::Put(line))?;
-    Ok(script)
-}
-
-// A record of group without members.
-fn new_group(
-    alloc: Global,
-    name: &[u8],
-    password: &[u8],
-    gid: u32,
-) -> Result<GroupRecord, AllocError>
-    ensures { IfOk result (λ group. group ≡ new_group name.now password.now gid) }
-{
-    Ok(GroupRecord {
-        name: Bytes::of(alloc, name)?,
-        password: Bytes::of(alloc, password)?,
-        gid,
-        members: Names::new(alloc),
-    })
-}
-
-// A record of gshadow without administrators and members.
-fn new_gshadow(alloc: Global, name: &[u8], hash: &[u8]) -> Result<GshadowRecord, AllocError>
-    ensures { IfOk result (λ group. group ≡ new_gshadow name.now hash.now) }
-{
-    Ok(GshadowRecord {
-        name: Bytes::of(alloc, name)?,
-        password: Bytes::of(alloc, hash)?,
-        administrators: Names::new(alloc),
-        members: Names::new(alloc),
-    })
 }

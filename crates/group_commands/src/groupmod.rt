@@ -7,11 +7,10 @@ ghost use Rattle.account_model.specs.Refusals.{refuse_value};
 ghost use Rattle.account_model.specs.Users.{has_group, has_gshadow};
 ghost use Rattle.acct_tables.specs.Refusing.{RefusesBy};
 ghost use Rattle.table_edits.specs.SeenScript.{seen_script};
-ghost use Rattle.group_commands.specs.Acts.{ActsBy};
-ghost use Rattle.group_commands.specs.Additions.{HasAlso};
+ghost use Rattle.table_edits.specs.Acting.{ActsBy};
+ghost use Rattle.table_edits.specs.Additions.{HasAlso};
+ghost use Rattle.table_edits.specs.Stopping.{StopsBy};
 
-use crate::edits::{change_group, change_gshadow, set_group_hash};
-use crate::lookups::{check_group, group_named, gshadow_named, is_gid_used};
 use account_model::{GroupRecord, Refusal};
 use acct_text::Bytes;
 use command_values::{Asked, Form, ToolFault};
@@ -30,9 +29,9 @@ pub(crate) fn groupmod(alloc: Global, asked: &Asked, tables: &Tables) -> Result<
     asked.check_value(alloc, b'g', Form::Id)?;
     asked.check_value(alloc, b'n', Form::Name)?;
     asked.check_value(alloc, b'p', Form::Field)?;
-    check_group(alloc, tables, group)?;
+    tables.check_group(alloc, group)?;
     check_new_name(alloc, asked, tables, group)?;
-    check_new_gid(asked, tables, group)?;
+    check_new_gid(alloc, asked, tables, group)?;
     Ok(changed_group(alloc, asked, tables, group)?)
 }
 
@@ -71,18 +70,24 @@ fn check_name_free(
 fn is_taken(tables: &Tables, name: &[u8]) -> bool
     ensures { result ≡ has_group name.now tables.now || has_gshadow name.now tables.now }
 {
-    group_named(tables, name).is_some() || gshadow_named(tables, name).is_some()
+    tables.group_named(name).is_some() || tables.gshadow_named(name).is_some()
 }
 
 // Refuses a GID of `-g` that is another group's where `-o` isn't given: `GidInUse`.
-fn check_new_gid(asked: &Asked, tables: &Tables, group: &[u8]) -> Result<(), ToolFault>
-    ensures { RefusesBy (groupmod_used_gid group.now asked.now tables.now) result }
+fn check_new_gid(
+    alloc: Global,
+    asked: &Asked,
+    tables: &Tables,
+    group: &[u8],
+) -> Result<(), ToolFault>
+    ensures { StopsBy (groupmod_used_gid group.now asked.now tables.now) result }
 {
     if asked.has(b'o') {
         return Ok(());
     }
-    match (asked.id(b'g'), group_named(tables, group)) {
-        (Some(gid), Some(old)) if gid != old.gid && is_gid_used(tables, gid) => {
+    let used = tables.used_gids(alloc)?;
+    match (asked.id(b'g'), tables.group_named(group)) {
+        (Some(gid), Some(old)) if gid != old.gid && used.holds(gid) => {
             Err(ToolFault::Refused(Refusal::GidInUse(gid)))
         }
         _ => Ok(()),
@@ -119,7 +124,7 @@ fn write_hash(
         script.old script.new) }
 {
     match asked.value(b'p') {
-        Some(hash) => set_group_hash(alloc, script, tables, group, hash),
+        Some(hash) => script.set_group_hash(alloc, tables, group, hash),
         None => Ok(()),
     }
 }
@@ -135,7 +140,7 @@ fn write_gid(
     ensures { OnOk result
         (HasAlso (gid_script group.now asked.now tables.now) script.old script.new) }
 {
-    match (asked.id(b'g'), group_named(tables, group)) {
+    match (asked.id(b'g'), tables.group_named(group)) {
         (Some(gid), Some(old)) => set_gid(alloc, script, group, gid, old),
         _ => Ok(()),
     }
@@ -167,7 +172,7 @@ fn set_gid(
 ) -> Result<(), AllocError>
     ensures { OnOk result (HasAlso (set_gid group.now gid old.now) script.old script.new) }
 {
-    change_group(alloc, script, group, GroupAct::SetGid(gid))?;
+    script.change_group(alloc, group, GroupAct::SetGid(gid))?;
     let change = PasswdChange::OfGroup(old.gid, PasswdAct::SetGid(gid));
     script.passwd.push(Edit::Become(change))?;
     Ok(())
@@ -182,11 +187,7 @@ fn rename_group(
 ) -> Result<(), AllocError>
     ensures { OnOk result (HasAlso (rename_group old.now new.now) script.old script.new) }
 {
-    change_group(alloc, script, old, GroupAct::Rename(Bytes::of(alloc, new)?))?;
-    change_gshadow(
-        alloc,
-        script,
-        old,
-        GshadowAct::Rename(Bytes::of(alloc, new)?),
-    )
+    let act = GroupAct::Rename(Bytes::of(alloc, new)?);
+    let gshadow_act = GshadowAct::Rename(Bytes::of(alloc, new)?);
+    script.change_both(alloc, old, act, gshadow_act)
 }

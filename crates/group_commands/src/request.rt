@@ -1,7 +1,7 @@
 // What a command on groups asks for.
 ghost use Rattle.std.specs.Prelude.{◌≡◌, IfOk};
 ghost use Rattle.option_words.specs.Parsed.{request_in};
-ghost use Rattle.group_commands.specs.Acts.{IsGroupTool};
+ghost use Rattle.group_commands.specs.GroupTools.{IsGroupTool};
 
 use acct_text::Bytes;
 use command_values::Asked;
@@ -18,7 +18,7 @@ pub struct GroupRequest {
 
 impl Model for GroupRequest {
     ghost use Rattle.account_model.specs.Request.{Request};
-    ghost use Rattle.group_commands.specs.Acts.{IsGroupTool};
+    ghost use Rattle.group_commands.specs.GroupTools.{IsGroupTool};
 
     ghost Value = { Request };
 

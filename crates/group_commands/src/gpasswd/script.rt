@@ -1,21 +1,14 @@
 // The edits of gpasswd(1), option by option.
 ghost use Rattle.std.specs.Prelude.{◌≡◌, ◌∷◌, [], IfOk, OnOk, codes};
 ghost use Rattle.account_model.specs.Action.{with_option, with_flag};
-ghost use Rattle.account_model.specs.Edits.Edit.{Become};
 ghost use Rattle.account_model.specs.Gpasswd.{gpasswd_script};
 ghost use Rattle.account_model.specs.Hashes.{set_administrators, set_group_hash, locked};
 ghost use Rattle.account_model.specs.Members.{add_to_group, each_members, remove_from_group};
 ghost use Rattle.account_model.specs.Request.{operand};
-ghost use Rattle.account_model.specs.Tables.{no_edits};
 ghost use Rattle.account_model.specs.Values.{list_value as names_of_list};
-ghost use Rattle.table_edits.specs.GroupChanges.{group_becomes};
-ghost use Rattle.table_edits.specs.GshadowChanges.{gshadow_becomes};
 ghost use Rattle.table_edits.specs.SeenScript.{seen_script};
-ghost use Rattle.table_edits.specs.declared.group_changes.GroupChange.TheVariants.{Named};
-ghost use Rattle.table_edits.specs.declared.gshadow_changes.GshadowChange.TheVariants.{Named as NamedThere};
-ghost use Rattle.group_commands.specs.Additions.{HasAlso};
+ghost use Rattle.table_edits.specs.Additions.{HasAlso};
 
-use crate::edits::{change_group, change_gshadow, demand_gshadow, set_group_hash};
 use acct_text::{Bytes, Names};
 use command_values::{Asked, list_value};
 use std::alloc::{AllocError, Global};
@@ -45,9 +38,7 @@ fn add_member(alloc: Global, asked: &Asked, script: &mut Script) -> Result<(), A
     let Some(user) = asked.value(b'a') else {
         return Ok(());
     };
-    let act = GroupAct::AddMember(Bytes::of(alloc, user)?);
-    let gshadow_act = GshadowAct::AddMember(Bytes::of(alloc, user)?);
-    change_both(alloc, script, asked.operand(), act, gshadow_act)
+    script.add_to_group(alloc, asked.operand(), user)
 }
 
 // `-d` removes a member.
@@ -61,7 +52,7 @@ fn remove_member(alloc: Global, asked: &Asked, script: &mut Script) -> Result<()
     };
     let act = GroupAct::RemoveMember(Bytes::of(alloc, user)?);
     let gshadow_act = GshadowAct::RemoveMember(Bytes::of(alloc, user)?);
-    change_both(alloc, script, asked.operand(), act, gshadow_act)
+    script.change_both(alloc, asked.operand(), act, gshadow_act)
 }
 
 // `-A` sets the administrators.
@@ -93,7 +84,7 @@ fn list_members(alloc: Global, asked: &Asked, script: &mut Script) -> Result<(),
     };
     let act = GroupAct::SetMembers(list_value(alloc, users)?);
     let gshadow_act = GshadowAct::SetMembers(list_value(alloc, users)?);
-    change_both(alloc, script, asked.operand(), act, gshadow_act)
+    script.change_both(alloc, asked.operand(), act, gshadow_act)
 }
 
 // `-r` sets an empty hash.
@@ -110,7 +101,7 @@ fn remove_password(
     if !asked.has(b'r') {
         return Ok(());
     }
-    set_group_hash(alloc, script, tables, asked.operand(), b"")
+    script.set_group_hash(alloc, tables, asked.operand(), b"")
 }
 
 // `-R` sets the hash `!`.
@@ -127,26 +118,7 @@ fn restrict(
     if !asked.has(b'R') {
         return Ok(());
     }
-    set_group_hash(alloc, script, tables, asked.operand(), b"!")
-}
-
-// Does the acts with the records of the group in group and gshadow.
-fn change_both(
-    alloc: Global,
-    script: &mut Script,
-    name: &[u8],
-    act: GroupAct,
-    gshadow_act: GshadowAct,
-) -> Result<(), AllocError>
-    ensures { OnOk result (HasAlso
-        (record no_edits {
-          group = Become (group_becomes (Named name.now act)) ∷ [];
-          gshadow = Become (gshadow_becomes (NamedThere name.now gshadow_act)) ∷ [];
-        })
-        script.old script.new) }
-{
-    change_group(alloc, script, name, act)?;
-    change_gshadow(alloc, script, name, gshadow_act)
+    script.set_group_hash(alloc, tables, asked.operand(), b"!")
 }
 
 // The administrators of the group become these in gshadow, where a line is made on demand.
@@ -160,11 +132,6 @@ fn set_administrators(
     ensures { OnOk result (HasAlso (set_administrators name.now administrators tables.now)
         script.old script.new) }
 {
-    demand_gshadow(alloc, script, tables, name)?;
-    change_gshadow(
-        alloc,
-        script,
-        name,
-        GshadowAct::SetAdministrators(administrators),
-    )
+    script.demand_gshadow(alloc, tables, name)?;
+    script.change_gshadow(alloc, name, GshadowAct::SetAdministrators(administrators))
 }
