@@ -1,0 +1,9 @@
+pub mod ScriptLemmas
+pub mod UseraddLemmas
+pub mod JoiningLemmas
+pub mod RangeLemmas
+pub mod UserdelLemmas
+pub mod UsermodRefusals
+pub mod UsermodMeetings
+pub mod UsermodGroupEdits
+pub mod GivenNames
