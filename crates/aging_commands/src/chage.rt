@@ -1,0 +1,128 @@
+// chage LOGIN (chage(1)): changes or lists the aging of a user.
+ghost use Rattle.std.specs.Prelude.{◌≡◌, ◌∷◌, [], codes, is_none, IfOk, option_and_then};
+ghost use Rattle.account_model.specs.Chage.{aging_report as report_of, chage, chage_refusals, chage_script, with_aging};
+ghost use Rattle.account_model.specs.Refusals.{refuse_if};
+ghost use Rattle.account_model.specs.Request.{operand, value_of};
+ghost use Rattle.account_model.specs.Text.{first_some};
+ghost use Rattle.account_model.specs.Users.{aging_of};
+ghost use Rattle.account_model.specs.Values.{date_value, days_value};
+ghost use Rattle.acct_tables.specs.Refusing.{RefusesBy};
+ghost use Rattle.table_edits.specs.Acting.{ActsBy, IsReportOf};
+ghost use Rattle.table_edits.specs.SeenScript.{seen_script};
+ghost use Rattle.aging_commands.specs.AgingFields.{SetsAging};
+
+use crate::listing::aging_report;
+use account_model::Refusal;
+use acct_text::{Bytes, Names};
+use command_values::{Asked, Form, ToolFault, read_date, read_days};
+use std::alloc::{AllocError, Global};
+use table_edits::{Report, Script, ShadowAct, ShadowFields, Tables, hash_alone};
+
+/// The script that sets the fields of the user's record in shadow; `-l` changes nothing.
+///
+/// `BadValue` refuses the value of an option, `NoShadow` the tables without shadow, and `NoUser` a
+/// user that passwd doesn't have, each with `-l` as well.
+pub(crate) fn chage(alloc: Global, asked: &Asked, tables: &Tables) -> Result<Script, ToolFault>
+    ensures { ActsBy (chage asked.now tables.now) result }
+{
+    check_chage(alloc, asked, tables)?;
+    if asked.has(b'l') {
+        return Ok(Script::new(alloc));
+    }
+    Ok(changed_aging(alloc, asked, tables)?)
+}
+
+/// What chage prints: with `-l` the aging of the user, and else nothing.
+pub(crate) fn chage_report(
+    alloc: Global,
+    asked: &Asked,
+    tables: &Tables,
+) -> Result<Report, AllocError>
+    ensures { IfOk result (IsReportOf (chage asked.now tables.now)) }
+{
+    if !asked.has(b'l') {
+        return Ok(Report::silent(alloc));
+    }
+    Ok(Report {
+        status: 0,
+        out: aging_of(alloc, tables, asked.operand())?,
+        notices: Names::new(alloc),
+    })
+}
+
+// Tests the refusals in their order.
+fn check_chage(alloc: Global, asked: &Asked, tables: &Tables) -> Result<(), ToolFault>
+    ensures { RefusesBy (first_some (chage_refusals asked.now tables.now)) result }
+{
+    asked.check_value(alloc, b'd', Form::Date)?;
+    asked.check_value(alloc, b'E', Form::Date)?;
+    asked.check_value(alloc, b'I', Form::Days)?;
+    asked.check_value(alloc, b'm', Form::Days)?;
+    asked.check_value(alloc, b'M', Form::Days)?;
+    asked.check_value(alloc, b'W', Form::Days)?;
+    check_shadow(tables)?;
+    tables.check_user(alloc, asked.operand())
+}
+
+// Refuses tables without shadow: `NoShadow`.
+fn check_shadow(tables: &Tables) -> Result<(), ToolFault>
+    ensures { RefusesBy (refuse_if (is_none tables.now.shadow) Refusal.NoShadow) result }
+{
+    if tables.shadow().is_some() {
+        return Ok(());
+    }
+    Err(ToolFault::Refused(Refusal::NoShadow))
+}
+
+// The edits of a user that can be changed so.
+fn changed_aging(alloc: Global, asked: &Asked, tables: &Tables) -> Result<Script, AllocError>
+    ensures { IfOk result (λ script. seen_script script ≡ chage_script asked.now tables.now) }
+{
+    let user = asked.operand();
+    let mut script = Script::new(alloc);
+    script.demand_shadow(alloc, tables, user)?;
+    script.change_shadow(alloc, user, ShadowAct::SetFields(aging_fields(asked)))?;
+    Ok(script)
+}
+
+// The fields of shadow that the options set.
+fn aging_fields(asked: &Asked) -> ShadowFields
+    ensures { SetsAging asked.now result }
+{
+    ShadowFields {
+        last_change: date(asked, b'd'),
+        minimum: days(asked, b'm'),
+        maximum: days(asked, b'M'),
+        warning: days(asked, b'W'),
+        inactive: days(asked, b'I'),
+        expiration: date(asked, b'E'),
+        ..ShadowFields::none()
+    }
+}
+
+// The day that the option gives; `-1` empties the field.
+fn date(asked: &Asked, letter: u8) -> Option<Option<u32>>
+    ensures { result ≡ option_and_then date_value (value_of (letter ∷ []) asked.now) }
+{
+    read_date(asked.value(letter)?)
+}
+
+// The number of days that the option gives; `-1` empties the field.
+fn days(asked: &Asked, letter: u8) -> Option<Option<u32>>
+    ensures { result ≡ option_and_then days_value (value_of (letter ∷ []) asked.now) }
+{
+    read_days(asked.value(letter)?)
+}
+
+// What is printed of the user; one that shadow lacks has no aging.
+fn aging_of(alloc: Global, tables: &Tables, user: &[u8]) -> Result<Bytes, AllocError>
+    ensures { IfOk result (λ text. text ≡ report_of (aging_of user.now tables.now)) }
+{
+    match tables.shadow_named(user) {
+        Some(record) => aging_report(alloc, record),
+        None => {
+            let record = hash_alone(alloc, Bytes::of(alloc, user)?, Bytes::new(alloc));
+            aging_report(alloc, &record)
+        }
+    }
+}

@@ -1,0 +1,114 @@
+// The lines of the input of chpasswd(8), each NAME:HASH.
+ghost use Rattle.std.specs.Prelude.{◌≡◌, ◌==◌, ◌<◌, ◌≤◌, ◌++◌, [], ◌∷◌, length, map, position, IfOk, IfSome, OnOk};
+ghost use Rattle.acct_text.specs.Bytes.{colon};
+ghost use Rattle.acct_text.specs.Limits.{table_limit};
+ghost use Rattle.acct_text.specs.Lines.{lines_of, texts_of};
+ghost use Rattle.account_model.specs.Chpasswd.{bad_line_from};
+ghost use Rattle.account_model.specs.Text.{has_byte};
+ghost use Rattle.table_edits.specs.Stopping.{StopsBy};
+ghost use Rattle.aging_commands.specs.HashLines.{IsCut, hash_line, line_refusal, seen_line};
+
+use account_model::{LineProblem, Refusal};
+use acct_text::{Bytes, lines};
+use command_values::ToolFault;
+use std::alloc::{AllocError, Global};
+use table_edits::Tables;
+
+/// A line of the input: a user, and the new hash.
+#[derive(Drop)]
+pub(crate) struct NewHash<'a> {
+    /// The name of the user.
+    pub name: &'a [u8],
+    /// The hash, as shadow has it.
+    pub hash: &'a [u8],
+}
+
+/// The lines of the input.
+///
+/// `BadLine` refuses the first bad one, counted from 1: it has no `:`, or its hash has one, or its
+/// name isn't in passwd.
+pub(crate) fn read_hashes<'a>(
+    alloc: Global,
+    input: &'a [u8],
+    tables: &Tables,
+) -> Result<Vec<NewHash<'a>>, ToolFault>
+    requires { length input.now ≤ table_limit }
+    ensures refused { StopsBy (bad_line_from 1 tables.now (lines_of input.now)) result }
+    ensures read { IfOk result (λ hashes.
+        map seen_line hashes.items ≡ map hash_line (texts_of (lines_of input.now))) }
+{
+    let places = lines(alloc, input)?;
+    let mut hashes = Vec::new(alloc);
+    let mut number = 0u32;
+    'lines: for (start, end) in &places {
+        number += 1;
+        let hash = read_hash(alloc, &input[*start..*end], number, tables)?;
+        push_hash(&mut hashes, hash)?;
+    }
+    Ok(hashes)
+}
+
+// Adds a line behind the others.
+fn push_hash<'a>(hashes: &mut Vec<NewHash<'a>>, hash: NewHash<'a>) -> Result<(), AllocError>
+    ensures { OnOk result (map seen_line hashes.new.items
+        ≡ map seen_line hashes.old.items ++ seen_line hash.entry ∷ []) }
+{
+    hashes.push(hash)?;
+    Ok(())
+}
+
+// The user and the hash of the line of this number; `BadLine` refuses a bad one.
+fn read_hash<'a>(
+    alloc: Global,
+    line: &'a [u8],
+    number: u32,
+    tables: &Tables,
+) -> Result<NewHash<'a>, ToolFault>
+    ensures refused { StopsBy (line_refusal tables.now number line.now) result }
+    ensures read { IfOk result (λ hash. seen_line hash ≡ hash_line line.now) }
+{
+    let Some(new) = cut_at_colon(line) else {
+        return Err(bad_line(number, LineProblem::NoColon));
+    };
+    if has_colon(new.hash) {
+        return Err(bad_line(number, LineProblem::HashColon));
+    }
+    if tables.user_named(new.name).is_none() {
+        let name = Bytes::of(alloc, new.name)?;
+        return Err(bad_line(number, LineProblem::UnknownUser(name)));
+    }
+    Ok(new)
+}
+
+// The fault that names a bad line.
+fn bad_line(number: u32, problem: LineProblem) -> ToolFault
+    ensures { result ≡ ToolFault.Refused (Refusal.BadLine number problem) }
+{
+    ToolFault::Refused(Refusal::BadLine(number, problem))
+}
+
+// The user and the hash that stand around the first `:`; none where there is none.
+fn cut_at_colon<'a>(line: &'a [u8]) -> Option<NewHash<'a>>
+    ensures { IsCut line.now result }
+{
+    let place = place_of_colon(line)?;
+    Some(NewHash {
+        name: &line[..place],
+        hash: &line[place + 1..],
+    })
+}
+
+// Whether the text has a `:`.
+fn has_colon(text: &[u8]) -> bool
+    ensures { result ≡ has_byte colon text.now }
+{
+    text.iter().any(|byte| *byte == b':')
+}
+
+// The place of the first `:`.
+fn place_of_colon(text: &[u8]) -> Option<usize>
+    ensures place { result ≡ position (λ byte. byte == colon) text.now }
+    ensures within { IfSome result (λ place. place < length text.now) }
+{
+    text.iter().position(|byte| *byte == b':')
+}

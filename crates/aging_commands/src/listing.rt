@@ -1,0 +1,115 @@
+// What `chage -l` prints of a user (chage(1), `-l`).
+ghost use Rattle.std.specs.Prelude.{◌≡◌, ◌++◌, IfOk, OnOk};
+ghost use Rattle.account_model.specs.Chage.{aging_report as report_of, shown_date as text_of_date, shown_days as text_of_days, shown_end as text_of_end, shown_expiry as text_of_expiry, shown_last_change as text_of_last_change, shown_line};
+
+use account_model::ShadowRecord;
+use acct_dates::print_day;
+use acct_text::{Bytes, push_decimal};
+use std::alloc::{AllocError, Global};
+
+// A password of as many days never expires.
+const ENDLESS_DAYS: u32 = 10_000;
+
+/// The seven lines on the aging of a user with this record of shadow.
+pub(crate) fn aging_report(alloc: Global, user: &ShadowRecord) -> Result<Bytes, AllocError>
+    ensures { IfOk result (λ lines. lines ≡ report_of user.now) }
+{
+    let mut lines = Bytes::new(alloc);
+    let last_change = shown_last_change(alloc, user.last_change)?;
+    push_line(&mut lines, b"last change", &last_change)?;
+    let expiry = shown_expiry(alloc, user.last_change, user.maximum)?;
+    push_line(&mut lines, b"password expires", &expiry)?;
+    push_line(
+        &mut lines,
+        b"minimum days",
+        &shown_days(alloc, user.minimum)?,
+    )?;
+    push_line(
+        &mut lines,
+        b"maximum days",
+        &shown_days(alloc, user.maximum)?,
+    )?;
+    push_line(
+        &mut lines,
+        b"warning days",
+        &shown_days(alloc, user.warning)?,
+    )?;
+    push_line(
+        &mut lines,
+        b"inactive days",
+        &shown_days(alloc, user.inactive)?,
+    )?;
+    push_line(
+        &mut lines,
+        b"account expires",
+        &shown_date(alloc, user.expiration)?,
+    )?;
+    Ok(lines)
+}
+
+// Adds a line `HEADING: VALUE`.
+fn push_line(lines: &mut Bytes, heading: &[u8], value: &Bytes) -> Result<(), AllocError>
+    ensures { OnOk result (lines.new ≡ lines.old ++ shown_line heading.now value.now) }
+{
+    lines.push(heading)?;
+    lines.push(b": ")?;
+    lines.push(value.as_slice())?;
+    lines.push(b"\n")
+}
+
+// A number of days.
+fn shown_days(alloc: Global, days: Option<u32>) -> Result<Bytes, AllocError>
+    ensures { IfOk result (λ text. text ≡ text_of_days days) }
+{
+    let mut text = Bytes::new(alloc);
+    match days {
+        Some(days) => push_decimal(&mut text, u64::from(days))?,
+        None => text.push(b"none")?,
+    }
+    Ok(text)
+}
+
+// A date.
+fn shown_date(alloc: Global, day: Option<u32>) -> Result<Bytes, AllocError>
+    ensures { IfOk result (λ text. text ≡ text_of_date day) }
+{
+    match day {
+        Some(day) => print_day(alloc, u64::from(day)),
+        None => Bytes::of(alloc, b"never"),
+    }
+}
+
+// The last change: on day 0 the password must be changed.
+fn shown_last_change(alloc: Global, day: Option<u32>) -> Result<Bytes, AllocError>
+    ensures { IfOk result (λ text. text ≡ text_of_last_change day) }
+{
+    if day == Some(0) {
+        return Bytes::of(alloc, b"must change");
+    }
+    shown_date(alloc, day)
+}
+
+// When the password expires, by the last change and the maximum.
+fn shown_expiry(
+    alloc: Global,
+    last_change: Option<u32>,
+    maximum: Option<u32>,
+) -> Result<Bytes, AllocError>
+    ensures { IfOk result (λ text. text ≡ text_of_expiry last_change maximum) }
+{
+    match last_change {
+        Some(0) => Bytes::of(alloc, b"must change"),
+        Some(day) => shown_end(alloc, day, maximum),
+        None => Bytes::of(alloc, b"never"),
+    }
+}
+
+// The day that lies the maximum behind the last change.
+fn shown_end(alloc: Global, day: u32, maximum: Option<u32>) -> Result<Bytes, AllocError>
+    ensures { IfOk result (λ text. text ≡ text_of_end day maximum) }
+{
+    match maximum {
+        Some(days) if days < ENDLESS_DAYS => print_day(alloc, u64::from(day) + u64::from(days)),
+        _ => Bytes::of(alloc, b"never"),
+    }
+}

@@ -1,0 +1,56 @@
+// What a command on aging asks for.
+ghost use Rattle.std.specs.Prelude.{◌≡◌, IfOk};
+ghost use Rattle.option_words.specs.Parsed.{request_in};
+ghost use Rattle.aging_commands.specs.Asking.{IsAgingTool};
+
+use acct_text::Bytes;
+use command_values::Asked;
+use option_words::Parsed;
+use std::alloc::{AllocError, Global};
+use std::marker::Model;
+
+/// What a command asks chage(1) or chpasswd(8) for, with the input that chpasswd reads.
+#[derive(Drop)]
+pub struct AgingRequest {
+    asked: Asked,
+    input: Bytes,
+}
+
+impl Model for AgingRequest {
+    ghost use Rattle.aging_commands.specs.Asking.{Asking, IsAgingTool};
+
+    ghost Value = { Asking };
+
+    ghost view = { λ r. record { request = r.asked; input = r.input } };
+
+    ghost invariant = { λ r. IsAgingTool r.asked.tool };
+}
+
+impl AgingRequest {
+    /// What the words of a command ask for, and its input.
+    pub fn from_words(alloc: Global, parsed: &Parsed, input: &Bytes) -> Result<Self, AllocError>
+        requires tool { IsAgingTool parsed.now.tool }
+        ensures { IfOk result (λ request.
+            request ≡ record { request = request_in parsed.now; input = input.now }) }
+    {
+        Ok(AgingRequest {
+            asked: Asked::of(alloc, parsed)?,
+            input: input.copy()?,
+        })
+    }
+
+    /// The tool, the options and the operand.
+    pub(crate) fn asked(&self) -> &Asked
+        ensures same { result.now ≡ self.now.request }
+        ensures tool { IsAgingTool self.now.request.tool }
+    {
+        &self.asked
+    }
+
+    /// The bytes of the input.
+    pub(crate) fn input(&self) -> &[u8]
+        ensures { result.now ≡ self.now.input }
+    {
+        self.input.as_slice()
+    }
+}
