@@ -1,0 +1,9 @@
+pub mod DecisionLemmas
+pub mod RangeLines
+pub mod RecordWalk
+pub mod PlaceLemmas
+pub mod ReportWalk
+pub mod ReportLemmas
+pub mod SortLemmas
+pub mod PlacedWalk
+pub mod SortedOnce

@@ -1,0 +1,89 @@
+-- Claim: what std's stable sort makes of records is their order by insertion (`sorted-once`). Way:
+-- their keys ascend (`keys-rise`), and those of each key tie (`tie-is`), so they keep their order.
+use Rattle.std.proofs.Common.{◌≡◌, ◌∙◌, ℕ, ◌+◌, ◌<◌, ◌≤◌, ◌==◌, Bool, List, [], ◌∷◌, length, map, get_or, zero, suc, inl, inr, refl, sym, ap, arith}
+use Rattle.std.specs.Prelude.{◌&&◌, filter, not, nat_lt}
+use Rattle.std.specs.List.{AllByRecursion}
+use Rattle.std.specs.List.Sorted.{IsNonDecreasingBy, IsStableByKey, ties}
+use Rattle.std.specs.Ordering.{is_lt, nat_cmp}
+use Rattle.std.proofs.lemmas.Bool.{cases_Bool, eq-eqb, ltb-false, ltb-true, ne_eqb}
+use Rattle.acct_tables.specs.Order as order
+use Rattle.check_reports.specs.declared.sorting.Placed.{Placed}
+use Rattle.check_reports.specs.Sorted.{seen_placed}
+use Rattle.check_reports.proofs.ReportWalk.{seen-filter}
+use Rattle.check_reports.proofs.SortLemmas.{Rises, has_key, one-order, sorting-keeps, sorting-rises}
+
+-- two keys tie where they are equal
+tie-is : (a b : ℕ) → (not (is_lt (nat_cmp a b)) && not (is_lt (nat_cmp b a))) ≡ (b == a)
+tie-is a b = elim (cases_Bool (nat_lt a b)) [
+  | inl below ↦ rw (below, ne_eqb b a (λ same. omega (arith, same, ltb-true a b below))) refl
+  | inr not_below ↦ elim (cases_Bool (nat_lt b a)) [
+    | inl above ↦
+        rw (
+          not_below,
+          above,
+          ne_eqb a b (λ same. omega (arith, same, ltb-true b a above)),
+          ne_eqb b a (λ same. omega (arith, same, ltb-true b a above)),
+        ) refl
+    | inr not_above ↦
+        let same : a ≡ b = omega (arith, ltb-false a b not_below, ltb-false b a not_above) in
+        rw (not_below, not_above, eq-eqb a b same, eq-eqb b a (sym same)) refl
+  ]
+]
+
+-- the keys of records that aren't less than one
+keys-above :
+    (low : ℕ) (rest : List Placed)
+    → ((j : ℕ) (d : Placed) → j < length rest → low ≤ (get_or rest j d).key)
+    → AllByRecursion (λ later. low ≤ later.key) (map seen_placed rest)
+keys-above low [] above = tt
+keys-above low (p ∷ rest) above = (
+  above 0 p (omega arith),
+  keys-above low rest
+      (λ j d inside. above (suc j) d (omega (arith, inside))),
+)
+
+-- keys that don't fall ascend
+keys-rise : (placed : List Placed) → IsNonDecreasingBy (λ p. p.key) placed
+    → Rises (map seen_placed placed)
+keys-rise [] up = tt
+keys-rise (p ∷ rest) up = (
+  keys-above p.key rest (λ j d inside. up 0 (suc j) d (omega arith) (omega (arith, inside))),
+  keys-rise rest
+      (λ i j d below inside. up (suc i) (suc j) d (omega (arith, below)) (omega (arith, inside))),
+)
+
+module _ (old new : List Placed) where
+  -- the records of a key stand in their order
+  key-stays :
+      IsStableByKey (λ p. p.key) nat_cmp old new
+      → (key : ℕ)
+      → filter (λ p. has_key key (seen_placed p)) new
+      ≡ filter (λ p. has_key key (seen_placed p)) old
+  key-stays stable key =
+      let test_is : ties (λ (x y : Placed). is_lt (nat_cmp x.key y.key))
+      (record { key = key; place = 0 })
+      ≡ (λ p. has_key key (seen_placed p)) = λ i p. tie-is key p.key i in
+      ap (λ test. filter test new) (sym test_is)
+      ∙ stable (record { key = key; place = 0 })
+      ∙ ap (λ test. filter test old) test_is
+
+  -- so there is one order
+  pub sorted-once :
+      IsNonDecreasingBy (λ p. p.key) new
+      → IsStableByKey (λ p. p.key) nat_cmp old new
+      → map seen_placed new ≡ order.sorted_placed (map seen_placed old)
+  sorted-once up stable =
+      one-order (map seen_placed new) (order.sorted_placed (map seen_placed old))
+      (keys-rise new up) (sorting-rises (map seen_placed old))
+      (λ key. sym (seen-filter seen_placed (has_key key) new)
+      ∙ ap (map seen_placed) (key-stays stable key)
+      ∙ seen-filter seen_placed (has_key key) old
+      ∙ sym (sorting-keeps (map seen_placed old) key))
+
+-- the places of records are those that are seen
+pub seen-places :
+    (placed : List Placed)
+    → map (λ (p : Placed). p.place) placed
+    ≡ map (λ (p : order.Placed). p.place) (map seen_placed placed)
+seen-places [] = refl
+seen-places (p ∷ rest) = ap (λ back. p.place ∷ back) (seen-places rest)

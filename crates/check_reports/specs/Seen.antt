@@ -1,0 +1,34 @@
+-- The problems of pwck and grpck as account_model has them: one of the program stands for one of
+-- these (pwck(8), grpck(8)).
+use Rattle.std.specs.Prelude.{ℕ, List}
+use Rattle.account_model.specs.Problems as model
+use Rattle.check_reports.specs.declared.problem.Listing.{Listing}
+use Rattle.check_reports.specs.declared.problem.Listing.TheVariants.{Administrator, Member}
+use Rattle.check_reports.specs.declared.problem.Problem.{Problem}
+use Rattle.check_reports.specs.declared.problem.Problem.TheVariants.{InvalidEntry, DuplicateName, InvalidUserName, NoPrimaryGroup, NoShadowEntry, PasswordNotInShadow, NoPasswdEntry, ChangeInFuture, InvalidGroupName, NoGshadowEntry, NoGroupEntry, UnknownAdministrator, UnknownMember}
+use Rattle.check_reports.specs.declared.report.Located.{Located}
+
+-- the problem
+abbrev pub seen_problem : Problem → model.Problem
+seen_problem InvalidEntry = model.InvalidEntry
+seen_problem (DuplicateName name) = model.DuplicateName name.now
+seen_problem (InvalidUserName name) = model.InvalidUserName name.now
+seen_problem (NoPrimaryGroup name gid) = model.NoPrimaryGroup name.now gid
+seen_problem (NoShadowEntry name) = model.NoShadowEntry name.now
+seen_problem (PasswordNotInShadow name) = model.PasswordNotInShadow name.now
+seen_problem (NoPasswdEntry name) = model.NoPasswdEntry name.now
+seen_problem (ChangeInFuture name) = model.ChangeInFuture name.now
+seen_problem (InvalidGroupName name) = model.InvalidGroupName name.now
+seen_problem (NoGshadowEntry name) = model.NoGshadowEntry name.now
+seen_problem (NoGroupEntry name) = model.NoGroupEntry name.now
+seen_problem (UnknownAdministrator group user) = model.UnknownAdministrator group.now user.now
+seen_problem (UnknownMember group user) = model.UnknownMember group.now user.now
+
+-- the problem, at its line
+abbrev pub seen_located : Located → model.Located
+seen_located located = record { line = located.line; problem = seen_problem located.problem }
+
+-- the problem of a user whom a list of the group names, and who isn't in passwd
+abbrev pub unknown_problem : Listing → List ℕ → List ℕ → model.Problem
+unknown_problem Administrator group user = model.UnknownAdministrator group user
+unknown_problem Member group user = model.UnknownMember group user

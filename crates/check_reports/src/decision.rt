@@ -1,0 +1,74 @@
+// What a command of checks decides: its tool is asked.
+ghost use Rattle.std.specs.Prelude.{◌≡◌, List, [], Option, None, IfOk};
+ghost use Rattle.acct_text.specs.declared.files.Files.{Files};
+ghost use Rattle.account_model.specs.declared.refusal.Refusal.{Refusal};
+ghost use Rattle.account_model.specs.declared.tool.Tool.{Tool};
+ghost use Rattle.account_model.specs.Action.{changes, multiple_entries, reports};
+ghost use Rattle.account_model.specs.Tables.{Script, files_after};
+ghost use Rattle.account_model.specs.Text.{first_some};
+ghost use Rattle.check_reports.specs.Decided.{DecidesBy, DecidesOn};
+
+use crate::getsubids::getsubids;
+use crate::grpck::grpck;
+use crate::pwck::pwck;
+use crate::{CheckRequest, Decision, Output};
+use account_model::Tool;
+use acct_text::{Bytes, Files};
+use login_defs::Defs;
+use std::alloc::{AllocError, Global};
+use table_edits::are_same;
+
+/// What the command decides on these files on the day, in days since 1970-01-01. No such tool needs
+/// the settings. An absent passwd or group has no records here; the fault is for the caller to find
+/// before.
+pub fn decide(
+    alloc: Global,
+    request: &CheckRequest,
+    files: &Files,
+    _defs: &Defs,
+    day: u32,
+) -> Result<Decision, AllocError>
+    ensures { IfOk result (DecidesOn day request.now files.now) }
+{
+    let asked = request.asked();
+    match asked.tool() {
+        Tool::Pwck => pwck(alloc, asked, files, day),
+        Tool::Grpck => grpck(alloc, asked, files, day),
+        _ => getsubids(alloc, asked, files),
+    }
+}
+
+/// The decision of a tool that changes nothing: its status, and what it prints.
+pub(crate) fn told(alloc: Global, status: u8, out: Bytes) -> Decision
+    ensures { (tool : Tool) (refusals : List (Option Refusal)) (files : Files)
+        → first_some refusals ≡ None
+        → DecidesBy tool (reports refusals status out) files result }
+{
+    Decision::Same(output(alloc, status, out))
+}
+
+/// The decision of a tool by the new files: they change, or all stay.
+pub(crate) fn changed(alloc: Global, files: &Files, new: Files) -> Decision
+    ensures { (tool : Tool) (script : Script)
+        → multiple_entries script files.now ≡ None
+        → new ≡ files_after script files.now
+        → DecidesBy tool (changes [] script) files.now result }
+{
+    let silent = output(alloc, 0, Bytes::new(alloc));
+    if are_same(files, &new) {
+        Decision::Same(silent)
+    } else {
+        Decision::Change(new, silent)
+    }
+}
+
+// What is printed with a status, and nothing on the error stream.
+fn output(alloc: Global, status: u8, out: Bytes) -> Output
+    ensures { result ≡ record { status = status; out = out; err = [] } }
+{
+    Output {
+        status,
+        out,
+        err: Bytes::new(alloc),
+    }
+}

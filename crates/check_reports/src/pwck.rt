@@ -1,0 +1,142 @@
+// pwck (pwck(8)): reports the problems of passwd and shadow (`-r`), or sorts them (`-s`).
+ghost use Rattle.std.specs.Prelude.{◌≡◌, [], IfOk};
+ghost use Rattle.account_model.specs.Action.{changes};
+ghost use Rattle.account_model.specs.Pwck.{is_after, passwd_report, pwck, pwck_report, pwck_sort, shadow_report};
+ghost use Rattle.check_reports.specs.Decided.{DecidesBy};
+
+use crate::decision::{changed, told};
+use crate::known::Known;
+use crate::problem::Problem;
+use crate::problems::Problems;
+use crate::report::{CheckedRecord, TableReport, report_status};
+use crate::sorting::{ById, sorted_file, sorted_like};
+use account_model::{PasswdRecord, ShadowRecord};
+use acct_lines::is_valid_name;
+use acct_tables::Decision;
+use acct_text::{Bytes, Files, Tab};
+use command_values::Asked;
+use std::alloc::{AllocError, Global};
+use table_edits::Tables;
+
+/// Sorts passwd and shadow with `-s`, and else reports their problems, on the day in days since
+/// 1970-01-01.
+pub(crate) fn pwck(
+    alloc: Global,
+    asked: &Asked,
+    files: &Files,
+    today: u32,
+) -> Result<Decision, AllocError>
+    ensures { IfOk result
+        (DecidesBy asked.now.tool (pwck asked.now files.now today) files.now) }
+{
+    if asked.has(b's') {
+        return sort_users(alloc, asked, files);
+    }
+    let tables = Tables::load(alloc, files)?;
+    let known = Known::gather(alloc, &tables, today)?;
+    report_users(alloc, asked, &known)
+}
+
+// Sorts passwd by UID, and shadow by the place of the name there; names that passwd lacks come
+// last. The sorted passwd is read again, as its records are those that count.
+fn sort_users(alloc: Global, asked: &Asked, files: &Files) -> Result<Decision, AllocError>
+    ensures { IfOk result
+        (DecidesBy asked.now.tool (changes [] (pwck_sort files.now)) files.now) }
+{
+    let passwd = sorted_file::<PasswdRecord, ById>(alloc, &files.passwd, &ById)?;
+    let shadow = sorted_like::<PasswdRecord, ShadowRecord>(alloc, &passwd, &files.shadow)?;
+    let mut new = files.copy(alloc)?;
+    new.passwd = passwd;
+    new.shadow = shadow;
+    Ok(changed(alloc, files, new))
+}
+
+// Reports the problems of passwd and shadow, in the order of lines. Notices are left out with
+// `-q`, and count for the status all the same.
+fn report_users(alloc: Global, asked: &Asked, known: &Known) -> Result<Decision, AllocError>
+    ensures { IfOk result (DecidesBy asked.now.tool
+        (pwck_report asked.now known.now.files known.now.today) known.now.files) }
+{
+    let users = passwd_report(alloc, known)?;
+    let hashes = shadow_report(alloc, known)?;
+    let status = report_status(&users, &hashes);
+    let is_quiet = asked.has(b'q');
+    let mut out = Bytes::new(alloc);
+    users.shown(is_quiet).push_to(alloc, &mut out, Tab::Passwd)?;
+    hashes
+        .shown(is_quiet)
+        .push_to(alloc, &mut out, Tab::Shadow)?;
+    Ok(told(alloc, status, out))
+}
+
+// The problems of passwd.
+fn passwd_report<'a>(alloc: Global, known: &Known<'a>) -> Result<TableReport<'a>, AllocError>
+    ensures { IfOk result (λ report. report ≡ passwd_report known.now.files) }
+{
+    TableReport::of(alloc, known.tables().passwd(), known)
+}
+
+// The problems of shadow.
+fn shadow_report<'a>(alloc: Global, known: &Known<'a>) -> Result<TableReport<'a>, AllocError>
+    ensures { IfOk result (λ report. report ≡ shadow_report known.now.files known.now.today) }
+{
+    TableReport::of(alloc, known.tables().shadow(), known)
+}
+
+impl CheckedRecord for PasswdRecord {
+    ghost use Rattle.account_model.specs.Pwck.{user_problems};
+
+    ghost problems = { λ sight. user_problems sight.files };
+
+    fn problems<'a>(
+        &'a self,
+        alloc: Global,
+        known: &Known,
+        is_repeated: bool,
+    ) -> Result<Problems<'a>, AllocError> {
+        let name = self.name.as_slice();
+        let mut problems = Problems::none(alloc);
+        problems.note_if(is_repeated, Problem::DuplicateName(name))?;
+        problems.note_if(!is_valid_name(name), Problem::InvalidUserName(name))?;
+        problems.note_if(
+            !known.has_gid(self.gid),
+            Problem::NoPrimaryGroup(name, self.gid),
+        )?;
+        let lacks_entry = known.has_shadow_file() && !known.has_shadow(name);
+        problems.note_if(lacks_entry, Problem::NoShadowEntry(name))?;
+        let keeps_password = known.has_shadow_file() && self.password.as_slice() != b"x".as_slice();
+        problems.note_if(keeps_password, Problem::PasswordNotInShadow(name))?;
+        Ok(problems)
+    }
+}
+
+impl CheckedRecord for ShadowRecord {
+    ghost use Rattle.account_model.specs.Pwck.{shadow_problems};
+
+    ghost problems = { λ sight. shadow_problems sight.files sight.today };
+
+    fn problems<'a>(
+        &'a self,
+        alloc: Global,
+        known: &Known,
+        is_repeated: bool,
+    ) -> Result<Problems<'a>, AllocError> {
+        let name = self.name.as_slice();
+        let mut problems = Problems::none(alloc);
+        problems.note_if(is_repeated, Problem::DuplicateName(name))?;
+        problems.note_if(!known.has_user(name), Problem::NoPasswdEntry(name))?;
+        let is_future = is_after(known.today(), self.last_change);
+        problems.note_if(is_future, Problem::ChangeInFuture(name))?;
+        Ok(problems)
+    }
+}
+
+// Whether a day lies after today, both in days since 1970-01-01.
+fn is_after(today: u32, day: Option<u32>) -> bool
+    ensures { result ≡ is_after today day }
+{
+    match day {
+        Some(day) => day > today,
+        None => false,
+    }
+}

@@ -1,0 +1,173 @@
+// The records of a table in another order (pwck(8), grpck(8), `-s`).
+ghost use Rattle.std.specs.Prelude.{◌≡◌, ◌∷◌, [], ℕ, map, IfOk, OnOk};
+ghost use Rattle.account_model.specs.Edits.{Arrange};
+ghost use Rattle.account_model.specs.Format.{is_named};
+ghost use Rattle.account_model.specs.Tables.{table_after, table_records};
+ghost use Rattle.acct_tables.specs.Order as order;
+ghost use Rattle.table_edits.specs.LoadedTables.{table_of_bytes};
+ghost use Rattle.check_reports.specs.Sorted.{seen_placed};
+ghost use Rattle.std.specs.List.{position_or_len};
+
+use crate::names::{NamePlaces, records};
+use account_model::{GroupRecord, PasswdRecord};
+use acct_lines::TableRecord;
+use acct_tables::Table;
+use acct_text::Bytes;
+use std::alloc::{AllocError, Global};
+
+/// What the records of a table are sorted by.
+pub(crate) trait SortKey<R> {
+    // the key of a record
+    ghost key_of: { Self → R → ℕ };
+
+    /// The key of the record.
+    fn key(&self, item: &R) -> usize
+        ensures { result ≡ key_of self.now item.now };
+}
+
+/// The UID or the GID.
+pub(crate) struct ById;
+
+impl SortKey<PasswdRecord> for ById {
+    ghost key_of = { λ _ user. user.uid };
+
+    fn key(&self, user: &PasswdRecord) -> usize {
+        user.uid as usize
+    }
+}
+
+impl SortKey<GroupRecord> for ById {
+    ghost key_of = { λ _ group. group.gid };
+
+    fn key(&self, group: &GroupRecord) -> usize {
+        group.gid as usize
+    }
+}
+
+/// The place of the first record of the name in another table. Names that it lacks come last.
+#[derive(Drop)]
+struct ByPlace<'a> {
+    places: NamePlaces<'a>,
+    // how many records the other table has
+    count: usize,
+}
+
+impl<'a, R: TableRecord> SortKey<R> for ByPlace<'a> {
+    ghost use Rattle.std.specs.Prelude.{unwrap_or};
+    ghost use Rattle.check_reports.specs.Names.{kept_places};
+
+    ghost key_of = { λ by r. unwrap_or (kept_places by.places (R.format.name r)) by.count };
+
+    fn key(&self, item: &R) -> usize {
+        self.places.place_of(item.name()).unwrap_or(self.count)
+    }
+}
+
+// A record by its key, and by its place in the table, counted from 0 over the lines.
+#[derive(Clone, Copy)]
+struct Placed {
+    key: usize,
+    place: usize,
+}
+
+/// The bytes of a table with its records sorted by the key, stably and in the places of records; an
+/// absent table stays absent.
+pub(crate) fn sorted_file<R: TableRecord + Drop, K: SortKey<R>>(
+    alloc: Global,
+    file: &Option<Bytes>,
+    key: &K,
+) -> Result<Option<Bytes>, AllocError>
+    ensures { IfOk result (λ sorted. sorted
+        ≡ table_after R.format (Arrange (K.key_of key.now) ∷ []) file.now) }
+{
+    match file {
+        Some(text) => {
+            let mut table = Table::load(alloc, text.as_slice())?;
+            let places = sorted_places(alloc, &table, key)?;
+            table.arrange(places.as_slice())?;
+            Ok(Some(table.text(alloc)?))
+        }
+        None => Ok(None),
+    }
+}
+
+/// The bytes of a table with its records sorted by the place that their names have in the main
+/// table; names that it lacks come last. An absent table stays absent.
+pub(crate) fn sorted_like<M: TableRecord + Drop, R: TableRecord + Drop>(
+    alloc: Global,
+    main: &Option<Bytes>,
+    file: &Option<Bytes>,
+) -> Result<Option<Bytes>, AllocError>
+    ensures { IfOk result (λ sorted. sorted ≡ table_after R.format
+        (Arrange (λ r. position_or_len (is_named M.format (R.format.name r))
+        (table_records M.format main.now)) ∷ []) file.now) }
+{
+    let main: Option<Table<M>> = loaded(alloc, main)?;
+    let count = records(alloc, main.as_ref())?.len();
+    let places = NamePlaces::of(alloc, main.as_ref())?;
+    let key = ByPlace { places, count };
+    sorted_file::<R, ByPlace>(alloc, file, &key)
+}
+
+// The table of a file, where there is one.
+fn loaded<R: TableRecord + Drop>(
+    alloc: Global,
+    file: &Option<Bytes>,
+) -> Result<Option<Table<R>>, AllocError>
+    ensures { IfOk result (λ table. table ≡ table_of_bytes file.now) }
+{
+    match file {
+        Some(text) => Ok(Some(Table::load(alloc, text.as_slice())?)),
+        None => Ok(None),
+    }
+}
+
+// The places of all records, stably in the order of their keys.
+fn sorted_places<R: TableRecord + Drop, K: SortKey<R>>(
+    alloc: Global,
+    table: &Table<R>,
+    key: &K,
+) -> Result<Vec<usize>, AllocError>
+    ensures { IfOk result (λ places. places.items
+        ≡ order.sorted_places R.format (K.key_of key.now) table.now) }
+{
+    let mut placed = placed_records(alloc, table, key)?;
+    sort_placed(&mut placed)?;
+    places_of(alloc, placed.as_slice())
+}
+
+// Sorts the records by their keys; of equal keys the earlier stays the earlier.
+fn sort_placed(placed: &mut Vec<Placed>) -> Result<(), AllocError>
+    ensures { OnOk result (map seen_placed placed.new.items
+        ≡ order.sorted_placed (map seen_placed placed.old.items)) }
+{
+    placed.sort_by_key(|record| record.key)
+}
+
+// Their places.
+fn places_of(alloc: Global, placed: &[Placed]) -> Result<Vec<usize>, AllocError>
+    ensures { IfOk result (λ places. places.items ≡ map (λ p. p.place) placed.now) }
+{
+    placed.iter().map(|record| record.place).collect(alloc)
+}
+
+// The records with their keys, in the order of lines.
+fn placed_records<R: TableRecord + Drop, K: SortKey<R>>(
+    alloc: Global,
+    table: &Table<R>,
+    key: &K,
+) -> Result<Vec<Placed>, AllocError>
+    ensures { IfOk result (λ placed. map seen_placed placed.items
+        ≡ order.placed_from R.format (K.key_of key.now) 0 table.now) }
+{
+    let mut placed = Vec::new(alloc);
+    for place in 0..table.len() {
+        if let Some(record) = table.at(place) {
+            placed.push(Placed {
+                key: key.key(record),
+                place,
+            })?;
+        }
+    }
+    Ok(placed)
+}
