@@ -10,7 +10,7 @@ use Rattle.account_model.specs.WordMessages.{word_fault_status, word_fault_messa
 use Rattle.acct_outside.specs.declared.CommitStage.TheVariants.{Before}
 use Rattle.suite_answers.specs.declared.answer.Answer.{Answer}
 use Rattle.suite_answers.specs.declared.cause.Cause.{Cause}
-use Rattle.suite_answers.specs.declared.cause.Cause.TheVariants.{Changed, Same, Refused, Syntax, NotBuilt, OutputFault, Memory}
+use Rattle.suite_answers.specs.declared.cause.Cause.TheVariants.{Changed, Same, Refused, Syntax, OutputFault, Memory}
 use Rattle.suite_answers.specs.Reasons.{status_of, reason_text}
 
 -- an answer that says why, and has no output
@@ -31,7 +31,6 @@ message_of tool Same = []
 message_of tool (Refused refusal) = []
 message_of tool (Syntax fault) = []
 message_of tool (OutputFault stage) = []
-message_of tool NotBuilt = codes "accounts: form is not built\n"
 message_of tool cause = message tool (reason_text cause)
 
 -- the answer of the tool to the cause

@@ -13,7 +13,7 @@ use Rattle.account_model.specs.Statuses.{file_status}
 use Rattle.suite_answers.specs.declared.cause.Which.{Which}
 use Rattle.suite_answers.specs.declared.cause.Which.TheVariants.{Input, File}
 use Rattle.suite_answers.specs.declared.cause.Cause.{Cause}
-use Rattle.suite_answers.specs.declared.cause.Cause.TheVariants.{Changed, NotBuilt, Held, Gone, Raced, Outrun, LockDamaged, Exhausted, IntentDamaged, TooLarge, NoTable, BadSetting, DiskFault, InputFault, OutputFault, ClockFault, Memory}
+use Rattle.suite_answers.specs.declared.cause.Cause.TheVariants.{Changed, Held, Gone, Raced, Outrun, LockDamaged, Exhausted, IntentDamaged, TooLarge, NoTable, BadSetting, DiskFault, InputFault, OutputFault, ClockFault, Memory}
 
 -- ---- The stage
 
@@ -33,13 +33,8 @@ model_stage Committed = after_commit
 
 -- ---- The status
 
--- the status of what isn't built, this suite's own
-abbrev pub not_built_status : ℕ
-not_built_status = 2
-
 -- the status; that of a change, of what stays, of a refusal and of words comes with these
 abbrev pub status_of : Tool → Cause → ℕ
-status_of tool NotBuilt = not_built_status
 status_of tool (Held token) = failure_status tool (held token)
 status_of tool (Gone number) = failure_status tool (gone number)
 status_of tool (Raced number) = failure_status tool (raced number)

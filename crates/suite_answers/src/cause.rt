@@ -28,8 +28,6 @@ pub enum Cause {
     Refused(Refusal),
     /// The words are no request: their first fault, which isn't `Memory`.
     Syntax(WordFault),
-    /// What the words ask for isn't built.
-    NotBuilt,
     /// The session of this token holds the lock, and may still run.
     Held(Token),
     /// The lock of this number was listed, and was gone when it was read.
@@ -94,7 +92,6 @@ impl Cause {
     {
         match self {
             Cause::Changed | Cause::Same | Cause::Refused(_) | Cause::Syntax(_) => 0,
-            Cause::NotBuilt => 2,
             Cause::Held(_) | Cause::Gone(_) | Cause::Raced(_) => lock_status(tool),
             Cause::Outrun(..) | Cause::LockDamaged(_) | Cause::Exhausted => lock_status(tool),
             Cause::IntentDamaged(_) | Cause::DiskFault(_) => update_status(tool),

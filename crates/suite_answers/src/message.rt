@@ -16,7 +16,6 @@ pub(crate) fn of_cause(alloc: Global, tool: Tool, cause: &Cause) -> Result<Bytes
     match cause {
         Cause::Changed | Cause::Same | Cause::Refused(_) => Ok(Bytes::new(alloc)),
         Cause::Syntax(_) | Cause::OutputFault(_) => Ok(Bytes::new(alloc)),
-        Cause::NotBuilt => Bytes::of(alloc, b"accounts: form is not built\n"),
         _ => line(alloc, tool, cause),
     }
 }
