@@ -3,7 +3,7 @@
 -- `stay-quiet`, `stay-says`, `stay-shown`); and so is one that a table is absent (`missed-shown`).
 -- Way: a problem of the files is the whole answer (`problem-given`), and a table that is absent is
 -- the first problem of all files that agree with what was read before it (`missed-problem`).
-use Rattle.std.proofs.Common.{◌≡◌, [], refl, sym, ap, subst, ◌∙◌, ℕ, Bool, true, false, ◌≤◌, length, List, ◌∷◌, Option, Some, None, Result, Ok, Err, if◌then◌else◌, true≢false}
+use Rattle.std.proofs.Common.{◌≡◌, [], inl, refl, sym, ap, subst, ◌∙◌, ℕ, Bool, true, false, ◌≤◌, length, List, ◌∷◌, Option, Some, None, Result, Ok, Err, if◌then◌else◌, true≢false}
 use Rattle.std.specs.Prelude.{IsSome, unwrap_or}
 use Rattle.std.proofs.lemmas.Bool.{le-leb}
 use Rattle.acct_text.specs.declared.Tab.{Tab}
@@ -14,6 +14,7 @@ use Rattle.acct_text.specs.Limits.{table_limit}
 use Rattle.acct_text.specs.Files.{table_of}
 use Rattle.acct_outside.specs.declared.CommitStage.TheVariants.{Before}
 use Rattle.acct_outside.specs.History.{History}
+use Rattle.acct_outside.specs.Life.{life, running}
 use Rattle.account_model.specs.declared.tool.Tool.{Tool}
 use Rattle.account_model.specs.declared.refusal.Refusal.{Refusal}
 use Rattle.account_model.specs.Request.{Request}
@@ -26,7 +27,7 @@ use Rattle.account_model.specs.Statuses.{file_status}
 use Rattle.account_model.specs.Answer.{FileProblem, TableTooLarge, SettingsTooLarge, TableAbsent, BadSettingAt, AnswerCause, Unusable, Refused, Same, Changed, Answer as ToolAnswer, must_stand, table_problem, files_problem, file_problem_text, new_problem, files_eq, cause_of, unusable, succeeding, answer_made, answer_outcome, answer}
 use Rattle.suite_rules.specs.OwnLock.{kept_number}
 use Rattle.suite_rules.specs.Knowledge.{Knowledge}
-use Rattle.suite_rules.specs.Standing.{Standing, standing}
+use Rattle.suite_rules.specs.Standing.{standing}
 use Rattle.lock_steps.specs.States.{Kept}
 use Rattle.commit_steps.specs.States.{Inputs, AreSound, read_on}
 use Rattle.commit_steps.specs.Stands.{KnowsSome, HasLoaded, HasMissed}
@@ -38,7 +39,7 @@ use Rattle.suite_answers.specs.Reasons.{stage_of}
 use Rattle.suite_core.specs.Runner.{Question, Runner}
 use Rattle.suite_core.specs.Answers.{cause_of_problem, cause_of_answer, answer_on, IsAnswerOn, given_for, Says}
 use Rattle.suite_core.specs.Deeds.{is_change}
-use Rattle.suite_core.specs.Due.{AgreeWith, AnswersAll, AnswersSome, IsShown}
+use Rattle.suite_core.specs.Due.{AgreeWith, AnswersAll, AnswersSome, WasKeeper, ShowsSome, IsShown}
 use Rattle.suite_core.specs.Stands.{IsDiskFault}
 
 -- ---- A problem of the files is the whole answer
@@ -100,7 +101,7 @@ answer-whole request input day files defs problem = cases (files_problem files d
     cases None outcome is = outcome-whole request.tool files outcome problem is
 
 -- the first problem of the files is the answer
-problem-answers : (request : Request) (input : List ℕ) (day : ℕ) (files : Files)
+pub problem-answers : (request : Request) (input : List ℕ) (day : ℕ) (files : Files)
     (defs : Option Bytes) (problem : FileProblem) → files_problem files defs ≡ Some problem →
     answer request input day files defs ≡ unusable request.tool problem
 problem-answers request input day files defs problem is = cases (files_problem files defs)
@@ -205,6 +206,7 @@ answer-quiet asked files defs given is_answer fault = cause-quiet
 -- the files that were seen show it
 module _ (runner : Runner) (inputs : Inputs) (given : Answer) (history : History)
     (held : HasLoaded inputs (standing runner.token history))
+    (runs : life runner.token history ≡ running)
     (is_answer : IsAnswerOn runner.asked inputs.files inputs.defs given) where
   shows-all : AnswersAll runner given (standing runner.token history)
   shows-all = record {
@@ -248,14 +250,25 @@ module _ (runner : Runner) (inputs : Inputs) (given : Answer) (history : History
         subgid = same Subgid i;
       }
 
+  -- it is keeper now
+  keeper-now : WasKeeper runner.token history
+  keeper-now = record {
+    newer = [];
+    older = history;
+    parts = refl;
+    number = inputs.keeper.number;
+    active = record { runs = runs; keeps = held.keeps.locks.owns };
+    uncommitted = held.uncommitted;
+  }
+
   cause-shown : (cause : AnswerCause) → is_change cause ≡ false →
       IsShown runner given history (cause_of_answer cause)
-  cause-shown (Unusable (TableTooLarge table)) stays = tt
-  cause-shown (Unusable SettingsTooLarge) stays = tt
-  cause-shown (Unusable (TableAbsent table)) stays = shows-some
-  cause-shown (Unusable (BadSettingAt line)) stays = shows-all
-  cause-shown (Refused refusal) stays = shows-all
-  cause-shown Same stays = shows-all
+  cause-shown (Unusable (TableTooLarge table)) stays = inl (shows-all, keeper-now)
+  cause-shown (Unusable SettingsTooLarge) stays = inl (shows-all, keeper-now)
+  cause-shown (Unusable (TableAbsent table)) stays = (shows-some, keeper-now)
+  cause-shown (Unusable (BadSettingAt line)) stays = (shows-all, keeper-now)
+  cause-shown (Refused refusal) stays = (shows-all, keeper-now)
+  cause-shown Same stays = (shows-all, keeper-now)
   cause-shown (Changed new) stays = absurd (true≢false stays)
 
   pub stay-shown : is_change (answer_on runner.asked inputs.files inputs.defs).cause ≡ false →
@@ -266,17 +279,17 @@ module _ (runner : Runner) (inputs : Inputs) (given : Answer) (history : History
 -- ---- A table that is absent
 
 -- the first problem of a list is its head, where that is one
-first-is : (found : Option FileProblem) (others : List (Option FileProblem))
+pub first-is : (found : Option FileProblem) (others : List (Option FileProblem))
     (problem : FileProblem) → found ≡ Some problem → first_some (found ∷ others) ≡ Some problem
 first-is found others problem is = ap (λ (one : Option FileProblem). first_some (one ∷ others)) is
 
 -- a head that is none doesn't count
-first-skips : (found : Option FileProblem) (others : List (Option FileProblem)) →
+pub first-skips : (found : Option FileProblem) (others : List (Option FileProblem)) →
     found ≡ None → first_some (found ∷ others) ≡ first_some others
 first-skips found others is = ap (λ (one : Option FileProblem). first_some (one ∷ others)) is
 
 -- a table within its limit has no problem, where it stands or needn't
-sound-table : (table : Tab) (content : Option Bytes) →
+pub sound-table : (table : Tab) (content : Option Bytes) →
     (must_stand table ≡ true → IsSome content) →
     ((bytes : Bytes) → content ≡ Some bytes → length bytes ≤ table_limit) →
     table_problem table content ≡ None
@@ -333,15 +346,26 @@ absent-answers asked files defs table is =
     }
 
 -- what was read shows it
-pub missed-shown : (runner : Runner) (table : Tab) (keeper : Kept) (stood : Standing) →
-    is_missing table None ≡ true → HasMissed table keeper stood →
-    AnswersSome runner (given_for runner.asked.request.tool (HasNoTable table)) stood
-missed-shown runner table keeper stood missing held = record {
-  number = keeper.number;
-  kept = ap kept_number held.is_read.keeps.locks.owns;
-  seen = held.is_read.keeps.knows.seen;
-  clean = held.is_read.keeps.knows.clean;
-  is_answer = λ files defs agree. absent-answers runner.asked files defs table
-      (missed-problem keeper held.files table missing held.sound stood.knows
-      held.is_read.keeps.knows files defs agree);
-}
+pub missed-shown : (runner : Runner) (table : Tab) (keeper : Kept) (history : History) →
+    is_missing table None ≡ true → HasMissed table keeper (standing runner.token history) →
+    life runner.token history ≡ running →
+    ShowsSome runner (given_for runner.asked.request.tool (HasNoTable table)) history
+missed-shown runner table keeper history missing held runs = (
+  record {
+    number = keeper.number;
+    kept = ap kept_number held.is_read.keeps.locks.owns;
+    seen = held.is_read.keeps.knows.seen;
+    clean = held.is_read.keeps.knows.clean;
+    is_answer = λ files defs agree. absent-answers runner.asked files defs table
+        (missed-problem keeper held.files table missing held.sound (standing runner.token history).knows
+        held.is_read.keeps.knows files defs agree);
+  },
+  record {
+    newer = [];
+    older = history;
+    parts = refl;
+    number = keeper.number;
+    active = record { runs = runs; keeps = held.is_read.keeps.locks.owns };
+    uncommitted = held.is_read.uncommitted;
+  },
+)

@@ -53,7 +53,8 @@ use Rattle.suite_core.specs.Due.{AnsweredAll, IsShown, IsDue}
 use Rattle.suite_core.specs.Left.{most_steps, ranked}
 use Rattle.suite_core.specs.Locking.{cause_of_fault}
 use Rattle.suite_core.specs.Stands.{AnswersWith, IsDiskFault, IsOfChange, Gives, Extends, StandsAs, StandsChanging, StandsInstalling, StandsUnlocking}
-use Rattle.suite_core.proofs.TurnLemmas.{goes-on, extended, tells-extend, told-stage, told-plain, told-says, plain-shown}
+use Rattle.suite_core.proofs.TurnLemmas.{goes-on, extended, tells-extend, told-met, told-stage, told-plain, told-says, plain-shown}
+use Rattle.suite_core.proofs.MetLemmas.{fault-shows}
 use Rattle.suite_core.proofs.UnlockingTurns.{fault-stage, fault-plain}
 use Rattle.suite_core.proofs.LeadsLemmas.{leads-on, leads-fault}
 use Rattle.suite_core.proofs.DueLemmas.{earlier-stays}
@@ -385,7 +386,9 @@ module _ (before now : Moment) (runner : Runner) (answer : FinalAnswer) where
             ∙ fault-stage fault.stage fault.fault)));
         shown = plain-shown runner given past.history given.outcome.cause
             (told-plain runner.asked (cause_of_fault fault.stage fault.fault) given
-            (fault-plain fault.stage fault.fault) says);
+            (fault-plain fault.stage fault.fault) says)
+            (told-met runner.asked (cause_of_fault fault.stage fault.fault) given runner.token
+            past.history says (fault-shows fault.stage fault.fault runner.token past.history));
       }
       unsure-due fault given says None (Some past) held unsure kept = absurd kept
       unsure-due fault given says (Some was) None held unsure kept = absurd kept

@@ -1,27 +1,23 @@
 -- Claim: turn by turn a session comes from its entry to its answer (`comes-turn`), and what holds from
 -- the entry to a moment and from there on holds from the entry on (`turns-then`).
 -- Way: histories extend and stay lawful one after another, as a folder never admits more than before.
-use Rattle.std.proofs.Common.{◌≡◌, refl, sym, ap, subst, ◌∙◌, ◌≤◌, ◌<◌, ◌++◌, [], ℕ, ◌⊎◌, inl, inr, Option, Some, None, IsSome, true, is_none, arith}
+use Rattle.std.proofs.Common.{◌≡◌, refl, sym, ap, subst, ◌∙◌, ◌≤◌, ◌++◌, [], ℕ, inl, inr, Option, Some, None, true, is_none, arith}
 use Rattle.std.proofs.lemmas.List.{append_assoc}
-use Rattle.acct_outside.specs.Faults.{HasRisen, last_count}
+use Rattle.acct_outside.specs.Faults.{HasRisen}
 use Rattle.acct_outside.specs.Folder.{Folder}
 use Rattle.acct_outside.specs.History.{History}
 use Rattle.acct_outside.specs.Others.{Admission}
-use Rattle.acct_outside.specs.Contract.{Past, Narrows, WhereTold}
+use Rattle.acct_outside.specs.Contract.{Past, Narrows}
 use Rattle.suite_rules.specs.Deeds.{SuiteDeeds}
 use Rattle.suite_rules.specs.Lawful.{Lawful}
 use Rattle.suite_rules.specs.Steps.{LawfulOthers, StaysLawful}
-use Rattle.suite_answers.specs.declared.answer.Answer.{Answer}
-use Rattle.suite_core.specs.declared.state.State.{State}
-use Rattle.suite_core.specs.declared.state.State.TheVariants.{Answering}
 use Rattle.suite_core.specs.declared.session.Phase.{Phase}
 use Rattle.suite_core.specs.declared.session.Phase.TheVariants.{Waiting, Begun, Over}
 use Rattle.suite_core.specs.Runner.{Question, Runner}
 use Rattle.suite_core.specs.Moment.{Moment}
-use Rattle.suite_core.specs.Deeds.{AreOfTools}
 use Rattle.suite_core.specs.Session.{IsWaiting, SessionStands, SessionTurns, IsUnbegun, answer_of, given_in}
-use Rattle.suite_core.specs.Stands.{Extends, IsDiskFault, StandsAs, StaysOurs, TellsDiskFault, TurnsTo, Turns}
-use Rattle.suite_core.specs.Course.{Comes, PhaseTells, Reached}
+use Rattle.suite_core.specs.Stands.{Extends, StandsAs, TurnsTo}
+use Rattle.suite_core.specs.Course.{Comes}
 
 -- ---- One after another
 

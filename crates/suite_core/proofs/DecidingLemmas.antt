@@ -1,9 +1,8 @@
 -- Claim: on files that were loaded, the answer is that of the model (`decides-on`, `decides-setting`).
 -- Way: such files have no problem but a bad setting (`loaded-problem`); then the tool's outcome is the
 -- decision, and the first new table that passes the limit is what the model finds (`new-problem`).
-use Rattle.std.proofs.Common.{◌≡◌, refl, sym, ap, subst, ◌∙◌, ◌++◌, [], ◌∷◌, ◌≤◌, ℕ, Bool, true, false, not, nat_le, length, bytes_eq, true≢false, List, Option, Some, None, IsSome, IfSome, Result, Ok, Err, arith, rules}
-use Rattle.std.specs.Prelude.{map, find, option_map, unwrap_or, if◌then◌else◌, ◌&&◌}
-use Rattle.std.specs.List.{list_all}
+use Rattle.std.proofs.Common.{◌≡◌, refl, sym, ap, subst, ◌∙◌, [], ◌∷◌, ◌≤◌, ℕ, Bool, true, false, length, List, Option, Some, None, IsSome, IfSome, Result, Ok, Err, arith, rules}
+use Rattle.std.specs.Prelude.{map, find, option_map, if◌then◌else◌, ◌&&◌}
 use Rattle.acct_text.specs.declared.Tab.{Tab}
 use Rattle.acct_text.specs.declared.Tab.TheVariants.{Passwd, Shadow, Group, Gshadow, Subuid, Subgid}
 use Rattle.acct_text.specs.declared.files.Files.{Files}
@@ -19,7 +18,7 @@ use Rattle.account_model.specs.Text.{first_some}
 use Rattle.account_model.specs.Action.{Made, outcome_of}
 use Rattle.account_model.specs.Change.{action_of}
 use Rattle.account_model.specs.Settings.{bad_line, settings_of}
-use Rattle.account_model.specs.Answer.{FileProblem, TableTooLarge, BadSettingAt, AnswerCause, Same, Changed, Answer as ToolAnswer, answer, answer_outcome, answer_made, succeeding, unusable, passes_limit, must_stand, table_problem, settings_problem, files_problem, new_table_problem, new_problem, files_eq, cause_of}
+use Rattle.account_model.specs.Answer.{FileProblem, TableTooLarge, BadSettingAt, Same, Changed, Answer as ToolAnswer, answer_outcome, succeeding, unusable, passes_limit, must_stand, table_problem, settings_problem, files_problem, new_table_problem, new_problem, files_eq, cause_of}
 use Rattle.std.specs.Prelude.{IfOk}
 use Rattle.std.specs.Result.{result_err}
 use Rattle.login_defs.specs.declared.defs.Defs.{Defs}

@@ -17,7 +17,7 @@ use Rattle.suite_rules.specs.Deeds.{SuiteDeeds}
 use Rattle.suite_core.specs.Deeds.{files_of, tools_deed, tools_answer_same, AreOfTools}
 
 -- the files of contents have these
-files-have : (contents : Contents) (table : Tab) →
+pub files-have : (contents : Contents) (table : Tab) →
     table_of (files_of contents) table ≡ contents table
 files-have contents Passwd = refl
 files-have contents Shadow = refl

@@ -1,19 +1,24 @@
 -- Claim: an answer that is due stays so while the session frees its lock (`gives-stay`).
 -- Way: a step of a keeper on its way out leaves what the session was asked, what it knows of the
 -- intent and its commit (`work`), and its number; and a history only grows.
-use Rattle.std.proofs.Common.{◌≡◌, sym, ap, subst, ◌∙◌, ℕ, ◌++◌, Option, Some, None, IfSome}
+use Rattle.std.proofs.Common.{◌≡◌, sym, ap, ◌∙◌, ℕ, ◌++◌, inl, inr, Option, Some, None, IfSome}
 use Rattle.std.proofs.lemmas.List.{append_assoc}
+use Rattle.acct_outside.specs.declared.Name.{Name}
+use Rattle.acct_outside.specs.declared.Name.TheVariants.{Table, Intent, Defs}
+use Rattle.acct_outside.specs.Calls.{Call, Answer as CallAnswer}
 use Rattle.acct_outside.specs.History.{History}
 use Rattle.acct_outside.specs.Contract.{Past}
 use Rattle.suite_rules.specs.OwnLock.{kept_number}
 use Rattle.suite_rules.specs.Standing.{Commit, Standing, standing}
 use Rattle.suite_rules.specs.Steps.{Work, work, StandsIn, Leaves}
+use Rattle.suite_answers.specs.declared.cause.Which.TheVariants.{File}
 use Rattle.suite_answers.specs.declared.cause.Cause.{Cause}
-use Rattle.suite_answers.specs.declared.cause.Cause.TheVariants.{Changed, Same, Refused, Syntax, NotBuilt, Held, Gone, Raced, Outrun, LockDamaged, Exhausted, IntentDamaged, TooLarge, NoTable, BadSetting, DiskFault, InputFault, OutputFault, ClockFault, Memory}
+use Rattle.suite_answers.specs.declared.cause.Cause.TheVariants.{Changed, Same, Refused, Held, Gone, Raced, Outrun, LockDamaged, Exhausted, IntentDamaged, TooLarge, NoTable, BadSetting}
 use Rattle.suite_answers.specs.declared.answer.Answer.{Answer}
 use Rattle.suite_core.specs.Runner.{Runner}
 use Rattle.suite_core.specs.Moment.{Moment, Runs, At}
-use Rattle.suite_core.specs.Due.{AnswersAll, AnswersSome, AnsweredAll, IsShown, IsDue}
+use Rattle.suite_core.specs.Causes.{Met, HasMet}
+use Rattle.suite_core.specs.Due.{AnswersAll, AnswersSome, AnsweredAll, WasKeeper, ShowsAll, ShowsLarge, IsShown, IsDue}
 use Rattle.suite_core.specs.Stands.{Extends, Gives}
 
 module _ (runner : Runner) (answer : Answer) where
@@ -58,6 +63,74 @@ module _ (runner : Runner) (answer : Answer) where
     is_answer = all.is_answer;
   }
 
+  -- what was met stays met
+  met-later : (call : Call) (answered : CallAnswer call) (Stood : Standing → Type 0)
+      (old new newer : History) → new ≡ newer ++ old →
+      Met runner.token call answered Stood old → Met runner.token call answered Stood new
+  met-later call answered Stood old new newer parts met = record {
+    newer = newer ++ met.newer;
+    older = met.older;
+    parts = parts ∙ (ap (λ (history : History). newer ++ history) met.parts
+        ∙ sym (append_assoc newer met.newer _));
+    stood = met.stood;
+  }
+
+  met-stays : (old new newer : History) → new ≡ newer ++ old → (cause : Cause) →
+      HasMet runner.token old cause → HasMet runner.token new cause
+  met-stays old new newer parts (Held token) met =
+      (met.0, met-later _ _ _ old new newer parts met.1)
+  met-stays old new newer parts (Gone number) met = met-later _ _ _ old new newer parts met
+  met-stays old new newer parts (Raced number) met =
+      (met.0, met.1, met-later _ _ _ old new newer parts met.2)
+  met-stays old new newer parts (Outrun number greater) (inl met) =
+      inl (met.0, met-later _ _ _ old new newer parts met.1)
+  met-stays old new newer parts (Outrun number greater) (inr met) =
+      inr (met.0, met.1, met.2, met-later _ _ _ old new newer parts met.3)
+  met-stays old new newer parts (LockDamaged number) met =
+      (met.0, met.1, met-later _ _ _ old new newer parts met.2)
+  met-stays old new newer parts Exhausted met =
+      (met.0, met.1, met-later _ _ _ old new newer parts met.2)
+  met-stays old new newer parts (IntentDamaged part) met =
+      (met.0, met.1, met-later _ _ _ old new newer parts met.2)
+  met-stays old new newer parts (TooLarge (File Intent)) met =
+      met-later _ _ _ old new newer parts met
+  met-stays old new newer parts cause met = met
+
+  -- who was keeper earlier was so
+  keeper-stays : (old new newer : History) → new ≡ newer ++ old → WasKeeper runner.token old →
+      WasKeeper runner.token new
+  keeper-stays old new newer parts was = record {
+    newer = newer ++ was.newer;
+    older = was.older;
+    parts = parts ∙ (ap (λ (history : History). newer ++ history) was.parts
+        ∙ sym (append_assoc newer was.newer was.older));
+    number = was.number;
+    active = was.active;
+    uncommitted = was.uncommitted;
+  }
+
+  both-stay : (old new newer : History) → new ≡ newer ++ old →
+      kept_number (standing runner.token new).own ≡ kept_number (standing runner.token old).own →
+      (standing runner.token new).knows ≡ (standing runner.token old).knows →
+      ShowsAll runner answer old → ShowsAll runner answer new
+  both-stay old new newer parts kept knows shown =
+      (all-stays _ _ kept knows shown.0, keeper-stays old new newer parts shown.1)
+
+  -- what shows that a file is too large stays
+  large-stays : (old new newer : History) → new ≡ newer ++ old →
+      kept_number (standing runner.token new).own ≡ kept_number (standing runner.token old).own →
+      (standing runner.token new).knows ≡ (standing runner.token old).knows → (name : Name) →
+      ShowsLarge runner answer old name → ShowsLarge runner answer new name
+  large-stays old new newer parts kept knows name (inl all) =
+      inl (both-stay old new newer parts kept knows all)
+  large-stays old new newer parts kept knows name (inr large) = inr (record {
+    reader = large.reader;
+    sound = large.sound;
+    is_next = large.is_next;
+    met = met-later _ _ _ old new newer parts large.met;
+    says = large.says;
+  })
+
   -- what shows a cause stays
   pub shown-stays : (old new newer : History) → new ≡ newer ++ old →
       kept_number (standing runner.token new).own ≡ kept_number (standing runner.token old).own →
@@ -65,28 +138,20 @@ module _ (runner : Runner) (answer : Answer) where
       (cause : Cause) → IsShown runner answer old cause → IsShown runner answer new cause
   shown-stays old new newer parts kept knows Changed shown =
       earlier-stays old new newer parts shown
-  shown-stays old new newer parts kept knows Same shown = all-stays _ _ kept knows shown
+  shown-stays old new newer parts kept knows Same shown =
+      both-stay old new newer parts kept knows shown
   shown-stays old new newer parts kept knows (Refused refusal) shown =
-      all-stays _ _ kept knows shown
+      both-stay old new newer parts kept knows shown
   shown-stays old new newer parts kept knows (BadSetting line) shown =
-      all-stays _ _ kept knows shown
+      both-stay old new newer parts kept knows shown
   shown-stays old new newer parts kept knows (NoTable table) shown =
-      some-stays _ _ kept knows shown
-  shown-stays old new newer parts kept knows (Syntax fault) shown = tt
-  shown-stays old new newer parts kept knows NotBuilt shown = tt
-  shown-stays old new newer parts kept knows (Held token) shown = tt
-  shown-stays old new newer parts kept knows (Gone number) shown = tt
-  shown-stays old new newer parts kept knows (Raced number) shown = tt
-  shown-stays old new newer parts kept knows (Outrun number greater) shown = tt
-  shown-stays old new newer parts kept knows (LockDamaged number) shown = tt
-  shown-stays old new newer parts kept knows Exhausted shown = tt
-  shown-stays old new newer parts kept knows (IntentDamaged part) shown = tt
-  shown-stays old new newer parts kept knows (TooLarge which) shown = tt
-  shown-stays old new newer parts kept knows (DiskFault stage) shown = tt
-  shown-stays old new newer parts kept knows InputFault shown = tt
-  shown-stays old new newer parts kept knows (OutputFault stage) shown = tt
-  shown-stays old new newer parts kept knows ClockFault shown = tt
-  shown-stays old new newer parts kept knows (Memory stage) shown = tt
+      (some-stays _ _ kept knows shown.0, keeper-stays old new newer parts shown.1)
+  shown-stays old new newer parts kept knows (TooLarge (File (Table table))) shown =
+      large-stays old new newer parts kept knows (Table table) shown
+  shown-stays old new newer parts kept knows (TooLarge (File Defs)) shown =
+      large-stays old new newer parts kept knows Defs shown
+  shown-stays old new newer parts kept knows cause shown =
+      met-stays old new newer parts cause shown
 
   module _ (commit : Commit) (number : ℕ) (Held Holds : Standing → Type 0)
       (had : (stood : Standing) → Held stood → kept_number stood.own ≡ Some number)

@@ -2,7 +2,7 @@
 -- call, finished (`finishes`).
 -- Way: a fault of a stream leaves the stage, so the session still stands with its answer
 -- (`streams-stand`); its last call leads to its end alone (`ends-begun`).
-use Rattle.std.proofs.Common.{◌≡◌, ℕ, ◌≤◌, ◌⊎◌, inl, inr, refl, sym, ap, subst, ◌∙◌, Option, Some, None, IfSome, IsSome, Result, Ok, Err, arith}
+use Rattle.std.proofs.Common.{◌≡◌, ℕ, ◌≤◌, inl, inr, refl, sym, ap, subst, ◌∙◌, Option, Some, None, IfSome, IsSome, Result, Ok, Err, arith}
 use Rattle.std.proofs.lemmas.Bool.{cases_lt}
 use Rattle.acct_outside.specs.declared.CommitStage.{CommitStage}
 use Rattle.acct_outside.specs.declared.streams.SinkFault.{SinkFault}
@@ -18,13 +18,13 @@ use Rattle.suite_core.specs.declared.state.State.TheVariants.{Answering}
 use Rattle.suite_core.specs.declared.session.Phase.{Phase}
 use Rattle.suite_core.specs.declared.session.Phase.TheVariants.{Waiting, Begun, Over}
 use Rattle.suite_core.specs.Runner.{Question, Runner}
-use Rattle.suite_core.specs.Moment.{Moment, commit_at}
+use Rattle.suite_core.specs.Moment.{Moment}
 use Rattle.suite_core.specs.Answers.{Says}
 use Rattle.suite_core.specs.Due.{IsDue}
-use Rattle.suite_core.specs.Session.{Gave, HasAnswered, IsUnbegun, SessionStands, SessionTurns, answer_of, given_in, outcome_of, output_failed, state_failed}
-use Rattle.suite_core.specs.Stands.{IsDiskFault, MayGive, StandsAs, TurnsTo}
+use Rattle.suite_core.specs.Session.{HasAnswered, SessionStands, SessionTurns, answer_of, given_in, outcome_of, state_failed}
+use Rattle.suite_core.specs.Stands.{IsDiskFault, MayGive, StandsAs}
 use Rattle.suite_core.specs.Streams.{Streams, Serves, after_fault, after_streams, left_by}
-use Rattle.suite_core.specs.Course.{AnsweredAs, Comes, Concludes, Finished, Reached, phase_after}
+use Rattle.suite_core.specs.Course.{Comes, Concludes, Finished, phase_after}
 use Rattle.suite_core.proofs.CourseLemmas.{turns-then, turns-as}
 use Rattle.suite_core.proofs.RanLemmas.{stays-turns}
 

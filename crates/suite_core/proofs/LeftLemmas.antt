@@ -1,6 +1,6 @@
 -- Claim: each turn brings a session nearer to its answer: to a lower rank (`rank-drops`), or in the
 -- same rank by a step (`steps-drop`). The other lemmas are of states that follow by cases.
-use Rattle.std.proofs.Common.{◌≡◌, refl, ap, subst, ℕ, ◌+◌, ◌*◌, ◌-◌, ◌<◌, ◌≤◌, ◌==◌, min, Bool, true, false, if◌then◌else◌, arith, rules}
+use Rattle.std.proofs.Common.{◌≡◌, refl, ℕ, ◌<◌, ◌≤◌, min, Bool, true, false, if◌then◌else◌, arith, rules}
 use Rattle.std.proofs.Math.Nat.{min-le_right, min-eq_left}
 use Rattle.account_model.specs.declared.tool.Tool.{Tool}
 use Rattle.lock_steps.specs.States.{Lister, Kept}

@@ -1,9 +1,12 @@
+mod AloneLemmas
 mod AnswerLemmas
 mod CommittingTurns
 mod CourseLemmas
 mod DecidingLemmas
 mod DeedLemmas
 mod DueLemmas
+mod MetLemmas
+mod LargeLemmas
 mod LeadsLemmas
 mod LeftLemmas
 mod LoadingTurns
@@ -18,3 +21,4 @@ mod TurnLemmas
 mod UnlockingTurns
 mod FinishLemmas
 mod TopLemmas
+mod SuppliesLemmas

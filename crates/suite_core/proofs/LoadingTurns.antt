@@ -13,6 +13,7 @@ use Rattle.acct_outside.specs.declared.StageFault.{StageFault}
 use Rattle.acct_outside.specs.declared.CommitStage.TheVariants.{Before}
 use Rattle.acct_outside.specs.declared.Name.{Name}
 use Rattle.acct_outside.specs.Calls.{Found, found_absent, found_bytes, found_too_large, reads}
+use Rattle.acct_outside.specs.History.{History}
 use Rattle.acct_outside.specs.Contract.{Past}
 use Rattle.account_model.specs.declared.tool.Tool.{Tool}
 use Rattle.account_model.specs.Answer.{Changed as ChangedTo, new_files}
@@ -30,7 +31,7 @@ use Rattle.commit_steps.specs.declared.Loading.{Loading as Loaded}
 use Rattle.commit_steps.specs.declared.Loading.TheVariants.{More, Done}
 use Rattle.commit_steps.specs.declared.LoadEnd.{LoadEnd}
 use Rattle.commit_steps.specs.declared.LoadEnd.TheVariants.{Fault, TooLarge, NoTable}
-use Rattle.commit_steps.specs.States.{Reader, Inputs, Walker, inputs_of, next_name, read_on, steps_left, table_after, walk_of}
+use Rattle.commit_steps.specs.States.{AreSound, Reader, Inputs, Walker, inputs_of, next_name, read_on, steps_left, table_after, walk_of}
 use Rattle.commit_steps.specs.Stands.{BacksUp, HasRead, HasLoaded, HasMissed, StandsLoading, StandsEnded}
 use Rattle.commit_steps.specs.Outcomes.{Loads, LoadsContent, is_missing}
 use Rattle.commit_steps.proofs.BackupLemmas.{starts-backing}
@@ -47,13 +48,14 @@ use Rattle.suite_core.specs.Runner.{Question, Runner}
 use Rattle.suite_core.specs.Moment.{Moment, commit_at, Runs, At}
 use Rattle.suite_core.specs.Answers.{answer_on, IsAnswerOn, given_for}
 use Rattle.suite_core.specs.Deeds.{is_change}
-use Rattle.suite_core.specs.Due.{IsDue}
+use Rattle.suite_core.specs.Due.{ShowsLarge, IsShown, IsDue}
 use Rattle.suite_core.specs.Left.{ranked, reads_left, turns_left}
 use Rattle.suite_core.specs.Loading.{DecidesOn, DecidesTo, EndsAt, LoadsTo}
 use Rattle.suite_core.specs.Locking.{cause_of_fault}
 use Rattle.suite_core.specs.Stands.{IsDiskFault, LeavesWith, StandsAs, StandsChanging, StandsUnlocking, TellsDiskFault}
-use Rattle.suite_core.proofs.TurnLemmas.{goes-on, answers-turn, answers-fault, leaves-turn, leaves-fault}
-use Rattle.suite_core.proofs.UnlockingTurns.{fault-stage, fault-plain, fault-failed}
+use Rattle.suite_core.specs.Causes.{Met}
+use Rattle.suite_core.proofs.TurnLemmas.{goes-on, got, answers-turn, answers-fault, leaves-fault}
+use Rattle.suite_core.proofs.UnlockingTurns.{fault-met, fault-stage, fault-plain, fault-failed}
 use Rattle.suite_core.proofs.LeftLemmas.{rank-drops, steps-drop, answer-drops, answers-left, leaves-left}
 use Rattle.suite_core.proofs.AnswerLemmas.{answer-says, answer-quiet, stay-stage, stay-shown, missed-shown}
 
@@ -123,14 +125,15 @@ content-small : (reader : Reader) (name : Name) (kept : Kept) (next : Option Tab
 content-small reader name kept (Some table) content shown = shown
 content-small reader name kept None content shown = shown
 
-large-keeper : (reader : Reader) (name : Name) (kept : Kept) (answer : Result Found FolderFault) →
-    Loads reader answer (Err (TooLarge name kept)) → kept ≡ reader.keeper
-large-keeper reader name kept (Ok found_too_large) shown = shown.1
-large-keeper reader name kept (Ok found_absent) shown =
+large-shown : (reader : Reader) (name : Name) (kept : Kept) (answer : Result Found FolderFault) →
+    Loads reader answer (Err (TooLarge name kept)) →
+    (answer ≡ Ok found_too_large) × (name ≡ next_name reader.next) × (kept ≡ reader.keeper)
+large-shown reader name kept (Ok found_too_large) shown = (refl, shown.0, shown.1)
+large-shown reader name kept (Ok found_absent) shown =
     absurd (content-small reader name kept reader.next None shown)
-large-keeper reader name kept (Ok (found_bytes bytes)) shown =
+large-shown reader name kept (Ok (found_bytes bytes)) shown =
     absurd (content-small reader name kept reader.next (Some bytes) shown)
-large-keeper reader name kept (Err fault) shown = absurd shown
+large-shown reader name kept (Err fault) shown = absurd shown
 
 -- of a fault
 content-faultless : (reader : Reader) (fault : StageFault) (next : Option Tab)
@@ -148,6 +151,13 @@ fault-before reader fault (Ok (found_bytes bytes)) shown =
 fault-before reader fault (Ok found_too_large) shown = absurd shown
 
 -- ---- The standing after it
+
+-- what shows that the next file is too large shows the cause
+shows-next : (runner : Runner) (answer : FinalAnswer) (history : History) (next : Option Tab) →
+    ShowsLarge runner answer history (next_name next) →
+    IsShown runner answer history (IsTooLarge (File (next_name next)))
+shows-next runner answer history None shows = shows
+shows-next runner answer history (Some table) shows = shows
 
 module _ (before now : Moment) (runner : Runner) (reader : Reader)
     (stands : At before runner commit_uncalled (HasRead reader))
@@ -186,7 +196,7 @@ module _ (before now : Moment) (runner : Runner) (reader : Reader)
       asked = stood.holds.asked;
       commits = stood.holds.commits ∙ ap commit_at
           (sym (stay-stage runner.asked inputs.files inputs.defs answer is_answer stays));
-      shown = stay-shown runner inputs answer past.history stood.holds.holds is_answer stays;
+      shown = stay-shown runner inputs answer past.history stood.holds.holds stood.runs is_answer stays;
     }
 
     -- it is given once the lock is free
@@ -236,7 +246,7 @@ module _ (before now : Moment) (runner : Runner) (reader : Reader)
     decided-stands inputs (Answering answer) decided token next =
         answers-turn before now runner commit_uncalled (HasRead reader) stands reader.keeper.token
         same (reads (next_name reader.next)) tt _ (λ result stood. refl) made (Memory Before)
-        (Answering answer) (inr decided) tt refl
+        (Answering answer) (inr decided) tt (fault-met now runner Before FolderFault.Memory) refl
     decided-stands inputs state decided token next = absurd decided
 
   -- after a read that leads on
@@ -266,7 +276,7 @@ module _ (before now : Moment) (runner : Runner) (reader : Reader)
   missed-due table keeper missing (Some past) stood = record {
     asked = stood.holds.asked;
     commits = stood.holds.commits;
-    shown = missed-shown runner table keeper _ missing stood.holds.holds;
+    shown = missed-shown runner table keeper past.history missing stood.holds.holds stood.runs;
   }
 
   missed-stands : (table : Tab) (keeper : Kept) → is_missing table None ≡ true →
@@ -306,30 +316,82 @@ module _ (before now : Moment) (runner : Runner) (reader : Reader)
   missing-stands table kept (Answering answer) leaves made next =
       answers-turn before now runner commit_uncalled (HasRead reader) stands reader.keeper.token
       same (reads (next_name reader.next)) tt _ (λ result stood. refl) made (Memory Before)
-      (Answering answer) (inr leaves) tt refl
+      (Answering answer) (inr leaves) tt (fault-met now runner Before FolderFault.Memory) refl
   missing-stands table kept state leaves made next = absurd leaves
 
+  -- the answer that the next file is too large is due
+  large-due : (kept : Kept) → AreSound reader.next reader.files → (told : Option Past) →
+      StandsIn now.admits told runner.token (Runs runner commit_uncalled (Keeps kept KnowsNone)) →
+      IfSome told (λ past. Met runner.token (reads (next_name reader.next)) found_too_large
+      (HasRead reader) past.history) →
+      IfSome told (IsDue runner
+      (given_for runner.asked.request.tool (IsTooLarge (File (next_name reader.next)))))
+  large-due kept sound None stood met = tt
+  large-due kept sound (Some past) stood met = record {
+    asked = stood.holds.asked;
+    commits = stood.holds.commits;
+    shown = shows-next runner _ past.history reader.next
+        (inr (record { reader = reader; sound = sound; is_next = refl; met = met; says = refl }));
+  }
+
+  -- after one that finds too much
+  large-stands : (name : Name) (kept : Kept) (state : State) → AreSound reader.next reader.files →
+      LeavesWith runner.asked.request.tool kept (IsTooLarge (File (next_name reader.next))) state →
+      MakesCall before.admits now.admits before.told now.told reader.keeper.token
+      (reads (next_name reader.next)) (λ answer. Loads reader answer (Err (TooLarge name kept))) →
+      StandsIn now.admits now.told reader.keeper.token (Keeps kept KnowsNone) →
+      StandsAs now runner state
+  large-stands name kept (Unlocking keeper answer) sound leaves made next =
+      let shown = large-shown reader name kept made.answer made.shown in
+      let stood = goes-on before now runner commit_uncalled (HasRead reader) stands
+      reader.keeper.token same (reads (next_name reader.next)) tt _ (λ result stood. refl) made
+      (Keeps kept KnowsNone) next in
+      subst (λ (one : Kept). StandsUnlocking now runner one answer) (sym leaves.0)
+      (subst (λ (one : FinalAnswer). StandsUnlocking now runner kept one) (sym leaves.1) (record {
+        same = ap (λ (one : Kept). one.token) shown.2 ∙ same;
+        stands = stands-weaker now.admits runner.token
+            (Runs runner commit_uncalled (Keeps kept KnowsNone))
+            (Runs runner commit_uncalled (Keeps kept KnowsAnything))
+            (λ standing runs. record {
+              holds = record { locks = runs.holds.locks; knows = tt };
+              asked = runs.asked;
+              commits = runs.commits;
+            })
+            now.told stood;
+        quiet = λ fault. fault;
+        gives = record {
+          says = refl;
+          due = large-due kept sound now.told stood
+              (got before now runner commit_uncalled (HasRead reader) stands reader.keeper.token same
+              (reads (next_name reader.next)) tt _ (λ result stood. refl) made found_too_large
+              shown.0);
+        };
+      }))
+  large-stands name kept (Answering answer) sound leaves made next =
+      answers-turn before now runner commit_uncalled (HasRead reader) stands reader.keeper.token
+      same (reads (next_name reader.next)) tt _ (λ result stood. refl) made (Memory Before)
+      (Answering answer) (inr leaves) tt (fault-met now runner Before FolderFault.Memory) refl
+  large-stands name kept state sound leaves made next = absurd leaves
+
   -- after one that leads no further
-  pub ended-stands : (end : LoadEnd) (state : State) →
+  pub ended-stands : (end : LoadEnd) (state : State) → AreSound reader.next reader.files →
       EndsAt runner.asked.request.tool end state →
       MakesCall before.admits now.admits before.told now.told reader.keeper.token
       (reads (next_name reader.next)) (λ answer. Loads reader answer (Err end)) →
       StandsEnded now.admits now.told reader.keeper.token end → StandsAs now runner state
-  ended-stands (Fault fault) state ends made next =
+  ended-stands (Fault fault) state sound ends made next =
       answers-turn before now runner commit_uncalled (HasRead reader) stands reader.keeper.token
       same (reads (next_name reader.next)) tt _ (λ result stood. refl) made
       (cause_of_fault fault.stage fault.fault) state ends (fault-plain fault.stage fault.fault)
+      (fault-met now runner fault.stage fault.fault)
       (ap commit_at (sym (fault-stage fault.stage fault.fault
       ∙ fault-before reader fault made.answer made.shown)))
-  ended-stands (TooLarge name kept) state ends made next =
-      leaves-turn before now runner commit_uncalled (HasRead reader) stands reader.keeper.token
-      same (reads (next_name reader.next)) tt _ (λ result stood. refl) made kept
-      (IsTooLarge (File name)) state ends tt (λ fault. fault) refl
-      (ap (λ (one : Kept). one.token) (large-keeper reader name kept made.answer made.shown) ∙ same)
-      (stands-weaker now.admits reader.keeper.token (Keeps kept KnowsNone)
-      (Keeps kept KnowsAnything)
-      (λ stood keeps. record { locks = keeps.locks; knows = tt }) now.told next)
-  ended-stands (NoTable table kept) state ends made next =
+  ended-stands (TooLarge name kept) state sound ends made next =
+      large-stands name kept state sound
+      (subst (λ (one : Name).
+      LeavesWith runner.asked.request.tool kept (IsTooLarge (File one)) state)
+      (large-shown reader name kept made.answer made.shown).1 ends) made next
+  ended-stands (NoTable table kept) state sound ends made next =
       missing-stands table kept state ends made next
 
 -- ---- Faults of the folder

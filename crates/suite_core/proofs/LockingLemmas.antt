@@ -1,6 +1,6 @@
 -- Claim: an end of a step on the way to the lock is told as a cause before the commit, and as a fault
 -- of the folder where that failed.
-use Rattle.std.proofs.Common.{◌≡◌, refl, ap, ℕ, List, Result, Ok, Err}
+use Rattle.std.proofs.Common.{◌≡◌, refl, sym, ap, subst, ◌<◌, ℕ, List, Result, Ok, Err}
 use Rattle.acct_outside.specs.declared.FolderFault.{FolderFault}
 use Rattle.acct_outside.specs.declared.Verdict.{Verdict}
 use Rattle.acct_outside.specs.declared.Verdict.TheVariants.{Alive, Dead}
@@ -13,13 +13,12 @@ use Rattle.lock_steps.specs.declared.judging.Told.TheVariants.{Judged, Ask}
 use Rattle.lock_steps.specs.declared.claiming.Confirmed.TheVariants.{Keeper, Loser}
 use Rattle.acct_outside.specs.declared.CommitStage.TheVariants.{Before}
 use Rattle.acct_outside.specs.declared.FolderFault.TheVariants.{Failed, Memory}
-use Rattle.lock_steps.specs.declared.LockRefusal.{LockRefusal}
 use Rattle.lock_steps.specs.declared.LockRefusal.TheVariants.{Held, Gone, Raced, Outrun, Damaged, Exhausted}
 use Rattle.lock_steps.specs.declared.LockEnd.{LockEnd}
 use Rattle.lock_steps.specs.declared.LockEnd.TheVariants.{Refused, Folder}
 use Rattle.lock_steps.specs.Outcomes.{folder_failed, Looks, Reads, Asks, Claims, Confirms}
 use Rattle.suite_answers.specs.Reasons.{stage_of}
-use Rattle.suite_core.specs.Locking.{cause_of_end, cause_of_refusal}
+use Rattle.suite_core.specs.Locking.{cause_of_end}
 use Rattle.suite_core.specs.Stands.{IsDiskFault}
 use Rattle.suite_core.proofs.TurnLemmas.{IsPlain}
 
@@ -108,3 +107,10 @@ pub confirms-loser : (claimed : Maker) (answer : Result (List ℕ) FolderFault) 
 confirms-loser claimed (Ok numbers) loser shown =
     ap (λ (overtaken : Overtaken). overtaken.token) shown.1
 confirms-loser claimed (Err fault) loser shown = absurd shown
+
+-- which is greater than the own
+pub confirms-less : (claimed : Maker) (answer : Result (List ℕ) FolderFault) (loser : Overtaken) →
+    Confirms claimed answer (Ok (Loser loser)) → loser.number < loser.greatest
+confirms-less claimed (Ok numbers) loser shown =
+    subst (λ (one : Overtaken). one.number < one.greatest) (sym shown.1) shown.0
+confirms-less claimed (Err fault) loser shown = absurd shown

@@ -1,6 +1,6 @@
 -- Claim: after the read of the greatest lock, and after the second listing, the session stands in
 -- the state that these lead to (`read-stands`, `confirm-stands`).
-use Rattle.std.proofs.Common.{◌≡◌, refl, ◌∙◌, ◌==◌, ◌<◌, Bool, true, false, if◌then◌else◌, Ok, rules, arith}
+use Rattle.std.proofs.Common.{◌≡◌, refl, ◌∙◌, ◌==◌, Bool, true, false, if◌then◌else◌, Ok, rules, arith}
 use Rattle.acct_outside.specs.Tokens.{Token}
 use Rattle.acct_outside.specs.declared.Name.TheVariants.{Lock}
 use Rattle.acct_outside.specs.Calls.{lists, reads}
@@ -20,7 +20,7 @@ use Rattle.suite_core.specs.Moment.{Moment, At}
 use Rattle.suite_core.specs.Locking.{after_look, after_read, after_listing}
 use Rattle.suite_core.specs.Stands.{StandsAs, TellsDiskFault}
 use Rattle.suite_core.proofs.TurnLemmas.{goes-on}
-use Rattle.suite_core.proofs.LockingLemmas.{looks-token, reads-judged, reads-asking, confirms-keeper, confirms-loser}
+use Rattle.suite_core.proofs.LockingLemmas.{looks-token, reads-judged, reads-asking, confirms-keeper, confirms-less, confirms-loser}
 
 -- a session that looked and found no lock may make one
 none-judged : (seen : Lister) → seen.greatest ≡ 0 → (stood : Standing) → HasLooked seen stood →
@@ -96,6 +96,7 @@ module _ (before now : Moment) (runner : Runner) where
     )
     confirm-stands (Loser loser) made next = (
       confirms-loser _ _ _ made.shown ∙ same,
+      confirms-less _ _ _ made.shown,
       goes-on before now runner commit_uncalled (HasMade claimed) stands claimed.token same
           lists tt _ (λ result stood. refl) made (WasOvertaken loser) next,
     )

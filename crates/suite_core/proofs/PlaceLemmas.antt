@@ -2,38 +2,45 @@
 -- answer is that on the fold of the commands that were committed under lower numbers (`shown-at`).
 -- Way: what a session has seen is the fold of its place and the first login.defs (`places-stay`); the
 -- place stays whatever was committed since; and a session commits at most once (`committed-once`).
-use Rattle.std.proofs.Common.{◌≡◌, refl, sym, ap, subst, ap₂, ◌∙◌, ◌++◌, ℕ, List, Option, Some, None, arith}
+use Rattle.std.proofs.Common.{◌≡◌, refl, sym, ap, subst, ap₂, ◌∙◌, ◌∷◌, ℕ, inl, inr, List, Option, Some, arith}
 use Rattle.acct_text.specs.declared.Tab.{Tab}
 use Rattle.acct_text.specs.declared.Tab.TheVariants.{Passwd, Shadow, Group, Gshadow, Subuid, Subgid}
+use Rattle.acct_outside.specs.declared.Name.{Name}
 use Rattle.acct_text.specs.declared.files.Files.{Files}
 use Rattle.acct_text.specs.Bytes.{Bytes}
 use Rattle.acct_text.specs.Contents.{Contents}
 use Rattle.acct_text.specs.Files.{table_of}
 use Rattle.acct_outside.specs.declared.Name.TheVariants.{Table, Defs}
 use Rattle.acct_outside.specs.Tokens.{Token}
-use Rattle.acct_outside.specs.Folder.{Folder, settings_file, top}
-use Rattle.acct_outside.specs.Calls.{Command}
-use Rattle.acct_outside.specs.History.{History, after}
+use Rattle.acct_outside.specs.Folder.{Folder, greatest, settings_file, top}
+use Rattle.acct_outside.specs.Calls.{Command, lists, done}
+use Rattle.acct_outside.specs.History.{Event, History, after}
 use Rattle.suite_rules.specs.Deeds.{SuiteDeeds}
-use Rattle.suite_rules.specs.OwnLock.{kept_number}
+use Rattle.suite_rules.specs.OwnLock.{kept_number, made_number}
 use Rattle.suite_rules.specs.Knowledge.{Seen}
-use Rattle.suite_rules.specs.Standing.{Standing, standing, commit_uncalled, commit_done}
+use Rattle.suite_rules.specs.Standing.{standing, commit_uncalled, commit_done}
 use Rattle.suite_rules.specs.Lawful.{Lawful}
-use Rattle.suite_rules.specs.Committed.{Commitment, commitment_of, committed, commitments_of, place, folded}
+use Rattle.suite_rules.specs.Committed.{Commitment, commitment_of, committed, place, folded}
 use Rattle.suite_rules.specs.Laws.{HasLooked, IsCleanKeeper}
 use Rattle.suite_rules.proofs.Places.{places-stay}
 use Rattle.suite_rules.proofs.Once.{committed-once, kept-stays}
 use Rattle.suite_rules.proofs.Cut.{lawful-prefix}
+use Rattle.suite_rules.proofs.Keepers.{lock-facts}
 use Rattle.suite_rules.proofs.Whole.{invariant}
+use Rattle.suite_answers.specs.declared.cause.Which.TheVariants.{File}
 use Rattle.suite_answers.specs.declared.cause.Cause.{Cause}
-use Rattle.suite_answers.specs.declared.cause.Cause.TheVariants.{Changed, Same, Refused, Syntax, NotBuilt, Held, Gone, Raced, Outrun, LockDamaged, Exhausted, IntentDamaged, TooLarge, NoTable, BadSetting, DiskFault, InputFault, OutputFault, ClockFault, Memory}
+use Rattle.suite_answers.specs.declared.cause.Cause.TheVariants.{Changed, Same, Refused, Outrun, TooLarge, NoTable, BadSetting}
 use Rattle.suite_answers.specs.declared.answer.Answer.{Answer}
 use Rattle.suite_answers.specs.Reasons.{stage_of}
 use Rattle.suite_core.specs.Runner.{Question, Runner}
 use Rattle.suite_core.specs.Moment.{commit_at}
 use Rattle.suite_core.specs.Answers.{IsAnswerOn}
+use Rattle.suite_core.specs.Causes.{MetLoss}
 use Rattle.suite_core.specs.Deeds.{files_of}
-use Rattle.suite_core.specs.Due.{AnswersAll, AnswersSome, AnsweredAll, IsShown}
+use Rattle.suite_core.specs.Due.{AnswersAll, AnswersSome, AnsweredAll, WasKeeper, ShowsLarge, IsShown}
+use Rattle.suite_core.proofs.AloneLemmas.{answers-alone}
+use Rattle.suite_core.proofs.DeedLemmas.{files-have}
+use Rattle.suite_core.proofs.LargeLemmas.{large-stayed, last-next}
 use Rattle.suite_core.specs.Top.{HasChanged, HasStayed, IsAnswerAt, IsShownAt}
 
 -- files are those of their contents
@@ -47,15 +54,6 @@ files-same files contents same = λ i. record {
   subuid = same Subuid i;
   subgid = same Subgid i;
 }
-
--- each table of the files of contents is that of the contents
-table-same : (contents : Contents) (table : Tab) → contents table ≡ table_of (files_of contents) table
-table-same contents Passwd = refl
-table-same contents Shadow = refl
-table-same contents Group = refl
-table-same contents Gshadow = refl
-table-same contents Subuid = refl
-table-same contents Subgid = refl
 
 module _ (deeds : SuiteDeeds) (first : Folder) (history : History)
     (lawful : Lawful deeds first history) (asked : Question) (token : Token) where
@@ -80,40 +78,47 @@ module _ (deeds : SuiteDeeds) (first : Folder) (history : History)
   -- a session that stayed, and has seen all
   all-stayed : (runner : Runner) (answer : Answer) → runner.token ≡ token → runner.asked ≡ asked →
       (standing token history).commit ≡ commit_uncalled →
-      AnswersAll runner answer (standing token history) →
+      AnswersAll runner answer (standing token history) → WasKeeper token history →
       HasStayed deeds asked first history token answer
-  all-stayed runner answer same question uncalled all = record {
-    number = all.number;
-    kept = all.kept;
-    none = committed-once.none deeds first history lawful token uncalled;
-    at_place = seen-all all.number all.seen
-        (record { kept = all.kept; uncommitted = uncalled; clean = all.clean })
-        all.files all.defs answer all.all.each_table all.all.settings
-        (subst (λ (one : Question). IsAnswerOn one all.files all.defs answer) question
-        all.is_answer);
-  }
+  all-stayed runner answer same question uncalled all was =
+      let there = seen-all all.number all.seen
+      (record { kept = all.kept; uncommitted = uncalled; clean = all.clean })
+      all.files all.defs answer all.all.each_table all.all.settings
+      (subst (λ (one : Question). IsAnswerOn one all.files all.defs answer) question
+      all.is_answer) in
+      record {
+        number = all.number;
+        kept = all.kept;
+        none = committed-once.none deeds first history lawful token uncalled;
+        at_place = there;
+        alone = answers-alone deeds first history lawful asked token answer all.number all.kept was
+            there;
+      }
 
   -- one that stayed, and has seen some
   some-stayed : (runner : Runner) (answer : Answer) → runner.token ≡ token → runner.asked ≡ asked →
       (standing token history).commit ≡ commit_uncalled →
-      AnswersSome runner answer (standing token history) →
+      AnswersSome runner answer (standing token history) → WasKeeper token history →
       HasStayed deeds asked first history token answer
-  some-stayed runner answer same question uncalled some =
+  some-stayed runner answer same question uncalled some was =
       let looked : HasLooked history token some.number some.seen =
       record { kept = some.kept; uncommitted = uncalled; clean = some.clean } in
+      let there : IsAnswerAt deeds asked first history some.number answer = subst (λ (one : Question).
+      IsAnswerOn one (files_of (at_place some.number)) (settings_file first) answer) question
+      (some.is_answer (files_of (at_place some.number)) (settings_file first) (record {
+        each_table = λ table content is. places-stay.has_seen deeds first history lawful token
+            some.number some.seen looked table content is
+            ∙ sym (files-have (at_place some.number) table);
+        settings = places-stay.settings deeds first history lawful token some.number some.seen
+            looked;
+      })) in
       record {
         number = some.number;
         kept = some.kept;
         none = committed-once.none deeds first history lawful token uncalled;
-        at_place = subst (λ (one : Question).
-            IsAnswerOn one (files_of (at_place some.number)) (settings_file first) answer) question
-            (some.is_answer (files_of (at_place some.number)) (settings_file first) (record {
-              each_table = λ table content is. places-stay.has_seen deeds first history lawful token
-                  some.number some.seen looked table content is
-                  ∙ table-same (at_place some.number) table;
-              settings = places-stay.settings deeds first history lawful token some.number some.seen
-                  looked;
-            }));
+        at_place = there;
+        alone = answers-alone deeds first history lawful asked token answer some.number some.kept was
+            there;
       }
 
 -- one that has changed its files
@@ -133,22 +138,57 @@ changed-at deeds first history lawful asked token runner answer same question be
     (sym all.parts)
     (kept-stays deeds first all.newer all.older whole token all.number kept_then) in
     let top_is = (invariant deeds first all.older before).keeper_view token all.number owner.active in
+    let there : IsAnswerAt deeds asked first history all.number answer = subst (λ (one : List Commitment). IsAnswerOn asked
+    (files_of (folded deeds first one)) (settings_file first) answer)
+    (sym (ap (λ (one : History). place all.number (committed one)) all.parts
+    ∙ places-stay.stays deeds first all.newer all.older whole all.number
+    (omega (arith, top_is.0))))
+    (seen-all deeds first all.older before asked token all.number all.seen
+    (record { kept = kept_then; uncommitted = owner.uncommitted; clean = owner.clean })
+    all.files all.defs answer all.all.each_table all.all.settings
+    (subst (λ (one : Question). IsAnswerOn one all.files all.defs answer) question
+    all.is_answer)) in
     record {
       number = all.number;
       once = committed-once.one deeds first history lawful token is
           ∙ ap₂ (λ (number : Option ℕ) (command : Option Command).
           commitment_of token number command) kept_now began;
-      at_place = subst (λ (one : List Commitment). IsAnswerOn asked
-          (files_of (folded deeds first one)) (settings_file first) answer)
-          (sym (ap (λ (one : History). place all.number (committed one)) all.parts
-          ∙ places-stay.stays deeds first all.newer all.older whole all.number
-          (omega (arith, top_is.0))))
-          (seen-all deeds first all.older before asked token all.number all.seen
-          (record { kept = kept_then; uncommitted = owner.uncommitted; clean = owner.clean })
-          all.files all.defs answer all.all.each_table all.all.settings
-          (subst (λ (one : Question). IsAnswerOn one all.files all.defs answer) question
-          all.is_answer));
+      at_place = there;
+      alone = answers-alone deeds first history lawful asked token answer all.number kept_now
+          (record {
+            newer = all.newer;
+            older = all.older;
+            parts = all.parts;
+            number = all.number;
+            active = owner.active;
+            uncommitted = owner.uncommitted;
+          }) there;
     }
+
+-- one that found a file too large
+large-at : (deeds : SuiteDeeds) (first : Folder) (history : History) → Lawful deeds first history →
+    (asked : Question) (runner : Runner) (answer : Answer) (name : Name) → runner.asked ≡ asked →
+    (standing runner.token history).commit ≡ commit_uncalled →
+    ShowsLarge runner answer history name →
+    HasStayed deeds asked first history runner.token answer
+large-at deeds first history lawful asked runner answer name question is (inl all) =
+    all-stayed deeds first history lawful asked runner.token runner answer refl question is all.0 all.1
+large-at deeds first history lawful asked runner answer name question is (inr large) =
+    large-stayed deeds first history lawful asked runner answer name question is large
+
+-- a session's own lock is listed, or a greater one
+never-lost : (deeds : SuiteDeeds) (first : Folder) (history : History) →
+    Lawful deeds first history → (token : Token) (number other : ℕ) →
+    MetLoss token number other history → ⊥
+never-lost deeds first history lawful token number other lost =
+    let met = lost.3 in
+    let event : Event = record { token = token; call = lists; result = done lost.0 } in
+    let step = last-next deeds first event met.older (lawful-prefix deeds first met.newer
+    (event ∷ met.older) (subst (Lawful deeds first) met.parts lawful)) in
+    let most = ((lock-facts deeds first met.older step.0).made_most token number
+    (ap made_number met.stood)).1 in
+    let top_is : top (after first met.older) ≡ other = sym (ap greatest step.1.gives) ∙ lost.1 in
+    absurd (omega (arith, most, top_is, lost.2))
 
 -- what own events show of an answer the history shows of its place
 pub shown-at : (deeds : SuiteDeeds) (first : Folder) (history : History) →
@@ -161,25 +201,23 @@ shown-at deeds first history lawful asked runner answer question began Changed i
     changed-at deeds first history lawful asked runner.token runner answer refl question began is
     shown
 shown-at deeds first history lawful asked runner answer question began Same is shown =
-    all-stayed deeds first history lawful asked runner.token runner answer refl question is shown
+    all-stayed deeds first history lawful asked runner.token runner answer refl question is shown.0 shown.1
 shown-at deeds first history lawful asked runner answer question began (Refused refusal) is shown =
-    all-stayed deeds first history lawful asked runner.token runner answer refl question is shown
+    all-stayed deeds first history lawful asked runner.token runner answer refl question is shown.0 shown.1
 shown-at deeds first history lawful asked runner answer question began (BadSetting line) is shown =
-    all-stayed deeds first history lawful asked runner.token runner answer refl question is shown
+    all-stayed deeds first history lawful asked runner.token runner answer refl question is shown.0 shown.1
 shown-at deeds first history lawful asked runner answer question began (NoTable table) is shown =
-    some-stayed deeds first history lawful asked runner.token runner answer refl question is shown
-shown-at deeds first history lawful asked runner answer question began (Syntax fault) is shown = tt
-shown-at deeds first history lawful asked runner answer question began NotBuilt is shown = tt
-shown-at deeds first history lawful asked runner answer question began (Held token) is shown = tt
-shown-at deeds first history lawful asked runner answer question began (Gone number) is shown = tt
-shown-at deeds first history lawful asked runner answer question began (Raced number) is shown = tt
-shown-at deeds first history lawful asked runner answer question began (Outrun number greater) is shown = tt
-shown-at deeds first history lawful asked runner answer question began (LockDamaged number) is shown = tt
-shown-at deeds first history lawful asked runner answer question began Exhausted is shown = tt
-shown-at deeds first history lawful asked runner answer question began (IntentDamaged part) is shown = tt
-shown-at deeds first history lawful asked runner answer question began (TooLarge which) is shown = tt
-shown-at deeds first history lawful asked runner answer question began (DiskFault stage) is shown = tt
-shown-at deeds first history lawful asked runner answer question began InputFault is shown = tt
-shown-at deeds first history lawful asked runner answer question began (OutputFault stage) is shown = tt
-shown-at deeds first history lawful asked runner answer question began ClockFault is shown = tt
-shown-at deeds first history lawful asked runner answer question began (Memory stage) is shown = tt
+    some-stayed deeds first history lawful asked runner.token runner answer refl question is shown.0 shown.1
+shown-at deeds first history lawful asked runner answer question began
+    (TooLarge (File (Table table))) is shown =
+    large-at deeds first history lawful asked runner answer (Table table) question is shown
+shown-at deeds first history lawful asked runner answer question began
+    (TooLarge (File Defs)) is shown =
+    large-at deeds first history lawful asked runner answer Defs question is shown
+shown-at deeds first history lawful asked runner answer question began
+    (Outrun number other) is (inl met) =
+    met
+shown-at deeds first history lawful asked runner answer question began
+    (Outrun number other) is (inr lost) =
+    absurd (never-lost deeds first history lawful runner.token number other lost)
+shown-at deeds first history lawful asked runner answer question began cause is shown = shown

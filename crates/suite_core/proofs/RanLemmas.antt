@@ -13,7 +13,6 @@ use Rattle.acct_outside.specs.Others.{Admission}
 use Rattle.acct_outside.specs.Contract.{Past, Narrows, WhereTold}
 use Rattle.suite_rules.specs.Deeds.{SuiteDeeds}
 use Rattle.suite_rules.specs.Lawful.{Lawful}
-use Rattle.suite_rules.specs.Standing.{standing}
 use Rattle.suite_rules.specs.Steps.{LawfulOthers, StaysLawful}
 use Rattle.suite_rules.proofs.Cut.{lawful-prefix}
 use Rattle.suite_rules.proofs.Settles.{lawful-settles}
@@ -25,13 +24,12 @@ use Rattle.suite_answers.specs.Reasons.{stage_of}
 use Rattle.suite_core.specs.Runner.{Question, Runner}
 use Rattle.suite_core.specs.Moment.{Moment, commit_at}
 use Rattle.suite_core.specs.Deeds.{AreOfTools}
-use Rattle.suite_core.specs.Due.{IsShown}
 use Rattle.suite_core.specs.Session.{HasAnswered, IsUnbegun}
 use Rattle.suite_core.specs.Answers.{memory_answer}
 use Rattle.suite_core.specs.Stands.{Extends, IsDiskFault, StaysOurs, TurnsTo}
 use Rattle.suite_core.specs.Streams.{Streams, Serves, after_streams}
 use Rattle.suite_core.specs.Course.{AnsweredAs, Finished}
-use Rattle.suite_core.specs.Top.{Answered, ExtendsLawfully, HasNoToken, IsAlwaysSettled, IsShownAt, Ran, WhereLawful}
+use Rattle.suite_core.specs.Top.{Answered, ExtendsLawfully, HasNoToken, IsAlwaysSettled, IsShownAt, Ran}
 use Rattle.suite_core.proofs.PlaceLemmas.{shown-at}
 use Rattle.suite_core.proofs.CourseLemmas.{turns-then}
 

@@ -34,8 +34,9 @@ use Rattle.suite_core.specs.Moment.{Moment, commit_at, At}
 use Rattle.suite_core.specs.Locking.{cause_of_fault}
 use Rattle.suite_core.specs.Recovering.{after_intent, Refuses}
 use Rattle.suite_core.specs.Stands.{StandsAs, TellsDiskFault}
-use Rattle.suite_core.proofs.TurnLemmas.{goes-on, answers-turn, answers-fault, leaves-turn, leaves-fault}
-use Rattle.suite_core.proofs.UnlockingTurns.{fault-stage, fault-plain, fault-failed}
+use Rattle.suite_core.proofs.MetLemmas.{damaged-met, large-met}
+use Rattle.suite_core.proofs.TurnLemmas.{goes-on, got, answers-turn, answers-fault, leaves-turn, leaves-fault}
+use Rattle.suite_core.proofs.UnlockingTurns.{fault-met, fault-stage, fault-plain, fault-failed}
 
 -- ---- A read of the intent keeps the token
 
@@ -126,18 +127,26 @@ module _ (before now : Moment) (runner : Runner) (keeper : Kept)
   refused-stands (Fault fault) state refuses made next =
       answers-turn before now runner commit_uncalled (Keeps keeper KnowsAnything) stands
       keeper.token same (reads Intent) tt _ (λ result stood. refl) made _ state refuses
-      (fault-plain fault.stage fault.fault)
+      (fault-plain fault.stage fault.fault) (fault-met now runner fault.stage fault.fault)
       (ap commit_at (sym (fault-stage fault.stage fault.fault
       ∙ fault-before keeper made.answer fault made.shown)))
   refused-stands (Damaged part kept) state refuses made next =
       leaves-turn before now runner commit_uncalled (Keeps keeper KnowsAnything) stands
       keeper.token same (reads Intent) tt _ (λ result stood. refl) made kept (IntentDamaged part)
-      state refuses tt (λ fault. fault) refl
+      state refuses tt
+      (damaged-met runner.token now.told keeper made.answer part kept made.shown
+      (got before now runner commit_uncalled (Keeps keeper KnowsAnything) stands keeper.token same
+      (reads Intent) tt _ (λ result stood. refl) made))
+      (λ fault. fault) refl
       (damaged-keeper keeper made.answer part kept made.shown ∙ same) next
   refused-stands (TooLarge kept) state refuses made next =
       leaves-turn before now runner commit_uncalled (Keeps keeper KnowsAnything) stands
       keeper.token same (reads Intent) tt _ (λ result stood. refl) made kept
-      (IsTooLarge (File Intent)) state refuses tt (λ fault. fault) refl
+      (IsTooLarge (File Intent)) state refuses tt
+      (large-met runner.token now.told keeper made.answer kept made.shown
+      (got before now runner commit_uncalled (Keeps keeper KnowsAnything) stands keeper.token same
+      (reads Intent) tt _ (λ result stood. refl) made))
+      (λ fault. fault) refl
       (large-keeper keeper made.answer kept made.shown ∙ same) next
 
 -- it tells of a fault of the folder only where that failed

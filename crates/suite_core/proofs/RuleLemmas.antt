@@ -16,7 +16,7 @@ use Rattle.suite_rules.specs.Deeds.{SuiteDeeds}
 use Rattle.suite_rules.specs.Standing.{Standing, standing}
 use Rattle.suite_rules.specs.Rules.{AnswerRule, answers_refusal, answers_changed, answers_same}
 use Rattle.suite_answers.specs.declared.cause.Cause.{Cause}
-use Rattle.suite_answers.specs.declared.cause.Cause.TheVariants.{Changed, Same, Refused, Syntax, NotBuilt, Held, Gone, Raced, Outrun, LockDamaged, Exhausted, IntentDamaged, TooLarge, NoTable, BadSetting, DiskFault, InputFault, OutputFault, ClockFault, Memory}
+use Rattle.suite_answers.specs.declared.cause.Cause.TheVariants.{Changed, Same, Refused, Syntax, Held, Gone, Raced, Outrun, LockDamaged, Exhausted, IntentDamaged, TooLarge, NoTable, BadSetting, DiskFault, InputFault, OutputFault, ClockFault, Memory}
 use Rattle.suite_answers.specs.declared.answer.Answer.{Answer}
 use Rattle.suite_answers.specs.Reasons.{stage_of}
 use Rattle.suite_core.specs.Runner.{Runner}
@@ -140,11 +140,10 @@ module _ (deeds : SuiteDeeds) (ours : AreOfTools deeds) (runner : Runner) (answe
   by-cause : (cause : Cause) → answer.outcome.cause ≡ cause → Says runner.asked answer cause →
       IsShown runner answer history cause → stood.commit ≡ commit_at (stage_of cause) → Permitted
   by-cause Changed is says shown commits = answers_changed commits
-  by-cause Same is says shown commits = all-rule Same is (λ bad. cc) shown _ refl
+  by-cause Same is says shown commits = all-rule Same is (λ bad. cc) shown.0 _ refl
   by-cause (Refused refusal) is says shown commits =
-      all-rule (Refused refusal) is (λ bad. cc) shown _ refl
+      all-rule (Refused refusal) is (λ bad. cc) shown.0 _ refl
   by-cause (Syntax fault) is says shown commits = absurd says
-  by-cause NotBuilt is says shown commits = told-rule NotBuilt says refl
   by-cause (Held token) is says shown commits = told-rule (Held token) says (lock-some _)
   by-cause (Gone number) is says shown commits = told-rule (Gone number) says (lock-some _)
   by-cause (Raced number) is says shown commits = told-rule (Raced number) says (lock-some _)

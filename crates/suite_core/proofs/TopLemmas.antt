@@ -1,10 +1,6 @@
 -- Claims: the first word of a request names its tool (`named-asked`); words that ask for something
--- have no fault (`no-fault`) and one request (`one-request`); and a command that ended for want of
--- memory doesn't tell of the clock (`memory-early`).
-use Rattle.std.proofs.Common.{◌≡◌, ◌⊎◌, inl, inr, refl, sym, ap, subst, ◌∙◌, ◌∷◌, List, Option, Some, None, Result, Ok, Err}
-use Rattle.acct_outside.specs.declared.CommitStage.TheVariants.{Before}
-use Rattle.acct_outside.specs.declared.streams.SinkFault.{SinkFault}
-use Rattle.acct_outside.specs.declared.streams.SinkFault.TheVariants.{Failed, Memory as NoMemory}
+-- have no fault (`no-fault`) and one request (`one-request`).
+use Rattle.std.proofs.Common.{◌≡◌, refl, sym, ap, ◌∙◌, ◌∷◌, List, Some, None}
 use Rattle.account_model.specs.declared.tool.Tool.{Tool}
 use Rattle.account_model.specs.declared.tool.Tool.TheVariants.{Useradd, Usermod, Userdel, Groupadd, Groupmod, Groupdel, Gpasswd, Chage, Chpasswd, Pwck, Grpck, Getsubids}
 use Rattle.account_model.specs.declared.word_fault.WordFault.{WordFault}
@@ -13,12 +9,7 @@ use Rattle.account_model.specs.Options.{Word}
 use Rattle.account_model.specs.Request.{Request}
 use Rattle.account_model.specs.Words.{Asks, fault}
 use Rattle.account_model.proofs.AsksLaws.{one_request, asks_no_fault}
-use Rattle.suite_answers.specs.declared.cause.Cause.TheVariants.{ClockFault}
-use Rattle.suite_answers.specs.declared.cause.Outcome.{Outcome}
-use Rattle.suite_answers.specs.declared.answer.Answer.{Answer}
-use Rattle.suite_core.specs.Answers.{memory_answer}
-use Rattle.suite_core.specs.Streams.{Streams, after_streams}
-use Rattle.suite_core.specs.Top.{EndsEarly, named_tool}
+use Rattle.suite_core.specs.Top.{named_tool}
 
 -- the name of a tool names it
 named : (tool : Tool) (arguments : List Word) → named_tool (tool_name tool ∷ arguments) ≡ Some tool
@@ -49,19 +40,3 @@ no-fault words request found asks is =
 pub one-request : (words : List Word) (request other : Request) → Asks words request →
     Asks words other → request ≡ other
 one-request words request other asks asks_other = one_request words request other asks asks_other
-
--- a command that ended for want of memory doesn't tell of the clock
-pub memory-early : (tool : Option Tool) (was holds : Streams) (outcome : Outcome) →
-    EndsEarly tool (memory_answer Before) was holds outcome → outcome.cause ≡ ClockFault → ⊥
-memory-early tool was holds outcome early is = by-put early.ends.put
-    (sym (ap (λ (one : Outcome). one.cause) (early.ends.left
-    ∙ ap (λ (one : Answer). (after_streams early.ends.put one).outcome) same)) ∙ is)
-  where
-    same : early.given ≡ memory_answer Before
-    same = elim early.is [ inl one ↦ one | inr one ↦ one ]
-
-    by-put : (put : Result (Unit {0}) SinkFault) →
-        (after_streams put (memory_answer Before)).outcome.cause ≡ ClockFault → ⊥
-    by-put (Ok unit) wrong = cc
-    by-put (Err Failed) wrong = cc
-    by-put (Err NoMemory) wrong = cc

@@ -4,7 +4,6 @@
 -- Way: such a call leaves what the session was asked and how far its own commit is (`leaves` of
 -- suite_rules); the rest are the clauses of the typed step, by the session's token.
 use Rattle.std.proofs.Common.{◌≡◌, ◌⊎◌, refl, sym, ap, subst, ◌∙◌, ◌≤◌, ◌++◌, ◌∷◌, [], inl, inr, Option, Some, None, IfSome, Result, Ok, Err}
-use Rattle.acct_outside.specs.declared.CommitStage.{CommitStage}
 use Rattle.acct_outside.specs.declared.FolderFault.{FolderFault}
 use Rattle.acct_outside.specs.declared.FolderFault.TheVariants.{Failed, Memory as NoMemory}
 use Rattle.acct_outside.specs.Tokens.{Token}
@@ -13,15 +12,17 @@ use Rattle.acct_outside.specs.History.{Event, History}
 use Rattle.acct_outside.specs.Others.{Admission, ByOthers, none_came, one_came, ByOthersThen}
 use Rattle.acct_outside.specs.Contract.{Past, Tells as OutsideTells}
 use Rattle.acct_outside.specs.Faults.{HasRisen}
-use Rattle.suite_rules.specs.Standing.{Commit, Standing, standing, standing_step}
+use Rattle.suite_rules.specs.Standing.{Commit, Standing, standing_step}
 use Rattle.suite_rules.specs.Steps.{StandsIn, AlwaysStaysLawful, Leaves, MakesCall}
-use Rattle.suite_rules.proofs.StepLemmas.{IsNoAnswer, leaves, stands-left, stands-weaker}
+use Rattle.suite_rules.proofs.StepLemmas.{IsNoAnswer, leaves, stands-left, stands-weaker, stayed}
 use Rattle.lock_steps.specs.States.{Kept}
 use Rattle.lock_steps.specs.Stands.{Keeps, KnowsAnything}
 use Rattle.suite_rules.specs.Steps.{OwnCommand, own_command}
 use Rattle.account_model.specs.declared.tool.Tool.{Tool}
+use Rattle.acct_outside.specs.declared.Name.TheVariants.{Table, Defs}
+use Rattle.suite_answers.specs.declared.cause.Which.TheVariants.{File}
 use Rattle.suite_answers.specs.declared.cause.Cause.{Cause}
-use Rattle.suite_answers.specs.declared.cause.Cause.TheVariants.{Changed, Same, Refused, Syntax, NotBuilt, Held, Gone, Raced, Outrun, LockDamaged, Exhausted, IntentDamaged, TooLarge, NoTable, BadSetting, DiskFault, InputFault, OutputFault, ClockFault, Memory}
+use Rattle.suite_answers.specs.declared.cause.Cause.TheVariants.{Changed, Same, Refused, Syntax, Held, Gone, Raced, Outrun, LockDamaged, Exhausted, IntentDamaged, TooLarge, NoTable, BadSetting, DiskFault, InputFault, OutputFault, ClockFault, Memory}
 use Rattle.suite_answers.specs.declared.answer.Answer.{Answer as FinalAnswer}
 use Rattle.suite_answers.specs.Reasons.{stage_of}
 use Rattle.suite_core.specs.declared.state.State.{State}
@@ -29,6 +30,7 @@ use Rattle.suite_core.specs.declared.state.State.TheVariants.{Unlocking, Answeri
 use Rattle.suite_core.specs.Runner.{Question, Runner}
 use Rattle.suite_core.specs.Moment.{Moment, commit_at, Runs, At}
 use Rattle.suite_core.specs.Answers.{given_for, IsTold, Says}
+use Rattle.suite_core.specs.Causes.{Met, HasMet}
 use Rattle.suite_core.specs.Due.{IsShown, IsDue}
 use Rattle.suite_core.specs.Stands.{Extends, MayGive, StandsAs, AnswersWith, LeavesWith, IsDiskFault, TellsDiskFault, Turns}
 
@@ -51,7 +53,6 @@ given-cause tool Changed = refl
 given-cause tool Same = refl
 given-cause tool (Refused refusal) = refl
 given-cause tool (Syntax fault) = refl
-given-cause tool NotBuilt = refl
 given-cause tool (Held token) = refl
 given-cause tool (Gone number) = refl
 given-cause tool (Raced number) = refl
@@ -91,12 +92,13 @@ IsPlain (Refused refusal) = ⊥
 IsPlain (Syntax fault) = ⊥
 IsPlain (BadSetting line) = ⊥
 IsPlain (NoTable table) = ⊥
+IsPlain (TooLarge (File (Table table))) = ⊥
+IsPlain (TooLarge (File Defs)) = ⊥
 IsPlain cause = Unit {0}
 
 -- it says what tells its cause
 plain-says : (asked : Question) (answer : FinalAnswer) (cause : Cause) → IsPlain cause →
     answer ≡ given_for asked.request.tool cause → Says asked answer cause
-plain-says asked answer NotBuilt plain is = is
 plain-says asked answer (Held token) plain is = is
 plain-says asked answer (Gone number) plain is = is
 plain-says asked answer (Raced number) plain is = is
@@ -119,29 +121,18 @@ plain-says asked answer (Syntax fault) plain is = absurd plain
 plain-says asked answer (BadSetting line) plain is = absurd plain
 plain-says asked answer (NoTable table) plain is = absurd plain
 
--- and nothing is to be shown
+-- and it is shown by what the session met
 pub plain-shown : (runner : Runner) (answer : FinalAnswer) (history : History) (cause : Cause) →
-    IsPlain cause → IsShown runner answer history cause
-plain-shown runner answer history NotBuilt plain = tt
-plain-shown runner answer history (Held token) plain = tt
-plain-shown runner answer history (Gone number) plain = tt
-plain-shown runner answer history (Raced number) plain = tt
-plain-shown runner answer history (Outrun number greater) plain = tt
-plain-shown runner answer history (LockDamaged number) plain = tt
-plain-shown runner answer history Exhausted plain = tt
-plain-shown runner answer history (IntentDamaged part) plain = tt
-plain-shown runner answer history (TooLarge which) plain = tt
-plain-shown runner answer history (DiskFault stage) plain = tt
-plain-shown runner answer history InputFault plain = tt
-plain-shown runner answer history (OutputFault stage) plain = tt
-plain-shown runner answer history ClockFault plain = tt
-plain-shown runner answer history (Memory stage) plain = tt
-plain-shown runner answer history Changed plain = absurd plain
-plain-shown runner answer history Same plain = absurd plain
-plain-shown runner answer history (Refused refusal) plain = absurd plain
-plain-shown runner answer history (Syntax fault) plain = absurd plain
-plain-shown runner answer history (BadSetting line) plain = absurd plain
-plain-shown runner answer history (NoTable table) plain = absurd plain
+    IsPlain cause → HasMet runner.token history cause → IsShown runner answer history cause
+plain-shown runner answer history Changed plain met = absurd plain
+plain-shown runner answer history Same plain met = absurd plain
+plain-shown runner answer history (Refused refusal) plain met = absurd plain
+plain-shown runner answer history (Syntax fault) plain met = absurd plain
+plain-shown runner answer history (BadSetting line) plain met = absurd plain
+plain-shown runner answer history (NoTable table) plain met = absurd plain
+plain-shown runner answer history (TooLarge (File (Table table))) plain met = absurd plain
+plain-shown runner answer history (TooLarge (File Defs)) plain met = absurd plain
+plain-shown runner answer history cause plain met = met
 
 -- an answer that tells a plain cause has a plain one
 pub told-plain : (asked : Question) (cause : Cause) (answer : FinalAnswer) → IsPlain cause →
@@ -150,6 +141,16 @@ told-plain asked cause answer plain told =
     elim (told-cause asked.request.tool cause answer told) [
       | inl is ↦ subst IsPlain (sym is) plain
       | inr is ↦ subst IsPlain (sym is) tt
+    ]
+
+-- what the session met of a cause it met of the answer that tells it
+pub told-met : (asked : Question) (cause : Cause) (answer : FinalAnswer) (token : Token)
+    (history : History) → IsTold asked.request.tool cause answer → HasMet token history cause →
+    HasMet token history answer.outcome.cause
+told-met asked cause answer token history told met =
+    elim (told-cause asked.request.tool cause answer told) [
+      | inl is ↦ subst (HasMet token history) (sym is) met
+      | inr is ↦ subst (HasMet token history) (sym is) tt
     ]
 
 -- and says what tells it
@@ -182,13 +183,20 @@ leaves-fault tool keeper cause (Answering answer) is fault =
 leaves-fault tool keeper cause (Unlocking kept answer) is fault = absurd fault
 leaves-fault tool keeper cause state is fault = absurd is
 
--- nothing is to be shown of a plain answer
-shown-now : (runner : Runner) (answer : FinalAnswer) (told : Option Past) →
-    IsPlain answer.outcome.cause →
+-- what the runner met of the cause, where the folder tells its history
+abbrev pub HasMetNow : Moment → Runner → Cause → Type 0
+HasMetNow now runner cause = IfSome now.told (λ past. HasMet runner.token past.history cause)
+
+-- what the runner met of a cause shows the answer that tells it
+shown-now : (runner : Runner) (cause : Cause) (answer : FinalAnswer) (told : Option Past) →
+    IsPlain cause → IsTold runner.asked.request.tool cause answer →
+    IfSome told (λ past. HasMet runner.token past.history cause) →
     IfSome told (λ past. IsShown runner answer past.history answer.outcome.cause)
-shown-now runner answer None plain = tt
-shown-now runner answer (Some past) plain =
-    plain-shown runner answer past.history answer.outcome.cause plain
+shown-now runner cause answer None plain tells met = tt
+shown-now runner cause answer (Some past) plain tells met =
+    plain-shown runner answer past.history answer.outcome.cause
+    (told-plain runner.asked cause answer plain tells)
+    (told-met runner.asked cause answer runner.token past.history tells met)
 
 -- admitted events of others extend a history
 others-extend : (admits : Admission) (old new : History) → ByOthers admits old new →
@@ -253,6 +261,31 @@ module _ (before now : Moment) (runner : Runner) (commit : Commit) (Held : Stand
       before.admits now.admits runner.token before.told now.told stands left
       (subst (λ one. StandsIn now.admits now.told one Holds) same stands_now))
 
+  -- what the call answered, the session met
+  pub got : (answer : Answer call) → made.answer ≡ Ok answer →
+      IfSome now.told (λ past. Met runner.token call answer Held past.history)
+  got answer is = by-told before.told now.told stands
+      (subst (OutsideTells before.admits before.told now.told runner.token call) is
+      (subst (λ one. OutsideTells before.admits before.told now.told one call made.answer) same
+      made.told))
+    where
+      by-told : (was told : Option Past) →
+          StandsIn before.admits was runner.token (Runs runner commit Held) →
+          OutsideTells before.admits was told runner.token call (Ok answer) →
+          IfSome told (λ past. Met runner.token call answer Held past.history)
+      by-told None None stood tells = tt
+      by-told (Some was) (Some past) stood tells =
+          let then = tells.1.others_then in
+          record {
+            newer = [];
+            older = then.between;
+            parts = then.last;
+            stood = subst Held (sym (stayed before.admits runner.token stood.own was.history
+                then.between then.others).same_standing) stood.holds.holds;
+          }
+      by-told None (Some past) stood tells = absurd tells
+      by-told (Some was) None stood tells = absurd tells
+
   -- the history is extended
   pub extended : Extends before.told now.told
   extended = tells-extend before.admits runner.token call by-runner.answer before.told now.told
@@ -274,16 +307,17 @@ module _ (before now : Moment) (runner : Runner) (commit : Commit) (Held : Stand
   is-due answer is None (Some past) stood kept shown = absurd kept
   is-due answer is (Some was) None stood kept shown = absurd kept
 
-  -- a plain answer of this commit is due, and the runner may give it
-  pub may-give : (answer : FinalAnswer) → commit ≡ commit_at (stage_of answer.outcome.cause) →
-      Says runner.asked answer answer.outcome.cause → IsPlain answer.outcome.cause →
+  -- an answer that tells a plain cause of this commit is due, and the runner may give it
+  pub may-give : (cause : Cause) (answer : FinalAnswer) →
+      commit ≡ commit_at (stage_of answer.outcome.cause) → IsPlain cause →
+      IsTold runner.asked.request.tool cause answer → HasMetNow now runner cause →
       MayGive now runner answer
-  may-give answer is says plain =
-      let shown = shown-now runner answer now.told plain in
+  may-give cause answer is plain tells met =
+      let shown = shown-now runner cause answer now.told plain tells met in
       record {
         may_answer = by-runner.may_answer;
         gives = record {
-          says = says;
+          says = told-says runner.asked cause answer plain tells;
           due = is-due answer is before.told now.told stands left shown;
         };
       }
@@ -291,19 +325,20 @@ module _ (before now : Moment) (runner : Runner) (commit : Commit) (Held : Stand
   -- so it stands in a state that answers with a plain cause
   pub answers-turn : (cause : Cause) (state : State) →
       AnswersWith runner.asked.request.tool cause state → IsPlain cause →
-      commit ≡ commit_at (stage_of cause) → StandsAs now runner state
-  answers-turn cause (Answering answer) told plain is =
-      may-give answer (is ∙ ap commit_at (sym (told-stage runner.asked.request.tool cause answer told)))
-      (told-says runner.asked cause answer plain told) (told-plain runner.asked cause answer plain told)
-  answers-turn cause state told plain is = absurd told
+      HasMetNow now runner cause → commit ≡ commit_at (stage_of cause) →
+      StandsAs now runner state
+  answers-turn cause (Answering answer) told plain met is =
+      let stage = told-stage runner.asked.request.tool cause answer told in
+      may-give cause answer (is ∙ ap commit_at (sym stage)) plain told met
+  answers-turn cause state told plain met is = absurd told
 
   -- or in one that leaves with a plain cause
   pub leaves-turn : (keeper : Kept) (cause : Cause) (state : State) →
       LeavesWith runner.asked.request.tool keeper cause state → IsPlain cause →
-      (IsDiskFault cause → ⊥) → commit ≡ commit_at (stage_of cause) →
+      HasMetNow now runner cause → (IsDiskFault cause → ⊥) → commit ≡ commit_at (stage_of cause) →
       keeper.token ≡ runner.token →
       StandsIn now.admits now.told token (Keeps keeper KnowsAnything) → StandsAs now runner state
-  leaves-turn keeper cause (Unlocking kept answer) shown plain quiet is owned next =
+  leaves-turn keeper cause (Unlocking kept answer) shown plain met quiet is owned next =
       let tool = runner.asked.request.tool in
       let has = ap (λ (given : FinalAnswer). given.outcome.cause) shown.1 ∙ given-cause tool cause in
       let at = is ∙ ap (λ (one : Cause). commit_at (stage_of one)) (sym has) in
@@ -314,12 +349,11 @@ module _ (before now : Moment) (runner : Runner) (commit : Commit) (Held : Stand
             (subst (λ (one : Kept). StandsIn now.admits now.told token (Keeps one KnowsAnything))
             (sym shown.0) next));
         quiet = λ fault. quiet (subst IsDiskFault has fault);
-        gives = (may-give answer at (told-says runner.asked cause answer plain (inl shown.1))
-            (told-plain runner.asked cause answer plain (inl shown.1))).gives;
+        gives = (may-give cause answer at plain (inl shown.1) met).gives;
       }
-  leaves-turn keeper cause (Answering answer) shown plain quiet is owned next =
-      answers-turn cause (Answering answer) (inr shown) plain is
-  leaves-turn keeper cause state shown plain quiet is owned next = absurd shown
+  leaves-turn keeper cause (Answering answer) shown plain met quiet is owned next =
+      answers-turn cause (Answering answer) (inr shown) plain met is
+  leaves-turn keeper cause state shown plain met quiet is owned next = absurd shown
 
   module _ (lawful : AlwaysStaysLawful before.admits before.told now.told)
       (never_falls : before.faults ≤ now.faults) where
@@ -338,10 +372,10 @@ module _ (before now : Moment) (runner : Runner) (commit : Commit) (Held : Stand
     -- a turn to the answer of a plain cause
     pub stops : (cause : Cause) (state : State) →
         AnswersWith runner.asked.request.tool cause state → IsPlain cause →
-        commit ≡ commit_at (stage_of cause) → (IsDiskFault cause → HasRisen before.faults now.faults)
+        HasMetNow now runner cause → commit ≡ commit_at (stage_of cause) → (IsDiskFault cause → HasRisen before.faults now.faults)
         → Turns before now runner state
-    stops cause state told plain is failed = record {
-      stands = answers-turn cause state told plain is;
+    stops cause state told plain met is failed = record {
+      stands = answers-turn cause state told plain met is;
       extends = extended;
       lawful = λ deeds ours. lawful deeds;
       narrows = made.narrows;

@@ -1,32 +1,31 @@
 -- Claim: each step of a keeper on its way out leads to the next state of it with the same answer, or
 -- to the answer of a fault (`lowers`, `stages`, `frees`, `fails`).
 -- Way: the typed step gives the standing, and what it leaves of the standing keeps the answer due.
-use Rattle.std.proofs.Common.{◌≡◌, refl, sym, ap, subst, ◌∙◌, ◌≤◌, ◌<◌, ℕ, length, slice_index, inl, inr, Option, Some, None, IfSome, Result, Ok, Err}
+use Rattle.std.proofs.Common.{◌≡◌, refl, ap, subst, ◌∙◌, ◌≤◌, ℕ, Option, Some, None, IfSome, Result, Ok, Err}
 use Rattle.acct_outside.specs.declared.CommitStage.{CommitStage}
 use Rattle.acct_outside.specs.declared.FolderFault.{FolderFault}
 use Rattle.acct_outside.specs.declared.FolderFault.TheVariants.{Failed, Memory as NoMemory}
 use Rattle.acct_outside.specs.declared.Name.TheVariants.{FreeStage, Lock}
 use Rattle.acct_outside.specs.Tokens.{Token, free_text}
-use Rattle.acct_outside.specs.Calls.{Call, Answer, CallResult, writes, renames, removes}
+use Rattle.acct_outside.specs.Calls.{writes, renames, removes}
 use Rattle.acct_outside.specs.Contract.{Past}
-use Rattle.acct_outside.specs.Faults.{HasRisen}
 use Rattle.suite_rules.specs.OwnLock.{kept_number}
-use Rattle.suite_rules.specs.Standing.{Commit, Standing, standing_step}
+use Rattle.suite_rules.specs.Standing.{Commit, Standing}
 use Rattle.suite_rules.specs.Steps.{StandsIn, AlwaysStaysLawful, Leaves, MakesCall, work}
 use Rattle.lock_steps.specs.States.{Maker, Kept}
 use Rattle.lock_steps.specs.declared.keeping.Ended.{Ended}
 use Rattle.lock_steps.specs.Outcomes.{LeadsTo, cleaned_once, freeing_of, the_end}
 use Rattle.lock_steps.specs.Stands.{Keeps, KnowsAnything, HasStagedFree, HasFreed}
-use Rattle.suite_answers.specs.declared.cause.Cause.{Cause}
 use Rattle.suite_answers.specs.declared.answer.Answer.{Answer as FinalAnswer}
 use Rattle.suite_answers.specs.Reasons.{stage_of}
-use Rattle.suite_core.specs.declared.state.State.{State}
 use Rattle.suite_core.specs.declared.state.State.TheVariants.{Unlocking, Freeing, Answering}
 use Rattle.suite_core.specs.Runner.{Runner}
-use Rattle.suite_core.specs.Moment.{Moment, commit_at, At}
+use Rattle.suite_core.specs.Moment.{Moment, commit_at}
 use Rattle.suite_core.specs.Locking.{cause_of_fault}
-use Rattle.suite_core.specs.Stands.{AnswersWith, IsDiskFault, StandsUnlocking, StandsFreeing, StandsAs, Turns}
-use Rattle.suite_core.proofs.TurnLemmas.{IsPlain, goes-on, extended, turns, stops}
+use Rattle.suite_core.specs.Stands.{IsDiskFault, StandsUnlocking, StandsFreeing, Turns}
+use Rattle.suite_core.specs.Causes.{HasMet}
+use Rattle.suite_core.proofs.MetLemmas.{fault-shows}
+use Rattle.suite_core.proofs.TurnLemmas.{HasMetNow, IsPlain, goes-on, extended, turns}
 use Rattle.suite_rules.proofs.StepLemmas.{may-answer-now}
 use Rattle.suite_core.proofs.DueLemmas.{gives-stay}
 
@@ -48,6 +47,16 @@ fault-stage stage NoMemory = refl
 pub fault-plain : (stage : CommitStage) (fault : FolderFault) → IsPlain (cause_of_fault stage fault)
 fault-plain stage Failed = tt
 fault-plain stage NoMemory = tt
+
+-- and nothing more is met
+pub fault-met : (now : Moment) (runner : Runner) (stage : CommitStage) (fault : FolderFault) →
+    HasMetNow now runner (cause_of_fault stage fault)
+fault-met now runner stage fault = by-told now.told
+  where
+    by-told : (told : Option Past) →
+        IfSome told (λ past. HasMet runner.token past.history (cause_of_fault stage fault))
+    by-told None = tt
+    by-told (Some past) = fault-shows stage fault runner.token past.history
 
 -- it is told as a fault of the folder only where that failed
 pub fault-failed : (stage : CommitStage) (fault : FolderFault) →

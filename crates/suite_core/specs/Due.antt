@@ -1,23 +1,31 @@
 -- What the own events of a session show of the answer that it gives.
-use Rattle.std.specs.Prelude.{◌≡◌, ⊤, ◌++◌, ℕ, Option, Some}
+use Rattle.std.specs.Prelude.{◌≡◌, ◌⊎◌, ◌++◌, ℕ, Option, Some}
 use Rattle.acct_text.specs.Bytes.{Bytes}
 use Rattle.acct_text.specs.declared.files.Files.{Files}
 use Rattle.acct_text.specs.declared.Tab.{Tab}
 use Rattle.acct_text.specs.Files.{table_of}
+use Rattle.acct_outside.specs.declared.Name.{Name}
 use Rattle.acct_outside.specs.declared.Name.TheVariants.{Table, Defs}
+use Rattle.acct_outside.specs.Calls.{reads, found_too_large}
+use Rattle.acct_outside.specs.Tokens.{Token}
 use Rattle.acct_outside.specs.History.{History}
 use Rattle.acct_outside.specs.Contract.{Past}
 use Rattle.suite_rules.specs.OwnLock.{kept_number}
 use Rattle.suite_rules.specs.Knowledge.{Seen, knows_none}
-use Rattle.suite_rules.specs.Standing.{Standing, standing}
+use Rattle.suite_rules.specs.Standing.{Standing, standing, commit_uncalled}
+use Rattle.suite_rules.specs.Invariant.{IsActiveKeeper}
 use Rattle.suite_rules.specs.Laws.{IsCleanKeeper}
+use Rattle.commit_steps.specs.States.{AreSound, Reader, next_name}
+use Rattle.commit_steps.specs.Stands.{HasRead}
+use Rattle.suite_answers.specs.declared.cause.Which.TheVariants.{File}
 use Rattle.suite_answers.specs.declared.cause.Cause.{Cause}
-use Rattle.suite_answers.specs.declared.cause.Cause.TheVariants.{Changed, Same, Refused, NoTable, BadSetting}
+use Rattle.suite_answers.specs.declared.cause.Cause.TheVariants.{Changed, Same, Refused, TooLarge, NoTable, BadSetting}
 use Rattle.suite_answers.specs.declared.answer.Answer.{Answer}
 use Rattle.suite_answers.specs.Reasons.{stage_of}
 use Rattle.suite_core.specs.Runner.{Runner}
 use Rattle.suite_core.specs.Moment.{commit_at}
-use Rattle.suite_core.specs.Answers.{IsAnswerOn}
+use Rattle.suite_core.specs.Answers.{IsAnswerOn, given_for}
+use Rattle.suite_core.specs.Causes.{Met, HasMet}
 
 -- the session has seen the six tables and login.defs
 pub record HasSeenAll (seen : Seen) (files : Files) (defs : Option Bytes) : Type 0 where
@@ -64,17 +72,52 @@ pub record AnsweredAll (runner : Runner) (answer : Answer) (history : History) :
   pub all : HasSeenAll seen files defs
   pub is_answer : IsAnswerOn runner.asked files defs answer
 
--- what shows the cause of an answer that is a tool's
+-- Once the session was keeper and had read the tables before this name, of which none was missing or
+-- too large; it found that this one has too many bytes, and its answer says so.
+pub record AnswersLarge (runner : Runner) (answer : Answer) (history : History) (name : Name)
+    : Type 0 where
+  pub reader : Reader
+  pub sound : AreSound reader.next reader.files
+  pub is_next : name ≡ next_name reader.next
+  pub met : Met runner.token (reads (next_name reader.next)) found_too_large (HasRead reader) history
+  pub says : answer ≡ given_for runner.asked.request.tool (TooLarge (File name))
+
+-- At an earlier moment of the history the session was a keeper that hadn't called its commit, and none
+-- of its calls had failed.
+pub record WasKeeper (token : Token) (history : History) : Type 0 where
+  pub newer : History
+  pub older : History
+  pub parts : history ≡ newer ++ older
+  pub number : ℕ
+  pub active : IsActiveKeeper older token number
+  pub uncommitted : (standing token older).commit ≡ commit_uncalled
+
+-- what it has seen of all files shows the answer, and it was keeper
+abbrev pub ShowsAll : Runner → Answer → History → Type 0
+ShowsAll runner answer history =
+    AnswersAll runner answer (standing runner.token history) × WasKeeper runner.token history
+
+-- what it has seen of some files shows the answer, and it was keeper
+abbrev pub ShowsSome : Runner → Answer → History → Type 0
+ShowsSome runner answer history =
+    AnswersSome runner answer (standing runner.token history) × WasKeeper runner.token history
+
+-- what shows that a file is too large: what the tool answers on all files, or that one alone
+abbrev pub ShowsLarge : Runner → Answer → History → Name → Type 0
+ShowsLarge runner answer history name =
+    ShowsAll runner answer history ⊎ AnswersLarge runner answer history name
+
+-- what shows the cause of an answer: what a tool answers on, or what the session met
 abbrev pub IsShown : Runner → Answer → History → Cause → Type 0
 IsShown runner answer history Changed = AnsweredAll runner answer history
-IsShown runner answer history Same = AnswersAll runner answer (standing runner.token history)
-IsShown runner answer history (Refused refusal) =
-    AnswersAll runner answer (standing runner.token history)
-IsShown runner answer history (BadSetting line) =
-    AnswersAll runner answer (standing runner.token history)
-IsShown runner answer history (NoTable table) =
-    AnswersSome runner answer (standing runner.token history)
-IsShown runner answer history cause = ⊤
+IsShown runner answer history Same = ShowsAll runner answer history
+IsShown runner answer history (Refused refusal) = ShowsAll runner answer history
+IsShown runner answer history (BadSetting line) = ShowsAll runner answer history
+IsShown runner answer history (NoTable table) = ShowsSome runner answer history
+IsShown runner answer history (TooLarge (File (Table table))) =
+    ShowsLarge runner answer history (Table table)
+IsShown runner answer history (TooLarge (File Defs)) = ShowsLarge runner answer history Defs
+IsShown runner answer history cause = HasMet runner.token history cause
 
 -- the session was asked this, its own commit came as far as the answer's cause says, and its events
 -- show the cause

@@ -3,6 +3,7 @@ pub mod Moment
 pub mod Locking
 pub mod Answers
 pub mod Deeds
+pub mod Causes
 pub mod Due
 pub mod Stands
 pub mod Recovering
@@ -10,6 +11,7 @@ pub mod Loading
 pub mod Left
 pub mod Session
 pub mod Streams
+pub mod Supplies
 pub mod Course
 pub mod Top
 pub mod Deciding

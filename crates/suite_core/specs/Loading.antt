@@ -12,7 +12,6 @@ use Rattle.commit_steps.specs.declared.LoadEnd.TheVariants.{Fault, TooLarge, NoT
 use Rattle.commit_steps.specs.States.{Inputs, walk_of}
 use Rattle.suite_answers.specs.declared.cause.Which.TheVariants.{File}
 use Rattle.suite_answers.specs.declared.cause.Cause.TheVariants.{TooLarge as IsTooLarge, NoTable as HasNoTable}
-use Rattle.suite_answers.specs.declared.answer.Answer.{Answer}
 use Rattle.suite_core.specs.declared.deciding.Decided.{Decided}
 use Rattle.suite_core.specs.declared.deciding.Decided.TheVariants.{Change as Changes, Stay}
 use Rattle.suite_core.specs.declared.state.State.{State}

@@ -1,5 +1,5 @@
 -- How a session stands in each of its states, by its own events, and what one turn of it does.
-use Rattle.std.specs.Prelude.{◌≡◌, ⊤, ℕ, ◌<◌, ◌≤◌, ◌++◌, length, Option, IfSome}
+use Rattle.std.specs.Prelude.{◌≡◌, ⊤, ◌<◌, ◌≤◌, ◌++◌, length, Option, IfSome}
 use Rattle.acct_outside.specs.Faults.{HasRisen}
 use Rattle.acct_outside.specs.History.{History}
 use Rattle.acct_outside.specs.Others.{Admission}
@@ -101,7 +101,8 @@ StandsAs now runner (Claiming judged) =
 StandsAs now runner (Confirming claimed) =
     (claimed.token ≡ runner.token) × At now runner commit_uncalled (HasMade claimed)
 StandsAs now runner (Withdrawing loser) =
-    (loser.token ≡ runner.token) × At now runner commit_uncalled (WasOvertaken loser)
+    (loser.token ≡ runner.token) × (loser.number < loser.greatest)
+    × At now runner commit_uncalled (WasOvertaken loser)
 StandsAs now runner (ReadingIntent keeper) =
     (keeper.token ≡ runner.token) × At now runner commit_uncalled (Keeps keeper KnowsAnything)
 StandsAs now runner (Recovering recovering) =

@@ -1,17 +1,18 @@
--- What the top call answers: how a command ends that asks for nothing or isn't built, and what the
--- history of a folder shows of one that ran.
-use Rattle.std.specs.Prelude.{◌≡◌, ◌⊎◌, ⊤, ◌∷◌, ◌++◌, [], ℕ, Bool, true, false, Some, None, Option, List, slice_get, Result}
+-- What the top call answers: how a command ends that asks for nothing, and what the history of a
+-- folder shows of one that ran.
+use Rattle.std.specs.Prelude.{◌≡◌, ◌⊎◌, ◌∷◌, ◌++◌, [], ℕ, Bool, true, false, Some, None, Option, List, slice_get, Result}
+use Rattle.std.specs.List.{AllByRecursion}
 use Rattle.acct_text.specs.declared.Tab.{Tab}
+use Rattle.acct_outside.specs.declared.Name.TheVariants.{Table, Defs}
 use Rattle.acct_outside.specs.declared.CommitStage.TheVariants.{Before}
 use Rattle.acct_outside.specs.declared.streams.SinkFault.{SinkFault}
 use Rattle.acct_outside.specs.Tokens.{Token}
 use Rattle.acct_outside.specs.Faults.{HasRisen}
 use Rattle.acct_outside.specs.Folder.{Folder, settings_file}
 use Rattle.acct_outside.specs.Calls.{answers, done}
-use Rattle.acct_outside.specs.History.{History, after}
+use Rattle.acct_outside.specs.History.{History, after, own_events}
 use Rattle.acct_outside.specs.Contract.{WhereTold}
 use Rattle.account_model.specs.declared.tool.Tool.{Tool}
-use Rattle.account_model.specs.declared.tool.Tool.TheVariants.{Groupadd, Groupmod, Groupdel, Gpasswd}
 use Rattle.account_model.specs.Options.{Word}
 use Rattle.account_model.specs.Words.{tool_named}
 use Rattle.suite_rules.specs.Deeds.{SuiteDeeds}
@@ -19,27 +20,23 @@ use Rattle.suite_rules.specs.Standing.{standing}
 use Rattle.suite_rules.specs.OwnLock.{kept_number}
 use Rattle.suite_rules.specs.Lawful.{Lawful}
 use Rattle.suite_rules.specs.Settled.{settled}
-use Rattle.suite_rules.specs.Committed.{committed, commitments_of, place, folded}
+use Rattle.suite_rules.specs.Committed.{committed, commitments_of, place, fold_deeds, folded}
 use Rattle.suite_rules.specs.Steps.{LawfulOthers}
 use Rattle.suite_answers.specs.declared.cause.Outcome.{Outcome}
+use Rattle.suite_answers.specs.declared.cause.Which.TheVariants.{File}
 use Rattle.suite_answers.specs.declared.cause.Cause.{Cause}
-use Rattle.suite_answers.specs.declared.cause.Cause.TheVariants.{Changed, Same, Refused, NoTable, BadSetting, DiskFault, Memory}
+use Rattle.suite_answers.specs.declared.cause.Cause.TheVariants.{Changed, Same, Refused, Outrun, TooLarge, NoTable, BadSetting, DiskFault, Memory}
 use Rattle.suite_answers.specs.declared.answer.Answer.{Answer}
 use Rattle.suite_answers.specs.Reasons.{stage_of}
+use Rattle.suite_answers.specs.Answers.{told}
 use Rattle.suite_core.specs.Runner.{Question}
 use Rattle.suite_core.specs.Moment.{Moment, commit_at}
 use Rattle.suite_core.specs.Answers.{IsAnswerOn, memory_answer, Says}
+use Rattle.suite_core.specs.Causes.{HasMet, MetGreater}
 use Rattle.suite_core.specs.Deeds.{AreOfTools, files_of}
 use Rattle.suite_core.specs.Stands.{IsDiskFault}
 use Rattle.suite_core.specs.Streams.{Streams, Serves, after_streams}
-
--- the tools that are built
-abbrev pub is_built : Tool → Bool
-is_built Groupadd = true
-is_built Groupmod = true
-is_built Groupdel = true
-is_built Gpasswd = true
-is_built tool = false
+use Rattle.suite_core.specs.Supplies.{Supplies, IsUnsupplied}
 
 -- ---- What the history shows
 
@@ -77,6 +74,28 @@ pub record Answered (asked : Question) (outcome : Outcome) (token : Token) (hist
   pub began : (standing token history).command ≡ Some asked.command
   pub commits : (standing token history).commit ≡ commit_at (stage_of outcome.cause)
 
+-- since an earlier moment all events are the session's own, and before it there is none of its
+pub record IsAlone (token : Token) (old new : History) : Type 0 where
+  pub newer : History
+  pub parts : new ≡ newer ++ old
+  pub own : AllByRecursion (λ event. event.token ≡ token) newer
+  pub fresh : own_events token old ≡ []
+
+-- The answer is that on the settled files as they stood at the earlier moment. They are now what the
+-- session's own commitments made of them: one deed, or none.
+pub record IsAnswerOnOld (deeds : SuiteDeeds) (asked : Question) (first : Folder) (old new : History)
+    (token : Token) (given : Answer) : Type 0 where
+  pub is_answer :
+      IsAnswerOn asked (files_of (settled (after first old))) (settings_file (after first old)) given
+  pub settles : (table : Tab) → settled (after first new) table
+      ≡ fold_deeds deeds (settings_file (after first old)) (settled (after first old))
+      (commitments_of token (committed new)) table
+
+-- so it is where the session was alone since whichever moment
+abbrev pub AnswersAlone : SuiteDeeds → Question → Folder → History → Token → Answer → Type 0
+AnswersAlone deeds asked first history token given = (old : History) → IsAlone token old history →
+    IsAnswerOnOld deeds asked first old history token given
+
 -- the session has committed once, and its answer is that at its place
 pub record HasChanged (deeds : SuiteDeeds) (asked : Question) (first : Folder) (history : History)
     (token : Token) (given : Answer) : Type 0 where
@@ -84,6 +103,7 @@ pub record HasChanged (deeds : SuiteDeeds) (asked : Question) (first : Folder) (
   pub once : commitments_of token (committed history)
       ≡ record { token = token; number = number; command = asked.command } ∷ []
   pub at_place : IsAnswerAt deeds asked first history number given
+  pub alone : AnswersAlone deeds asked first history token given
 
 -- the session has committed nothing, and its answer is that at the place of its number
 pub record HasStayed (deeds : SuiteDeeds) (asked : Question) (first : Folder) (history : History)
@@ -92,8 +112,10 @@ pub record HasStayed (deeds : SuiteDeeds) (asked : Question) (first : Folder) (h
   pub kept : kept_number (standing token history).own ≡ Some number
   pub none : commitments_of token (committed history) ≡ []
   pub at_place : IsAnswerAt deeds asked first history number given
+  pub alone : AnswersAlone deeds asked first history token given
 
--- what a lawful history shows of an answer with this cause
+-- what a lawful history shows of an answer with this cause: a tool's answer is that at its place, and
+-- of every other cause what the session met
 abbrev pub IsShownAt : SuiteDeeds → Question → Folder → History → Token → Answer → Cause → Type 0
 IsShownAt deeds asked first history token given Changed =
     HasChanged deeds asked first history token given
@@ -105,7 +127,13 @@ IsShownAt deeds asked first history token given (NoTable table) =
     HasStayed deeds asked first history token given
 IsShownAt deeds asked first history token given (BadSetting line) =
     HasStayed deeds asked first history token given
-IsShownAt deeds asked first history token given cause = ⊤
+IsShownAt deeds asked first history token given (TooLarge (File (Table table))) =
+    HasStayed deeds asked first history token given
+IsShownAt deeds asked first history token given (TooLarge (File Defs)) =
+    HasStayed deeds asked first history token given
+IsShownAt deeds asked first history token given (Outrun number other) =
+    MetGreater token number other history
+IsShownAt deeds asked first history token given cause = HasMet token history cause
 
 -- the begin gave no token: the folder failed, or there was no memory, before any commit
 abbrev pub HasNoToken : Answer → Type 0
@@ -130,6 +158,13 @@ pub record EndsEarly (tool : Option Tool) (answer : Answer) (was holds : Streams
   pub given : Answer
   pub is : (given ≡ answer) ⊎ (given ≡ memory_answer Before)
   pub ends : Ends tool given was holds outcome
+
+-- The command has no input or no day. It tells the cause of that, or that there was no memory.
+pub record EndsUnsupplied (tool : Tool) (before now : Supplies) (was holds : Streams)
+    (outcome : Outcome) : Type 0 where
+  pub cause : Cause
+  pub due : IsUnsupplied tool before now cause
+  pub ends : EndsEarly (Some tool) (told tool cause) was holds outcome
 
 -- The command ran. Its session gave an answer, which the streams left so, and the outcome is that. A
 -- fault of the folder is told only where its count rose. A lawful history stays lawful, and always

@@ -25,8 +25,10 @@ pub(crate) fn finish<F: Folder, O: Sink, E: Sink>(
     ensures { (asked : Question) → session ≡ Waiting asked → tool ≡ asked.request.tool → Finished asked
         (moment (F.admits folder.old) (F.told folder.old) (F.fault_count folder.old))
         (moment (F.admits folder.new) (F.told folder.new) (F.fault_count folder.new))
-        (streams (O.holds out.old) (O.fault_count out.old) (E.holds err.old) (E.fault_count err.old))
-        (streams (O.holds out.new) (O.fault_count out.new) (E.holds err.new) (E.fault_count err.new))
+        (streams (O.holds out.old) (O.fault_count out.old)
+        (E.holds err.old) (E.fault_count err.old))
+        (streams (O.holds out.new) (O.fault_count out.new)
+        (E.holds err.new) (E.fault_count err.new))
         result }
 {
     let session = to_answer(session, folder);
@@ -42,8 +44,10 @@ fn put_answer<O: Sink, E: Sink>(
     err: &mut E,
 ) -> Result<(), SinkFault>
     ensures { IfSome (answer_of session.now) (λ given. Serves (Some tool) given
-        (streams (O.holds out.old) (O.fault_count out.old) (E.holds err.old) (E.fault_count err.old))
-        (streams (O.holds out.new) (O.fault_count out.new) (E.holds err.new) (E.fault_count err.new))
+        (streams (O.holds out.old) (O.fault_count out.old)
+        (E.holds err.old) (E.fault_count err.old))
+        (streams (O.holds out.new) (O.fault_count out.new)
+        (E.holds err.new) (E.fault_count err.new))
         result) }
 {
     match session.answer() {

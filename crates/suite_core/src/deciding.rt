@@ -8,9 +8,9 @@ ghost use Rattle.acct_text.specs.Bytes.{Bytes as Text};
 ghost use Rattle.acct_text.specs.Files.{table_of};
 ghost use Rattle.acct_text.specs.Limits.{table_limit};
 ghost use Rattle.account_model.specs.Settings.{settings_of};
+ghost use Rattle.aging_commands.specs.Asking.{IsAgingTool};
 ghost use Rattle.login_defs.specs.Faults.{file_fault};
-ghost use Rattle.login_defs.specs.Held.{HasSettings};
-ghost use Rattle.group_commands.specs.Decided.{IsHeld};
+ghost use Rattle.login_defs.specs.Held.{HasSettings, IsHeld};
 ghost use Rattle.suite_core.specs.Answers.{given_for};
 ghost use Rattle.suite_core.specs.Deciding.{AnswersDecision, ToolDecides, bad_line, is_large, large_table, settings_text, with_output};
 ghost use Rattle.suite_core.specs.Loading.{DecidesOn};
@@ -19,11 +19,14 @@ use crate::runner::Asked;
 use acct_outside::Name;
 use acct_tables::{Decision, Output};
 use acct_text::{Bytes, Files, Tab};
+use aging_commands::AgingRequest;
+use check_reports::CheckRequest;
 use group_commands::GroupRequest;
 use login_defs::{Defs, DefsFault};
 use option_words::Tool;
 use std::alloc::{AllocError, Global};
 use suite_answers::{Answer, Cause, Outcome, Which};
+use user_commands::UserRequest;
 
 /// The most bytes of a table.
 const TABLE_LIMIT: usize = 16_777_216;
@@ -94,11 +97,33 @@ fn decide_tool(
 {
     match asked.tool() {
         Tool::Groupadd | Tool::Groupmod | Tool::Groupdel | Tool::Gpasswd => {
-            let request = GroupRequest::from_words(alloc, &asked.parsed, &asked.input)?;
-            group_commands::decide(alloc, &request, files, settings, asked.day)
+            let request = GroupRequest::from_words(alloc, &asked.parsed, asked.input())?;
+            group_commands::decide(alloc, &request, files, settings, asked.day())
         }
-        _ => Err(AllocError),
+        Tool::Useradd | Tool::Usermod | Tool::Userdel => {
+            let request = UserRequest::from_words(alloc, &asked.parsed, asked.input())?;
+            user_commands::decide(alloc, &request, files, settings, asked.day())
+        }
+        Tool::Pwck | Tool::Grpck | Tool::Getsubids => {
+            let request = CheckRequest::from_words(alloc, &asked.parsed, asked.input())?;
+            check_reports::decide(alloc, &request, files, settings, asked.day())
+        }
+        Tool::Chage | Tool::Chpasswd => decide_aging(alloc, asked, files, settings),
     }
+}
+
+/// What a tool of aging decides on the files. It takes the input too, and no settings.
+fn decide_aging(
+    alloc: Global,
+    asked: &Asked,
+    files: &Files,
+    settings: &Defs,
+) -> Result<Decision, AllocError>
+    requires { IsAgingTool asked.now.request.tool }
+    ensures { IfOk result (ToolDecides asked.now settings.now files.now) }
+{
+    let request = AgingRequest::from_words(alloc, &asked.parsed, asked.input())?;
+    aging_commands::decide(alloc, &request, files, settings, asked.day())
 }
 
 /// The answer to what the tool decides.

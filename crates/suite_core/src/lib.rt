@@ -2,14 +2,15 @@
 //!
 //! A session takes the lock, carries out an intent that another left, loads the files, lets the tool
 //! decide, commits through an intent of its own, frees the lock and answers. `State` names each step,
-//! with the one call of the folder that it makes next. `run_suite` reads the words, asks the clock,
-//! turns a session to its end and serves the streams.
+//! with the one call of the folder that it makes next. `run_suite` reads the words, takes the input,
+//! asks the clock, turns a session to its end and serves the streams.
 #![tactic(auto)]
 
 mod committing;
 mod course;
 mod deciding;
 mod deeds;
+mod ending;
 mod loading;
 mod locking;
 mod recovering;
@@ -17,7 +18,9 @@ mod runner;
 mod session;
 mod state;
 mod streams;
+mod supplies;
 mod top;
+mod turning;
 mod unlocking;
 
 pub use deeds::tools_have_deeds;

@@ -28,6 +28,7 @@ pub(crate) fn load<F: Folder>(
         (moment (F.admits folder.new) (F.told folder.new) (F.fault_count folder.new)) runner.now result }
     ensures nearer { turns_left result < turns_left (State.Loading loader) }
 {
+    loader.is_sound();
     match loader.load_next(folder) {
         Ok(loading) => after_load(alloc, runner, loading),
         Err(end) => ended(alloc, runner, end),

@@ -1,5 +1,6 @@
 // What a session that has begun carries from its begin to its answer.
-ghost use Rattle.std.specs.Prelude.{◌≡◌, IfOk};
+ghost use Rattle.std.specs.Prelude.{◌≡◌, ◌≤◌, length, IfOk};
+ghost use Rattle.acct_text.specs.Limits.{last_day, table_limit};
 ghost use Rattle.account_model.specs.Words.{Asks};
 ghost use Rattle.suite_core.specs.Answers.{given_for, IsTold, memory_answer};
 
@@ -24,9 +25,8 @@ pub(crate) struct Asked {
 }
 
 impl Model for Asked {
-    ghost use Rattle.account_model.specs.Words.{Asks};
     ghost use Rattle.option_words.specs.Parsed.{request_in};
-    ghost use Rattle.suite_core.specs.Runner.{Question};
+    ghost use Rattle.suite_core.specs.Runner.{Question, IsPosed, question};
 
     ghost Value = { Question };
 
@@ -35,7 +35,8 @@ impl Model for Asked {
       request = request_in asked.parsed;
     } };
 
-    ghost invariant = { λ asked. Asks asked.words.items (request_in asked.parsed) };
+    ghost invariant = { λ asked. IsPosed
+        (question asked.words.items (request_in asked.parsed) asked.input asked.day) };
 }
 
 /// A session that has begun.
@@ -60,6 +61,22 @@ impl Asked {
         ensures asks { Asks self.now.command.words self.now.request }
     {
         self.parsed.tool
+    }
+
+    /// The input, which is empty for a tool that reads none.
+    pub(crate) fn input(&self) -> &Bytes
+        ensures value { result.now ≡ self.now.command.input }
+        ensures within { length result.now ≤ table_limit }
+    {
+        &self.input
+    }
+
+    /// The day, counted from 1970-01-01.
+    pub(crate) fn day(&self) -> u32
+        ensures value { result ≡ self.now.command.day }
+        ensures in_time { result ≤ last_day }
+    {
+        self.day
     }
 
     /// The answer to a cause that is no tool's; where its text finds no memory, that of want of
@@ -97,4 +114,15 @@ pub(crate) fn memory_answer(alloc: Global, stage: CommitStage) -> Answer
         out: Bytes::new(alloc),
         err: Bytes::new(alloc),
     }
+}
+
+/// A copy of the words.
+pub(crate) fn copy_words(alloc: Global, words: &[Word]) -> Result<Vec<Word>, AllocError>
+    ensures { IfOk result (λ copied. copied.items ≡ words.now) }
+{
+    let mut copied = Vec::new(alloc);
+    for word in words {
+        copied.push(Word::of(alloc, word.as_slice())?)?;
+    }
+    Ok(copied)
 }

@@ -1,21 +1,18 @@
 // A session: what it was asked, and how far it has come.
-ghost use Rattle.std.specs.Prelude.{◌≡◌, ◌⊎◌, ◌<◌, Some, None, Ok, IfOk, IfErr, IsSome, is_none};
+ghost use Rattle.std.specs.Prelude.{◌≡◌, ◌⊎◌, ◌≤◌, ◌<◌, Some, None, IfOk, IfErr, IsSome, is_none, length};
 ghost use Rattle.std.specs.Option.{option_copied};
-ghost use Rattle.account_model.specs.Words.{Asks, request_of, fault as first_fault};
+ghost use Rattle.acct_text.specs.Limits.{last_day, table_limit};
+ghost use Rattle.account_model.specs.Words.{Asks, fault as first_fault};
 ghost use Rattle.option_words.specs.Parsed.{request_in};
 ghost use Rattle.suite_core.specs.Moment.{moment};
-ghost use Rattle.suite_core.specs.Left.{turns_left};
-ghost use Rattle.suite_core.specs.Session.{IsFirst, IsStarted, SessionStands, SessionTurns, answer_of, given_in, outcome_of, output_failed, phase_left, state_failed};
+ghost use Rattle.suite_core.specs.Session.{IsStarted, SessionStands, SessionTurns, answer_of, outcome_of, output_failed, phase_left, state_failed};
 ghost use Rattle.suite_core.specs.Streams.{after_fault, left_by, status_left};
-ghost use Rattle.suite_core.specs.Stands.{StandsAs, Turns};
 
-use crate::runner::{Asked, Runner, memory_answer};
+use crate::runner::{Asked, Runner, copy_words, memory_answer};
 use crate::state::State;
-use crate::{committing, loading, locking, recovering, unlocking};
-use account_model::words_have_one_reading;
-use acct_outside::{CommitStage, Folder, FolderFault, SinkFault, Token};
+use crate::turning::turned;
+use acct_outside::{CommitStage, Folder, SinkFault};
 use acct_text::{Bytes, Word};
-use lock_steps::Looking;
 use option_words::{Parsed, WordFault, read_words};
 use std::alloc::{AllocError, Global};
 use std::marker::Model;
@@ -49,10 +46,13 @@ impl Model for Session {
 }
 
 impl Session {
-    /// A session that was asked this and hasn't begun. The day is counted from 1970-01-01.
+    /// A session that was asked this and hasn't begun. The input has at most 16 MiB. The day is counted
+    /// from 1970-01-01, and at most 2,932,896 (9999-12-31).
     ///
     /// The error is the first fault of the words, or `Memory`.
     pub fn start(alloc: Global, words: &[Word], input: Bytes, day: u32) -> Result<Self, WordFault>
+        requires within { length input ≤ table_limit }
+        requires in_time { day ≤ last_day }
         ensures started { IfOk result (IsStarted (record {
           words = words.now;
           input = input;
@@ -76,7 +76,9 @@ impl Session {
         input: Bytes,
         day: u32,
     ) -> Result<Self, AllocError>
-        requires { Asks words.now (request_in parsed) }
+        requires asks { Asks words.now (request_in parsed) }
+        requires within { length input ≤ table_limit }
+        requires in_time { day ≤ last_day }
         ensures { IfOk result (λ session. session ≡ Phase.Waiting (record {
           command = record { words = words.now; input = input; day = day };
           request = request_in parsed;
@@ -205,153 +207,4 @@ pub(crate) fn outcome_after(fault: SinkFault, stage: CommitStage) -> Outcome
             cause: Cause::Memory(stage),
         },
     }
-}
-
-/// The phase after its one turn.
-fn turned<F: Folder>(alloc: Global, phase: Phase, folder: &mut F) -> Phase
-    requires { SessionStands
-        (moment (F.admits folder.old) (F.told folder.old) (F.fault_count folder.old)) phase }
-    ensures turns { SessionTurns
-        (moment (F.admits folder.old) (F.told folder.old) (F.fault_count folder.old))
-        (moment (F.admits folder.new) (F.told folder.new) (F.fault_count folder.new))
-        phase result }
-    ensures nearer { answer_of phase ≡ None → phase_left result < phase_left phase }
-    ensures ends { IsSome (answer_of phase) → IsSome (outcome_of result) }
-{
-    match phase {
-        Phase::Waiting(asked) => begin(alloc, asked, folder),
-        Phase::Begun(runner, state) => stepped(alloc, runner, state, folder),
-        Phase::Over(answer) => Phase::Over(answer),
-    }
-}
-
-/// The phase after the one call of a session that has begun: the answer, or another.
-fn stepped<F: Folder>(alloc: Global, runner: Runner, state: State, folder: &mut F) -> Phase
-    requires { StandsAs (moment (F.admits folder.old) (F.told folder.old) (F.fault_count folder.old))
-        runner state }
-    ensures turns { SessionTurns
-        (moment (F.admits folder.old) (F.told folder.old) (F.fault_count folder.old))
-        (moment (F.admits folder.new) (F.told folder.new) (F.fault_count folder.new))
-        (Phase.Begun runner state) result }
-    ensures nearer { given_in state ≡ None → phase_left result < turns_left state }
-    ensures ends { IsSome (given_in state) → IsSome (outcome_of result) }
-{
-    match state {
-        State::Answering(answer) => answered(runner, answer, folder),
-        state => {
-            let next = go_on(alloc, &runner, state, folder);
-            Phase::Begun(runner, next)
-        }
-    }
-}
-
-/// A copy of the words.
-fn copy_words(alloc: Global, words: &[Word]) -> Result<Vec<Word>, AllocError>
-    ensures { IfOk result (λ copied. copied.items ≡ words.now) }
-{
-    let mut copied = Vec::new(alloc);
-    for word in words {
-        copied.push(Word::of(alloc, word.as_slice())?)?;
-    }
-    Ok(copied)
-}
-
-/// Begins the session.
-fn begin<F: Folder>(alloc: Global, asked: Asked, folder: &mut F) -> Phase
-    ensures turns { SessionTurns
-        (moment (F.admits folder.old) (F.told folder.old) (F.fault_count folder.old))
-        (moment (F.admits folder.new) (F.told folder.new) (F.fault_count folder.new))
-        (Phase.Waiting asked) result }
-    ensures nearer { phase_left result < phase_left (Phase.Waiting asked) }
-{
-    match folder.begin(&asked.words, &asked.input, asked.day) {
-        Ok(token) => {
-            let runner = Runner { token, asked };
-            let state = first_state(alloc, &runner);
-            Phase::Begun(runner, state)
-        }
-        Err(fault) => {
-            let cause = locking::cause_of_fault(CommitStage::Before, fault);
-            Phase::Over(asked.tell(alloc, cause))
-        }
-    }
-}
-
-/// The first state of a session that has begun: it lists the locks, but without memory for that it
-/// answers.
-fn first_state(alloc: Global, runner: &Runner) -> State
-    ensures { IsFirst runner.now result }
-{
-    match looking(alloc, &runner.token) {
-        Ok(looking) => State::Looking(looking),
-        Err(_) => unlocking::failed(alloc, runner, CommitStage::Before, FolderFault::Memory),
-    }
-}
-
-/// The state that lists the locks.
-fn looking(alloc: Global, token: &Token) -> Result<Looking, AllocError>
-    ensures { IfOk result (λ looking. looking ≡ token.now) }
-{
-    Looking::start(alloc, token.copy()?)
-}
-
-/// Makes the one call of a state that doesn't answer, and gives the next state.
-fn go_on<F: Folder>(alloc: Global, runner: &Runner, state: State, folder: &mut F) -> State
-    requires going { 0 < turns_left state }
-    requires stands { StandsAs
-        (moment (F.admits folder.old) (F.told folder.old) (F.fault_count folder.old))
-        runner.now state }
-    ensures turns { Turns (moment (F.admits folder.old) (F.told folder.old) (F.fault_count folder.old))
-        (moment (F.admits folder.new) (F.told folder.new) (F.fault_count folder.new)) runner.now result }
-    ensures nearer { turns_left result < turns_left state }
-{
-    match state {
-        State::Looking(looking) => locking::look(alloc, runner, looking, folder),
-        State::Reading(seen) => locking::read(alloc, runner, seen, folder),
-        State::Asking(asking) => locking::ask(alloc, runner, asking, folder),
-        State::Claiming(judged) => locking::claim(alloc, runner, judged, folder),
-        State::Confirming(claimed) => locking::confirm(alloc, runner, claimed, folder),
-        State::Withdrawing(loser) => locking::withdraw(alloc, runner, loser, folder),
-        State::ReadingIntent(keeper) => recovering::read_intent(alloc, runner, keeper, folder),
-        State::Recovering(recovering) => recovering::recover(alloc, runner, recovering, folder),
-        State::Moving(moving) => recovering::move_table(alloc, runner, moving, folder),
-        State::Loading(loader) => loading::load(alloc, runner, loader, folder),
-        State::BackingUp(backing, answer) => {
-            committing::back_up(alloc, runner, backing, answer, folder)
-        }
-        State::Committing(staged, answer) => {
-            committing::commit(alloc, runner, staged, answer, folder)
-        }
-        State::Installing(installing, answer) => {
-            committing::install(alloc, runner, installing, answer, folder)
-        }
-        State::Unlocking(keeper, answer) => {
-            unlocking::unlock(alloc, runner, keeper, answer, folder)
-        }
-        State::Freeing(freeing, answer) => unlocking::free(alloc, runner, freeing, answer, folder),
-        State::Answering(answer) => State::Answering(answer),
-    }
-}
-
-/// Gives the answer, the session's last call.
-fn answered<F: Folder>(runner: Runner, answer: Answer, folder: &mut F) -> Phase
-    requires { StandsAs (moment (F.admits folder.old) (F.told folder.old) (F.fault_count folder.old))
-        runner (State.Answering answer) }
-    ensures turns { SessionTurns
-        (moment (F.admits folder.old) (F.told folder.old) (F.fault_count folder.old))
-        (moment (F.admits folder.new) (F.told folder.new) (F.fault_count folder.new))
-        (Phase.Begun runner (State.Answering answer)) result }
-    ensures ends { IsSome (outcome_of result) }
-{
-    asks_once(&runner.asked);
-    folder.answered(&runner.token, answer.outcome.status);
-    Phase::Over(answer)
-}
-
-/// A law: the words of what was asked have one reading, which is its request.
-fn asks_once(asked: &Asked)
-    ensures { request_of asked.now.command.words ≡ Ok asked.now.request }
-{
-    words_have_one_reading();
-    asked.tool();
 }

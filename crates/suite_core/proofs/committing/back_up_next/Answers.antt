@@ -10,7 +10,7 @@ use Rattle.suite_core.specs.declared.state.State.TheVariants.{BackingUp}
 use Rattle.suite_core.specs.Moment.{moment, commit_at}
 use Rattle.suite_core.specs.Locking.{cause_of_fault}
 use Rattle.suite_core.proofs.TurnLemmas.{turns, stops}
-use Rattle.suite_core.proofs.UnlockingTurns.{fault-stage, fault-plain}
+use Rattle.suite_core.proofs.UnlockingTurns.{fault-stage, fault-met, fault-plain}
 use Rattle.suite_core.proofs.LeadsLemmas.{leads-on, leads-stage, leads-failed}
 use Rattle.suite_core.proofs.CommittingTurns.{at-place, backs-on, backup-calls, backup-quiet, walks-nearer}
 use Rattle.suite_core.proofs.committing.back_up_next.Goals as goal
@@ -57,6 +57,7 @@ returns-in-Err-clause-turns g c =
     c.back_up_next.ensures.lawful c.back_up_next.ensures.faults.never_falls
     (cause_of_fault fault.stage fault.fault) c.stopped.result c.stopped.ensures
     (fault-plain fault.stage fault.fault)
+    (fault-met now c.args.runner.now fault.stage fault.fault)
     (ap commit_at (sym (fault-stage fault.stage fault.fault ∙ stage)))
     (λ told. c.back_up_next.ensures.faults.failed (c.in-Err.is
     ∙ ap Err (leads-failed (step_on c.args.backing) Before shown.1.answer fault shown.1.shown

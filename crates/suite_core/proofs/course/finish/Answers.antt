@@ -1,4 +1,4 @@
-use Rattle.std.proofs.Common.{◌≡◌, sym, subst, IsSome}
+use Rattle.std.proofs.Common.{sym, subst, IsSome}
 use Rattle.suite_core.specs.declared.session.Phase.{Phase}
 use Rattle.suite_core.specs.Moment.{moment}
 use Rattle.suite_core.specs.Session.{SessionStands, answer_of}

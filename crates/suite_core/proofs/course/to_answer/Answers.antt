@@ -1,4 +1,4 @@
-use Rattle.std.proofs.Common.{◌≡◌, sym, ◌∙◌}
+use Rattle.std.proofs.Common.{sym, ◌∙◌}
 use Rattle.suite_core.specs.Moment.{moment}
 use Rattle.suite_core.proofs.CourseLemmas.{comes-first, comes-turn, none-of}
 use Rattle.suite_core.proofs.course.to_answer.Goals as goal

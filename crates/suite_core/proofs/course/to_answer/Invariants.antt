@@ -3,7 +3,7 @@ use Rattle.suite_core.specs.declared.session.Phase.TheVariants.{Waiting}
 use Rattle.suite_core.specs.Runner.{Question}
 use Rattle.suite_core.specs.Moment.{moment}
 use Rattle.suite_core.specs.Course.{Comes}
-use Rattle.suite_core.specs.Session.{SessionStands, phase_left}
+use Rattle.suite_core.specs.Session.{phase_left}
 use Rattle.suite_core.proofs.course.to_answer.Given as goal
 
 -- from the entry the session has come so far

@@ -1,4 +1,4 @@
-use Rattle.std.proofs.Common.{◌≡◌, sym, ap, subst, ◌∙◌, None, Some, ℕ, Option}
+use Rattle.std.proofs.Common.{sym, ap, subst, ◌∙◌, ℕ, Option}
 use Rattle.std.specs.Prelude.{option_map}
 use Rattle.std.specs.Option.{option_copied}
 use Rattle.account_model.specs.Answer.{BadSettingAt}

@@ -38,7 +38,7 @@ returns-in-Err-clause-turns g c =
     let end = c.in-Err.end in
     record {
       stands = ended-stands before now c.args.runner.now c.args.loader c.requires.1 c.requires.0 end
-          c.ended.result c.ended.ensures c.in-Err.ensures.call c.in-Err.ensures.refused;
+          c.ended.result c.is_sound.ensures c.ended.ensures c.in-Err.ensures.call c.in-Err.ensures.refused;
       extends = extended before now c.args.runner.now commit_uncalled (HasRead c.args.loader)
           c.requires.1 c.args.loader.keeper.token c.requires.0
           (reads (next_name c.args.loader.next)) tt _ (λ result stood. refl)

@@ -4,7 +4,8 @@ use Rattle.acct_outside.specs.Calls.{asks}
 use Rattle.suite_rules.specs.Standing.{commit_uncalled}
 use Rattle.lock_steps.specs.Stands.{HasReadHeld, HasJudged}
 use Rattle.suite_core.specs.Moment.{moment, commit_at}
-use Rattle.suite_core.proofs.TurnLemmas.{may-step, goes-on, turns, stops}
+use Rattle.suite_core.proofs.MetLemmas.{ask-met}
+use Rattle.suite_core.proofs.TurnLemmas.{got, goes-on, turns, stops}
 use Rattle.suite_core.proofs.LockingLemmas.{end-plain, end-stage, end-failed, asks-token}
 use Rattle.suite_core.proofs.locking.ask.Goals as goal
 
@@ -36,6 +37,12 @@ returns-in-Err-clause-turns g c =
     c.args.asking.token c.requires.0 (asks c.args.asking.asked) tt _ (λ result stood. refl)
     c.ask.ensures.call
     c.ask.ensures.lawful c.ask.ensures.faults.never_falls _ c.stopped.result
-    c.stopped.ensures (end-plain c.in-Err.end) (ap commit_at (sym (end-stage c.in-Err.end)))
+    c.stopped.ensures (end-plain c.in-Err.end)
+    (ask-met c.args.runner.now.token now.told c.args.asking c.in-Err.ensures.call.answer c.in-Err.end
+    c.in-Err.ensures.call.shown
+    (got before now c.args.runner.now commit_uncalled (HasReadHeld c.args.asking) c.requires.1
+    c.args.asking.token c.requires.0 (asks c.args.asking.asked) tt _ (λ result stood. refl)
+    c.in-Err.ensures.call))
+    (ap commit_at (sym (end-stage c.in-Err.end)))
     (λ fault. c.ask.ensures.faults.failed
     (c.in-Err.is ∙ ap Err (end-failed c.in-Err.end fault)))

@@ -3,7 +3,8 @@ use Rattle.acct_outside.specs.Calls.{lists}
 use Rattle.suite_rules.specs.Standing.{commit_uncalled}
 use Rattle.lock_steps.specs.Stands.{HasMade}
 use Rattle.suite_core.specs.Moment.{moment, commit_at}
-use Rattle.suite_core.proofs.TurnLemmas.{may-step, turns, stops}
+use Rattle.suite_core.proofs.MetLemmas.{confirm-met}
+use Rattle.suite_core.proofs.TurnLemmas.{got, turns, stops}
 use Rattle.suite_core.proofs.LockingLemmas.{end-plain, end-stage, end-failed}
 use Rattle.suite_core.proofs.LockingTurns.{confirm-stands, confirm-quiet}
 use Rattle.suite_core.proofs.locking.confirm.Goals as goal
@@ -33,6 +34,12 @@ returns-in-Err-clause-turns g c =
     c.args.claimed.token c.requires.0 (lists) tt _ (λ result stood. refl)
     c.confirm.ensures.call
     c.confirm.ensures.lawful c.confirm.ensures.faults.never_falls _ c.stopped.result
-    c.stopped.ensures (end-plain c.in-Err.end) (ap commit_at (sym (end-stage c.in-Err.end)))
+    c.stopped.ensures (end-plain c.in-Err.end)
+    (confirm-met c.args.runner.now.token now.told c.args.claimed c.in-Err.ensures.call.answer c.in-Err.end
+    c.in-Err.ensures.call.shown
+    (got before now c.args.runner.now commit_uncalled (HasMade c.args.claimed) c.requires.1
+    c.args.claimed.token c.requires.0 (lists) tt _ (λ result stood. refl)
+    c.in-Err.ensures.call))
+    (ap commit_at (sym (end-stage c.in-Err.end)))
     (λ fault. c.confirm.ensures.faults.failed
     (c.in-Err.is ∙ ap Err (end-failed c.in-Err.end fault)))

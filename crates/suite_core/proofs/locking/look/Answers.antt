@@ -3,7 +3,8 @@ use Rattle.acct_outside.specs.Calls.{lists}
 use Rattle.suite_rules.specs.Standing.{commit_uncalled}
 use Rattle.lock_steps.specs.Stands.{HasNoLock}
 use Rattle.suite_core.specs.Moment.{moment, commit_at}
-use Rattle.suite_core.proofs.TurnLemmas.{may-step, turns, stops}
+use Rattle.suite_core.proofs.MetLemmas.{look-met}
+use Rattle.suite_core.proofs.TurnLemmas.{got, turns, stops}
 use Rattle.suite_core.proofs.LockingLemmas.{end-plain, end-stage, end-failed}
 use Rattle.suite_core.proofs.LockingTurns.{look-stands, look-quiet}
 use Rattle.suite_core.proofs.locking.look.Goals as goal
@@ -33,6 +34,12 @@ returns-in-Err-clause-turns g c =
     c.args.looking c.requires.0 (lists) tt _ (λ result stood. refl)
     c.look.ensures.call
     c.look.ensures.lawful c.look.ensures.faults.never_falls _ c.stopped.result
-    c.stopped.ensures (end-plain c.in-Err.end) (ap commit_at (sym (end-stage c.in-Err.end)))
+    c.stopped.ensures (end-plain c.in-Err.end)
+    (look-met c.args.runner.now.token now.told c.args.looking c.in-Err.ensures.call.answer c.in-Err.end
+    c.in-Err.ensures.call.shown
+    (got before now c.args.runner.now commit_uncalled (HasNoLock) c.requires.1
+    c.args.looking c.requires.0 (lists) tt _ (λ result stood. refl)
+    c.in-Err.ensures.call))
+    (ap commit_at (sym (end-stage c.in-Err.end)))
     (λ fault. c.look.ensures.faults.failed
     (c.in-Err.is ∙ ap Err (end-failed c.in-Err.end fault)))

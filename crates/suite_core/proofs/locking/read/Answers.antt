@@ -4,7 +4,8 @@ use Rattle.acct_outside.specs.Calls.{reads}
 use Rattle.suite_rules.specs.Standing.{commit_uncalled}
 use Rattle.lock_steps.specs.Stands.{HasLooked}
 use Rattle.suite_core.specs.Moment.{moment, commit_at}
-use Rattle.suite_core.proofs.TurnLemmas.{may-step, turns, stops}
+use Rattle.suite_core.proofs.MetLemmas.{read-met}
+use Rattle.suite_core.proofs.TurnLemmas.{got, turns, stops}
 use Rattle.suite_core.proofs.LockingLemmas.{end-plain, end-stage, end-failed}
 use Rattle.suite_core.proofs.LockingTurns.{read-stands, read-quiet}
 use Rattle.suite_core.proofs.locking.read.Goals as goal
@@ -33,6 +34,12 @@ returns-in-Err-clause-turns g c =
     c.args.seen.token c.requires.0 (reads (Lock c.args.seen.greatest)) tt _ (λ result stood. refl)
     c.read.ensures.call
     c.read.ensures.lawful c.read.ensures.faults.never_falls _ c.stopped.result
-    c.stopped.ensures (end-plain c.in-Err.end) (ap commit_at (sym (end-stage c.in-Err.end)))
+    c.stopped.ensures (end-plain c.in-Err.end)
+    (read-met c.args.runner.now.token now.told c.args.seen c.in-Err.ensures.call.answer c.in-Err.end
+    c.in-Err.ensures.call.shown
+    (got before now c.args.runner.now commit_uncalled (HasLooked c.args.seen) c.requires.2
+    c.args.seen.token c.requires.0 (reads (Lock c.args.seen.greatest)) tt _ (λ result stood. refl)
+    c.in-Err.ensures.call))
+    (ap commit_at (sym (end-stage c.in-Err.end)))
     (λ fault. c.read.ensures.faults.failed
     (c.in-Err.is ∙ ap Err (end-failed c.in-Err.end fault)))

@@ -1,10 +1,11 @@
-use Rattle.std.proofs.Common.{refl, sym, ap, ◌∙◌, Err}
+use Rattle.std.proofs.Common.{refl, sym, ap, Err}
 use Rattle.acct_outside.specs.declared.Name.TheVariants.{Lock}
 use Rattle.acct_outside.specs.Calls.{removes}
 use Rattle.suite_rules.specs.Standing.{commit_uncalled}
 use Rattle.lock_steps.specs.Stands.{WasOvertaken}
 use Rattle.suite_core.specs.Moment.{moment, commit_at}
-use Rattle.suite_core.proofs.TurnLemmas.{may-step, goes-on, turns, stops}
+use Rattle.suite_core.proofs.MetLemmas.{withdraw-met}
+use Rattle.suite_core.proofs.TurnLemmas.{got, stops}
 use Rattle.suite_core.proofs.LockingLemmas.{end-plain, end-stage, end-failed}
 use Rattle.suite_core.proofs.locking.withdraw.Goals as goal
 
@@ -14,9 +15,15 @@ returns-clause-turns g c =
     (g.F.Folder.fault_count c.args.folder.now) in
     let now = moment (g.F.Folder.admits c.withdraw.new.folder) (g.F.Folder.told c.withdraw.new.folder)
     (g.F.Folder.fault_count c.withdraw.new.folder) in
-    stops before now c.args.runner.now commit_uncalled (WasOvertaken c.args.loser) c.requires.1
+    stops before now c.args.runner.now commit_uncalled (WasOvertaken c.args.loser) c.requires.2
     c.args.loser.token c.requires.0 (removes (Lock c.args.loser.number)) tt _ (λ result stood. refl)
     c.withdraw.ensures.call
     c.withdraw.ensures.lawful c.withdraw.ensures.faults.never_falls _ c.stopped.result
-    c.stopped.ensures (end-plain c.withdraw.result) (ap commit_at (sym (end-stage c.withdraw.result)))
+    c.stopped.ensures (end-plain c.withdraw.result)
+    (withdraw-met c.args.runner.now.token now.told c.args.loser c.withdraw.ensures.call.answer
+    c.withdraw.result c.requires.1 c.withdraw.ensures.call.shown
+    (got before now c.args.runner.now commit_uncalled (WasOvertaken c.args.loser) c.requires.2
+    c.args.loser.token c.requires.0 (removes (Lock c.args.loser.number)) tt _ (λ result stood. refl)
+    c.withdraw.ensures.call))
+    (ap commit_at (sym (end-stage c.withdraw.result)))
     (λ fault. c.withdraw.ensures.faults.failed (ap Err (end-failed c.withdraw.result fault)))

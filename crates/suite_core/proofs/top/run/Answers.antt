@@ -1,7 +1,7 @@
-use Rattle.std.proofs.Common.{refl, []}
+use Rattle.std.proofs.Common.{refl}
 use Rattle.option_words.specs.Parsed.{request_in}
 use Rattle.suite_core.specs.Moment.{moment}
-use Rattle.suite_core.specs.Runner.{Question}
+use Rattle.suite_core.specs.Runner.{Question, question}
 use Rattle.suite_core.specs.Streams.{streams}
 use Rattle.suite_core.proofs.RanLemmas.{finished-from, stays-turns}
 use Rattle.suite_core.proofs.top.run.Goals as goal
@@ -10,19 +10,17 @@ pub returns-in-Ok : goal.returns-in-Ok
 returns-in-Ok g c =
     let entry = moment (g.F.Folder.admits c.args.folder.now) (g.F.Folder.told c.args.folder.now)
     (g.F.Folder.fault_count c.args.folder.now) in
-    let between = moment (g.F.Folder.admits c.enter.new.self) (g.F.Folder.told c.enter.new.self)
-    (g.F.Folder.fault_count c.enter.new.self) in
+    let between = moment (g.F.Folder.admits c.enter.new.folder) (g.F.Folder.told c.enter.new.folder)
+    (g.F.Folder.fault_count c.enter.new.folder) in
     let now = moment (g.F.Folder.admits c.finish.new.folder) (g.F.Folder.told c.finish.new.folder)
     (g.F.Folder.fault_count c.finish.new.folder) in
     let was = streams (g.O.Sink.holds c.args.out.now) (g.O.Sink.fault_count c.args.out.now)
     (g.E.Sink.holds c.args.err.now) (g.E.Sink.fault_count c.args.err.now) in
     let holds = streams (g.O.Sink.holds c.finish.new.out) (g.O.Sink.fault_count c.finish.new.out)
     (g.E.Sink.holds c.finish.new.err) (g.E.Sink.fault_count c.finish.new.err) in
-    let asked : Question = record {
-      command = record { words = c.args.words.now; input = []; day = c.args.day };
-      request = request_in c.args.parsed;
-    } in
+    let asked : Question = question c.args.words.now (request_in c.args.parsed)
+    c.args.supplied.input c.args.supplied.day in
     finished-from asked entry between now was holds c.finish.result
     (stays-turns entry between {S = Unit {0}} {T = ⊥} c.enter.ensures.told c.enter.ensures.narrows
-    c.enter.ensures.faults.never_falls tt (λ none. none))
-    (c.finish.ensures asked (rw c.new.ensures at c.in-Ok.ensures) refl)
+    c.enter.ensures.never_falls tt (λ none. none))
+    (c.finish.ensures asked c.in-Ok.ensures.session refl)

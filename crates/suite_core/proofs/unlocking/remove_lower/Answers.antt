@@ -4,7 +4,7 @@ use Rattle.acct_outside.specs.Calls.{removes}
 use Rattle.lock_steps.specs.Stands.{Keeps, KnowsAnything}
 use Rattle.suite_core.specs.Moment.{moment, commit_at}
 use Rattle.suite_core.proofs.TurnLemmas.{may-step, stops}
-use Rattle.suite_core.proofs.UnlockingTurns.{lowers, fault-stage, fault-plain, fault-failed}
+use Rattle.suite_core.proofs.UnlockingTurns.{lowers, fault-stage, fault-met, fault-plain, fault-failed}
 use Rattle.suite_core.proofs.unlocking.remove_lower.Goals as goal
 
 pub clean_next-requires-clause-stands : goal.clean_next-requires-clause-stands
@@ -34,6 +34,7 @@ returns-in-Err-clause-turns g c =
     c.clean_next.ensures.call
     c.clean_next.ensures.lawful c.clean_next.ensures.faults.never_falls _ c.failed.result
     c.failed.ensures (fault-plain _ c.in-Err.fault)
+    (fault-met now c.args.runner.now _ c.in-Err.fault)
     (ap commit_at (sym (fault-stage _ c.in-Err.fault ∙ c.stage.ensures)))
     (λ fault. c.clean_next.ensures.faults.failed
     (c.in-Err.is ∙ ap Err (fault-failed _ c.in-Err.fault fault)))

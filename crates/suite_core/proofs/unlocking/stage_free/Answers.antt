@@ -1,11 +1,11 @@
-use Rattle.std.proofs.Common.{refl, sym, ap, ◌∙◌, Err, slice_index}
+use Rattle.std.proofs.Common.{refl, sym, ap, ◌∙◌, Err}
 use Rattle.acct_outside.specs.declared.Name.TheVariants.{FreeStage}
 use Rattle.acct_outside.specs.Tokens.{free_text}
 use Rattle.acct_outside.specs.Calls.{writes}
 use Rattle.lock_steps.specs.Stands.{Keeps, KnowsAnything}
 use Rattle.suite_core.specs.Moment.{moment, commit_at}
 use Rattle.suite_core.proofs.TurnLemmas.{may-step, stops}
-use Rattle.suite_core.proofs.UnlockingTurns.{stages, fault-stage, fault-plain, fault-failed}
+use Rattle.suite_core.proofs.UnlockingTurns.{stages, fault-stage, fault-met, fault-plain, fault-failed}
 use Rattle.suite_core.proofs.unlocking.stage_free.Goals as goal
 
 pub stage_free-requires : goal.stage_free-requires
@@ -35,6 +35,7 @@ returns-in-Err-clause-turns g c =
     c.stage_free.ensures.call
     c.stage_free.ensures.lawful c.stage_free.ensures.faults.never_falls _ c.failed.result
     c.failed.ensures (fault-plain _ c.in-Err.fault)
+    (fault-met now c.args.runner.now _ c.in-Err.fault)
     (ap commit_at (sym (fault-stage _ c.in-Err.fault ∙ c.stage.ensures)))
     (λ fault. c.stage_free.ensures.faults.failed
     (c.in-Err.is ∙ ap Err (fault-failed _ c.in-Err.fault fault)))

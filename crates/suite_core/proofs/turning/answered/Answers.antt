@@ -5,7 +5,7 @@ use Rattle.account_model.specs.Words.{request_of}
 use Rattle.suite_core.specs.Runner.{Runner}
 use Rattle.suite_core.specs.Moment.{moment}
 use Rattle.suite_core.proofs.SessionTurns.{answers-turn}
-use Rattle.suite_core.proofs.session.answered.Goals as goal
+use Rattle.suite_core.proofs.turning.answered.Goals as goal
 
 pub returns-clause-turns : goal.returns-clause-turns
 returns-clause-turns g c =

@@ -5,7 +5,7 @@ use Rattle.suite_answers.specs.declared.cause.Cause.{Cause}
 use Rattle.suite_core.specs.Answers.{IsTold}
 use Rattle.suite_core.specs.Moment.{moment}
 use Rattle.suite_core.proofs.SessionTurns.{asked-command, begins-turn, unbegun}
-use Rattle.suite_core.proofs.session.begin.Goals as goal
+use Rattle.suite_core.proofs.turning.begin.Goals as goal
 
 pub returns-in-Ok-clause-turns : goal.returns-in-Ok-clause-turns
 returns-in-Ok-clause-turns g c =

@@ -1,4 +1,4 @@
-use Rattle.suite_core.proofs.session.asks_once.Goals as goal
+use Rattle.suite_core.proofs.turning.asks_once.Goals as goal
 
 pub returns : goal.returns
 returns c = (c.words_have_one_reading.ensures.read c.args.asked.now.command.words

@@ -1,0 +1,107 @@
+-- What a session met that its answer tells of. Each cause comes of one call of its own: what that
+-- answered, and how the session stood when it made it (docs/ARCHITECTURE.md, "Taking over").
+use Rattle.std.specs.Prelude.{◌≡◌, ◌⊎◌, ⊤, ◌∷◌, ◌++◌, ℕ, ◌+◌, ◌<◌, List, Some}
+use Rattle.acct_outside.specs.declared.Name.TheVariants.{Intent, Lock}
+use Rattle.acct_outside.specs.declared.Created.TheVariants.{Exists}
+use Rattle.acct_outside.specs.declared.Verdict.TheVariants.{Alive}
+use Rattle.acct_outside.specs.Names.{greatest_lock}
+use Rattle.acct_outside.specs.Tokens.{Token}
+use Rattle.acct_outside.specs.Folder.{greatest}
+use Rattle.acct_outside.specs.Calls.{Call, Answer, Found, lists, reads, asks, creates, removes, done, found_absent, found_bytes, found_too_large}
+use Rattle.acct_outside.specs.History.{History}
+use Rattle.acct_text.specs.Bytes.{Bytes}
+use Rattle.intent_file.specs.Parts.{FirstFault}
+use Rattle.suite_rules.specs.OwnLock.{kept_number}
+use Rattle.suite_rules.specs.Standing.{Standing, standing}
+use Rattle.lock_steps.specs.LockText.{IsDamaged}
+use Rattle.lock_steps.specs.States.{Lister}
+use Rattle.lock_steps.specs.Stands.{HasNoLock, HasLooked, HasReadHeld, HasJudged, HasMade, WasOvertaken}
+use Rattle.suite_answers.specs.declared.cause.Which.TheVariants.{File}
+use Rattle.suite_answers.specs.declared.cause.Cause.{Cause}
+use Rattle.suite_answers.specs.declared.cause.Cause.TheVariants.{Held, Gone, Raced, Outrun, LockDamaged, Exhausted, IntentDamaged, TooLarge}
+
+-- the session made this call when it stood so, and this was the answer
+pub record Met (token : Token) (call : Call) (answer : Answer call) (Stood : Standing → Type 0)
+    (history : History) : Type 0 where
+  pub newer : History
+  pub older : History
+  pub parts : history ≡ newer ++ record { token = token; call = call; result = done answer } ∷ older
+  pub stood : Stood (standing token older)
+
+-- ---- On the way to the lock
+
+-- the session has listed the locks, with this greatest one
+abbrev pub lister : Token → ℕ → Lister
+lister token number = record { token = token; greatest = number }
+
+-- the greatest lock had the last number that a lock can have
+abbrev pub MetLast : Token → History → Type 0
+MetLast token history =
+    (numbers : List ℕ) × (greatest numbers ≡ greatest_lock) × Met token lists numbers HasNoLock history
+
+-- the greatest lock, which it had listed, was gone when it read it
+abbrev pub MetNoLock : Token → ℕ → History → Type 0
+MetNoLock token number =
+    Met token (reads (Lock number)) found_absent (HasLooked (lister token number))
+
+-- neither of the two texts of a lock was found
+abbrev pub IsNoLockText : Found → Type 0
+IsNoLockText found_absent = ⊥
+IsNoLockText (found_bytes text) = IsDamaged text
+IsNoLockText found_too_large = ⊤
+
+-- it read the greatest lock, which it had listed, and found no text of a lock
+abbrev pub MetDamage : Token → ℕ → History → Type 0
+MetDamage token number history = (found : Found) × IsNoLockText found
+    × Met token (reads (Lock number)) found (HasLooked (lister token number)) history
+
+-- it had read the greatest lock as held by another session, which was told alive
+abbrev pub MetHolder : Token → Token → History → Type 0
+MetHolder token holder history = (number : ℕ) × Met token (asks holder) Alive
+    (HasReadHeld (record { token = token; greatest = number; asked = holder })) history
+
+-- it had judged the greatest lock, and the next one stood when it made that
+abbrev pub MetNext : Token → ℕ → History → Type 0
+MetNext token number history = (before : ℕ) × (number ≡ before + 1)
+    × Met token (creates number) Exists (HasJudged (lister token before)) history
+
+-- a greater lock than its own was listed, and it removed its own
+abbrev pub MetGreater : Token → ℕ → ℕ → History → Type 0
+MetGreater token number other history = (number < other) × Met token (removes (Lock number)) tt
+    (WasOvertaken (record { token = token; number = number; greatest = other })) history
+
+-- its own lock was listed no more, nor a greater one; no lawful history has this
+abbrev pub MetLoss : Token → ℕ → ℕ → History → Type 0
+MetLoss token number other history = (numbers : List ℕ) × (greatest numbers ≡ other)
+    × (other < number)
+    × Met token lists numbers (HasMade (record { token = token; number = number })) history
+
+-- ---- The intent
+
+-- the session is or was keeper
+abbrev pub HasKept : Standing → Type 0
+HasKept standing = (number : ℕ) × (kept_number standing.own ≡ Some number)
+
+-- as keeper it read an intent of which this part is the first that doesn't stand
+abbrev pub MetBadIntent : Token → ℕ → History → Type 0
+MetBadIntent token part history = (bytes : Bytes) × FirstFault bytes part
+    × Met token (reads Intent) (found_bytes bytes) HasKept history
+
+-- as keeper it found that the intent has more bytes than one may have
+abbrev pub MetLargeIntent : Token → History → Type 0
+MetLargeIntent token = Met token (reads Intent) found_too_large HasKept
+
+-- ---- All causes
+
+-- what the session met where its answer has this cause
+abbrev pub HasMet : Token → History → Cause → Type 0
+HasMet token history (Held holder) = MetHolder token holder history
+HasMet token history (Gone number) = MetNoLock token number history
+HasMet token history (Raced number) = MetNext token number history
+HasMet token history (Outrun number other) =
+    MetGreater token number other history ⊎ MetLoss token number other history
+HasMet token history (LockDamaged number) = MetDamage token number history
+HasMet token history Exhausted = MetLast token history
+HasMet token history (IntentDamaged part) = MetBadIntent token part history
+HasMet token history (TooLarge (File Intent)) = MetLargeIntent token history
+HasMet token history cause = ⊤

@@ -1,0 +1,85 @@
+-- What a command takes beside its words: chpasswd(8) reads its pairs from the standard input, to the
+-- end, and other tools nothing of it; and each command takes the day from the clock.
+use Rattle.std.specs.Prelude.{◌≡◌, ⊤, ℕ, ◌+◌, ◌≤◌, ◌++◌, [], length, Bool, true, false, Option, Some, Result, Ok, Err}
+use Rattle.acct_text.specs.Bytes.{Bytes}
+use Rattle.acct_text.specs.Limits.{table_limit}
+use Rattle.acct_outside.specs.declared.CommitStage.TheVariants.{Before}
+use Rattle.acct_outside.specs.declared.streams.SourceFault.{SourceFault}
+use Rattle.acct_outside.specs.declared.streams.SourceFault.TheVariants.{Failed, Memory as NoMemory}
+use Rattle.acct_outside.specs.Faults.{HasRisen}
+use Rattle.acct_outside.specs.Streams.{WhereBytesTold}
+use Rattle.account_model.specs.declared.tool.Tool.{Tool}
+use Rattle.account_model.specs.declared.tool.Tool.TheVariants.{Chpasswd}
+use Rattle.suite_answers.specs.declared.cause.Which.TheVariants.{Input}
+use Rattle.suite_answers.specs.declared.cause.Cause.{Cause}
+use Rattle.suite_answers.specs.declared.cause.Cause.TheVariants.{TooLarge, InputFault, ClockFault, Memory}
+
+-- the tool reads an input: the pairs of chpasswd(8)
+abbrev pub reads_input : Tool → Bool
+reads_input Chpasswd = true
+reads_input tool = false
+
+-- what a source has left where it tells, and how often it failed; the day that a clock last gave, and
+-- how often it failed
+pub record Supplies : Type 0 where
+  pub left : Option Bytes
+  pub input_faults : ℕ
+  pub gave : Option ℕ
+  pub clock_faults : ℕ
+
+-- the source and the clock that tell these
+abbrev pub supplies : Option Bytes → ℕ → Option ℕ → ℕ → Supplies
+supplies left input_faults gave clock_faults = record {
+  left = left;
+  input_faults = input_faults;
+  gave = gave;
+  clock_faults = clock_faults;
+}
+
+-- the cause of a fault of the source
+abbrev pub cause_of_source : SourceFault → Cause
+cause_of_source Failed = InputFault
+cause_of_source NoMemory = Memory Before
+
+-- these bytes came, and the rest is left
+abbrev pub Came : Bytes → Bytes → Bytes → Type 0
+Came came before now = before ≡ came ++ now
+
+-- one byte more came than an input may have, and the rest is left
+pub record IsTooMuch (before now : Bytes) : Type 0 where
+  pub came : Bytes
+  pub parts : Came came before now
+  pub passes : length came ≡ table_limit + 1
+
+-- A read of a source to its end: the input is all that was left. One that is too large has one byte
+-- too many; at a fault, and without memory, some bytes may have come.
+abbrev pub TakesAll : Result Bytes Cause → Bytes → Bytes → Type 0
+TakesAll (Ok input) before now = (before ≡ input) × (now ≡ [])
+TakesAll (Err (TooLarge Input)) before now = IsTooMuch before now
+TakesAll (Err cause) before now = (came : Bytes) × Came came before now
+
+-- the causes of a command that got no input
+abbrev pub LacksInput : Cause → Type 0
+LacksInput (TooLarge Input) = ⊤
+LacksInput InputFault = ⊤
+LacksInput (Memory Before) = ⊤
+LacksInput cause = ⊥
+
+-- The command has this input and this day: all that the source had left, for a tool that reads it, and
+-- the day that the clock gave.
+pub record AreSupplied (tool : Tool) (before now : Supplies) (input : Bytes) (day : ℕ) : Type 0 where
+  pub all_input : reads_input tool ≡ true → WhereBytesTold before.left now.left (TakesAll (Ok input))
+  pub no_input : reads_input tool ≡ false → input ≡ []
+  pub within : length input ≤ table_limit
+  pub on_day : now.gave ≡ Some day
+
+-- why the command has no input or no day: the source or the clock failed, more came than an input may
+-- have, or there was no memory
+abbrev pub IsUnsupplied : Tool → Supplies → Supplies → Cause → Type 0
+IsUnsupplied tool before now InputFault =
+    (reads_input tool ≡ true) × HasRisen before.input_faults now.input_faults
+IsUnsupplied tool before now (TooLarge Input) =
+    (reads_input tool ≡ true) × WhereBytesTold before.left now.left IsTooMuch
+IsUnsupplied tool before now ClockFault = HasRisen before.clock_faults now.clock_faults
+IsUnsupplied tool before now (Memory Before) = ⊤
+IsUnsupplied tool before now cause = ⊥
