@@ -14,9 +14,6 @@ Read, check and change the account files of the system image in DIR: passwd,
 shadow, group, gshadow, subuid and subgid in DIR/etc. A command makes its whole
 change or none of it, also where it is killed.
 
-So far groupadd, groupmod, groupdel and gpasswd are built. The other tools are
-answered with status 2, and change nothing.
-
 Each tool needs:
   -P, --prefix DIR              directory of the system image
 
