@@ -1,0 +1,10 @@
+use Rattle.std.proofs.Common.{Some}
+use Rattle.acct_outside.specs.Memory.{faults_of, no_others, past_of}
+use Rattle.suite_core.specs.Moment.{moment}
+use Rattle.suite_core.specs.Session.{SessionStands}
+use Rattle.whole_commands.proofs.play.turned.Given as goal
+
+-- the session stands in the folder
+abbrev pub invariant-loop : goal.invariant-loop
+invariant-loop l =
+    SessionStands (moment no_others (Some (past_of l.folder)) (faults_of l.folder)) l.session

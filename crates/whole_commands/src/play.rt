@@ -1,0 +1,179 @@
+// Commands that are run over a folder in memory, and what they tell and do, as text.
+ghost use Rattle.std.specs.Prelude.{IfOk};
+ghost use Rattle.suite_core.specs.Session.{IsWaiting};
+
+use acct_outside::{
+    Call, Effect, MemoryClock, MemoryFolder, MemorySink, MemorySource, Name, Token,
+};
+use acct_text::{Bytes, Tab, Word, push_decimal};
+use std::alloc::{AllocError, Global};
+use std::mem;
+use std::test::Fail;
+use suite_core::{Session, run_suite};
+
+// The day of each command, which is 2024-10-04.
+const DAY: u32 = 20000;
+
+/// What a command tells: its status, a blank, and what it prints on both streams.
+pub fn told(alloc: Global, folder: &mut MemoryFolder, command: &[u8]) -> Result<Bytes, AllocError> {
+    told_with(alloc, folder, command, b"")
+}
+
+/// The same of a command with this input.
+pub fn told_with(
+    alloc: Global,
+    folder: &mut MemoryFolder,
+    command: &[u8],
+    input: &[u8],
+) -> Result<Bytes, AllocError> {
+    let words = words_of(alloc, command)?;
+    let mut input = MemorySource::new(alloc, Bytes::of(alloc, input)?, Vec::new(alloc));
+    let mut out = MemorySink::new(alloc, Vec::new(alloc));
+    let mut err = MemorySink::new(alloc, Vec::new(alloc));
+    let mut clock = MemoryClock::new(DAY, Vec::new(alloc));
+    let outcome = run_suite(
+        alloc,
+        words.as_slice(),
+        folder,
+        &mut input,
+        &mut out,
+        &mut err,
+        &mut clock,
+    );
+    let mut told = Bytes::new(alloc);
+    push_decimal(&mut told, u64::from(outcome.status))?;
+    told.push(b" ")?;
+    told.push(out.held().as_slice())?;
+    told.push(err.held().as_slice())?;
+    Ok(told)
+}
+
+/// What a command tells, and then a line for each line of a table that went, `-passwd LINE`, and that
+/// came, `+passwd LINE`.
+pub fn done(alloc: Global, folder: &mut MemoryFolder, command: &[u8]) -> Result<Bytes, AllocError> {
+    let before = tables(alloc, folder)?;
+    let mut done = told(alloc, folder, command)?;
+    let after = tables(alloc, folder)?;
+    push_lines_beside(&mut done, b"-", &before, &after)?;
+    push_lines_beside(&mut done, b"+", &after, &before)?;
+    Ok(done)
+}
+
+/// The same of the last of these commands, which a `;` parts, after all others have run.
+pub fn done_last(
+    alloc: Global,
+    folder: &mut MemoryFolder,
+    commands: &[u8],
+) -> Result<Bytes, AllocError> {
+    let mut last = b"".as_slice();
+    for command in commands.split(|byte| *byte == b';') {
+        if !last.is_empty() {
+            told(alloc, folder, last)?;
+        }
+        last = command;
+    }
+    done(alloc, folder, last)
+}
+
+/// The session of a command makes this many calls of the folder, and dies within the next, of which
+/// nothing happens.
+pub fn die_after(
+    alloc: Global,
+    folder: &mut MemoryFolder,
+    command: &[u8],
+    calls: usize,
+) -> Result<(), Fail> {
+    // A session that dies frees nothing.
+    mem::forget(turned(session_of(alloc, command)?, folder, calls));
+    die_all(alloc, folder)
+}
+
+// The session of a command, which hasn't begun.
+fn session_of(alloc: Global, command: &[u8]) -> Result<Session, Fail>
+    ensures { IfOk result IsWaiting }
+{
+    let words = words_of(alloc, command)?;
+    match Session::start(alloc, words.as_slice(), Bytes::new(alloc), DAY) {
+        Ok(session) => Ok(session),
+        Err(_) => Err("words that ask for nothing".into()),
+    }
+}
+
+// The session after so many calls of the folder.
+fn turned(mut session: Session, folder: &mut MemoryFolder, calls: usize) -> Session
+    requires { IsWaiting session }
+{
+    for _ in 0..calls {
+        session.turn(folder);
+    }
+    session
+}
+
+// All sessions that run die.
+fn die_all(alloc: Global, folder: &mut MemoryFolder) -> Result<(), Fail> {
+    for number in 1..10 {
+        let mut text = Bytes::of(alloc, b"m")?;
+        push_decimal(&mut text, number)?;
+        if let Some(token) = Token::read(alloc, text.as_slice())? {
+            if folder.runs(&token) {
+                folder.die(&token, Call::Locks, Effect::Nothing)?;
+            }
+        }
+    }
+    Ok(())
+}
+
+/// What stands at the name, and empty where nothing does.
+pub fn text_at(folder: &MemoryFolder, name: Name) -> &[u8] {
+    folder.file(name).map_or(b"", |bytes| bytes.as_slice())
+}
+
+// The words of a command, cut at blanks.
+fn words_of(alloc: Global, command: &[u8]) -> Result<Vec<Word>, AllocError> {
+    let mut words = Vec::new(alloc);
+    for word in command.split(|byte| *byte == b' ') {
+        words.push(Word::of(alloc, word)?)?;
+    }
+    Ok(words)
+}
+
+/// Each line of the tables, behind the name of its table and a blank.
+pub fn tables(alloc: Global, folder: &MemoryFolder) -> Result<Bytes, AllocError> {
+    let mut tables = Bytes::new(alloc);
+    for table in &Tab::all() {
+        for line in text_at(folder, Name::Table(*table)).split(|byte| *byte == b'\n') {
+            if !line.is_empty() {
+                tables.push(table.name().as_bytes())?;
+                tables.push(b" ")?;
+                tables.push(line)?;
+                tables.push(b"\n")?;
+            }
+        }
+    }
+    Ok(tables)
+}
+
+// Pushes, behind a sign, each line that isn't among the others.
+fn push_lines_beside(
+    done: &mut Bytes,
+    sign: &[u8],
+    lines: &Bytes,
+    others: &Bytes,
+) -> Result<(), AllocError> {
+    for line in lines.as_slice().split(|byte| *byte == b'\n') {
+        if !is_among(line, others) {
+            done.push(sign)?;
+            done.push(line)?;
+            done.push(b"\n")?;
+        }
+    }
+    Ok(())
+}
+
+// Whether it is one of the lines.
+fn is_among(line: &[u8], lines: &Bytes) -> bool {
+    lines
+        .as_slice()
+        .split(|byte| *byte == b'\n')
+        .any(|other| other == line)
+}
