@@ -44,6 +44,19 @@ impl<R: TableRecord + Drop> Table<R> {
         Ok(())
     }
 
+    /// Adds a record behind the last line, where each line has an end: `append_any`, without a pass
+    /// over the table. At `AllocError` the table is as before.
+    pub fn append_ended(&mut self, item: R) -> Result<(), AllocError>
+        requires written { IsWritten R.format item }
+        requires ended { map as_ended self.old ≡ self.old }
+        ensures appended { OnOk result (self.new ≡ with_line (R.format.print item) self.old) }
+        ensures unchanged { OnErr result (self.new ≡ self.old) }
+    {
+        let line = TableLine::of(self.allocator(), item, true)?;
+        self.lines.push(line)?;
+        Ok(())
+    }
+
     /// Puts a record into the line of the record of the name; it may have another name. The line
     /// keeps its end, and its bytes where it is the same record.
     ///
