@@ -39,7 +39,7 @@ module _ {R : Type 0} (format : Format R) where
       let same : s ≡ r = cc in ap (λ t. line_becomes format line t (f t)) same
 
   -- a record that stays leaves its line
-  stays :
+  pub stays :
       (line : Line) (r : R) (same : Bool)
       → same ≡ true
       → (if same then line ∷ [] else record line { text = format.print r } ∷ []) ≡ line ∷ []

@@ -32,3 +32,12 @@ module _ {R C : Type 0} (becomes : C → R → List R) where
   seen-from edits place edit inside is =
       ap (seen_edits becomes) (drop_more edits place edit inside)
       ∙ ap (λ e. seen_edit becomes e ∷ seen_edits becomes (drop (place + 1) edits)) (sym is)
+
+  -- what holds of all holds of those from a place on
+  pub edits-from :
+      (P : model.Edit R → Type 0) (edits : List (Edit R C)) (place : ℕ)
+      → AllByRecursion P (seen_edits becomes edits)
+      → AllByRecursion P (seen_edits becomes (drop place edits))
+  edits-from P edits zero all = all
+  edits-from P [] (suc place) all = all
+  edits-from P (first ∷ edits) (suc place) all = edits-from P edits place all.1

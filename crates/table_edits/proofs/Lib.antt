@@ -9,3 +9,9 @@ pub mod TableLemmas
 pub mod DecidingLemmas
 pub mod ActingLemmas
 pub mod RepeatLemmas
+pub mod NamedLemmas
+pub mod AddedNames
+pub mod ToldPlaces
+pub mod FirstLemmas
+pub mod NamingLemmas
+pub mod KnownLemmas

@@ -15,3 +15,7 @@ pub mod Stopping
 pub mod HashChanges
 pub mod Memberships
 pub mod Repeats
+pub mod Naming
+pub mod NamePlaces
+pub mod NamedLines
+pub mod FirstRecords

@@ -1,5 +1,5 @@
 -- What the changes of users make of a record of passwd (passwd(5)).
-use Rattle.std.specs.Prelude.{List, [], ◌∷◌, ◌==◌, unwrap_or, if◌then◌else◌}
+use Rattle.std.specs.Prelude.{Bool, true, is_none, List, [], ◌∷◌, ◌==◌, unwrap_or, if◌then◌else◌}
 use Rattle.account_model.specs.declared.records.PasswdRecord.{PasswdRecord}
 use Rattle.account_model.specs.Format.{is_named}
 use Rattle.account_model.specs.Records.{passwd_format}
@@ -27,6 +27,11 @@ passwd_after (SetPassword password) r = record r { password = password }
 passwd_after (SetGid gid) r = record r { gid = gid }
 passwd_after (ChangePassword change) r = record r { password = hash_by change r.password }
 passwd_after (SetFields fields) r = with_user_fields fields r
+
+-- whether the act leaves the name
+abbrev pub keeps_user_name : PasswdAct → Bool
+keeps_user_name (SetFields fields) = is_none fields.name
+keeps_user_name _ = true
 
 -- the records that a record becomes by a change
 abbrev pub passwd_becomes : PasswdChange → PasswdRecord → List PasswdRecord

@@ -1,5 +1,5 @@
 -- What the changes of users make of a record of shadow (shadow(5)).
-use Rattle.std.specs.Prelude.{List, [], ◌∷◌, Some, unwrap_or, if◌then◌else◌}
+use Rattle.std.specs.Prelude.{Bool, true, List, [], ◌∷◌, Some, is_none, unwrap_or, if◌then◌else◌}
 use Rattle.account_model.specs.declared.records.ShadowRecord.{ShadowRecord}
 use Rattle.account_model.specs.Format.{is_named}
 use Rattle.account_model.specs.Records.{shadow_format}
@@ -28,6 +28,11 @@ shadow_after (SetHash hash) r = record r { hash = hash }
 shadow_after (SetLastChange day) r = record r { last_change = Some day }
 shadow_after (ChangeHash change) r = record r { hash = hash_by change r.hash }
 shadow_after (SetFields fields) r = with_shadow_fields fields r
+
+-- whether the act leaves the name
+abbrev pub keeps_shadow_name : ShadowAct → Bool
+keeps_shadow_name (SetFields fields) = is_none fields.name
+keeps_shadow_name _ = true
 
 -- the records that a record becomes by a change
 abbrev pub shadow_becomes : ShadowChange → ShadowRecord → List ShadowRecord

@@ -9,14 +9,57 @@ ghost use Rattle.acct_tables.specs.TableLines.{line_is_named};
 ghost use Rattle.table_edits.specs.Places.{is_named_at, spliced_at};
 ghost use Rattle.table_edits.specs.SeenEdits.{seen_edit, seen_edits};
 
+use crate::named_edits::{apply_there, known_before, place_of};
 use crate::{Becoming, Edit, EditedRecord};
 use acct_tables::Table;
 use std::alloc::{AllocError, Global};
 
+// From so many edits on it pays to look for the places of all names at once.
+const MANY_EDITS: usize = 8;
+
 /// Carries out the edits, in their order: the lines that they don't touch keep their bytes.
 ///
-/// At `AllocError` some of the edits may be done.
+/// Many edits that each name the records that they touch take one pass over the table in all. At
+/// `AllocError` some of the edits may be done.
 pub fn apply_edits<R: EditedRecord + Drop>(
+    alloc: Global,
+    table: &mut Table<R>,
+    edits: &[Edit<R, R::Change>],
+) -> Result<(), AllocError>
+    requires { AllByRecursion (IsWrittenEdit R.format) (seen_edits R.becomes edits.now) }
+    ensures { OnOk result (table.new ≡
+        edited_by R.format (seen_edits R.becomes edits.now) table.old) }
+{
+    if edits.len() < MANY_EDITS {
+        return apply_in_order(alloc, table, edits);
+    }
+    apply_by_name(alloc, table, edits)
+}
+
+// Carries out the edits where the records of their names stand, and from the first on that may
+// touch others one after another.
+fn apply_by_name<R: EditedRecord + Drop>(
+    alloc: Global,
+    table: &mut Table<R>,
+    edits: &[Edit<R, R::Change>],
+) -> Result<(), AllocError>
+    requires { AllByRecursion (IsWrittenEdit R.format) (seen_edits R.becomes edits.now) }
+    ensures { OnOk result (table.new ≡
+        edited_by R.format (seen_edits R.becomes edits.now) table.old) }
+{
+    let mut known = known_before(alloc, table, edits)?;
+    'edits: for index in 0..edits.len() {
+        let edit = &edits[index];
+        let Some(place) = place_of(&known, edit) else {
+            return apply_in_order(alloc, table, &edits[index..]);
+        };
+        apply_there(alloc, table, edit, place, &mut known)?;
+    }
+    Ok(())
+}
+
+// Carries out the edits, one after another.
+fn apply_in_order<R: EditedRecord + Drop>(
     alloc: Global,
     table: &mut Table<R>,
     edits: &[Edit<R, R::Change>],
@@ -100,8 +143,8 @@ fn is_named_at<R: EditedRecord + Drop>(table: &Table<R>, place: usize, name: &[u
     }
 }
 
-// Puts in place of each record what becomes of it. The places go down, so that those to come stay.
-fn change_each<R: EditedRecord + Drop>(
+/// Puts in place of each record what becomes of it. The places go down, so that those to come stay.
+pub(crate) fn change_each<R: EditedRecord + Drop>(
     alloc: Global,
     table: &mut Table<R>,
     change: &R::Change,
@@ -118,8 +161,8 @@ fn change_each<R: EditedRecord + Drop>(
     Ok(())
 }
 
-// Puts in place of the record at a place what becomes of it.
-fn change_at<R: EditedRecord + Drop>(
+/// Puts in place of the record at a place what becomes of it.
+pub(crate) fn change_at<R: EditedRecord + Drop>(
     alloc: Global,
     table: &mut Table<R>,
     place: usize,

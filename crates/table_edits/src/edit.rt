@@ -1,6 +1,7 @@
 // The edits of a table as data, and what a record has so that edits can be made of it.
-ghost use Rattle.std.specs.Prelude.{◌≡◌, List, IfOk};
+ghost use Rattle.std.specs.Prelude.{◌≡◌, List, IfOk, IfSome};
 ghost use Rattle.account_model.specs.Written.{IsWritten};
+ghost use Rattle.table_edits.specs.Naming.{ChangesOnly};
 ghost use Rattle.table_edits.specs.SeenEdits.{records_in};
 
 use acct_lines::TableRecord;
@@ -49,4 +50,10 @@ pub trait EditedRecord: TableRecord {
         requires { IsWritten Self.format self.now }
         ensures { IfOk result (λ becoming.
             records_in self.now becoming ≡ becomes change.now self.now) };
+
+    /// The name of all records that the change may touch, where it leaves their names; none where
+    /// it may touch others.
+    fn only_name(change: &Self::Change) -> Option<&[u8]>
+        ensures { IfSome result (λ name.
+            ChangesOnly Self.format (becomes change.now) name.now) };
 }

@@ -65,6 +65,10 @@ impl EditedRecord for GroupRecord {
             _ => Ok(Becoming::Stays),
         }
     }
+
+    fn only_name(_change: &GroupChange) -> Option<&[u8]> {
+        None
+    }
 }
 
 // The record after the act.

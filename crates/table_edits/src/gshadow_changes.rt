@@ -70,6 +70,10 @@ impl EditedRecord for GshadowRecord {
             _ => Ok(Becoming::Stays),
         }
     }
+
+    fn only_name(_change: &GshadowChange) -> Option<&[u8]> {
+        None
+    }
 }
 
 // The record after the act.

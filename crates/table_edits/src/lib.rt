@@ -23,6 +23,8 @@ mod lists;
 mod lookups;
 mod memberships;
 mod multiple;
+mod name_places;
+mod named_edits;
 mod new_groups;
 mod passwd_changes;
 mod repeats;
@@ -33,6 +35,7 @@ mod shadow_changes;
 mod subid_changes;
 mod tables;
 mod user_edits;
+mod user_index;
 mod users;
 
 pub use account_model::{Refusal, Tool};
@@ -57,6 +60,7 @@ pub use shadow_changes::{ShadowAct, ShadowChange, ShadowFields};
 pub use subid_changes::{RangeCut, SubidChange};
 pub use tables::Tables;
 pub use user_edits::hash_alone;
+pub use user_index::UserIndex;
 
 #[cfg(test)]
 mod tests;

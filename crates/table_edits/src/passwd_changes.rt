@@ -1,6 +1,6 @@
 // What the tools do with records of passwd (passwd(5)).
 ghost use Rattle.std.specs.Prelude.{◌≡◌, IfOk};
-ghost use Rattle.table_edits.specs.PasswdChanges.{passwd_after, with_user_fields};
+ghost use Rattle.table_edits.specs.PasswdChanges.{keeps_user_name, passwd_after, with_user_fields};
 
 use crate::fields::copy_or;
 use crate::{Becoming, EditedRecord, HashChange};
@@ -79,6 +79,23 @@ impl EditedRecord for PasswdRecord {
             PasswdChange::Remove(name) if self.name() == name.as_slice() => Ok(Becoming::Goes),
             _ => Ok(Becoming::Stays),
         }
+    }
+
+    fn only_name(change: &PasswdChange) -> Option<&[u8]> {
+        match change {
+            PasswdChange::Named(name, act) if keeps_name(act) => Some(name.as_slice()),
+            _ => None,
+        }
+    }
+}
+
+// Whether the act leaves the name of the user.
+fn keeps_name(act: &PasswdAct) -> bool
+    ensures { result ≡ keeps_user_name act.now }
+{
+    match act {
+        PasswdAct::SetFields(fields) => fields.name.is_none(),
+        _ => true,
     }
 }
 

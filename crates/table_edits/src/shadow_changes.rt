@@ -1,6 +1,6 @@
 // What the tools do with records of shadow (shadow(5)).
 ghost use Rattle.std.specs.Prelude.{◌≡◌, None, IfOk};
-ghost use Rattle.table_edits.specs.ShadowChanges.{shadow_after, with_shadow_fields};
+ghost use Rattle.table_edits.specs.ShadowChanges.{keeps_shadow_name, shadow_after, with_shadow_fields};
 
 use crate::fields::copy_or;
 use crate::{Becoming, EditedRecord, HashChange};
@@ -104,6 +104,23 @@ impl EditedRecord for ShadowRecord {
             ShadowChange::Remove(name) if self.name() == name.as_slice() => Ok(Becoming::Goes),
             _ => Ok(Becoming::Stays),
         }
+    }
+
+    fn only_name(change: &ShadowChange) -> Option<&[u8]> {
+        match change {
+            ShadowChange::Named(name, act) if keeps_name(act) => Some(name.as_slice()),
+            _ => None,
+        }
+    }
+}
+
+// Whether the act leaves the name of the user.
+fn keeps_name(act: &ShadowAct) -> bool
+    ensures { result ≡ keeps_shadow_name act.now }
+{
+    match act {
+        ShadowAct::SetFields(fields) => fields.name.is_none(),
+        _ => true,
     }
 }
 

@@ -69,6 +69,10 @@ impl EditedRecord for SubidRecord {
             _ => Ok(Becoming::Stays),
         }
     }
+
+    fn only_name(_change: &SubidChange) -> Option<&[u8]> {
+        None
+    }
 }
 
 // What is left of a range without the IDs.

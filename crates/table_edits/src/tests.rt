@@ -3,7 +3,7 @@ use crate::{
     Becoming, EditedRecord, GroupAct, GroupChange, GroupRecord, GshadowAct, GshadowChange,
     GshadowRecord, HashChange, Membership, PasswdAct, PasswdChange, PasswdRecord, RangeCut, Script,
     ShadowAct, ShadowChange, ShadowFields, ShadowRecord, SubidChange, SubidRecord, Table, Tables,
-    UserFields, UserGroups,
+    UserFields, UserGroups, UserIndex,
 };
 use acct_text::{Bytes, Files, Names};
 use std::alloc::{AllocError, Global};
@@ -169,5 +169,17 @@ fn a_line_is_made_on_demand(rt: HostRuntime) -> Result<(), Fail> {
     script.change_hash(rt.alloc(), &tables, b"ann", HashChange::Lock)?;
     assert_eq!(rt; script.passwd.len(), 1);
     assert_eq!(rt; script.shadow.len(), 2);
+    Ok(())
+}
+
+#[test]
+fn a_line_is_made_on_demand_by_the_index(rt: HostRuntime) -> Result<(), Fail> {
+    let tables = Tables::load(rt.alloc(), &unshadowed(rt.alloc())?)?;
+    let users = UserIndex::of(rt.alloc(), &tables)?;
+    let mut script = Script::new(rt.alloc());
+    script.demand_indexed(rt.alloc(), &users, b"ann")?;
+    script.demand_indexed(rt.alloc(), &users, b"eve")?;
+    assert_eq!(rt; script.passwd.len(), 1);
+    assert_eq!(rt; script.shadow.len(), 1);
     Ok(())
 }

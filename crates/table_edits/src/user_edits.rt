@@ -12,7 +12,9 @@ ghost use Rattle.table_edits.specs.ShadowChanges.{shadow_becomes};
 ghost use Rattle.table_edits.specs.declared.passwd_changes.PasswdChange.TheVariants.{Named};
 ghost use Rattle.table_edits.specs.declared.shadow_changes.ShadowChange.TheVariants.{Named as NamedThere};
 
-use crate::{Edit, HashChange, PasswdAct, PasswdChange, Script, ShadowAct, ShadowChange, Tables};
+use crate::{
+    Edit, HashChange, PasswdAct, PasswdChange, Script, ShadowAct, ShadowChange, Tables, UserIndex,
+};
 use acct_lines::{PasswdRecord, ShadowRecord};
 use acct_text::Bytes;
 use std::alloc::{AllocError, Global};
@@ -65,6 +67,25 @@ impl Script {
             return Ok(());
         }
         match tables.user_named(name) {
+            Some(user) => make_shadow(alloc, self, user),
+            None => Ok(()),
+        }
+    }
+
+    /// Makes the shadow line on demand as `demand_shadow` does, by what the index finds.
+    pub fn demand_indexed(
+        &mut self,
+        alloc: Global,
+        users: &UserIndex<'_>,
+        name: &[u8],
+    ) -> Result<(), AllocError>
+        ensures { OnOk result
+            (HasAlso (shadow_on_demand name.now users.now) self.old self.new) }
+    {
+        if users.tables().shadow().is_none() || users.shadow_named(name).is_some() {
+            return Ok(());
+        }
+        match users.user_named(name) {
             Some(user) => make_shadow(alloc, self, user),
             None => Ok(()),
         }

@@ -1,7 +1,7 @@
 use Rattle.std.proofs.Common.{arith}
 use Rattle.table_edits.proofs.EditLists.{edit-at}
 use Rattle.account_model.specs.RecordEdits.{IsWrittenEdit}
-use Rattle.table_edits.proofs.apply.apply_edits.Goals as goal
+use Rattle.table_edits.proofs.apply.apply_in_order.Goals as goal
 
 pub apply_edit-requires : goal.apply_edit-requires
 apply_edit-requires g c =

@@ -1,7 +1,7 @@
 use Rattle.std.proofs.Common.{◌≡◌, drop}
 use Rattle.account_model.specs.Edits.{edited_by}
 use Rattle.table_edits.specs.SeenEdits.{seen_edits}
-use Rattle.table_edits.proofs.apply.apply_edits.Given as goal
+use Rattle.table_edits.proofs.apply.apply_in_order.Given as goal
 
 -- the edits left make of the lines what all make of the first lines
 abbrev pub invariant-edits : goal.invariant-edits

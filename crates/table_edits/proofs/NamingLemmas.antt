@@ -1,0 +1,73 @@
+-- Claim: an act that leaves the name of a user touches only the records of the name it is done with
+-- (`only-user`, `only-shadow`). Way: act by act.
+use Rattle.std.proofs.Common.{◌≡◌, ℕ, Bool, true, false, List, [], ◌∷◌, map, refl, ap, if◌then◌else◌}
+use Rattle.std.specs.Prelude.{Option, Some, None, is_none, unwrap_or}
+use Rattle.account_model.specs.declared.records.PasswdRecord.{PasswdRecord}
+use Rattle.account_model.specs.declared.records.ShadowRecord.{ShadowRecord}
+use Rattle.account_model.specs.Format.{Format, is_named}
+use Rattle.account_model.specs.Records.{passwd_format, shadow_format}
+use Rattle.table_edits.specs.Naming.{ChangesOnly}
+use Rattle.table_edits.specs.PasswdChanges.{keeps_user_name, passwd_after, passwd_becomes}
+use Rattle.table_edits.specs.ShadowChanges.{keeps_shadow_name, shadow_after, shadow_becomes}
+use Rattle.table_edits.specs.declared.passwd_changes.PasswdAct.{PasswdAct}
+use Rattle.table_edits.specs.declared.passwd_changes.PasswdAct.TheVariants.{SetPassword, SetGid, ChangePassword, SetFields as SetUserFields}
+use Rattle.table_edits.specs.declared.passwd_changes.PasswdChange.TheVariants.{Named as NamedUser}
+use Rattle.table_edits.specs.declared.shadow_changes.ShadowAct.{ShadowAct}
+use Rattle.table_edits.specs.declared.shadow_changes.ShadowAct.TheVariants.{SetHash, SetLastChange, ChangeHash, SetFields as SetShadowFields}
+use Rattle.table_edits.specs.declared.shadow_changes.ShadowChange.TheVariants.{Named as NamedShadow}
+
+-- a field that isn't given stays
+unset :
+    (field : Option (List ℕ)) (old : List ℕ) → is_none field ≡ true → unwrap_or field old ≡ old
+unset None old is = refl
+unset (Some new) old is = absurd cc
+
+-- the name of a record that becomes one of its name, or stays
+one-name :
+    {R : Type 0} (format : Format R) (named : Bool) (new r : R)
+    → format.name new ≡ format.name r
+    → map format.name ((if named then new else r) ∷ []) ≡ format.name r ∷ []
+one-name format true new r same = ap (λ name. name ∷ []) same
+one-name format false new r same = refl
+
+-- the name of a user after an act that leaves it
+user-name :
+    (act : PasswdAct) (r : PasswdRecord)
+    → keeps_user_name act ≡ true
+    → (passwd_after act r).name ≡ r.name
+user-name (SetPassword password) r keeps = refl
+user-name (SetGid gid) r keeps = refl
+user-name (ChangePassword change) r keeps = refl
+user-name (SetUserFields fields) r keeps = unset fields.name r.name keeps
+
+-- the name of a record of shadow after such an act
+shadow-name :
+    (act : ShadowAct) (r : ShadowRecord)
+    → keeps_shadow_name act ≡ true
+    → (shadow_after act r).name ≡ r.name
+shadow-name (SetHash hash) r keeps = refl
+shadow-name (SetLastChange day) r keeps = refl
+shadow-name (ChangeHash change) r keeps = refl
+shadow-name (SetShadowFields fields) r keeps = unset fields.name r.name keeps
+
+-- in passwd
+pub only-user :
+    (name : List ℕ) (act : PasswdAct)
+    → keeps_user_name act ≡ true
+    → ChangesOnly passwd_format (passwd_becomes (NamedUser name act)) name
+only-user name act keeps = record {
+  others = λ r other. ap (λ named. (if named then passwd_after act r else r) ∷ []) other;
+  names = λ r. one-name passwd_format (is_named passwd_format name r) (passwd_after act r) r
+      (user-name act r keeps);
+}
+
+-- in shadow
+pub only-shadow :
+    (name : List ℕ) (act : ShadowAct)
+    → keeps_shadow_name act ≡ true
+    → ChangesOnly shadow_format (shadow_becomes (NamedShadow name act)) name
+only-shadow name act keeps = record {
+  others = λ r other. ap (λ named. (if named then shadow_after act r else r) ∷ []) other;
+  names = λ r. one-name shadow_format (is_named shadow_format name r) (shadow_after act r) r
+      (shadow-name act r keeps);
+}

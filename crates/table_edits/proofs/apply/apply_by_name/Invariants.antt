@@ -1,0 +1,15 @@
+use Rattle.std.proofs.Common.{◌≡◌, drop}
+use Rattle.account_model.specs.Edits.{edited_by}
+use Rattle.table_edits.specs.NamedLines.{IsKnown}
+use Rattle.table_edits.specs.SeenEdits.{seen_edits}
+use Rattle.table_edits.proofs.apply.apply_by_name.Given as goal
+
+-- the edits left make of the lines what all make of the first lines, and the lines are known
+abbrev pub invariant-edits : goal.invariant-edits
+invariant-edits g l = record {
+  made : edited_by g.R.TableRecord.format
+      (seen_edits g.R.EditedRecord.becomes (drop l.index l.edits)) l.table
+      ≡ edited_by g.R.TableRecord.format (seen_edits g.R.EditedRecord.becomes l.edits)
+      l.initial.table;
+  known : IsKnown g.R.TableRecord.format l.table l.known;
+}

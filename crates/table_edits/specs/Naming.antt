@@ -1,0 +1,19 @@
+-- Edits that each may touch the records of one name only, and leave their names (passwd(5),
+-- shadow(5)).
+use Rattle.std.specs.Prelude.{◌≡◌, ℕ, false, List, [], ◌∷◌, map}
+use Rattle.account_model.specs.Format.{Format, is_named}
+use Rattle.account_model.specs.Edits.{Edit}
+use Rattle.account_model.specs.Edits.Edit.{Become, AddMissing}
+
+-- f touches only records of the name, and leaves the names of all
+pub record ChangesOnly {R : Type 0} (format : Format R) (f : R → List R) (name : List ℕ)
+    : Type 0 where
+  pub others : (r : R) → is_named format name r ≡ false → f r ≡ r ∷ []
+  pub names : (r : R) → map format.name (f r) ≡ format.name r ∷ []
+
+-- the edit touches only records of the name, and leaves the names of all, or it adds one where
+-- there is none of the name
+abbrev pub IsOfName : {R : Type 0} → Format R → Edit R → List ℕ → Type 0
+IsOfName format (Become f) name = ChangesOnly format f name
+IsOfName format (AddMissing r) name = format.name r ≡ name
+IsOfName format _ name = ⊥

@@ -1,0 +1,176 @@
+// Edits that each may touch the records of one name only: they are carried out where these stand,
+// so that a list of them takes no pass over the table for each.
+ghost use Rattle.std.specs.Prelude.{◌≡◌, true, List, map, IfOk, IfSome, OnOk};
+ghost use Rattle.acct_text.specs.Lines.{Line};
+ghost use Rattle.account_model.specs.Edits.{as_ended, edited, with_line};
+ghost use Rattle.account_model.specs.Edits as model;
+ghost use Rattle.account_model.specs.RecordEdits.{IsWrittenEdit};
+ghost use Rattle.account_model.specs.Written.{IsWritten};
+ghost use Rattle.table_edits.specs.NamePlaces.{place_of_name};
+ghost use Rattle.table_edits.specs.NamedLines.{IsKnown, IsPlaced, line_names};
+ghost use Rattle.table_edits.specs.Naming.{ChangesOnly, IsOfName};
+ghost use Rattle.table_edits.specs.SeenEdits.{seen_edit};
+
+use crate::apply::{change_at, change_each};
+use crate::name_places::{NamePlace, name_places, place_in};
+use crate::{Edit, EditedRecord};
+use acct_tables::Table;
+use std::alloc::{AllocError, Global};
+use std::collections::HashMap;
+
+/// What is known of a table while edits by name change it.
+#[derive(Drop)]
+pub(crate) struct Known<'a> {
+    /// Where the records of a name stand, for the names of the edits.
+    pub places: HashMap<&'a [u8], NamePlace>,
+    /// Whether each line surely has an end.
+    pub ended: bool,
+}
+
+/// What is known of the table before the edits.
+pub(crate) fn known_before<'a, R: EditedRecord + Drop>(
+    alloc: Global,
+    table: &Table<R>,
+    edits: &'a [Edit<R, R::Change>],
+) -> Result<Known<'a>, AllocError>
+    ensures { IfOk result (IsKnown R.format table.now) }
+{
+    let of_table = name_places(alloc, table)?;
+    let mut places = HashMap::new(alloc);
+    'edits: for edit in edits {
+        if let Some(name) = only_name(edit) {
+            places.insert(name, place_in(&of_table, name))?;
+        }
+    }
+    Ok(Known {
+        places,
+        ended: false,
+    })
+}
+
+// The name of all records that the edit may touch; none where it may touch others.
+fn only_name<R: EditedRecord + Drop>(edit: &Edit<R, R::Change>) -> Option<&[u8]>
+    ensures { IfSome result (λ name.
+        IsOfName R.format (seen_edit R.becomes edit.now) name.now) }
+{
+    match edit {
+        Edit::Become(change) => R::only_name(change),
+        Edit::AddMissing(item) => Some(item.name()),
+        Edit::Add(_) | Edit::Put(_) => None,
+    }
+}
+
+/// Where the records stand that the edit may touch; none where it may touch those of other names.
+pub(crate) fn place_of<R: EditedRecord + Drop>(
+    known: &Known<'_>,
+    edit: &Edit<R, R::Change>,
+) -> Option<NamePlace>
+    ensures { IfSome result (λ place. (lines : List Line) → IsKnown R.format lines known.now
+        → IsPlaced R.format (seen_edit R.becomes edit.now) (line_names R.format lines) place) }
+{
+    known.places.get(only_name(edit)?).copied()
+}
+
+/// Carries out an edit of the records that stand there.
+pub(crate) fn apply_there<'a, R: EditedRecord + Drop>(
+    alloc: Global,
+    table: &mut Table<R>,
+    edit: &'a Edit<R, R::Change>,
+    place: NamePlace,
+    known: &mut Known<'a>,
+) -> Result<(), AllocError>
+    requires known { IsKnown R.format table.old known.old }
+    requires placed { IsPlaced R.format (seen_edit R.becomes edit.now)
+        (line_names R.format table.old) place }
+    requires written { IsWrittenEdit R.format (seen_edit R.becomes edit.now) }
+    ensures edited { OnOk result (table.new ≡
+        edited R.format table.old (seen_edit R.becomes edit.now)) }
+    ensures known { OnOk result (IsKnown R.format table.new known.new) }
+{
+    match edit {
+        Edit::Become(change) => change_there(alloc, table, change, place),
+        Edit::AddMissing(item) => add_there(alloc, table, item, place, known),
+        Edit::Add(_) | Edit::Put(_) => Ok(()),
+    }
+}
+
+// Adds the record where none of its name stands.
+fn add_there<'a, R: EditedRecord + Drop>(
+    alloc: Global,
+    table: &mut Table<R>,
+    item: &'a R,
+    place: NamePlace,
+    known: &mut Known<'a>,
+) -> Result<(), AllocError>
+    requires known { IsKnown R.format table.old known.old }
+    requires placed { place ≡
+        place_of_name (R.format.name item.now) (line_names R.format table.old) }
+    requires written { IsWritten R.format item.now }
+    ensures added { OnOk result (table.new ≡
+        edited R.format table.old (model.AddMissing item.now)) }
+    ensures known { OnOk result (IsKnown R.format table.new known.new) }
+{
+    match place {
+        NamePlace::Nowhere => append(alloc, table, item, known),
+        NamePlace::Only(_) | NamePlace::Several => Ok(()),
+    }
+}
+
+// Puts in place of the records that stand there what becomes of them.
+fn change_there<R: EditedRecord + Drop>(
+    alloc: Global,
+    table: &mut Table<R>,
+    change: &R::Change,
+    place: NamePlace,
+) -> Result<(), AllocError>
+    requires placed { IsPlaced R.format (model.Become (R.becomes change.now))
+        (line_names R.format table.old) place }
+    requires written { IsWrittenEdit R.format (model.Become (R.becomes change.now)) }
+    ensures { OnOk result (table.new ≡
+        edited R.format table.old (model.Become (R.becomes change.now))) }
+{
+    match place {
+        NamePlace::Nowhere => Ok(()),
+        NamePlace::Only(place) => change_at(alloc, table, place, change),
+        NamePlace::Several => change_each(alloc, table, change),
+    }
+}
+
+// Adds the record of a name that no record has, which is known from then on.
+fn append<'a, R: EditedRecord + Drop>(
+    alloc: Global,
+    table: &mut Table<R>,
+    item: &'a R,
+    known: &mut Known<'a>,
+) -> Result<(), AllocError>
+    requires known { IsKnown R.format table.old known.old }
+    requires new { place_of_name (R.format.name item.now) (line_names R.format table.old)
+        ≡ NamePlace.Nowhere }
+    requires written { IsWritten R.format item.now }
+    ensures added { OnOk result (table.new ≡
+        edited R.format table.old (model.AddMissing item.now)) }
+    ensures known { OnOk result (IsKnown R.format table.new known.new) }
+{
+    let place = table.len();
+    add_line(table, item.copy(alloc)?, known.ended)?;
+    known.ended = true;
+    known.places.insert(item.name(), NamePlace::Only(place))?;
+    Ok(())
+}
+
+// Adds a record behind the last line. Only where some line may lack an end each line gets one.
+fn add_line<R: EditedRecord + Drop>(
+    table: &mut Table<R>,
+    item: R,
+    ended: bool,
+) -> Result<(), AllocError>
+    requires written { IsWritten R.format item }
+    requires ended { ended ≡ true → map as_ended table.old ≡ table.old }
+    ensures { OnOk result (table.new ≡ with_line (R.format.print item) table.old) }
+{
+    if ended {
+        table.append_ended(item)
+    } else {
+        table.append_any(item)
+    }
+}
