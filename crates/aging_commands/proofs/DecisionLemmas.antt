@@ -1,6 +1,6 @@
 -- Claim: what one of the two tools decides is the decision of its request (`chage-decides`,
 -- `chpasswd-decides`). Way: the tool of the request is that one.
-use Rattle.std.proofs.Common.{◌≡◌, ℕ, List, refl, sym, subst}
+use Rattle.std.proofs.Common.{◌≡◌, ℕ, refl, sym, subst}
 use Rattle.acct_text.specs.declared.files.Files.{Files}
 use Rattle.account_model.specs.declared.tool.Tool.{Tool}
 use Rattle.account_model.specs.declared.tool.Tool.TheVariants.{Chage, Chpasswd}

@@ -12,9 +12,10 @@ use crate::hash_lines::{NewHash, read_hashes};
 use acct_text::Bytes;
 use command_values::ToolFault;
 use std::alloc::{AllocError, Global};
-use table_edits::{HashChange, Script, ShadowAct, Tables};
+use table_edits::{HashChange, Script, ShadowAct, Tables, UserIndex};
 
-/// The script that sets the hashes of the users, and with shadow their last change to the day.
+/// The script that sets the hashes of the users, and with shadow their last change to the day. Each
+/// table is passed over once, however many lines there are.
 ///
 /// `BadLine` refuses the whole input where one of its lines is bad: the first, counted from 1.
 pub(crate) fn chpasswd(
@@ -26,23 +27,24 @@ pub(crate) fn chpasswd(
     requires { length input.now ≤ table_limit }
     ensures { ActsBy (chpasswd input.now tables.now day) result }
 {
-    let hashes = read_hashes(alloc, input, tables)?;
-    Ok(new_hashes(alloc, &hashes, tables, day)?)
+    let users = UserIndex::of(alloc, tables)?;
+    let hashes = read_hashes(alloc, input, &users)?;
+    Ok(new_hashes(alloc, &hashes, &users, day)?)
 }
 
 // The edits of the lines, in their order.
 fn new_hashes(
     alloc: Global,
     hashes: &[NewHash],
-    tables: &Tables,
+    users: &UserIndex<'_>,
     day: u32,
 ) -> Result<Script, AllocError>
     ensures { IfOk result (λ script. seen_script script
-        ≡ in_order (map (λ hash. hash_script tables.now day (seen_line hash)) hashes.now)) }
+        ≡ in_order (map (λ hash. hash_script users.now day (seen_line hash)) hashes.now)) }
 {
     let mut script = Script::new(alloc);
     'hashes: for hash in hashes {
-        set_hash(alloc, &mut script, hash, tables, day)?;
+        set_hash(alloc, &mut script, hash, users, day)?;
     }
     Ok(script)
 }
@@ -52,14 +54,14 @@ fn set_hash(
     alloc: Global,
     script: &mut Script,
     hash: &NewHash,
-    tables: &Tables,
+    users: &UserIndex<'_>,
     day: u32,
 ) -> Result<(), AllocError>
     ensures { OnOk result
-        (HasAlso (hash_script tables.now day (seen_line hash.now)) script.old script.new) }
+        (HasAlso (hash_script users.now day (seen_line hash.now)) script.old script.new) }
 {
     let change = HashChange::Set(Bytes::of(alloc, hash.hash)?);
-    script.demand_shadow(alloc, tables, hash.name)?;
-    script.change_hash(alloc, tables, hash.name, change)?;
+    script.demand_indexed(alloc, users, hash.name)?;
+    script.change_hash(alloc, users.tables(), hash.name, change)?;
     script.change_shadow(alloc, hash.name, ShadowAct::SetLastChange(day))
 }

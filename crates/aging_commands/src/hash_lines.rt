@@ -12,7 +12,7 @@ use account_model::{LineProblem, Refusal};
 use acct_text::{Bytes, lines};
 use command_values::ToolFault;
 use std::alloc::{AllocError, Global};
-use table_edits::Tables;
+use table_edits::UserIndex;
 
 /// A line of the input: a user, and the new hash.
 #[derive(Drop)]
@@ -30,10 +30,10 @@ pub(crate) struct NewHash<'a> {
 pub(crate) fn read_hashes<'a>(
     alloc: Global,
     input: &'a [u8],
-    tables: &Tables,
+    users: &UserIndex<'_>,
 ) -> Result<Vec<NewHash<'a>>, ToolFault>
     requires { length input.now ≤ table_limit }
-    ensures refused { StopsBy (bad_line_from 1 tables.now (lines_of input.now)) result }
+    ensures refused { StopsBy (bad_line_from 1 users.now (lines_of input.now)) result }
     ensures read { IfOk result (λ hashes.
         map seen_line hashes.items ≡ map hash_line (texts_of (lines_of input.now))) }
 {
@@ -42,7 +42,7 @@ pub(crate) fn read_hashes<'a>(
     let mut number = 0u32;
     'lines: for (start, end) in &places {
         number += 1;
-        let hash = read_hash(alloc, &input[*start..*end], number, tables)?;
+        let hash = read_hash(alloc, &input[*start..*end], number, users)?;
         push_hash(&mut hashes, hash)?;
     }
     Ok(hashes)
@@ -62,9 +62,9 @@ fn read_hash<'a>(
     alloc: Global,
     line: &'a [u8],
     number: u32,
-    tables: &Tables,
+    users: &UserIndex<'_>,
 ) -> Result<NewHash<'a>, ToolFault>
-    ensures refused { StopsBy (line_refusal tables.now number line.now) result }
+    ensures refused { StopsBy (line_refusal users.now number line.now) result }
     ensures read { IfOk result (λ hash. seen_line hash ≡ hash_line line.now) }
 {
     let Some(new) = cut_at_colon(line) else {
@@ -73,7 +73,7 @@ fn read_hash<'a>(
     if has_colon(new.hash) {
         return Err(bad_line(number, LineProblem::HashColon));
     }
-    if tables.user_named(new.name).is_none() {
+    if users.user_named(new.name).is_none() {
         let name = Bytes::of(alloc, new.name)?;
         return Err(bad_line(number, LineProblem::UnknownUser(name)));
     }

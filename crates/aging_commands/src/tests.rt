@@ -280,3 +280,37 @@ fn bad_input_changes_nothing(rt: HostRuntime) -> Result<(), Fail> {
     }
     Ok(())
 }
+
+#[test]
+fn hashes_of_long_inputs_are_set(rt: HostRuntime) -> Result<(), Fail> {
+    // passwd and shadow, the input, and then passwd and shadow
+    let rows = [
+        (
+            b"ann:a:1:1::/:\nbad\nbob:b:2:2::/:".as_slice(),
+            b"".as_slice(),
+            b"ann:1\nbob:2\nann:3\nbob:4\nann:5\nbob:6\nbob:7\nann:8\n".as_slice(),
+            b"ann:8:1:1::/:\nbad\nbob:7:2:2::/:".as_slice(),
+            b"".as_slice(),
+        ),
+        (
+            b"ann:a:1:1::/:\nbob:b:2:2::/:\n",
+            b"eve:h:::::::",
+            b"ann:1\nbob:2\nann:3\nbob:4\n",
+            b"ann:x:1:1::/:\nbob:x:2:2::/:\n",
+            b"eve:h:::::::\nann:3:20000::::::\nbob:4:20000::::::\n",
+        ),
+        (
+            b"ann:a:1:1::/:\nbob:b:2:2::/:\n",
+            b"bob:h:20000::::::\nann:h:::::::\nbob:h:20000::::::\n",
+            b"ann:1\nbob:h\nann:2\nbob:h\n",
+            b"ann:a:1:1::/:\nbob:b:2:2::/:\n",
+            b"bob:h:20000::::::\nann:2:20000::::::\nbob:h:20000::::::\n",
+        ),
+    ];
+    for (passwd, shadow, input, new_passwd, new_shadow) in rows {
+        let before = files(rt.alloc(), passwd, shadow)?;
+        let command = b"chpasswd -P R -e";
+        assert!(rt; changes(rt.alloc(), &before, command, input, new_passwd, new_shadow)?);
+    }
+    Ok(())
+}

@@ -1,4 +1,4 @@
-use Rattle.std.proofs.Common.{◌∙◌, ap, sym}
+use Rattle.std.proofs.Common.{◌∙◌, ap}
 use Rattle.std.specs.Prelude.{codes}
 use Rattle.account_model.specs.Chage.{aging_report, chage_refusals, chage_script}
 use Rattle.account_model.specs.Request.{has_option, operand}

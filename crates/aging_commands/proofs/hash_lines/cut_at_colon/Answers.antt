@@ -1,9 +1,8 @@
-use Rattle.std.proofs.Common.{◌≡◌, ◌+◌, ◌-◌, ◌∙◌, ◌≤◌, sym, ap, take, drop, length, arith}
+use Rattle.std.proofs.Common.{◌≡◌, ◌+◌, ◌-◌, ◌∙◌, sym, ap, take, drop, length, arith}
 use Rattle.std.specs.Prelude.{◌==◌}
 use Rattle.std.proofs.lemmas.List.{take_all, length-drop}
 use Rattle.acct_text.specs.Bytes.{colon}
 use Rattle.option_words.proofs.CutLemmas.{position-some, position-none}
-use Rattle.aging_commands.specs.HashLines.{IsCut}
 use Rattle.aging_commands.proofs.hash_lines.cut_at_colon.Goals as goal
 
 pub returns-in_err-place : goal.returns-in_err-place

@@ -1,4 +1,4 @@
-use Rattle.std.proofs.Common.{◌≡◌, refl}
+use Rattle.std.proofs.Common.{refl}
 use Rattle.aging_commands.proofs.listing.aging_report.Goals as goal
 
 -- line by line, from the last back to the first, and then the value of each
