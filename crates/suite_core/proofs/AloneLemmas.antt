@@ -37,7 +37,7 @@ use Rattle.suite_core.specs.Top.{AnswersAlone, IsAlone, IsAnswerAt}
 -- ---- Two moments of one history
 
 -- what is added after a moment or another is compared by which is later
-suffixes : (newer old other older : History) → newer ++ old ≡ other ++ older →
+pub suffixes : (newer old other older : History) → newer ++ old ≡ other ++ older →
     ((between : History) × (older ≡ between ++ old) × (newer ≡ other ++ between))
     ⊎ ((between : History) × (old ≡ between ++ older))
 suffixes newer old [] older is = inl (newer, sym is, refl)
@@ -55,7 +55,7 @@ suffixes (event ∷ newer) old (head ∷ other) older is =
     ]
 
 -- what holds of all events holds of the later ones
-all-rest : (P : Event → Type 0) (newer between : History) → AllByRecursion P (newer ++ between) →
+pub all-rest : (P : Event → Type 0) (newer between : History) → AllByRecursion P (newer ++ between) →
     AllByRecursion P between
 all-rest P [] between all = all
 all-rest P (event ∷ newer) between all = all-rest P newer between all.1
@@ -63,7 +63,7 @@ all-rest P (event ∷ newer) between all = all-rest P newer between all.1
 -- ---- What a session commits
 
 -- what follows in an empty list is empty
-second-empty : {T : Type 0} (first second : List T) → first ++ second ≡ [] → second ≡ []
+pub second-empty : {T : Type 0} (first second : List T) → first ++ second ≡ [] → second ≡ []
 second-empty [] second is = is
 second-empty (one ∷ first) second is = absurd (cc is)
 
@@ -139,7 +139,7 @@ place-whole number (one ∷ list) below =
     (All-tail (λ (other : Commitment). other.number < number) one list below)))
 
 -- who has no events has no standing
-no-events : (token : Token) (history : History) → own_events token history ≡ [] →
+pub no-events : (token : Token) (history : History) → own_events token history ≡ [] →
     standing token history ≡ no_standing
 no-events token history none = own-standing.same_standing token history
     ∙ ap (λ (events : History). standing token events) none

@@ -40,7 +40,7 @@ use Rattle.suite_core.specs.Runner.{Question, Runner}
 use Rattle.suite_core.specs.Answers.{cause_of_problem, cause_of_answer, answer_on, IsAnswerOn, given_for, Says}
 use Rattle.suite_core.specs.Deeds.{is_change}
 use Rattle.suite_core.specs.Due.{AgreeWith, AnswersAll, AnswersSome, WasKeeper, ShowsSome, IsShown}
-use Rattle.suite_core.specs.Stands.{IsDiskFault}
+use Rattle.suite_core.specs.Stands.{IsOutside}
 
 -- ---- A problem of the files is the whole answer
 
@@ -189,7 +189,7 @@ stay-stage asked files defs given is_answer stays =
     ap stage_of is_answer.has_cause ∙ cause-stage (answer_on asked files defs).cause stays
 
 -- no tool's answer tells of a fault of the folder
-cause-quiet : (cause : AnswerCause) → IsDiskFault (cause_of_answer cause) → ⊥
+cause-quiet : (cause : AnswerCause) → IsOutside (cause_of_answer cause) → ⊥
 cause-quiet (Unusable (TableTooLarge table)) fault = fault
 cause-quiet (Unusable SettingsTooLarge) fault = fault
 cause-quiet (Unusable (TableAbsent table)) fault = fault
@@ -199,9 +199,9 @@ cause-quiet Same fault = fault
 cause-quiet (Changed new) fault = fault
 
 pub answer-quiet : (asked : Question) (files : Files) (defs : Option Bytes) (given : Answer) →
-    IsAnswerOn asked files defs given → IsDiskFault given.outcome.cause → ⊥
+    IsAnswerOn asked files defs given → IsOutside given.outcome.cause → ⊥
 answer-quiet asked files defs given is_answer fault = cause-quiet
-    (answer_on asked files defs).cause (subst IsDiskFault is_answer.has_cause fault)
+    (answer_on asked files defs).cause (subst IsOutside is_answer.has_cause fault)
 
 -- the files that were seen show it
 module _ (runner : Runner) (inputs : Inputs) (given : Answer) (history : History)

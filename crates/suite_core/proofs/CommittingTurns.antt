@@ -50,32 +50,34 @@ use Rattle.suite_core.specs.Moment.{Moment, commit_at, Runs, At}
 use Rattle.suite_core.specs.Answers.{cause_of_answer, IsTold, Says}
 use Rattle.suite_core.specs.Deeds.{AreOfTools, files_of, tools_deed}
 use Rattle.suite_core.specs.Due.{AnsweredAll, IsShown, IsDue}
+use Rattle.suite_core.specs.Grows.{Grew}
 use Rattle.suite_core.specs.Left.{most_steps, ranked}
 use Rattle.suite_core.specs.Locking.{cause_of_fault}
-use Rattle.suite_core.specs.Stands.{AnswersWith, IsDiskFault, IsOfChange, Gives, Extends, StandsAs, StandsChanging, StandsInstalling, StandsUnlocking}
-use Rattle.suite_core.proofs.TurnLemmas.{goes-on, extended, tells-extend, told-met, told-stage, told-plain, told-says, plain-shown}
+use Rattle.suite_core.specs.Stands.{AnswersWith, IsOutside, IsOfChange, Gives, Extends, StandsAs, StandsChanging, StandsInstalling, StandsUnlocking}
+use Rattle.suite_core.proofs.TurnLemmas.{goes-on, extended, told-met, told-stage, told-plain, told-says, plain-shown}
 use Rattle.suite_core.proofs.MetLemmas.{fault-shows}
 use Rattle.suite_core.proofs.UnlockingTurns.{fault-stage, fault-plain}
 use Rattle.suite_core.proofs.LeadsLemmas.{leads-on, leads-fault}
 use Rattle.suite_core.proofs.DueLemmas.{earlier-stays}
+use Rattle.suite_core.proofs.GrowsLemmas.{grew-extends, tells-grow}
 use Rattle.suite_core.proofs.LeftLemmas.{steps-drop}
 
 -- ---- A fault of the commit
 
 -- it is told as a fault of the folder only where that failed
 commit-cause : (came : FolderFault) →
-    IsDiskFault (cause_of_fault (at_commit came).stage (at_commit came).fault) →
+    IsOutside (cause_of_fault (at_commit came).stage (at_commit came).fault) →
     at_commit came ≡ at_commit Failed
 commit-cause Failed told = refl
 commit-cause NoMemory told = absurd told
 
 pub commit-failed : {A State : Type 0} (next : State) (answer : Result A FolderFault)
     (fault : StageFault) → LeadsTo next at_commit answer (Err fault) →
-    IsDiskFault (cause_of_fault fault.stage fault.fault) → fault ≡ at_commit Failed
+    IsOutside (cause_of_fault fault.stage fault.fault) → fault ≡ at_commit Failed
 commit-failed next answer fault shown told =
     let came = leads-fault next at_commit answer fault shown in
     came.1 ∙ commit-cause came.0 (subst (λ (one : StageFault).
-    IsDiskFault (cause_of_fault one.stage one.fault)) came.1 told)
+    IsOutside (cause_of_fault one.stage one.fault)) came.1 told)
 
 -- ---- Calls for a table at the place
 
@@ -150,7 +152,7 @@ one-more most news few true table content = omega (arith, few)
 one-more most news few false table None = omega (arith, few)
 one-more most news few false table (Some bytes) = omega (arith, few)
 
-changed-most : (tables : List Tab) (old new : Contents) →
+pub changed-most : (tables : List Tab) (old new : Contents) →
     length (changed_among tables old new) ≤ length tables
 changed-most [] old new = search (arith, rules)
 changed-most (table ∷ tables) old new =
@@ -165,7 +167,7 @@ few-steps count place true few = omega (arith, few)
 few-steps count place false few = omega (arith, few)
 
 -- a step on leaves fewer
-fewer-steps : (change : Change) (place : ℕ) (staged : Bool) →
+pub fewer-steps : (change : Change) (place : ℕ) (staged : Bool) →
     0 < steps_left (record { change = change; place = place; is_staged = staged }) →
     steps_left (step_on (record { change = change; place = place; is_staged = staged }))
     < steps_left (record { change = change; place = place; is_staged = staged })
@@ -307,10 +309,16 @@ module _ (before now : Moment) (runner : Runner) (answer : FinalAnswer) where
         (made : MakesCall before.admits now.admits before.told now.told
         change.inputs.keeper.token (renames IntentStage Intent) Shows)
         (left : Leaves asked_of change.inputs.keeper.token before.told now.told) where
-      -- the history is extended
-      pub commit-extends : Extends before.told now.told
-      commit-extends = tells-extend before.admits change.inputs.keeper.token
-          (renames IntentStage Intent) made.answer before.told now.told made.told
+      -- the history got an event of the runner, or none, after those of others
+      pub commit-grew : Grew before.admits runner.token 1 before.told now.told
+      commit-grew = subst (λ (token : Token). Grew before.admits token 1 before.told now.told)
+          stood.same
+          (tells-grow before.admits change.inputs.keeper.token (renames IntentStage Intent) made.answer
+          before.told now.told made.told)
+
+      -- so it is extended
+      commit-extends : Extends before.told now.told
+      commit-extends = grew-extends before.admits runner.token 1 before.told now.told commit-grew
 
       left-asked : Leaves asked_of runner.token before.told now.told
       left-asked = subst (λ (token : Token). Leaves asked_of token before.told now.told) stood.same
@@ -474,6 +482,6 @@ module _ (before now : Moment) (runner : Runner) (answer : FinalAnswer) where
             same = ap (λ (one : Kept). one.token) is ∙ stood.same;
             stands = subst (λ (one : Commit). At now runner one (Keeps cleared KnowsAnything))
                 (ap (λ (cause : Cause). commit_at (stage_of cause)) (sym stood.changed)) stands;
-            quiet = λ fault. subst IsDiskFault stood.changed fault;
+            quiet = λ fault. subst IsOutside stood.changed fault;
             gives = gives-still (Keeps cleared KnowsAnything) stands;
           }

@@ -1,11 +1,12 @@
 -- Claim: turn by turn a session comes from its entry to its answer (`comes-turn`), and what holds from
 -- the entry to a moment and from there on holds from the entry on (`turns-then`).
--- Way: histories extend and stay lawful one after another, as a folder never admits more than before.
-use Rattle.std.proofs.Common.{◌≡◌, refl, sym, ap, subst, ◌∙◌, ◌≤◌, ◌++◌, [], ℕ, inl, inr, Option, Some, None, true, is_none, arith}
-use Rattle.std.proofs.lemmas.List.{append_assoc}
+-- Way: histories grow and stay lawful one after another, as a folder never admits more than before.
+use Rattle.std.proofs.Common.{◌≡◌, refl, sym, ap, subst, ◌∙◌, ◌<◌, ◌≤◌, ◌+◌, [], ℕ, inl, inr, Option, Some, None, IfSome, true, is_none, arith}
+use Rattle.std.proofs.lemmas.List.Elements.{filter-append}
 use Rattle.acct_outside.specs.Faults.{HasRisen}
 use Rattle.acct_outside.specs.Folder.{Folder}
-use Rattle.acct_outside.specs.History.{History}
+use Rattle.acct_outside.specs.Tokens.{Token}
+use Rattle.acct_outside.specs.History.{History, is_of, own_events}
 use Rattle.acct_outside.specs.Others.{Admission}
 use Rattle.acct_outside.specs.Contract.{Past, Narrows}
 use Rattle.suite_rules.specs.Deeds.{SuiteDeeds}
@@ -15,28 +16,16 @@ use Rattle.suite_core.specs.declared.session.Phase.{Phase}
 use Rattle.suite_core.specs.declared.session.Phase.TheVariants.{Waiting, Begun, Over}
 use Rattle.suite_core.specs.Runner.{Question, Runner}
 use Rattle.suite_core.specs.Moment.{Moment}
-use Rattle.suite_core.specs.Session.{IsWaiting, SessionStands, SessionTurns, IsUnbegun, answer_of, given_in}
-use Rattle.suite_core.specs.Stands.{Extends, StandsAs, TurnsTo}
-use Rattle.suite_core.specs.Course.{Comes}
+use Rattle.suite_core.specs.Session.{IsNew, IsWaiting, SessionStands, SessionTurns, IsUnbegun, answer_of, given_in, phase_left}
+use Rattle.suite_core.specs.Stands.{Extends, StandsAs, TellsOutside, TurnsTo}
+use Rattle.suite_core.specs.Bound.{PhaseCalled, SessionCounts}
+use Rattle.suite_core.specs.Course.{Comes, Reached}
+use Rattle.suite_core.proofs.AloneLemmas.{second-empty}
+use Rattle.suite_core.proofs.BoundLemmas.{called-first, called-then}
+use Rattle.suite_core.proofs.OthersLemmas.{state-own}
+use Rattle.suite_core.proofs.GrowsLemmas.{grew-extends, grew-none, grew-nothing, grew-then}
 
 -- ---- One after another
-
--- a history that was extended twice is extended
-extends-then : (entry between now : Option Past) → Extends entry between → Extends between now →
-    Extends entry now
-extends-then None None None first second = tt
-extends-then (Some entry) (Some between) (Some now) first second = (
-  second.0 ∙ first.0,
-  (
-    second.1.0 ++ first.1.0,
-    second.1.1 ∙ (ap (λ (history : History). second.1.0 ++ history) first.1.1
-        ∙ sym (append_assoc second.1.0 first.1.0 entry.history)),
-  ),
-)
-extends-then None None (Some now) first second = absurd second
-extends-then None (Some between) now first second = absurd first
-extends-then (Some entry) None now first second = absurd first
-extends-then (Some entry) (Some between) None first second = absurd second
 
 -- others that are lawful for more are lawful for fewer
 others-narrow : (deeds : SuiteDeeds) (more fewer : Admission) (first : Folder) →
@@ -69,13 +58,15 @@ risen-then : (entry between now : ℕ) → entry ≤ between → HasRisen betwee
 risen-then entry between now low (inl rose) = inl (omega (arith, low, rose))
 risen-then entry between now low (inr last) = inr last
 
--- two turns one after another
-pub turns-then : (entry between now : Moment) {S T Stands TellsFault : Type 0} →
-    TurnsTo entry between S T → TurnsTo between now Stands TellsFault →
-    TurnsTo entry now Stands TellsFault
-turns-then entry between now first second = record {
+-- turns one after another
+pub turns-then : (entry between now : Moment) (token : Token) (made most : ℕ)
+    {S T Stands TellsFault : Type 0} → TurnsTo entry between token made S T →
+    TurnsTo between now token most Stands TellsFault →
+    TurnsTo entry now token (made + most) Stands TellsFault
+turns-then entry between now token made most first second = record {
   stands = second.stands;
-  extends = extends-then entry.told between.told now.told first.extends second.extends;
+  grew = grew-then entry.admits between.admits token made most entry.told between.told now.told
+      first.narrows first.grew second.grew;
   lawful = λ deeds ours. lawful-then deeds entry.admits between.admits first.narrows
       entry.told between.told now.told (first.lawful deeds ours) (second.lawful deeds ours);
   narrows = λ history event admitted.
@@ -86,47 +77,97 @@ turns-then entry between now first second = record {
 }
 
 -- the same turns to what follows from their end
-pub turns-as : (entry now : Moment) {S T Stands TellsFault : Type 0} → (S → Stands) →
-    (TellsFault → HasRisen entry.faults now.faults) → TurnsTo entry now S T →
-    TurnsTo entry now Stands TellsFault
-turns-as entry now stands risen turns = record {
+pub turns-as : (entry now : Moment) (token : Token) (most : ℕ) {S T Stands TellsFault : Type 0} →
+    (S → Stands) → (TellsFault → HasRisen entry.faults now.faults) →
+    TurnsTo entry now token most S T → TurnsTo entry now token most Stands TellsFault
+turns-as entry now token most stands risen turns = record {
   stands = stands turns.stands;
-  extends = turns.extends;
+  grew = turns.grew;
   lawful = turns.lawful;
   narrows = turns.narrows;
   never_falls = turns.never_falls;
   risen = risen;
 }
 
+-- turns without an event of one session have none of another
+pub turns-none : (entry now : Moment) (token other : Token) {S T : Type 0} →
+    TurnsTo entry now token 0 S T → TurnsTo entry now other 0 S T
+turns-none entry now token other turns = record {
+  stands = turns.stands;
+  grew = grew-none entry.admits token other entry.told now.told turns.grew;
+  lawful = turns.lawful;
+  narrows = turns.narrows;
+  never_falls = turns.never_falls;
+  risen = turns.risen;
+}
+
 -- ---- A session on its way
+
+-- a token that is new was so before
+pub new-from : (token : Token) (was told : Option Past) → Extends was told → IsNew told token →
+    IsNew was token
+new-from token None told extends new = tt
+new-from token (Some was) (Some past) extends new =
+    second-empty (own_events token extends.1.0) (own_events token was.history)
+    (sym (filter-append (is_of token) extends.1.0 was.history)
+    ∙ (ap (λ (one : History). own_events token one) (sym extends.1.1) ∙ new))
+new-from token (Some was) None extends new = absurd extends
+
+-- nothing holds of a told history
+told-any : (told : Option Past) → IfSome told (λ past. Unit {0})
+told-any None = tt
+told-any (Some past) = tt
 
 -- a turn of a session that has no answer yet
 pub comes-turn : (asked : Question) (entry between now : Moment) (old new : Phase) →
     Comes asked entry between old → answer_of old ≡ None → SessionTurns between now old new →
-    Comes asked entry now new
-comes-turn asked entry between now (Waiting question) (Begun runner state) comes none turns =
-    turns-as entry now (λ stands. (turns.0 ∙ comes.stands, stands))
-    (λ told. (turns-then entry between now comes turns.1).risen told)
-    (turns-then entry between now comes turns.1)
-comes-turn asked entry between now (Waiting question) (Over answer) comes none turns =
-    turns-as entry now (subst (λ (one : Question). IsUnbegun one answer) comes.stands)
-    (λ told. (turns-then entry between now comes turns).risen told)
-    (turns-then entry between now comes turns)
-comes-turn asked entry between now (Begun runner state) (Begun same next) comes none turns =
-    turns-as entry now
-    (λ stands. (
-      ap (λ (one : Runner). one.asked) turns.0 ∙ comes.stands.0,
-      subst (λ (one : Runner). StandsAs now one next) (sym turns.0) stands,
-    ))
-    (λ told. (turns-then entry between now comes turns.1).risen told)
-    (turns-then entry between now comes turns.1)
-comes-turn asked entry between now (Begun runner state) (Over answer) comes none turns =
+    phase_left new < phase_left old → SessionCounts now.told old new → Comes asked entry now new
+comes-turn asked entry between now (Waiting question) (Begun runner state) comes none turns nearer counts =
+    let first = turns-none entry between [] runner.token comes.turns in
+    let both = turns-then entry between now runner.token 0 1 first turns.1 in
+    record {
+      made = 1;
+      turns = turns-as entry now runner.token 1
+          (λ stands. (
+            turns.0 ∙ comes.turns.stands,
+            stands,
+            new-from runner.token entry.told between.told
+                (grew-extends entry.admits runner.token 0 entry.told between.told first.grew) turns.2,
+          )) both.risen both;
+      called = called-first runner state now.told counts;
+    }
+comes-turn asked entry between now (Waiting question) (Over answer) comes none turns nearer counts =
+    let both = turns-then entry between now [] 0 1 comes.turns turns in
+    record {
+      made = 1;
+      turns = turns-as entry now [] 1
+          (subst (λ (one : Question). IsUnbegun one answer) comes.turns.stands) both.risen both;
+      called = told-any now.told;
+    }
+comes-turn asked entry between now (Begun runner state) (Begun same next) comes none turns nearer counts =
+    let both = turns-then entry between now runner.token comes.made 1 comes.turns turns.1 in
+    record {
+      made = comes.made + 1;
+      turns = subst (λ (one : Runner). TurnsTo entry now one.token (comes.made + 1)
+          (Reached asked entry now (Begun same next)) (TellsOutside next)) (sym turns.0)
+          (turns-as entry now runner.token (comes.made + 1)
+          (λ stands. (
+            ap (λ (one : Runner). one.asked) turns.0 ∙ comes.turns.stands.0,
+            subst (λ (one : Runner). StandsAs now one next) (sym turns.0) stands,
+            subst (λ (one : Runner). IsNew entry.told one.token) (sym turns.0) comes.turns.stands.2,
+          )) both.risen both);
+      called = subst (λ (one : Runner). IfSome now.told (PhaseCalled (Begun one next)))
+          (sym turns.0)
+          (called-then between.admits runner next state between.told now.told nearer counts
+          turns.1.grew (state-own between runner state comes.turns.stands.1) comes.called);
+    }
+comes-turn asked entry between now (Begun runner state) (Over answer) comes none turns nearer counts =
     let has : given_in state ≡ Some answer = ap given_in turns.0 in
     let wrong : None ≡ Some answer = sym none ∙ has in absurd (cc)
-comes-turn asked entry between now (Over answer) new comes none turns = absurd (cc)
-comes-turn asked entry between now (Waiting question) (Waiting other) comes none turns =
+comes-turn asked entry between now (Over answer) new comes none turns nearer counts = absurd (cc)
+comes-turn asked entry between now (Waiting question) (Waiting other) comes none turns nearer counts =
     absurd turns
-comes-turn asked entry between now (Begun runner state) (Waiting other) comes none turns =
+comes-turn asked entry between now (Begun runner state) (Waiting other) comes none turns nearer counts =
     absurd turns
 
 -- a session that hasn't begun was asked something
@@ -139,7 +180,7 @@ waiting-is (Over answer) waits = absurd waits
 pub comes-stands : (asked : Question) (entry now : Moment) (phase : Phase) →
     Comes asked entry now phase → SessionStands now phase
 comes-stands asked entry now (Waiting question) comes = tt
-comes-stands asked entry now (Begun runner state) comes = comes.stands.1
+comes-stands asked entry now (Begun runner state) comes = comes.turns.stands.1
 comes-stands asked entry now (Over answer) comes = tt
 
 -- at its entry it has come to where it is
@@ -147,18 +188,18 @@ pub comes-first : (asked : Question) (entry : Moment) (phase : Phase) → phase 
     Comes asked entry entry phase
 comes-first asked entry phase is =
     subst (λ (one : Phase). Comes asked entry entry one) (sym is) (record {
-      stands = refl;
-      extends = no-more entry.told;
-      lawful = λ deeds ours. still-lawful deeds entry.admits entry.told;
-      narrows = λ history event admitted. admitted;
-      never_falls = omega arith;
-      risen = λ fault. absurd fault;
+      made = 0;
+      turns = record {
+        stands = refl;
+        grew = grew-nothing entry.admits [] entry.told;
+        lawful = λ deeds ours. still-lawful deeds entry.admits entry.told;
+        narrows = λ history event admitted. admitted;
+        never_falls = omega arith;
+        risen = λ fault. absurd fault;
+      };
+      called = told-any entry.told;
     })
   where
-    no-more : (was : Option Past) → Extends was was
-    no-more None = tt
-    no-more (Some was) = (refl, ([], refl))
-
     still-lawful : (deeds : SuiteDeeds) (admits : Admission) (was : Option Past) →
         StaysLawful deeds admits was was
     still-lawful deeds admits None = tt

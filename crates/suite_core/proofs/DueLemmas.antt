@@ -5,6 +5,7 @@ use Rattle.std.proofs.Common.{◌≡◌, sym, ap, ◌∙◌, ℕ, ◌++◌, inl,
 use Rattle.std.proofs.lemmas.List.{append_assoc}
 use Rattle.acct_outside.specs.declared.Name.{Name}
 use Rattle.acct_outside.specs.declared.Name.TheVariants.{Table, Intent, Defs}
+use Rattle.acct_outside.specs.Tokens.{Token}
 use Rattle.acct_outside.specs.Calls.{Call, Answer as CallAnswer}
 use Rattle.acct_outside.specs.History.{History}
 use Rattle.acct_outside.specs.Contract.{Past}
@@ -20,6 +21,18 @@ use Rattle.suite_core.specs.Moment.{Moment, Runs, At}
 use Rattle.suite_core.specs.Causes.{Met, HasMet}
 use Rattle.suite_core.specs.Due.{AnswersAll, AnswersSome, AnsweredAll, WasKeeper, ShowsAll, ShowsLarge, IsShown, IsDue}
 use Rattle.suite_core.specs.Stands.{Extends, Gives}
+
+-- what was met stays met
+pub met-later : (token : Token) (call : Call) (answered : CallAnswer call)
+    (Stood : Standing → Type 0) (old new newer : History) → new ≡ newer ++ old →
+    Met token call answered Stood old → Met token call answered Stood new
+met-later token call answered Stood old new newer parts met = record {
+  newer = newer ++ met.newer;
+  older = met.older;
+  parts = parts ∙ (ap (λ (history : History). newer ++ history) met.parts
+      ∙ sym (append_assoc newer met.newer _));
+  stood = met.stood;
+}
 
 module _ (runner : Runner) (answer : Answer) where
   -- what was seen stays seen
@@ -63,37 +76,27 @@ module _ (runner : Runner) (answer : Answer) where
     is_answer = all.is_answer;
   }
 
-  -- what was met stays met
-  met-later : (call : Call) (answered : CallAnswer call) (Stood : Standing → Type 0)
-      (old new newer : History) → new ≡ newer ++ old →
-      Met runner.token call answered Stood old → Met runner.token call answered Stood new
-  met-later call answered Stood old new newer parts met = record {
-    newer = newer ++ met.newer;
-    older = met.older;
-    parts = parts ∙ (ap (λ (history : History). newer ++ history) met.parts
-        ∙ sym (append_assoc newer met.newer _));
-    stood = met.stood;
-  }
-
+  -- so it is with what a cause is shown by
   met-stays : (old new newer : History) → new ≡ newer ++ old → (cause : Cause) →
       HasMet runner.token old cause → HasMet runner.token new cause
   met-stays old new newer parts (Held token) met =
-      (met.0, met-later _ _ _ old new newer parts met.1)
-  met-stays old new newer parts (Gone number) met = met-later _ _ _ old new newer parts met
+      (met.0, met-later _ _ _ _ old new newer parts met.1)
+  met-stays old new newer parts (Gone number) met =
+      (met.0, met-later _ _ _ _ old new newer parts met.1)
   met-stays old new newer parts (Raced number) met =
-      (met.0, met.1, met-later _ _ _ old new newer parts met.2)
+      (met.0, met.1, met-later _ _ _ _ old new newer parts met.2)
   met-stays old new newer parts (Outrun number greater) (inl met) =
-      inl (met.0, met-later _ _ _ old new newer parts met.1)
+      inl (met.0, met-later _ _ _ _ old new newer parts met.1)
   met-stays old new newer parts (Outrun number greater) (inr met) =
-      inr (met.0, met.1, met.2, met-later _ _ _ old new newer parts met.3)
+      inr (met.0, met.1, met.2, met-later _ _ _ _ old new newer parts met.3)
   met-stays old new newer parts (LockDamaged number) met =
-      (met.0, met.1, met-later _ _ _ old new newer parts met.2)
+      (met.0, met.1, met-later _ _ _ _ old new newer parts met.2)
   met-stays old new newer parts Exhausted met =
-      (met.0, met.1, met-later _ _ _ old new newer parts met.2)
+      (met.0, met.1, met-later _ _ _ _ old new newer parts met.2)
   met-stays old new newer parts (IntentDamaged part) met =
-      (met.0, met.1, met-later _ _ _ old new newer parts met.2)
+      (met.0, met.1, met-later _ _ _ _ old new newer parts met.2)
   met-stays old new newer parts (TooLarge (File Intent)) met =
-      met-later _ _ _ old new newer parts met
+      met-later _ _ _ _ old new newer parts met
   met-stays old new newer parts cause met = met
 
   -- who was keeper earlier was so
@@ -127,7 +130,7 @@ module _ (runner : Runner) (answer : Answer) where
     reader = large.reader;
     sound = large.sound;
     is_next = large.is_next;
-    met = met-later _ _ _ old new newer parts large.met;
+    met = met-later _ _ _ _ old new newer parts large.met;
     says = large.says;
   })
 

@@ -2,7 +2,7 @@
 -- call, finished (`finishes`).
 -- Way: a fault of a stream leaves the stage, so the session still stands with its answer
 -- (`streams-stand`); its last call leads to its end alone (`ends-begun`).
-use Rattle.std.proofs.Common.{◌≡◌, ℕ, ◌≤◌, inl, inr, refl, sym, ap, subst, ◌∙◌, Option, Some, None, IfSome, IsSome, Result, Ok, Err, arith}
+use Rattle.std.proofs.Common.{◌≡◌, ℕ, ◌+◌, ◌≤◌, [], inl, inr, refl, sym, ap, subst, ◌∙◌, Option, Some, None, IfSome, IsSome, Result, Ok, Err, arith}
 use Rattle.std.proofs.lemmas.Bool.{cases_lt}
 use Rattle.acct_outside.specs.declared.CommitStage.{CommitStage}
 use Rattle.acct_outside.specs.declared.streams.SinkFault.{SinkFault}
@@ -22,10 +22,12 @@ use Rattle.suite_core.specs.Moment.{Moment}
 use Rattle.suite_core.specs.Answers.{Says}
 use Rattle.suite_core.specs.Due.{IsDue}
 use Rattle.suite_core.specs.Session.{HasAnswered, SessionStands, SessionTurns, answer_of, given_in, outcome_of, state_failed}
-use Rattle.suite_core.specs.Stands.{IsDiskFault, MayGive, StandsAs}
+use Rattle.suite_core.specs.Stands.{MayGive, StandsAs}
 use Rattle.suite_core.specs.Streams.{Streams, Serves, after_fault, after_streams, left_by}
 use Rattle.suite_core.specs.Course.{Comes, Concludes, Finished, phase_after}
+use Rattle.suite_core.proofs.BoundLemmas.{called-last}
 use Rattle.suite_core.proofs.CourseLemmas.{turns-then, turns-as}
+use Rattle.suite_core.proofs.OthersLemmas.{state-own}
 use Rattle.suite_core.proofs.RanLemmas.{stays-turns}
 
 -- ---- A fault of a stream
@@ -90,13 +92,6 @@ streams-answer (Err fault) (Waiting asked) some = absurd (cc some)
 streams-answer (Err fault) (Begun runner state) some = state-answers fault state some
 streams-answer (Err fault) (Over answer) some = refl
 
--- an outcome that tells of a fault of the folder is that of the answer
-fault-given : (put : Result (Unit {0}) SinkFault) (given : Answer) →
-    IsDiskFault (after_streams put given).outcome.cause → IsDiskFault given.outcome.cause
-fault-given (Ok unit) given fault = fault
-fault-given (Err Failed) given fault = absurd fault
-fault-given (Err NoMemory) given fault = absurd fault
-
 -- the streams leave a session that answers as one that answers so
 answers-after : (put : Result (Unit {0}) SinkFault) (runner : Runner) (given : Answer) →
     phase_after put (Begun runner (Answering given))
@@ -141,23 +136,29 @@ module _ (asked : Question) (entry between now : Moment) (was holds : Streams) (
           ∙ ap (λ (one : Answer). one.outcome) (sym same) in
           record {
             given = given;
-            says = subst (λ (one : Question). Says one given given.outcome.cause) comes.stands.0
-                comes.stands.1.gives.says;
+            says = subst (λ (one : Question). Says one given given.outcome.cause)
+                comes.turns.stands.0 comes.turns.stands.1.gives.says;
             put = put;
             served = served;
             ends = is;
-            turns = turns-as entry now
+            token = runner.token;
+            made = comes.made + 1;
+            turns = turns-as entry now runner.token (comes.made + 1)
                 (λ gave. inl (record {
                   runner = runner;
-                  same = comes.stands.0;
+                  same = comes.turns.stands.0;
+                  same_token = refl;
+                  fresh = comes.turns.stands.2;
                   answered = subst (λ (one : Answer). IfSome now.told (HasAnswered runner one))
                       (sym same) gave.answered;
+                  within = called-last between.admits runner given between.told now.told
+                      turns.1.grew
+                      (state-own between runner (Answering given) comes.turns.stands.1)
+                      comes.called;
                 }))
-                (λ fault. risen-later entry.faults between.faults now.faults comes.never_falls
-                (comes.risen (fault-given put given
-                (subst (λ (one : Outcome). IsDiskFault one.cause) is fault)))
-                turns.1.never_falls)
-                (turns-then entry between now comes turns.1);
+                (λ outside. risen-later entry.faults between.faults now.faults
+                comes.turns.never_falls (comes.turns.risen outside) turns.1.never_falls)
+                (turns-then entry between now runner.token comes.made 1 comes.turns turns.1);
           }
       by-last (Waiting question) turns ends = absurd turns
       by-last (Begun same next) turns ends = absurd (cc ends)
@@ -178,17 +179,19 @@ module _ (asked : Question) (entry between now : Moment) (was holds : Streams) (
           ∙ ap (λ (one : Answer). one.outcome) turns.0 in
           record {
             given = given;
-            says = comes.stands.says;
+            says = comes.turns.stands.says;
             put = put;
             served = served;
             ends = is;
-            turns = turns-as entry now (λ unit. inr comes.stands)
-                (λ fault. risen-later entry.faults between.faults now.faults comes.never_falls
-                (comes.risen (fault-given put given
-                (subst (λ (one : Outcome). IsDiskFault one.cause) is fault)))
+            token = [];
+            made = comes.made + 0;
+            turns = turns-as entry now [] (comes.made + 0) (λ unit. inr comes.turns.stands)
+                (λ outside. risen-later entry.faults between.faults now.faults
+                comes.turns.never_falls (comes.turns.risen outside)
                 (omega (arith, turns.1.faults)))
-                (turns-then entry between now comes (stays-turns between now {S = Unit {0}} {T = ⊥}
-                turns.1.told turns.1.narrows (omega (arith, turns.1.faults)) tt (λ none. none)));
+                (turns-then entry between now [] comes.made 0 comes.turns
+                (stays-turns between now [] {S = Unit {0}} {T = ⊥} turns.1.told turns.1.narrows
+                (omega (arith, turns.1.faults)) tt (λ none. none)));
           }
       by-last (Waiting question) turns ends = absurd turns
       by-last (Begun same next) turns ends = absurd turns

@@ -8,7 +8,7 @@ use Rattle.acct_outside.specs.declared.FolderFault.TheVariants.{Failed}
 use Rattle.acct_outside.specs.declared.StageFault.{StageFault}
 use Rattle.suite_rules.specs.Outcomes.{LeadsTo, at_stage}
 use Rattle.suite_core.specs.Locking.{cause_of_fault}
-use Rattle.suite_core.specs.Stands.{IsDiskFault}
+use Rattle.suite_core.specs.Stands.{IsOutside}
 use Rattle.suite_core.proofs.UnlockingTurns.{fault-failed}
 
 -- a done one has the next state
@@ -36,7 +36,7 @@ leads-stage next stage (Ok answer) fault shown = absurd shown
 pub leads-failed : {A State : Type 0} (next : State) (stage : CommitStage)
     (answer : Result A FolderFault) (fault : StageFault) →
     LeadsTo next (at_stage stage) answer (Err fault) →
-    IsDiskFault (cause_of_fault fault.stage fault.fault) → fault ≡ at_stage stage Failed
+    IsOutside (cause_of_fault fault.stage fault.fault) → fault ≡ at_stage stage Failed
 leads-failed next stage answer fault shown told =
     let failed = fault-failed fault.stage fault.fault told in
     λ i. record { fault = failed i; stage = leads-stage next stage answer fault shown i }

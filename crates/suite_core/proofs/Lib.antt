@@ -1,11 +1,17 @@
 mod AloneLemmas
+mod AloneStays
+mod AloneSteps
 mod AnswerLemmas
+mod BoundLemmas
+mod CallsLemmas
 mod CommittingTurns
 mod CourseLemmas
 mod DecidingLemmas
 mod DeedLemmas
 mod DueLemmas
+mod GrowsLemmas
 mod MetLemmas
+mod OthersLemmas
 mod LargeLemmas
 mod LeadsLemmas
 mod LeftLemmas
@@ -20,5 +26,8 @@ mod SessionTurns
 mod TurnLemmas
 mod UnlockingTurns
 mod FinishLemmas
+mod IntentLimits
+mod OpenLemmas
+mod CompleteLemmas
 mod TopLemmas
 mod SuppliesLemmas

@@ -52,7 +52,7 @@ use Rattle.suite_core.specs.Due.{ShowsLarge, IsShown, IsDue}
 use Rattle.suite_core.specs.Left.{ranked, reads_left, turns_left}
 use Rattle.suite_core.specs.Loading.{DecidesOn, DecidesTo, EndsAt, LoadsTo}
 use Rattle.suite_core.specs.Locking.{cause_of_fault}
-use Rattle.suite_core.specs.Stands.{IsDiskFault, LeavesWith, StandsAs, StandsChanging, StandsUnlocking, TellsDiskFault}
+use Rattle.suite_core.specs.Stands.{IsOutside, LeavesWith, StandsAs, StandsChanging, StandsUnlocking, TellsOutside}
 use Rattle.suite_core.specs.Causes.{Met}
 use Rattle.suite_core.proofs.TurnLemmas.{goes-on, got, answers-turn, answers-fault, leaves-fault}
 use Rattle.suite_core.proofs.UnlockingTurns.{fault-met, fault-stage, fault-plain, fault-failed}
@@ -109,7 +109,7 @@ content-there : (reader : Reader) (missing : Tab) (kept : Kept) (next : Option T
 content-there reader missing kept (Some table) bytes shown = never-missing table bytes shown.0
 content-there reader missing kept None bytes shown = absurd shown
 
-missing-shown : (reader : Reader) (missing : Tab) (kept : Kept)
+pub missing-shown : (reader : Reader) (missing : Tab) (kept : Kept)
     (answer : Result Found FolderFault) → Loads reader answer (Err (NoTable missing kept)) →
     (is_missing missing None ≡ true) × (kept ≡ reader.keeper)
 missing-shown reader missing kept (Ok found_absent) shown =
@@ -125,7 +125,7 @@ content-small : (reader : Reader) (name : Name) (kept : Kept) (next : Option Tab
 content-small reader name kept (Some table) content shown = shown
 content-small reader name kept None content shown = shown
 
-large-shown : (reader : Reader) (name : Name) (kept : Kept) (answer : Result Found FolderFault) →
+pub large-shown : (reader : Reader) (name : Name) (kept : Kept) (answer : Result Found FolderFault) →
     Loads reader answer (Err (TooLarge name kept)) →
     (answer ≡ Ok found_too_large) × (name ≡ next_name reader.next) × (kept ≡ reader.keeper)
 large-shown reader name kept (Ok found_too_large) shown = (refl, shown.0, shown.1)
@@ -398,22 +398,22 @@ module _ (before now : Moment) (runner : Runner) (reader : Reader)
 
 -- one that leads on tells of none
 decided-quiet : (runner : Runner) (inputs : Inputs) (state : State) →
-    DecidesTo runner inputs state → TellsDiskFault state → ⊥
+    DecidesTo runner inputs state → TellsOutside state → ⊥
 decided-quiet runner inputs (Answering answer) decided fault =
-    subst IsDiskFault (ap (λ (one : FinalAnswer). one.outcome.cause) decided) fault
+    subst IsOutside (ap (λ (one : FinalAnswer). one.outcome.cause) decided) fault
 decided-quiet runner inputs (BackingUp walker answer) decided fault = fault
 decided-quiet runner inputs (Unlocking keeper answer) decided fault = fault
 decided-quiet runner inputs state decided fault = absurd decided
 
 pub loads-quiet : (runner : Runner) (loading : Loaded) (state : State) →
-    LoadsTo runner loading state → TellsDiskFault state → ⊥
-loads-quiet runner (More more) state leads fault = subst TellsDiskFault leads fault
+    LoadsTo runner loading state → TellsOutside state → ⊥
+loads-quiet runner (More more) state leads fault = subst TellsOutside leads fault
 loads-quiet runner (Done inputs) state leads fault = decided-quiet runner inputs state leads fault
 
 -- one that leads no further tells of one only where the folder failed
 pub ended-failed : (tool : Tool) (end : LoadEnd) (state : State) → EndsAt tool end state →
     (reader : Reader) (answer : Result Found FolderFault) → Loads reader answer (Err end) →
-    TellsDiskFault state → end ≡ Fault (before_commit Failed)
+    TellsOutside state → end ≡ Fault (before_commit Failed)
 ended-failed tool (Fault fault) state ends reader answer shown told =
     let failed = fault-failed fault.stage fault.fault
     (answers-fault tool (cause_of_fault fault.stage fault.fault) state ends told) in

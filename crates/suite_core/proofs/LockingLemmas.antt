@@ -19,7 +19,7 @@ use Rattle.lock_steps.specs.declared.LockEnd.TheVariants.{Refused, Folder}
 use Rattle.lock_steps.specs.Outcomes.{folder_failed, Looks, Reads, Asks, Claims, Confirms}
 use Rattle.suite_answers.specs.Reasons.{stage_of}
 use Rattle.suite_core.specs.Locking.{cause_of_end}
-use Rattle.suite_core.specs.Stands.{IsDiskFault}
+use Rattle.suite_core.specs.Stands.{IsOutside}
 use Rattle.suite_core.proofs.TurnLemmas.{IsPlain}
 
 -- it comes before the commit
@@ -45,7 +45,7 @@ end-plain (Folder Failed) = tt
 end-plain (Folder Memory) = tt
 
 -- it is a fault of the folder only where that failed
-pub end-failed : (end : LockEnd) → IsDiskFault (cause_of_end end) → end ≡ folder_failed
+pub end-failed : (end : LockEnd) → IsOutside (cause_of_end end) → end ≡ folder_failed
 end-failed (Folder Failed) fault = refl
 end-failed (Refused (Held token)) fault = absurd fault
 end-failed (Refused (Gone number)) fault = absurd fault

@@ -18,7 +18,7 @@ use Rattle.suite_core.specs.declared.state.State.TheVariants.{Claiming, Reading}
 use Rattle.suite_core.specs.Runner.{Runner}
 use Rattle.suite_core.specs.Moment.{Moment, At}
 use Rattle.suite_core.specs.Locking.{after_look, after_read, after_listing}
-use Rattle.suite_core.specs.Stands.{StandsAs, TellsDiskFault}
+use Rattle.suite_core.specs.Stands.{StandsAs, TellsOutside}
 use Rattle.suite_core.proofs.TurnLemmas.{goes-on}
 use Rattle.suite_core.proofs.LockingLemmas.{looks-token, reads-judged, reads-asking, confirms-keeper, confirms-less, confirms-loser}
 
@@ -102,20 +102,20 @@ module _ (before now : Moment) (runner : Runner) where
     )
 
 -- the state after the read tells of no fault
-pub read-quiet : (told : Told) → TellsDiskFault (after_read told) → ⊥
+pub read-quiet : (told : Told) → TellsOutside (after_read told) → ⊥
 read-quiet (Judged judged) fault = fault
 read-quiet (Ask asking) fault = fault
 
 -- nor does that after the second listing
-pub confirm-quiet : (confirmed : Confirmed) → TellsDiskFault (after_listing confirmed) → ⊥
+pub confirm-quiet : (confirmed : Confirmed) → TellsOutside (after_listing confirmed) → ⊥
 confirm-quiet (Keeper keeper) fault = fault
 confirm-quiet (Loser loser) fault = fault
 
 -- nor does that after the first
 looked-quiet : (seen : Lister) (is_none : Bool) →
-    TellsDiskFault (if is_none then Claiming seen else Reading seen) → ⊥
+    TellsOutside (if is_none then Claiming seen else Reading seen) → ⊥
 looked-quiet seen true fault = fault
 looked-quiet seen false fault = fault
 
-pub look-quiet : (seen : Lister) → TellsDiskFault (after_look seen) → ⊥
+pub look-quiet : (seen : Lister) → TellsOutside (after_look seen) → ⊥
 look-quiet seen fault = looked-quiet seen _ fault

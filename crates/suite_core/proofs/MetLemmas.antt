@@ -91,20 +91,21 @@ module _ (token : Token) (told : Option Past) where
 
   -- the read of the greatest lock
   pub read-met : (seen : Lister) (answer : Result Found FolderFault) (end : LockEnd) →
-      Reads seen answer (Err end) → ((found : Found) → answer ≡ Ok found →
+      0 < seen.greatest → Reads seen answer (Err end) → ((found : Found) → answer ≡ Ok found →
       Got (reads (Lock seen.greatest)) found (HasLooked seen)) → Meets (cause_of_end end)
-  read-met seen (Ok found_absent) (Refused (Gone number)) shown got = told-as told
-      (λ past met. subst (λ (one : ℕ). MetNoLock token one past.history) (sym shown) met)
+  read-met seen (Ok found_absent) (Refused (Gone number)) some shown got = told-as told
+      (λ past met. subst (λ (one : ℕ). MetNoLock token one past.history) (sym shown) (some, met))
       (got found_absent refl)
-  read-met seen (Ok found_too_large) (Refused (Damaged number)) shown got = told-as told
+  read-met seen (Ok found_too_large) (Refused (Damaged number)) some shown got = told-as told
       (λ past met. subst (λ (one : ℕ). MetDamage token one past.history) (sym shown)
       (found_too_large, tt, met)) (got found_too_large refl)
-  read-met seen (Ok (found_bytes text)) (Refused (Damaged number)) shown got = told-as told
+  read-met seen (Ok (found_bytes text)) (Refused (Damaged number)) some shown got = told-as told
       (λ past met. subst (λ (one : ℕ). MetDamage token one past.history) (sym shown.1)
       (found_bytes text, shown.0, met)) (got (found_bytes text) refl)
-  read-met seen (Ok (found_bytes text)) (Folder NoMemory) shown got = fault-meets Before NoMemory
-  read-met seen (Err fault) (Folder came) shown got = fault-meets Before came
-  read-met seen answer end shown got = absurd shown
+  read-met seen (Ok (found_bytes text)) (Folder NoMemory) some shown got =
+      fault-meets Before NoMemory
+  read-met seen (Err fault) (Folder came) some shown got = fault-meets Before came
+  read-met seen answer end some shown got = absurd shown
 
   -- the verdict on its holder
   pub ask-met : (asking : Asker) (answer : Result Verdict FolderFault) (end : LockEnd) →

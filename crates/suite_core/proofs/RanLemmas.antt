@@ -1,7 +1,7 @@
 -- Claim: a session that finished ran as the top call says (`finished-ran`).
 -- Way: its turns keep a history lawful, so it settles to the fold; its last event is the answer, and
 -- PlaceLemmas has what the history shows of that.
-use Rattle.std.proofs.Common.{◌≡◌, refl, sym, ap, subst, ◌∙◌, ◌⊎◌, ◌++◌, ◌∷◌, [], ◌≤◌, inl, inr, Option, Some, None, IfSome, Result, Ok, Err}
+use Rattle.std.proofs.Common.{◌≡◌, refl, sym, ap, subst, ◌∙◌, ◌⊎◌, ◌++◌, ◌∷◌, [], ◌≤◌, ◌+◌, ℕ, inl, inr, Option, Some, None, IfSome, Result, Ok, Err}
 use Rattle.acct_outside.specs.declared.CommitStage.TheVariants.{Before}
 use Rattle.acct_outside.specs.declared.streams.SinkFault.{SinkFault}
 use Rattle.acct_outside.specs.declared.streams.SinkFault.TheVariants.{Failed, Memory as NoMemory}
@@ -24,14 +24,30 @@ use Rattle.suite_answers.specs.Reasons.{stage_of}
 use Rattle.suite_core.specs.Runner.{Question, Runner}
 use Rattle.suite_core.specs.Moment.{Moment, commit_at}
 use Rattle.suite_core.specs.Deeds.{AreOfTools}
-use Rattle.suite_core.specs.Session.{HasAnswered, IsUnbegun}
+use Rattle.suite_core.specs.Session.{HasAnswered, IsNew, IsUnbegun}
 use Rattle.suite_core.specs.Answers.{memory_answer}
-use Rattle.suite_core.specs.Stands.{Extends, IsDiskFault, StaysOurs, TurnsTo}
+use Rattle.suite_core.specs.Bound.{IsBounded, IsWithin}
+use Rattle.suite_core.specs.Grows.{Grew, Grows}
+use Rattle.suite_core.specs.Stands.{Extends, IsDiskFault, IsOutside, StaysOurs, TurnsTo}
 use Rattle.suite_core.specs.Streams.{Streams, Serves, after_streams}
 use Rattle.suite_core.specs.Course.{AnsweredAs, Finished}
-use Rattle.suite_core.specs.Top.{Answered, ExtendsLawfully, HasNoToken, IsAlwaysSettled, IsShownAt, Ran}
+use Rattle.suite_core.specs.Top.{Answered, BegunOrNone, ExtendsLawfully, HasNoToken, IsAlwaysSettled, IsShownAt, Ran}
 use Rattle.suite_core.proofs.PlaceLemmas.{shown-at}
-use Rattle.suite_core.proofs.CourseLemmas.{turns-then}
+use Rattle.suite_core.proofs.CompleteLemmas.{ran-complete}
+use Rattle.suite_core.proofs.CourseLemmas.{new-from, turns-as, turns-none, turns-then}
+use Rattle.suite_core.proofs.GrowsLemmas.{grew-extends, grew-nothing}
+
+-- a fault of the folder lies outside the session
+disk-outside : (cause : Cause) → IsDiskFault cause → IsOutside cause
+disk-outside (DiskFault stage) fault = tt
+disk-outside cause fault = absurd fault
+
+-- and an outcome that tells of one is that of the answer
+fault-outside : (put : Result (Unit {0}) SinkFault) (given : Answer) →
+    IsDiskFault (after_streams put given).outcome.cause → IsOutside given.outcome.cause
+fault-outside (Ok unit) given fault = disk-outside given.outcome.cause fault
+fault-outside (Err Failed) given fault = absurd fault
+fault-outside (Err NoMemory) given fault = absurd fault
 
 module _ (asked : Question) (entry now : Moment) where
   -- what follows of a lawful history follows where all is lawful
@@ -77,28 +93,67 @@ module _ (asked : Question) (entry now : Moment) where
     }
 
     -- it answered, or its begin gave no token
-    ran-answered : AnsweredAs asked now final ⊎ IsUnbegun asked given → (was : Option Past) →
-        Extends was now.told → WhereTold was now.told (λ first old new.
-        ((token : Token) × Answered asked outcome token new) ⊎ HasNoToken given)
-    ran-answered stands was extends = by-told stands was now.told extends (λ runner same answered. answered)
+    ran-answered : (by : Token) → AnsweredAs asked entry now by final ⊎ IsUnbegun asked given →
+        (was : Option Past) → ((token : Token) → IsNew entry.told token → IsNew was token) →
+        Extends was now.told → WhereTold was now.told (BegunOrNone asked outcome given)
+    ran-answered by stands was fresh extends =
+        by-told stands was now.told fresh extends (λ runner same answered. answered)
       where
-        by-told : AnsweredAs asked now final ⊎ IsUnbegun asked given → (was told : Option Past) →
+        by-told : AnsweredAs asked entry now by final ⊎ IsUnbegun asked given →
+            (was told : Option Past) → ((token : Token) → IsNew entry.told token → IsNew was token) →
             Extends was told → ((runner : Runner) → runner.asked ≡ asked →
             IfSome now.told (HasAnswered runner final) → IfSome told (HasAnswered runner final)) →
-            WhereTold was told (λ first old new.
-            ((token : Token) × Answered asked outcome token new) ⊎ HasNoToken given)
-        by-told stands None None extends same = tt
-        by-told (inl gave) (Some was) (Some past) extends same = (
+            WhereTold was told (BegunOrNone asked outcome given)
+        by-told stands None None fresh extends same = tt
+        by-told (inl gave) (Some was) (Some past) fresh extends same = (
           extends.0,
           inl (
             gave.runner.token,
             answered-as gave.runner past gave.same
                 (same gave.runner gave.same gave.answered),
+            fresh gave.runner.token gave.fresh,
           ),
         )
-        by-told (inr unbegun) (Some was) (Some past) extends same = (extends.0, inr unbegun.plain)
-        by-told stands None (Some past) extends same = absurd extends
-        by-told stands (Some was) None extends same = absurd extends
+        by-told (inr unbegun) (Some was) (Some past) fresh extends same =
+            (extends.0, inr unbegun.plain)
+        by-told stands None (Some past) fresh extends same = absurd extends
+        by-told stands (Some was) None fresh extends same = absurd extends
+
+    -- its events are within the bound
+    ran-bounded : (by : Token) (made : ℕ) → AnsweredAs asked entry now by final ⊎ IsUnbegun asked given →
+        (was : Option Past) → Grew entry.admits by made was now.told →
+        WhereTold was now.told (λ first old new. ((token : Token)
+        × Answered asked outcome token new × IsBounded entry.admits token old new)
+        ⊎ HasNoToken given)
+    ran-bounded by made stands was grew =
+        by-told stands was now.told grew (λ runner answered. answered) (λ runner within. within)
+      where
+        by-told : AnsweredAs asked entry now by final ⊎ IsUnbegun asked given → (was told : Option Past) →
+            Grew entry.admits by made was told → ((runner : Runner) →
+            IfSome now.told (HasAnswered runner final) → IfSome told (HasAnswered runner final)) →
+            ((runner : Runner) → IfSome now.told (λ past. IsWithin runner.token past.history) →
+            IfSome told (λ past. IsWithin runner.token past.history)) →
+            WhereTold was told (λ first old new. ((token : Token)
+            × Answered asked outcome token new × IsBounded entry.admits token old new)
+            ⊎ HasNoToken given)
+        by-told stands None None grew same within = tt
+        by-told (inl gave) (Some was) (Some past) grew same within = (
+          grew.0,
+          inl (
+            gave.runner.token,
+            answered-as gave.runner past gave.same (same gave.runner gave.answered),
+            record {
+              made = made;
+              grows = subst (λ (token : Token).
+                  Grows entry.admits token was.history made past.history) (sym gave.same_token)
+                  grew.1;
+              within = within gave.runner gave.within;
+            },
+          ),
+        )
+        by-told (inr unbegun) (Some was) (Some past) grew same within = (grew.0, inr unbegun.plain)
+        by-told stands None (Some past) grew same within = absurd grew
+        by-told stands (Some was) None grew same within = absurd grew
 
     -- an answer that tells of a fault before any token shows nothing more
     unbegun-shown : (deeds : SuiteDeeds) (first : Folder) (new : History) (token : Token) →
@@ -145,16 +200,17 @@ module _ (asked : Question) (entry now : Moment) where
             ap (λ (event : Event). event.token) (let heads : one ≡ other = cc in heads)
 
     -- what the history shows of either
-    ran-shown : AnsweredAs asked now final ⊎ IsUnbegun asked given → (was : Option Past) →
-        Extends was now.told → StaysOurs entry.admits was now.told →
+    ran-shown : (by : Token) → AnsweredAs asked entry now by final ⊎ IsUnbegun asked given →
+        (was : Option Past) → Extends was now.told → StaysOurs entry.admits was now.told →
         WhereTold was now.told (λ first old new. (deeds : SuiteDeeds) → AreOfTools deeds →
         LawfulOthers deeds entry.admits first → Lawful deeds first old →
         (token : Token) → Answered asked outcome token new →
         IsShownAt deeds asked first new token final outcome.cause)
-    ran-shown stands was extends stays =
+    ran-shown by stands was extends stays =
         by-told stands was now.told extends stays (λ runner answered. answered)
       where
-        by-told : AnsweredAs asked now final ⊎ IsUnbegun asked given → (was told : Option Past) →
+        by-told : AnsweredAs asked entry now by final ⊎ IsUnbegun asked given →
+            (was told : Option Past) →
             Extends was told → StaysOurs entry.admits was told → ((runner : Runner) →
             IfSome now.told (HasAnswered runner final) → IfSome told (HasAnswered runner final)) →
             WhereTold was told (λ first old new. (deeds : SuiteDeeds) → AreOfTools deeds →
@@ -180,34 +236,51 @@ module _ (asked : Question) (entry now : Moment) where
 pub finished-ran : (asked : Question) (entry now : Moment) (was holds : Streams)
     (outcome : Outcome) → Finished asked entry now was holds outcome →
     Ran asked entry now was holds outcome
-finished-ran asked entry now was holds outcome finished = record {
-  given = finished.given;
-  says = finished.says;
-  put = finished.put;
-  served = finished.served;
-  ends = finished.ends;
-  failed = finished.turns.risen;
-  lawful = where-lawful asked entry now ExtendsLawfully
-      (λ deeds first old new lawful newer parts.
-      record { newer = newer; parts = parts; lawful = lawful })
-      entry.told now.told finished.turns.extends finished.turns.lawful;
-  settles = where-lawful asked entry now (λ deeds first old new. IsAlwaysSettled deeds first new)
-      (λ deeds first old new lawful newer parts. settles asked entry now deeds first new lawful)
-      entry.told now.told finished.turns.extends finished.turns.lawful;
-  answered = ran-answered asked entry now outcome finished.given finished.put finished.ends
-      finished.turns.stands entry.told finished.turns.extends;
-  shown = ran-shown asked entry now outcome finished.given finished.put finished.ends
-      finished.turns.stands entry.told finished.turns.extends finished.turns.lawful;
-}
+finished-ran asked entry now was holds outcome finished =
+    let turns = finished.turns in
+    let extends = grew-extends entry.admits finished.token finished.made entry.told now.told
+    turns.grew in
+    let lawful = where-lawful asked entry now ExtendsLawfully
+    (λ deeds first old new lawful newer parts.
+    record { newer = newer; parts = parts; lawful = lawful })
+    entry.told now.told extends turns.lawful in
+    let begun = ran-answered asked entry now outcome finished.given finished.put finished.ends
+    finished.token turns.stands entry.told (λ token new. new) extends in
+    let shown = ran-shown asked entry now outcome finished.given finished.put finished.ends
+    finished.token turns.stands entry.told extends turns.lawful in
+    record {
+      given = finished.given;
+      says = finished.says;
+      put = finished.put;
+      served = finished.served;
+      ends = finished.ends;
+      outside = turns.risen;
+      failed = λ fault. turns.risen (fault-outside finished.put finished.given
+          (subst (λ (one : Outcome). IsDiskFault one.cause) finished.ends fault));
+      lawful = lawful;
+      settles = where-lawful asked entry now
+          (λ deeds first old new. IsAlwaysSettled deeds first new)
+          (λ deeds first old new lawful newer parts.
+          settles asked entry now deeds first new lawful)
+          entry.told now.told extends turns.lawful;
+      answered = begun;
+      shown = shown;
+      complete = ran-complete asked entry now was holds outcome finished.given finished.says
+          turns.risen finished.put finished.served finished.ends lawful begun shown;
+      bounded = ran-bounded asked entry now outcome finished.given finished.put finished.ends
+          finished.token finished.made turns.stands entry.told turns.grew;
+    }
 
 -- ---- A command that finished, from its entry
 
 -- what told and admitted no more leads to what stands there
-pub stays-turns : (entry now : Moment) {S T : Type 0} → now.told ≡ entry.told →
-    Narrows entry.admits now.admits → entry.faults ≤ now.faults → S → (T → ⊥) → TurnsTo entry now S T
-stays-turns entry now told narrows never_falls stands none = record {
+pub stays-turns : (entry now : Moment) (token : Token) {S T : Type 0} → now.told ≡ entry.told →
+    Narrows entry.admits now.admits → entry.faults ≤ now.faults → S → (T → ⊥) →
+    TurnsTo entry now token 0 S T
+stays-turns entry now token told narrows never_falls stands none = record {
   stands = stands;
-  extends = subst (λ (one : Option Past). Extends entry.told one) (sym told) (no-more entry.told);
+  grew = subst (λ (one : Option Past). Grew entry.admits token 0 entry.told one) (sym told)
+      (grew-nothing entry.admits token entry.told);
   lawful = λ deeds ours. subst (λ (one : Option Past). StaysLawful deeds entry.admits entry.told one)
       (sym told) (still-lawful deeds entry.admits entry.told);
   narrows = narrows;
@@ -215,27 +288,46 @@ stays-turns entry now told narrows never_falls stands none = record {
   risen = λ fault. absurd (none fault);
 }
   where
-    no-more : (was : Option Past) → Extends was was
-    no-more None = tt
-    no-more (Some was) = (refl, ([], refl))
-
     still-lawful : (deeds : SuiteDeeds) (admits : Admission) (was : Option Past) →
         StaysLawful deeds admits was was
     still-lawful deeds admits None = tt
     still-lawful deeds admits (Some was) = (refl, λ others lawful. lawful)
 
+-- a token that is new since a later moment is so since the entry
+answered-from : (asked : Question) (entry between now : Moment) (by : Token) (one given : Answer) →
+    Extends entry.told between.told → AnsweredAs asked between now by one ⊎ IsUnbegun asked given →
+    AnsweredAs asked entry now by one ⊎ IsUnbegun asked given
+answered-from asked entry between now by one given extends (inl gave) = inl (record {
+  runner = gave.runner;
+  same = gave.same;
+  same_token = gave.same_token;
+  fresh = new-from gave.runner.token entry.told between.told extends gave.fresh;
+  answered = gave.answered;
+  within = gave.within;
+})
+answered-from asked entry between now by one given extends (inr unbegun) = inr unbegun
+
 -- one that finished from a later moment finished from its entry
 pub finished-from : (asked : Question) (entry between now : Moment) (was holds : Streams)
-    (outcome : Outcome) {S T : Type 0} → TurnsTo entry between S T →
+    (outcome : Outcome) (token : Token) {S T : Type 0} → TurnsTo entry between token 0 S T →
     Finished asked between now was holds outcome → Finished asked entry now was holds outcome
-finished-from asked entry between now was holds outcome first finished = record {
-  given = finished.given;
-  says = finished.says;
-  put = finished.put;
-  served = finished.served;
-  ends = finished.ends;
-  turns = turns-then entry between now first finished.turns;
-}
+finished-from asked entry between now was holds outcome token first finished =
+    let none = turns-none entry between token finished.token first in
+    let whole = turns-then entry between now finished.token 0 finished.made none finished.turns in
+    record {
+      given = finished.given;
+      says = finished.says;
+      put = finished.put;
+      served = finished.served;
+      ends = finished.ends;
+      token = finished.token;
+      made = 0 + finished.made;
+      turns = turns-as entry now finished.token (0 + finished.made)
+          (answered-from asked entry between now finished.token
+          (after_streams finished.put finished.given) finished.given
+          (grew-extends entry.admits finished.token 0 entry.told between.told none.grew))
+          whole.risen whole;
+    }
 
 -- one that found no memory before its begin
 pub unbegun-finished : (asked : Question) (entry now : Moment) (was holds : Streams)
@@ -250,13 +342,9 @@ unbegun-finished asked entry now was holds outcome put told narrows never_falls 
   put = put;
   served = served;
   ends = ends;
-  turns = stays-turns entry now told narrows never_falls
+  token = [];
+  made = 0;
+  turns = stays-turns entry now [] told narrows never_falls
       (inr (record { says = refl; plain = inr refl }))
-      (λ fault. quiet put (subst (λ (one : Outcome). IsDiskFault one.cause) ends fault));
+      (λ outside. outside);
 }
-  where
-    quiet : (result : Result (Unit {0}) SinkFault) →
-        IsDiskFault (after_streams result (memory_answer Before)).outcome.cause → ⊥
-    quiet (Ok unit) fault = fault
-    quiet (Err Failed) fault = fault
-    quiet (Err NoMemory) fault = fault

@@ -33,7 +33,7 @@ use Rattle.suite_core.specs.Runner.{Runner}
 use Rattle.suite_core.specs.Moment.{Moment, commit_at, At}
 use Rattle.suite_core.specs.Locking.{cause_of_fault}
 use Rattle.suite_core.specs.Recovering.{after_intent, Refuses}
-use Rattle.suite_core.specs.Stands.{StandsAs, TellsDiskFault}
+use Rattle.suite_core.specs.Stands.{StandsAs, TellsOutside}
 use Rattle.suite_core.proofs.MetLemmas.{damaged-met, large-met}
 use Rattle.suite_core.proofs.TurnLemmas.{goes-on, got, answers-turn, answers-fault, leaves-turn, leaves-fault}
 use Rattle.suite_core.proofs.UnlockingTurns.{fault-met, fault-stage, fault-plain, fault-failed}
@@ -152,7 +152,7 @@ module _ (before now : Moment) (runner : Runner) (keeper : Kept)
 -- it tells of a fault of the folder only where that failed
 pub refused-failed : (tool : Tool) (end : RecoveryEnd) (state : State) → Refuses tool end state →
     (keeper : Kept) (answer : Result Found FolderFault) → FindsIntent keeper answer (Err end) →
-    TellsDiskFault state → end ≡ Fault failed_before
+    TellsOutside state → end ≡ Fault failed_before
 refused-failed tool (Fault fault) state refuses keeper answer shown told =
     let failed = fault-failed fault.stage fault.fault
     (answers-fault tool (cause_of_fault fault.stage fault.fault) state refuses told) in
@@ -163,7 +163,7 @@ refused-failed tool (TooLarge kept) state refuses keeper answer shown told =
     absurd (leaves-fault tool kept (IsTooLarge (File Intent)) state refuses told)
 
 -- a read of the intent that leads on tells of no fault
-pub seen-quiet : (seen : IntentSeen) → TellsDiskFault (after_intent seen) → ⊥
+pub seen-quiet : (seen : IntentSeen) → TellsOutside (after_intent seen) → ⊥
 seen-quiet (Clean kept) fault = fault
 seen-quiet (Listed recovering) fault = fault
 

@@ -2,13 +2,16 @@
 -- and the answer of a session is its last event, which the rules permit (`answers-turn`).
 -- Way: a begin's event is the session's only one, and an answer's leaves its standing; both are
 -- events of their own after those of others.
-use Rattle.std.proofs.Common.{◌≡◌, ◌⊎◌, refl, sym, ap, subst, ◌∙◌, ℕ, ◌≤◌, Bool, true, false, List, [], inl, inr, Option, Some, None, IfSome, Result, Ok, Err}
+use Rattle.std.proofs.Common.{◌≡◌, ◌⊎◌, refl, sym, ap, subst, ◌∙◌, ℕ, ◌<◌, ◌≤◌, Bool, true, false, List, [], ◌∷◌, length, inl, inr, Option, Some, None, IfSome, Result, Ok, Err, arith}
+use Rattle.std.proofs.lemmas.List.Elements.{filter-append}
+use Rattle.std.proofs.lemmas.Slice.Eq.{bytes_eq-Decides}
 use Rattle.acct_text.specs.Bytes.{Bytes}
 use Rattle.acct_outside.specs.declared.FolderFault.{FolderFault}
 use Rattle.acct_outside.specs.declared.FolderFault.TheVariants.{Failed, Memory as NoMemory}
 use Rattle.acct_outside.specs.declared.CommitStage.TheVariants.{Before}
 use Rattle.acct_outside.specs.Tokens.{Token}
 use Rattle.acct_outside.specs.Calls.{Command, Call, begins, answers, done}
+use Rattle.acct_outside.specs.History.{Event, History, is_of, own_events}
 use Rattle.acct_outside.specs.Life.{Life, runs_in, running, faulted, unbegun as not_begun, ended, MayCall}
 use Rattle.acct_outside.specs.Others.{Admission}
 use Rattle.acct_outside.specs.Contract.{Past, NeverAdmits, MayAnswer, WhereTold, Tells, TellsBegin, Narrows}
@@ -34,10 +37,15 @@ use Rattle.suite_core.specs.Moment.{Moment, Runs, At}
 use Rattle.suite_core.specs.Answers.{memory_answer, IsTold, Says}
 use Rattle.suite_core.specs.Deeds.{AreOfTools}
 use Rattle.suite_core.specs.Due.{IsDue}
+use Rattle.suite_core.specs.Bound.{CountsFrom}
+use Rattle.suite_core.specs.Grows.{Grew}
+use Rattle.suite_core.specs.Left.{calls_left, most_calls}
 use Rattle.suite_core.specs.Locking.{cause_of_fault}
-use Rattle.suite_core.specs.Session.{IsFirst, HasAnswered, Gave, IsUnbegun}
-use Rattle.suite_core.specs.Stands.{Extends, MayGive, IsDiskFault, StandsAs, TellsDiskFault, TurnsTo, Turns}
-use Rattle.suite_core.proofs.TurnLemmas.{tells-extend, told-says, told-cause}
+use Rattle.suite_core.specs.Session.{IsFirst, HasAnswered, Gave, IsNew, IsUnbegun}
+use Rattle.suite_core.specs.Stands.{Extends, MayGive, IsOutside, StandsAs, TellsOutside, TurnsTo, Turns}
+use Rattle.suite_core.proofs.AloneLemmas.{second-empty}
+use Rattle.suite_core.proofs.TurnLemmas.{told-says, told-cause}
+use Rattle.suite_core.proofs.GrowsLemmas.{grew-extends, others-extend, tells-grow}
 use Rattle.suite_core.proofs.DueLemmas.{shown-stays}
 use Rattle.suite_core.proofs.UnlockingTurns.{fault-plain, fault-failed}
 use Rattle.suite_core.proofs.RuleLemmas.{rule-of}
@@ -65,13 +73,31 @@ begin-tells admits command (Err NoMemory) (Some before) (Some now) tells = tells
 begin-tells admits command result None (Some now) tells = absurd tells
 begin-tells admits command result (Some before) None tells = absurd tells
 
--- so it extends the history
-begin-extends : (admits : Admission) (command : Command) (result : Result Token FolderFault)
+-- so it is the one event of its token
+begin-grows : (admits : Admission) (command : Command) (result : Result Token FolderFault)
     (before now : Option Past) → WhereTold before now (TellsBegin admits command result) →
-    Extends before now
-begin-extends admits command result before now tells =
-    tells-extend admits (begun_token result) (begins command) (begun_answer result) before now
+    Grew admits (begun_token result) 1 before now
+begin-grows admits command result before now tells =
+    tells-grow admits (begun_token result) (begins command) (begun_answer result) before now
     (begin-tells admits command result before now tells)
+
+-- its token is new
+pub begin-new : (admits : Admission) (command : Command) (token : Token) (before now : Option Past) →
+    WhereTold before now (TellsBegin admits command (Ok token)) → IsNew before token
+begin-new admits command token None now tells = tt
+begin-new admits command token (Some before) (Some now) tells =
+    let came = tells.1.0.others_then in
+    let event : Event = record { token = token; call = begins command; result = done tt } in
+    let first : own_events token (event ∷ came.between) ≡ event ∷ own_events token came.between =
+    rw ((bytes_eq-Decides token token).1 refl) refl in
+    let one : event ∷ own_events token came.between ≡ event ∷ [] =
+    sym first ∙ (ap (λ (past : History). own_events token past) (sym came.last) ∙ tells.1.1) in
+    let none : own_events token came.between ≡ [] = cc one in
+    let older = others-extend admits before.history came.between came.others in
+    second-empty (own_events token older.0) (own_events token before.history)
+    (sym (filter-append (is_of token) older.0 before.history)
+    ∙ (ap (λ (past : History). own_events token past) (sym older.1) ∙ none))
+begin-new admits command token (Some before) None tells = absurd tells
 
 -- it keeps a history lawful, for whatever deeds
 begin-lawful : (deeds : SuiteDeeds) (admits : Admission) (command : Command)
@@ -109,6 +135,30 @@ begin-lawful deeds admits command (Err NoMemory) (Some before) (Some now) tells 
 )
 begin-lawful deeds admits command result None (Some now) tells = absurd tells
 begin-lawful deeds admits command result (Some before) None tells = absurd tells
+
+-- a begin is the only event of its session, which then has no more calls than a listing leaves
+pub begins-counts : (admits : Admission) (command : Command) (runner : Runner)
+    (before now : Option Past) →
+    WhereTold before now (TellsBegin admits command (Ok runner.token)) → (state : State) →
+    IsFirst runner state → CountsFrom now runner state
+begins-counts admits command runner before now tells state is = record {
+  only = by-told before now tells;
+  fewer = first-fewer state is;
+}
+  where
+    by-told : (was told : Option Past) →
+        WhereTold was told (TellsBegin admits command (Ok runner.token)) →
+        IfSome told (λ past. length (own_events runner.token past.history) ≤ 1)
+    by-told None None told = tt
+    by-told (Some was) (Some past) told =
+        let one = ap (λ (events : History). length events) told.1.1 in omega (arith, one)
+    by-told None (Some past) told = absurd told
+    by-told (Some was) None told = tt
+
+    first-fewer : (state : State) → IsFirst runner state → calls_left state < most_calls
+    first-fewer (Looking looking) is = omega arith
+    first-fewer (Answering answer) is = omega arith
+    first-fewer state is = absurd is
 
 -- the command of what was asked is that of the words, the input and the day
 pub asked-command : {words others : List Word} (input : Bytes) (day : ℕ) (asked : Question)
@@ -164,9 +214,9 @@ module _ (before now : Moment) where
     first-stands state is = absurd is
 
     -- which tells of no fault of the folder
-    first-quiet : (state : State) → IsFirst runner state → TellsDiskFault state → ⊥
+    first-quiet : (state : State) → IsFirst runner state → TellsOutside state → ⊥
     first-quiet (Answering answer) is fault =
-        subst IsDiskFault (ap (λ (given : FinalAnswer). given.outcome.cause) is) fault
+        subst IsOutside (ap (λ (given : FinalAnswer). given.outcome.cause) is) fault
     first-quiet (Looking looking) is fault = fault
     first-quiet state is fault = absurd is
 
@@ -175,7 +225,7 @@ module _ (before now : Moment) where
         (state : State) → IsFirst runner state → Turns before now runner state
     begins-turn narrows never_falls state is = record {
       stands = first-stands state is;
-      extends = begin-extends before.admits runner.asked.command (Ok runner.token)
+      grew = begin-grows before.admits runner.asked.command (Ok runner.token)
           before.told now.told tells;
       lawful = λ deeds ours. begin-lawful deeds before.admits runner.asked.command
           (Ok runner.token) before.told now.told tells;
@@ -200,23 +250,23 @@ module _ (before now : Moment) where
         ])
 
     -- it tells of a fault of the folder only where that failed
-    unbegun-failed : IsDiskFault answer.outcome.cause → fault ≡ Failed
+    unbegun-failed : IsOutside answer.outcome.cause → fault ≡ Failed
     unbegun-failed is =
         elim (told-cause asked.request.tool (cause_of_fault Before fault) answer told) [
-          | inl same ↦ fault-failed Before fault (subst IsDiskFault same is)
-          | inr same ↦ absurd (subst IsDiskFault same is)
+          | inl same ↦ fault-failed Before fault (subst IsOutside same is)
+          | inr same ↦ absurd (subst IsOutside same is)
         ]
 
     -- it is told as a fault, and nothing is left to call
     pub unbegun : Narrows before.admits now.admits → before.faults ≤ now.faults →
         (fault ≡ Failed → HasRisen before.faults now.faults) →
-        TurnsTo before now (IsUnbegun asked answer) (IsDiskFault answer.outcome.cause)
+        TurnsTo before now [] 1 (IsUnbegun asked answer) (IsOutside answer.outcome.cause)
     unbegun narrows never_falls risen = record {
       stands = record {
         says = told-says asked (cause_of_fault Before fault) answer (fault-plain Before fault) told;
         plain = unbegun-plain fault told;
       };
-      extends = begin-extends before.admits asked.command (Err fault) before.told now.told tells;
+      grew = begin-grows before.admits asked.command (Err fault) before.told now.told tells;
       lawful = λ deeds ours. begin-lawful deeds before.admits asked.command (Err fault)
           before.told now.told tells;
       narrows = narrows;
@@ -309,17 +359,17 @@ module _ (before now : Moment) (runner : Runner) (answer : FinalAnswer) where
       MayGive before runner answer →
       Tells before.admits before.told now.told runner.token call (Ok tt) →
       Narrows before.admits now.admits → before.faults ≤ now.faults →
-      TurnsTo before now (Gave now runner answer) ⊥
+      TurnsTo before now runner.token 1 (Gave now runner answer) ⊥
   answers-turn read gives tells narrows never_falls =
-      let extends = tells-extend before.admits runner.token call (Ok tt) before.told now.told tells
-      in
+      let grew = tells-grow before.admits runner.token call (Ok tt) before.told now.told tells in
       record {
         stands = record {
           says = gives.gives.says;
-          answered = answered-due before.told now.told gives.may_answer tells extends
+          answered = answered-due before.told now.told gives.may_answer tells
+              (grew-extends before.admits runner.token 1 before.told now.told grew)
               gives.gives.due;
         };
-        extends = extends;
+        grew = grew;
         lawful = λ deeds ours. answered-lawful read deeds ours before.told now.told
             gives.may_answer tells gives.gives.says gives.gives.due;
         narrows = narrows;

@@ -3,13 +3,11 @@
 -- (`stops`).
 -- Way: such a call leaves what the session was asked and how far its own commit is (`leaves` of
 -- suite_rules); the rest are the clauses of the typed step, by the session's token.
-use Rattle.std.proofs.Common.{◌≡◌, ◌⊎◌, refl, sym, ap, subst, ◌∙◌, ◌≤◌, ◌++◌, ◌∷◌, [], inl, inr, Option, Some, None, IfSome, Result, Ok, Err}
+use Rattle.std.proofs.Common.{◌≡◌, ◌⊎◌, refl, sym, ap, subst, ◌∙◌, ◌≤◌, [], inl, inr, Option, Some, None, IfSome, Result, Ok}
 use Rattle.acct_outside.specs.declared.FolderFault.{FolderFault}
-use Rattle.acct_outside.specs.declared.FolderFault.TheVariants.{Failed, Memory as NoMemory}
 use Rattle.acct_outside.specs.Tokens.{Token}
 use Rattle.acct_outside.specs.Calls.{Call, Answer, CallResult}
-use Rattle.acct_outside.specs.History.{Event, History}
-use Rattle.acct_outside.specs.Others.{Admission, ByOthers, none_came, one_came, ByOthersThen}
+use Rattle.acct_outside.specs.History.{History}
 use Rattle.acct_outside.specs.Contract.{Past, Tells as OutsideTells}
 use Rattle.acct_outside.specs.Faults.{HasRisen}
 use Rattle.suite_rules.specs.Standing.{Commit, Standing, standing_step}
@@ -32,7 +30,9 @@ use Rattle.suite_core.specs.Moment.{Moment, commit_at, Runs, At}
 use Rattle.suite_core.specs.Answers.{given_for, IsTold, Says}
 use Rattle.suite_core.specs.Causes.{Met, HasMet}
 use Rattle.suite_core.specs.Due.{IsShown, IsDue}
-use Rattle.suite_core.specs.Stands.{Extends, MayGive, StandsAs, AnswersWith, LeavesWith, IsDiskFault, TellsDiskFault, Turns}
+use Rattle.suite_core.specs.Grows.{Grew}
+use Rattle.suite_core.proofs.GrowsLemmas.{tells-grow, grew-extends}
+use Rattle.suite_core.specs.Stands.{Extends, MayGive, StandsAs, AnswersWith, LeavesWith, IsOutside, TellsOutside, Turns}
 
 -- what the runner was asked, and this commit
 abbrev own_of : Runner → Commit → OwnCommand
@@ -168,18 +168,18 @@ told-says asked cause answer plain (inr is) =
 
 -- a state that answers with a cause tells of a fault of the folder where the cause is one
 pub answers-fault : (tool : Tool) (cause : Cause) (state : State) → AnswersWith tool cause state →
-    TellsDiskFault state → IsDiskFault cause
+    TellsOutside state → IsOutside cause
 answers-fault tool cause (Answering answer) told fault = elim (told-cause tool cause answer told) [
-  | inl is ↦ subst IsDiskFault is fault
-  | inr is ↦ absurd (subst IsDiskFault is fault)
+  | inl is ↦ subst IsOutside is fault
+  | inr is ↦ absurd (subst IsOutside is fault)
 ]
 answers-fault tool cause state told fault = absurd told
 
 -- one that leaves with a cause tells of a fault only where the cause is one
 pub leaves-fault : (tool : Tool) (keeper : Kept) (cause : Cause) (state : State) →
-    LeavesWith tool keeper cause state → TellsDiskFault state → IsDiskFault cause
+    LeavesWith tool keeper cause state → TellsOutside state → IsOutside cause
 leaves-fault tool keeper cause (Answering answer) is fault =
-    absurd (subst IsDiskFault (ap (λ (given : FinalAnswer). given.outcome.cause) is) fault)
+    absurd (subst IsOutside (ap (λ (given : FinalAnswer). given.outcome.cause) is) fault)
 leaves-fault tool keeper cause (Unlocking kept answer) is fault = absurd fault
 leaves-fault tool keeper cause state is fault = absurd is
 
@@ -197,35 +197,6 @@ shown-now runner cause answer (Some past) plain tells met =
     plain-shown runner answer past.history answer.outcome.cause
     (told-plain runner.asked cause answer plain tells)
     (told-met runner.asked cause answer runner.token past.history tells met)
-
--- admitted events of others extend a history
-others-extend : (admits : Admission) (old new : History) → ByOthers admits old new →
-    (newer : History) × (new ≡ newer ++ old)
-others-extend admits old _ none_came = ([], refl)
-others-extend admits old _ (one_came event new came admitted) =
-    let before = others-extend admits old new came in
-    (event ∷ before.0, ap (λ (events : History). event ∷ events) before.1)
-
--- an event after them does too
-event-extends : (admits : Admission) (own : Event) (old new : History) →
-    ByOthersThen admits old own new → (newer : History) × (new ≡ newer ++ old)
-event-extends admits own old new then =
-    let before = others-extend admits old then.between then.others in
-    (own ∷ before.0, then.last ∙ ap (λ (events : History). own ∷ events) before.1)
-
--- whatever a call answered, it extends the history
-pub tells-extend : (admits : Admission) (token : Token) (call : Call)
-    (answer : Result (Answer call) FolderFault) (before now : Option Past) →
-    OutsideTells admits before now token call answer → Extends before now
-tells-extend admits token call answer None None tells = tt
-tells-extend admits token call (Ok answer) (Some before) (Some now) tells =
-    (tells.0, event-extends admits _ before.history now.history tells.1.others_then)
-tells-extend admits token call (Err Failed) (Some before) (Some now) tells =
-    (tells.0, event-extends admits _ before.history now.history tells.1.1.others_then)
-tells-extend admits token call (Err NoMemory) (Some before) (Some now) tells =
-    (tells.0, others-extend admits before.history now.history tells.1)
-tells-extend admits token call answer None (Some now) tells = absurd tells
-tells-extend admits token call answer (Some before) None tells = absurd tells
 
 module _ (before now : Moment) (runner : Runner) (commit : Commit) (Held : Standing → Type 0)
     (stands : At before runner commit Held) (token : Token) (same : token ≡ runner.token)
@@ -286,10 +257,14 @@ module _ (before now : Moment) (runner : Runner) (commit : Commit) (Held : Stand
       by-told None (Some past) stood tells = absurd tells
       by-told (Some was) None stood tells = absurd tells
 
-  -- the history is extended
-  pub extended : Extends before.told now.told
-  extended = tells-extend before.admits runner.token call by-runner.answer before.told now.told
+  -- the history got an event of the runner, or none, after those of others
+  pub grown : Grew before.admits runner.token 1 before.told now.told
+  grown = tells-grow before.admits runner.token call by-runner.answer before.told now.told
       by-runner.told
+
+  -- so it is extended
+  pub extended : Extends before.told now.told
+  extended = grew-extends before.admits runner.token 1 before.told now.told grown
 
   -- an answer of this commit is due, where its cause is shown
   pub is-due : (answer : FinalAnswer) → commit ≡ commit_at (stage_of answer.outcome.cause) →
@@ -335,7 +310,7 @@ module _ (before now : Moment) (runner : Runner) (commit : Commit) (Held : Stand
   -- or in one that leaves with a plain cause
   pub leaves-turn : (keeper : Kept) (cause : Cause) (state : State) →
       LeavesWith runner.asked.request.tool keeper cause state → IsPlain cause →
-      HasMetNow now runner cause → (IsDiskFault cause → ⊥) → commit ≡ commit_at (stage_of cause) →
+      HasMetNow now runner cause → (IsOutside cause → ⊥) → commit ≡ commit_at (stage_of cause) →
       keeper.token ≡ runner.token →
       StandsIn now.admits now.told token (Keeps keeper KnowsAnything) → StandsAs now runner state
   leaves-turn keeper cause (Unlocking kept answer) shown plain met quiet is owned next =
@@ -348,7 +323,7 @@ module _ (before now : Moment) (runner : Runner) (commit : Commit) (Held : Stand
             (goes-on (Keeps kept KnowsAnything)
             (subst (λ (one : Kept). StandsIn now.admits now.told token (Keeps one KnowsAnything))
             (sym shown.0) next));
-        quiet = λ fault. quiet (subst IsDiskFault has fault);
+        quiet = λ fault. quiet (subst IsOutside has fault);
         gives = (may-give cause answer at plain (inl shown.1) met).gives;
       }
   leaves-turn keeper cause (Answering answer) shown plain met quiet is owned next =
@@ -358,11 +333,11 @@ module _ (before now : Moment) (runner : Runner) (commit : Commit) (Held : Stand
   module _ (lawful : AlwaysStaysLawful before.admits before.told now.told)
       (never_falls : before.faults ≤ now.faults) where
     -- a turn to a state that tells of no fault
-    pub turns : (state : State) → StandsAs now runner state → (TellsDiskFault state → ⊥) →
+    pub turns : (state : State) → StandsAs now runner state → (TellsOutside state → ⊥) →
         Turns before now runner state
     turns state stood quiet_state = record {
       stands = stood;
-      extends = extended;
+      grew = grown;
       lawful = λ deeds ours. lawful deeds;
       narrows = made.narrows;
       never_falls = never_falls;
@@ -372,11 +347,11 @@ module _ (before now : Moment) (runner : Runner) (commit : Commit) (Held : Stand
     -- a turn to the answer of a plain cause
     pub stops : (cause : Cause) (state : State) →
         AnswersWith runner.asked.request.tool cause state → IsPlain cause →
-        HasMetNow now runner cause → commit ≡ commit_at (stage_of cause) → (IsDiskFault cause → HasRisen before.faults now.faults)
+        HasMetNow now runner cause → commit ≡ commit_at (stage_of cause) → (IsOutside cause → HasRisen before.faults now.faults)
         → Turns before now runner state
     stops cause state told plain met is failed = record {
       stands = answers-turn cause state told plain met is;
-      extends = extended;
+      grew = grown;
       lawful = λ deeds ours. lawful deeds;
       narrows = made.narrows;
       never_falls = never_falls;

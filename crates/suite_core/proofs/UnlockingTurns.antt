@@ -22,7 +22,7 @@ use Rattle.suite_core.specs.declared.state.State.TheVariants.{Unlocking, Freeing
 use Rattle.suite_core.specs.Runner.{Runner}
 use Rattle.suite_core.specs.Moment.{Moment, commit_at}
 use Rattle.suite_core.specs.Locking.{cause_of_fault}
-use Rattle.suite_core.specs.Stands.{IsDiskFault, StandsUnlocking, StandsFreeing, Turns}
+use Rattle.suite_core.specs.Stands.{IsOutside, StandsUnlocking, StandsFreeing, Turns}
 use Rattle.suite_core.specs.Causes.{HasMet}
 use Rattle.suite_core.proofs.MetLemmas.{fault-shows}
 use Rattle.suite_core.proofs.TurnLemmas.{HasMetNow, IsPlain, goes-on, extended, turns}
@@ -30,7 +30,7 @@ use Rattle.suite_rules.proofs.StepLemmas.{may-answer-now}
 use Rattle.suite_core.proofs.DueLemmas.{gives-stay}
 
 -- a step that leads to a next state has it
-leads : {A State : Type 0} (next : State) (answer : Result A FolderFault) (state : State) →
+pub leads : {A State : Type 0} (next : State) (answer : Result A FolderFault) (state : State) →
     LeadsTo next answer (Ok state) → state ≡ next
 leads next (Ok answer) state shown = shown
 leads next (Err fault) state shown = absurd shown
@@ -60,7 +60,7 @@ fault-met now runner stage fault = by-told now.told
 
 -- it is told as a fault of the folder only where that failed
 pub fault-failed : (stage : CommitStage) (fault : FolderFault) →
-    IsDiskFault (cause_of_fault stage fault) → fault ≡ Failed
+    IsOutside (cause_of_fault stage fault) → fault ≡ Failed
 fault-failed stage Failed told = refl
 fault-failed stage NoMemory told = absurd told
 

@@ -41,8 +41,8 @@ MetLast token history =
 
 -- the greatest lock, which it had listed, was gone when it read it
 abbrev pub MetNoLock : Token → ℕ → History → Type 0
-MetNoLock token number =
-    Met token (reads (Lock number)) found_absent (HasLooked (lister token number))
+MetNoLock token number history = (0 < number)
+    × Met token (reads (Lock number)) found_absent (HasLooked (lister token number)) history
 
 -- neither of the two texts of a lock was found
 abbrev pub IsNoLockText : Found → Type 0
@@ -93,7 +93,8 @@ MetLargeIntent token = Met token (reads Intent) found_too_large HasKept
 
 -- ---- All causes
 
--- what the session met where its answer has this cause
+-- what the session met where its answer has this cause; of a file that is too large, but for the intent,
+-- a tool's answer tells, and of the input no session
 abbrev pub HasMet : Token → History → Cause → Type 0
 HasMet token history (Held holder) = MetHolder token holder history
 HasMet token history (Gone number) = MetNoLock token number history
@@ -104,4 +105,5 @@ HasMet token history (LockDamaged number) = MetDamage token number history
 HasMet token history Exhausted = MetLast token history
 HasMet token history (IntentDamaged part) = MetBadIntent token part history
 HasMet token history (TooLarge (File Intent)) = MetLargeIntent token history
+HasMet token history (TooLarge which) = ⊥
 HasMet token history cause = ⊤

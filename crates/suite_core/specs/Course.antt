@@ -1,32 +1,43 @@
 -- The course of a session from its entry: its turns one after another, and its end.
-use Rattle.std.specs.Prelude.{◌≡◌, ◌⊎◌, Some, IfSome, Result, Ok, Err}
+use Rattle.std.specs.Prelude.{◌≡◌, ◌⊎◌, ℕ, Some, IfSome, Result, Ok, Err}
+use Rattle.acct_outside.specs.Tokens.{Token}
 use Rattle.acct_outside.specs.declared.streams.SinkFault.{SinkFault}
 use Rattle.suite_answers.specs.declared.cause.Outcome.{Outcome}
 use Rattle.suite_answers.specs.declared.answer.Answer.{Answer}
 use Rattle.suite_core.specs.declared.session.Phase.{Phase}
 use Rattle.suite_core.specs.declared.session.Phase.TheVariants.{Waiting, Begun, Over}
 use Rattle.suite_core.specs.Runner.{Question, Runner}
+use Rattle.suite_core.specs.Bound.{IsWithin, PhaseCalled}
 use Rattle.suite_core.specs.Moment.{Moment}
 use Rattle.suite_core.specs.Answers.{Says}
-use Rattle.suite_core.specs.Session.{HasAnswered, IsUnbegun, SessionTurns, outcome_of, output_failed}
-use Rattle.suite_core.specs.Stands.{IsDiskFault, StandsAs, TellsDiskFault, TurnsTo}
+use Rattle.suite_core.specs.Session.{HasAnswered, IsNew, IsUnbegun, SessionTurns, outcome_of, output_failed, phase_token}
+use Rattle.suite_core.specs.Stands.{IsOutside, StandsAs, TellsOutside, TurnsTo}
 use Rattle.suite_core.specs.Streams.{Streams, Serves, after_streams}
 
--- the session, which was asked this, stands so before its last call
-abbrev pub Reached : Question → Moment → Phase → Type 0
-Reached asked now (Waiting question) = question ≡ asked
-Reached asked now (Begun runner state) = (runner.asked ≡ asked) × StandsAs now runner state
-Reached asked now (Over answer) = IsUnbegun asked answer
+-- the session, which was asked this, stands so before its last call; its token is new since its entry
+abbrev pub Reached : Question → Moment → Moment → Phase → Type 0
+Reached asked entry now (Waiting question) = question ≡ asked
+Reached asked entry now (Begun runner state) =
+    (runner.asked ≡ asked) × StandsAs now runner state × IsNew entry.told runner.token
+Reached asked entry now (Over answer) = IsUnbegun asked answer
 
--- the session tells of a fault of the folder
+-- the session tells of a fault of what lies outside it
 abbrev pub PhaseTells : Phase → Type 0
 PhaseTells (Waiting question) = ⊥
-PhaseTells (Begun runner state) = TellsDiskFault state
-PhaseTells (Over answer) = IsDiskFault answer.outcome.cause
+PhaseTells (Begun runner state) = TellsOutside state
+PhaseTells (Over answer) = IsOutside answer.outcome.cause
+
+-- the events of a session that has made at most so many; none before its begin
+abbrev pub made_in : Phase → ℕ → ℕ
+made_in (Waiting question) made = 0
+made_in phase made = made
 
 -- from an entry the session has come so far
-abbrev pub Comes : Question → Moment → Moment → Phase → Type 0
-Comes asked entry now phase = TurnsTo entry now (Reached asked now phase) (PhaseTells phase)
+pub record Comes (asked : Question) (entry now : Moment) (phase : Phase) : Type 0 where
+  pub made : ℕ
+  pub turns : TurnsTo entry now (phase_token phase) (made_in phase made)
+      (Reached asked entry now phase) (PhaseTells phase)
+  pub called : IfSome now.told (PhaseCalled phase)
 
 -- the session as the streams left it
 abbrev pub phase_after : Result (Unit {0}) SinkFault → Phase → Phase
@@ -39,11 +50,16 @@ pub record Concludes (before now : Moment) (phase : Phase) (outcome : Outcome) :
   pub turns : SessionTurns before now phase last
   pub ends : outcome_of last ≡ Some outcome
 
--- a session that was asked this answered so with its last event
-pub record AnsweredAs (asked : Question) (now : Moment) (final : Answer) : Type 0 where
+-- the session of the token, which is new since its entry, was asked this, and answered so with its
+-- last event
+pub record AnsweredAs (asked : Question) (entry now : Moment) (token : Token) (final : Answer)
+    : Type 0 where
   pub runner : Runner
   pub same : runner.asked ≡ asked
+  pub same_token : runner.token ≡ token
+  pub fresh : IsNew entry.told runner.token
   pub answered : IfSome now.told (HasAnswered runner final)
+  pub within : IfSome now.told (λ past. IsWithin runner.token past.history)
 
 -- The session came to an answer, which the streams left so, and the outcome is that. It answered with
 -- its last event, or its begin gave no token.
@@ -54,6 +70,8 @@ pub record Finished (asked : Question) (entry now : Moment) (was holds : Streams
   pub put : Result (Unit {0}) SinkFault
   pub served : Serves (Some asked.request.tool) given was holds put
   pub ends : outcome ≡ (after_streams put given).outcome
-  pub turns : TurnsTo entry now
-      (AnsweredAs asked now (after_streams put given) ⊎ IsUnbegun asked given)
-      (IsDiskFault outcome.cause)
+  pub token : Token
+  pub made : ℕ
+  pub turns : TurnsTo entry now token made
+      (AnsweredAs asked entry now token (after_streams put given) ⊎ IsUnbegun asked given)
+      (IsOutside given.outcome.cause)

@@ -4,11 +4,14 @@ pub mod Locking
 pub mod Answers
 pub mod Deeds
 pub mod Causes
+pub mod Open
 pub mod Due
+pub mod Grows
 pub mod Stands
 pub mod Recovering
 pub mod Loading
 pub mod Left
+pub mod Bound
 pub mod Session
 pub mod Streams
 pub mod Supplies

@@ -1,7 +1,8 @@
 -- A session: how it stands at a moment, and what one turn of it does.
-use Rattle.std.specs.Prelude.{◌≡◌, ◌⊎◌, ⊤, ◌∷◌, ℕ, Option, Some, None, IfSome}
+use Rattle.std.specs.Prelude.{◌≡◌, ◌⊎◌, ⊤, [], ◌∷◌, ℕ, Option, Some, None, IfSome}
 use Rattle.acct_outside.specs.Calls.{Command, answers, done}
-use Rattle.acct_outside.specs.History.{History}
+use Rattle.acct_outside.specs.Tokens.{Token}
+use Rattle.acct_outside.specs.History.{History, own_events}
 use Rattle.acct_outside.specs.Contract.{Past, Narrows}
 use Rattle.account_model.specs.Words.{Asks}
 use Rattle.acct_outside.specs.declared.CommitStage.TheVariants.{Before}
@@ -19,7 +20,7 @@ use Rattle.suite_core.specs.Moment.{Moment}
 use Rattle.suite_core.specs.Answers.{Says, memory_answer}
 use Rattle.suite_core.specs.Due.{IsDue}
 use Rattle.suite_core.specs.Left.{ranked, turns_left}
-use Rattle.suite_core.specs.Stands.{IsDiskFault, StandsAs, TurnsTo, Turns}
+use Rattle.suite_core.specs.Stands.{IsOutside, StandsAs, TurnsTo, Turns}
 
 -- the session hasn't begun, and was asked this by words that ask for something
 abbrev pub IsStarted : Command → Phase → Type 0
@@ -101,16 +102,36 @@ pub record Stays (before now : Moment) : Type 0 where
   pub narrows : Narrows before.admits now.admits
   pub faults : now.faults ≡ before.faults
 
--- One turn of a session: its begin, a step, or its answer. A begin that gave no token is told as a
--- fault, and leaves nothing to call.
+-- no event of the token is told
+abbrev pub IsNew : Option Past → Token → Type 0
+IsNew told token = IfSome told (λ past. own_events token past.history ≡ [])
+
+-- One turn of a session: its begin, a step, or its answer. A begin gives a new token; one that gave
+-- none is told as a fault, and leaves nothing to call.
 abbrev pub SessionTurns : Moment → Moment → Phase → Phase → Type 0
 SessionTurns before now (Waiting asked) (Begun runner state) =
-    (runner.asked ≡ asked) × Turns before now runner state
+    (runner.asked ≡ asked) × Turns before now runner state × IsNew before.told runner.token
 SessionTurns before now (Waiting asked) (Over answer) =
-    TurnsTo before now (IsUnbegun asked answer) (IsDiskFault answer.outcome.cause)
+    TurnsTo before now [] 1 (IsUnbegun asked answer) (IsOutside answer.outcome.cause)
 SessionTurns before now (Begun runner state) (Begun same next) =
     (same ≡ runner) × Turns before now runner next
 SessionTurns before now (Begun runner state) (Over answer) =
-    (state ≡ Answering answer) × TurnsTo before now (Gave now runner answer) ⊥
+    (state ≡ Answering answer) × TurnsTo before now runner.token 1 (Gave now runner answer) ⊥
 SessionTurns before now (Over answer) (Over same) = (same ≡ answer) × Stays before now
 SessionTurns before now old new = ⊥
+
+-- the token of a session; none before its begin, and once it is over
+abbrev pub phase_token : Phase → Token
+phase_token (Begun runner state) = runner.token
+phase_token phase = []
+
+-- the token of the session that takes this turn; none where its begin gave none
+abbrev pub turn_token : Phase → Phase → Token
+turn_token (Begun runner state) new = runner.token
+turn_token (Waiting asked) new = phase_token new
+turn_token (Over answer) new = []
+
+-- each session of another token stands where it stood before this turn
+abbrev pub OthersStand : Moment → Moment → Phase → Phase → Type 0
+OthersStand before now old new = (other : Phase) → SessionStands before other →
+    (turn_token old new ≡ phase_token other → ⊥) → SessionStands now other

@@ -1,6 +1,7 @@
 -- How a session stands in each of its states, by its own events, and what one turn of it does.
-use Rattle.std.specs.Prelude.{◌≡◌, ⊤, ◌<◌, ◌≤◌, ◌++◌, length, Option, IfSome}
+use Rattle.std.specs.Prelude.{◌≡◌, ⊤, ℕ, ◌<◌, ◌≤◌, ◌++◌, length, Option, IfSome}
 use Rattle.acct_outside.specs.Faults.{HasRisen}
+use Rattle.acct_outside.specs.Tokens.{Token}
 use Rattle.acct_outside.specs.History.{History}
 use Rattle.acct_outside.specs.Others.{Admission}
 use Rattle.acct_outside.specs.Contract.{Past, Narrows, MayAnswer, WhereTold}
@@ -17,7 +18,7 @@ use Rattle.commit_steps.specs.States.{Change, Walker}
 use Rattle.commit_steps.specs.Walks.{token_of}
 use Rattle.commit_steps.specs.Stands.{HasRead, BacksUp, HasStagedIntent, Installs}
 use Rattle.suite_answers.specs.declared.cause.Cause.{Cause}
-use Rattle.suite_answers.specs.declared.cause.Cause.TheVariants.{Changed, DiskFault}
+use Rattle.suite_answers.specs.declared.cause.Cause.TheVariants.{Changed, DiskFault, InputFault, OutputFault, ClockFault}
 use Rattle.suite_answers.specs.declared.answer.Answer.{Answer}
 use Rattle.suite_answers.specs.Reasons.{stage_of}
 use Rattle.suite_core.specs.declared.state.State.{State}
@@ -27,11 +28,21 @@ use Rattle.suite_core.specs.Moment.{Moment, At, commit_at}
 use Rattle.suite_core.specs.Answers.{answer_on, IsAnswerOn, given_for, memory_answer, IsTold, Says}
 use Rattle.suite_core.specs.Deeds.{AreOfTools}
 use Rattle.suite_core.specs.Due.{IsDue}
+use Rattle.suite_core.specs.Grows.{Grew}
 
 -- the cause is a fault of the folder
 abbrev pub IsDiskFault : Cause → Type 0
 IsDiskFault (DiskFault stage) = ⊤
 IsDiskFault cause = ⊥
+
+-- the cause is a fault of what lies outside the session: of the folder, or of the input, the streams or
+-- the clock, of which a session by itself tells none
+abbrev pub IsOutside : Cause → Type 0
+IsOutside (DiskFault stage) = ⊤
+IsOutside InputFault = ⊤
+IsOutside (OutputFault stage) = ⊤
+IsOutside ClockFault = ⊤
+IsOutside cause = ⊥
 
 -- a keeper frees its lock with the answer to this cause, or there was no memory for its text
 abbrev pub LeavesWith : Tool → Kept → Cause → State → Type 0
@@ -72,12 +83,12 @@ pub record StandsInstalling (now : Moment) (runner : Runner) (walker : Walker) (
   pub changed : answer.outcome.cause ≡ Changed
   pub gives : Gives now runner answer
 
--- It keeps its number, and has this answer to give, which tells of no fault of the folder.
+-- It keeps its number, and has this answer to give, which tells of no fault outside the session.
 pub record StandsUnlocking (now : Moment) (runner : Runner) (keeper : Kept) (answer : Answer)
     : Type 0 where
   pub same : keeper.token ≡ runner.token
   pub stands : At now runner (commit_at (stage_of answer.outcome.cause)) (Keeps keeper KnowsAnything)
-  pub quiet : IsDiskFault answer.outcome.cause → ⊥
+  pub quiet : IsOutside answer.outcome.cause → ⊥
   pub gives : Gives now runner answer
 
 -- it has staged the free text, and has this answer to give
@@ -85,7 +96,7 @@ pub record StandsFreeing (now : Moment) (runner : Runner) (freeing : Maker) (ans
     : Type 0 where
   pub same : freeing.token ≡ runner.token
   pub stands : At now runner (commit_at (stage_of answer.outcome.cause)) (HasStagedFree freeing)
-  pub quiet : IsDiskFault answer.outcome.cause → ⊥
+  pub quiet : IsOutside answer.outcome.cause → ⊥
   pub gives : Gives now runner answer
 
 -- the runner stands in the state
@@ -131,27 +142,29 @@ abbrev pub StaysOurs : Admission → Option Past → Option Past → Type 0
 StaysOurs admits before now =
     (deeds : SuiteDeeds) → AreOfTools deeds → StaysLawful deeds admits before now
 
--- the state answers that the folder failed
-abbrev pub TellsDiskFault : State → Type 0
-TellsDiskFault (Answering answer) = IsDiskFault answer.outcome.cause
-TellsDiskFault state = ⊥
+-- the state answers with a fault of what lies outside
+abbrev pub TellsOutside : State → Type 0
+TellsOutside (Answering answer) = IsOutside answer.outcome.cause
+TellsOutside state = ⊥
 
 -- the history is longer, where one is told
 abbrev pub Extends : Option Past → Option Past → Type 0
 Extends before now = WhereTold before now (λ first old new. (newer : History) × (new ≡ newer ++ old))
 
--- One turn of the runner, between two moments, to what stands so: the history is extended; a lawful
--- one stays lawful; the folder admits no more than before; and its count of faults doesn't fall, and
--- rose where a fault of it is told.
-pub record TurnsTo (before now : Moment) (Stands TellsFault : Type 0) : Type 0 where
+-- Turns of the session of one token, between two moments, to what stands so: the history got events
+-- that were admitted from others, and at most so many of the session's own; a lawful one stays lawful;
+-- the folder admits no more than before; and its count of faults doesn't fall, and rose where a fault
+-- of it is told.
+pub record TurnsTo (before now : Moment) (token : Token) (most : ℕ) (Stands TellsFault : Type 0)
+    : Type 0 where
   pub stands : Stands
-  pub extends : Extends before.told now.told
+  pub grew : Grew before.admits token most before.told now.told
   pub lawful : StaysOurs before.admits before.told now.told
   pub narrows : Narrows before.admits now.admits
   pub never_falls : before.faults ≤ now.faults
   pub risen : TellsFault → HasRisen before.faults now.faults
 
--- one turn of the runner to a state
+-- one turn of the runner to a state: one event is its own, or none where there was no memory
 abbrev pub Turns : Moment → Moment → Runner → State → Type 0
 Turns before now runner state =
-    TurnsTo before now (StandsAs now runner state) (TellsDiskFault state)
+    TurnsTo before now runner.token 1 (StandsAs now runner state) (TellsOutside state)

@@ -83,3 +83,11 @@ IsUnsupplied tool before now (TooLarge Input) =
 IsUnsupplied tool before now ClockFault = HasRisen before.clock_faults now.clock_faults
 IsUnsupplied tool before now (Memory Before) = ⊤
 IsUnsupplied tool before now cause = ⊥
+
+-- nothing lacks: no fault of the source or of the clock was counted, and what the source had left, where
+-- the tool reads it, is within the limit of an input
+pub record LacksNothing (tool : Tool) (before now : Supplies) : Type 0 where
+  pub source : HasRisen before.input_faults now.input_faults → ⊥
+  pub clock : HasRisen before.clock_faults now.clock_faults → ⊥
+  pub within : reads_input tool ≡ true →
+      (bytes : Bytes) × (before.left ≡ Some bytes) × (length bytes ≤ table_limit)

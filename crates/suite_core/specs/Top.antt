@@ -1,9 +1,10 @@
 -- What the top call answers: how a command ends that asks for nothing, and what the history of a
 -- folder shows of one that ran.
-use Rattle.std.specs.Prelude.{◌≡◌, ◌⊎◌, ◌∷◌, ◌++◌, [], ℕ, Bool, true, false, Some, None, Option, List, slice_get, Result}
+use Rattle.std.specs.Prelude.{◌≡◌, ◌⊎◌, ◌∷◌, ◌++◌, [], ℕ, Some, None, Option, List, slice_get, Result}
 use Rattle.std.specs.List.{AllByRecursion}
 use Rattle.acct_text.specs.declared.Tab.{Tab}
 use Rattle.acct_outside.specs.declared.Name.TheVariants.{Table, Defs}
+use Rattle.acct_outside.specs.declared.CommitStage.{CommitStage}
 use Rattle.acct_outside.specs.declared.CommitStage.TheVariants.{Before}
 use Rattle.acct_outside.specs.declared.streams.SinkFault.{SinkFault}
 use Rattle.acct_outside.specs.Tokens.{Token}
@@ -32,11 +33,13 @@ use Rattle.suite_answers.specs.Answers.{told}
 use Rattle.suite_core.specs.Runner.{Question}
 use Rattle.suite_core.specs.Moment.{Moment, commit_at}
 use Rattle.suite_core.specs.Answers.{IsAnswerOn, memory_answer, Says}
+use Rattle.suite_core.specs.Bound.{IsBounded}
 use Rattle.suite_core.specs.Causes.{HasMet, MetGreater}
 use Rattle.suite_core.specs.Deeds.{AreOfTools, files_of}
-use Rattle.suite_core.specs.Stands.{IsDiskFault}
+use Rattle.suite_core.specs.Open.{StandsOpen}
+use Rattle.suite_core.specs.Stands.{IsDiskFault, IsOutside}
 use Rattle.suite_core.specs.Streams.{Streams, Serves, after_streams}
-use Rattle.suite_core.specs.Supplies.{Supplies, IsUnsupplied}
+use Rattle.suite_core.specs.Supplies.{Supplies, IsUnsupplied, LacksNothing}
 
 -- ---- What the history shows
 
@@ -135,10 +138,22 @@ IsShownAt deeds asked first history token given (Outrun number other) =
     MetGreater token number other history
 IsShownAt deeds asked first history token given cause = HasMet token history cause
 
+-- there was no memory, or the answer is the tool's on the settled files of the earlier moment
+abbrev pub AnswersOnOld : SuiteDeeds → Question → Folder → History → History → Token → Answer → Type 0
+AnswersOnOld deeds asked first old new token given =
+    ((stage : CommitStage) × (given.outcome.cause ≡ Memory stage))
+    ⊎ IsAnswerOnOld deeds asked first old new token given
+
 -- the begin gave no token: the folder failed, or there was no memory, before any commit
 abbrev pub HasNoToken : Answer → Type 0
 HasNoToken given =
     (given.outcome.cause ≡ DiskFault Before) ⊎ (given.outcome.cause ≡ Memory Before)
+
+-- a session that began in this call, between the two moments, answered so; or its begin gave no token
+abbrev pub BegunOrNone : Question → Outcome → Answer → Folder → History → History → Type 0
+BegunOrNone asked outcome given first old new =
+    ((token : Token) × Answered asked outcome token new × (own_events token old ≡ []))
+    ⊎ HasNoToken given
 
 -- the tool that the first word names
 abbrev pub named_tool : List Word → Option Tool
@@ -159,17 +174,27 @@ pub record EndsEarly (tool : Option Tool) (answer : Answer) (was holds : Streams
   pub is : (given ≡ answer) ⊎ (given ≡ memory_answer Before)
   pub ends : Ends tool given was holds outcome
 
--- The command has no input or no day. It tells the cause of that, or that there was no memory.
+-- no fault of a stream was counted
+pub record StreamsServe (was holds : Streams) : Type 0 where
+  pub out : HasRisen was.out_faults holds.out_faults → ⊥
+  pub err : HasRisen was.err_faults holds.err_faults → ⊥
+
+-- The command has no input or no day. It tells the cause of that, or that there was no memory. Where
+-- nothing lacks, that is so.
 pub record EndsUnsupplied (tool : Tool) (before now : Supplies) (was holds : Streams)
     (outcome : Outcome) : Type 0 where
   pub cause : Cause
   pub due : IsUnsupplied tool before now cause
   pub ends : EndsEarly (Some tool) (told tool cause) was holds outcome
+  pub complete : LacksNothing tool before now → StreamsServe was holds →
+      outcome.cause ≡ Memory Before
 
 -- The command ran. Its session gave an answer, which the streams left so, and the outcome is that. A
 -- fault of the folder is told only where its count rose. A lawful history stays lawful, and always
--- settles to the fold of its commitments. The session's last event is its answer, and the history
--- shows what the cause of that says.
+-- settles to the fold of its commitments. The session began in this call, its last event is its
+-- answer, and the history shows what the cause of that says. New events are of others, or the
+-- session's own within the bound. A session that was alone, in whose way nothing stood, gives the
+-- tool's answer, or finds no memory.
 pub record Ran (asked : Question) (before now : Moment) (was holds : Streams) (outcome : Outcome)
     : Type 0 where
   pub given : Answer
@@ -177,11 +202,18 @@ pub record Ran (asked : Question) (before now : Moment) (was holds : Streams) (o
   pub put : Result (Unit {0}) SinkFault
   pub served : Serves (Some asked.request.tool) given was holds put
   pub ends : outcome ≡ (after_streams put given).outcome
+  pub outside : IsOutside given.outcome.cause → HasRisen before.faults now.faults
   pub failed : IsDiskFault outcome.cause → HasRisen before.faults now.faults
   pub lawful : WhereLawful before now ExtendsLawfully
   pub settles : WhereLawful before now (λ deeds first old new. IsAlwaysSettled deeds first new)
-  pub answered : WhereTold before.told now.told (λ first old new.
-      ((token : Token) × Answered asked outcome token new) ⊎ HasNoToken given)
+  pub answered : WhereTold before.told now.told (BegunOrNone asked outcome given)
   pub shown : WhereLawful before now (λ deeds first old new.
       (token : Token) → Answered asked outcome token new →
       IsShownAt deeds asked first new token (after_streams put given) outcome.cause)
+  pub bounded : WhereTold before.told now.told (λ first old new. ((token : Token)
+      × Answered asked outcome token new × IsBounded before.admits token old new)
+      ⊎ HasNoToken given)
+  pub complete : (HasRisen before.faults now.faults → ⊥) → StreamsServe was holds →
+      WhereLawful before now (λ deeds first old new. (token : Token) → IsAlone token old new →
+      StandsOpen (after first old) token new →
+      AnswersOnOld deeds asked first old new token (after_streams put given))

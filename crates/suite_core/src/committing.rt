@@ -5,7 +5,7 @@
 // 3. It puts the tables in place, and removes the intent (`install`).
 ghost use Rattle.std.specs.Prelude.{◌≡◌, ◌<◌};
 ghost use Rattle.commit_steps.specs.States.{steps_left};
-ghost use Rattle.suite_core.specs.Left.{turns_left};
+ghost use Rattle.suite_core.specs.Left.{calls_left, turns_left};
 ghost use Rattle.suite_core.specs.Moment.{moment};
 ghost use Rattle.suite_core.specs.Stands.{StandsAs, Turns};
 
@@ -25,11 +25,15 @@ pub(crate) fn back_up<F: Folder>(
     answer: Answer,
     folder: &mut F,
 ) -> State
-    requires { StandsAs (moment (F.admits folder.old) (F.told folder.old) (F.fault_count folder.old))
+    requires { StandsAs
+        (moment (F.admits folder.old) (F.told folder.old) (F.fault_count folder.old))
         runner.now (State.BackingUp backing answer) }
-    ensures turns { Turns (moment (F.admits folder.old) (F.told folder.old) (F.fault_count folder.old))
-        (moment (F.admits folder.new) (F.told folder.new) (F.fault_count folder.new)) runner.now result }
+    ensures turns { Turns
+        (moment (F.admits folder.old) (F.told folder.old) (F.fault_count folder.old))
+        (moment (F.admits folder.new) (F.told folder.new) (F.fault_count folder.new))
+        runner.now result }
     ensures nearer { turns_left result < turns_left (State.BackingUp backing answer) }
+    ensures counted { calls_left result < calls_left (State.BackingUp backing answer) }
 {
     if backing.left() > 0 {
         back_up_next(alloc, runner, backing, answer, folder)
@@ -50,9 +54,12 @@ fn back_up_next<F: Folder>(
     requires stands { StandsAs
         (moment (F.admits folder.old) (F.told folder.old) (F.fault_count folder.old))
         runner.now (State.BackingUp backing answer) }
-    ensures turns { Turns (moment (F.admits folder.old) (F.told folder.old) (F.fault_count folder.old))
-        (moment (F.admits folder.new) (F.told folder.new) (F.fault_count folder.new)) runner.now result }
+    ensures turns { Turns
+        (moment (F.admits folder.old) (F.told folder.old) (F.fault_count folder.old))
+        (moment (F.admits folder.new) (F.told folder.new) (F.fault_count folder.new))
+        runner.now result }
     ensures nearer { turns_left result < turns_left (State.BackingUp backing answer) }
+    ensures counted { calls_left result < calls_left (State.BackingUp backing answer) }
 {
     match backing.back_up_next(folder) {
         Ok(backing) => State::BackingUp(backing, answer),
@@ -72,9 +79,12 @@ fn stage_intent<F: Folder>(
     requires stands { StandsAs
         (moment (F.admits folder.old) (F.told folder.old) (F.fault_count folder.old))
         runner.now (State.BackingUp backing answer) }
-    ensures turns { Turns (moment (F.admits folder.old) (F.told folder.old) (F.fault_count folder.old))
-        (moment (F.admits folder.new) (F.told folder.new) (F.fault_count folder.new)) runner.now result }
+    ensures turns { Turns
+        (moment (F.admits folder.old) (F.told folder.old) (F.fault_count folder.old))
+        (moment (F.admits folder.new) (F.told folder.new) (F.fault_count folder.new))
+        runner.now result }
     ensures nearer { turns_left result < turns_left (State.BackingUp backing answer) }
+    ensures counted { calls_left result < calls_left (State.BackingUp backing answer) }
 {
     match backing.stage_intent(folder) {
         Ok(staged) => State::Committing(staged, answer),
@@ -90,11 +100,15 @@ pub(crate) fn commit<F: Folder>(
     answer: Answer,
     folder: &mut F,
 ) -> State
-    requires { StandsAs (moment (F.admits folder.old) (F.told folder.old) (F.fault_count folder.old))
+    requires { StandsAs
+        (moment (F.admits folder.old) (F.told folder.old) (F.fault_count folder.old))
         runner.now (State.Committing staged answer) }
-    ensures turns { Turns (moment (F.admits folder.old) (F.told folder.old) (F.fault_count folder.old))
-        (moment (F.admits folder.new) (F.told folder.new) (F.fault_count folder.new)) runner.now result }
+    ensures turns { Turns
+        (moment (F.admits folder.old) (F.told folder.old) (F.fault_count folder.old))
+        (moment (F.admits folder.new) (F.told folder.new) (F.fault_count folder.new))
+        runner.now result }
     ensures nearer { turns_left result < turns_left (State.Committing staged answer) }
+    ensures counted { calls_left result < calls_left (State.Committing staged answer) }
 {
     match staged.commit(folder) {
         Ok(installing) => State::Installing(installing, answer),
@@ -110,11 +124,15 @@ pub(crate) fn install<F: Folder>(
     answer: Answer,
     folder: &mut F,
 ) -> State
-    requires { StandsAs (moment (F.admits folder.old) (F.told folder.old) (F.fault_count folder.old))
+    requires { StandsAs
+        (moment (F.admits folder.old) (F.told folder.old) (F.fault_count folder.old))
         runner.now (State.Installing installing answer) }
-    ensures turns { Turns (moment (F.admits folder.old) (F.told folder.old) (F.fault_count folder.old))
-        (moment (F.admits folder.new) (F.told folder.new) (F.fault_count folder.new)) runner.now result }
+    ensures turns { Turns
+        (moment (F.admits folder.old) (F.told folder.old) (F.fault_count folder.old))
+        (moment (F.admits folder.new) (F.told folder.new) (F.fault_count folder.new))
+        runner.now result }
     ensures nearer { turns_left result < turns_left (State.Installing installing answer) }
+    ensures counted { calls_left result < calls_left (State.Installing installing answer) }
 {
     if installing.left() > 0 {
         install_next(alloc, runner, installing, answer, folder)
@@ -135,9 +153,12 @@ fn install_next<F: Folder>(
     requires stands { StandsAs
         (moment (F.admits folder.old) (F.told folder.old) (F.fault_count folder.old))
         runner.now (State.Installing installing answer) }
-    ensures turns { Turns (moment (F.admits folder.old) (F.told folder.old) (F.fault_count folder.old))
-        (moment (F.admits folder.new) (F.told folder.new) (F.fault_count folder.new)) runner.now result }
+    ensures turns { Turns
+        (moment (F.admits folder.old) (F.told folder.old) (F.fault_count folder.old))
+        (moment (F.admits folder.new) (F.told folder.new) (F.fault_count folder.new))
+        runner.now result }
     ensures nearer { turns_left result < turns_left (State.Installing installing answer) }
+    ensures counted { calls_left result < calls_left (State.Installing installing answer) }
 {
     match installing.install_next(folder) {
         Ok(installing) => State::Installing(installing, answer),
@@ -157,9 +178,12 @@ fn clear<F: Folder>(
     requires stands { StandsAs
         (moment (F.admits folder.old) (F.told folder.old) (F.fault_count folder.old))
         runner.now (State.Installing installing answer) }
-    ensures turns { Turns (moment (F.admits folder.old) (F.told folder.old) (F.fault_count folder.old))
-        (moment (F.admits folder.new) (F.told folder.new) (F.fault_count folder.new)) runner.now result }
+    ensures turns { Turns
+        (moment (F.admits folder.old) (F.told folder.old) (F.fault_count folder.old))
+        (moment (F.admits folder.new) (F.told folder.new) (F.fault_count folder.new))
+        runner.now result }
     ensures nearer { turns_left result < turns_left (State.Installing installing answer) }
+    ensures counted { calls_left result < calls_left (State.Installing installing answer) }
 {
     match installing.clear(folder) {
         Ok(cleared) => State::Unlocking(cleared.release().forget(), answer),

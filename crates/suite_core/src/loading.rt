@@ -1,6 +1,6 @@
 // The turns in which a keeper loads the files. After the last read the tool decides.
 ghost use Rattle.std.specs.Prelude.{◌<◌};
-ghost use Rattle.suite_core.specs.Left.{turns_left};
+ghost use Rattle.suite_core.specs.Left.{calls_left, turns_left};
 ghost use Rattle.suite_core.specs.Moment.{moment};
 ghost use Rattle.suite_core.specs.Loading.{DecidesTo, EndsAt, LoadsTo};
 ghost use Rattle.suite_core.specs.Stands.{StandsAs, Turns};
@@ -22,11 +22,15 @@ pub(crate) fn load<F: Folder>(
     loader: Loader,
     folder: &mut F,
 ) -> State
-    requires { StandsAs (moment (F.admits folder.old) (F.told folder.old) (F.fault_count folder.old))
+    requires { StandsAs
+        (moment (F.admits folder.old) (F.told folder.old) (F.fault_count folder.old))
         runner.now (State.Loading loader) }
-    ensures turns { Turns (moment (F.admits folder.old) (F.told folder.old) (F.fault_count folder.old))
-        (moment (F.admits folder.new) (F.told folder.new) (F.fault_count folder.new)) runner.now result }
+    ensures turns { Turns
+        (moment (F.admits folder.old) (F.told folder.old) (F.fault_count folder.old))
+        (moment (F.admits folder.new) (F.told folder.new) (F.fault_count folder.new))
+        runner.now result }
     ensures nearer { turns_left result < turns_left (State.Loading loader) }
+    ensures counted { calls_left result < calls_left (State.Loading loader) }
 {
     loader.is_sound();
     match loader.load_next(folder) {

@@ -1,7 +1,8 @@
 // The turns in which a session takes the lock.
 ghost use Rattle.std.specs.Prelude.{◌≡◌, ◌<◌};
 ghost use Rattle.suite_core.specs.Locking.{after_look, after_read, after_listing, cause_of_end, cause_of_fault, cause_of_refusal};
-ghost use Rattle.suite_core.specs.Left.{turns_left};
+ghost use Rattle.suite_core.specs.Bound.{Listed};
+ghost use Rattle.suite_core.specs.Left.{calls_left, turns_left};
 ghost use Rattle.suite_core.specs.Moment.{moment};
 ghost use Rattle.suite_core.specs.Stands.{AnswersWith, StandsAs, Turns};
 
@@ -21,11 +22,15 @@ pub(crate) fn look<F: Folder>(
     looking: Looking,
     folder: &mut F,
 ) -> State
-    requires { StandsAs (moment (F.admits folder.old) (F.told folder.old) (F.fault_count folder.old))
+    requires { StandsAs
+        (moment (F.admits folder.old) (F.told folder.old) (F.fault_count folder.old))
         runner.now (State.Looking looking) }
-    ensures turns { Turns (moment (F.admits folder.old) (F.told folder.old) (F.fault_count folder.old))
-        (moment (F.admits folder.new) (F.told folder.new) (F.fault_count folder.new)) runner.now result }
+    ensures turns { Turns
+        (moment (F.admits folder.old) (F.told folder.old) (F.fault_count folder.old))
+        (moment (F.admits folder.new) (F.told folder.new) (F.fault_count folder.new))
+        runner.now result }
     ensures nearer { turns_left result < turns_left (State.Looking looking) }
+    ensures counted { calls_left result < calls_left (State.Looking looking) }
 {
     match looking.look(folder) {
         Ok(seen) => after_look(seen),
@@ -46,11 +51,15 @@ fn after_look(seen: Seen) -> State
 
 /// Reads the greatest lock.
 pub(crate) fn read<F: Folder>(alloc: Global, runner: &Runner, seen: Seen, folder: &mut F) -> State
-    requires { StandsAs (moment (F.admits folder.old) (F.told folder.old) (F.fault_count folder.old))
+    requires { StandsAs
+        (moment (F.admits folder.old) (F.told folder.old) (F.fault_count folder.old))
         runner.now (State.Reading seen) }
-    ensures turns { Turns (moment (F.admits folder.old) (F.told folder.old) (F.fault_count folder.old))
-        (moment (F.admits folder.new) (F.told folder.new) (F.fault_count folder.new)) runner.now result }
+    ensures turns { Turns
+        (moment (F.admits folder.old) (F.told folder.old) (F.fault_count folder.old))
+        (moment (F.admits folder.new) (F.told folder.new) (F.fault_count folder.new))
+        runner.now result }
     ensures nearer { turns_left result < turns_left (State.Reading seen) }
+    ensures counted { calls_left result < calls_left (State.Reading seen) }
 {
     match seen.read(alloc, folder) {
         Ok(told) => after_read(told),
@@ -75,11 +84,15 @@ pub(crate) fn ask<F: Folder>(
     asking: Asking,
     folder: &mut F,
 ) -> State
-    requires { StandsAs (moment (F.admits folder.old) (F.told folder.old) (F.fault_count folder.old))
+    requires { StandsAs
+        (moment (F.admits folder.old) (F.told folder.old) (F.fault_count folder.old))
         runner.now (State.Asking asking) }
-    ensures turns { Turns (moment (F.admits folder.old) (F.told folder.old) (F.fault_count folder.old))
-        (moment (F.admits folder.new) (F.told folder.new) (F.fault_count folder.new)) runner.now result }
+    ensures turns { Turns
+        (moment (F.admits folder.old) (F.told folder.old) (F.fault_count folder.old))
+        (moment (F.admits folder.new) (F.told folder.new) (F.fault_count folder.new))
+        runner.now result }
     ensures nearer { turns_left result < turns_left (State.Asking asking) }
+    ensures counted { calls_left result < calls_left (State.Asking asking) }
 {
     match asking.ask(folder) {
         Ok(judged) => State::Claiming(judged),
@@ -94,11 +107,15 @@ pub(crate) fn claim<F: Folder>(
     judged: Judged,
     folder: &mut F,
 ) -> State
-    requires { StandsAs (moment (F.admits folder.old) (F.told folder.old) (F.fault_count folder.old))
+    requires { StandsAs
+        (moment (F.admits folder.old) (F.told folder.old) (F.fault_count folder.old))
         runner.now (State.Claiming judged) }
-    ensures turns { Turns (moment (F.admits folder.old) (F.told folder.old) (F.fault_count folder.old))
-        (moment (F.admits folder.new) (F.told folder.new) (F.fault_count folder.new)) runner.now result }
+    ensures turns { Turns
+        (moment (F.admits folder.old) (F.told folder.old) (F.fault_count folder.old))
+        (moment (F.admits folder.new) (F.told folder.new) (F.fault_count folder.new))
+        runner.now result }
     ensures nearer { turns_left result < turns_left (State.Claiming judged) }
+    ensures counted { calls_left result < calls_left (State.Claiming judged) }
 {
     match judged.claim(folder) {
         Ok(claimed) => State::Confirming(claimed),
@@ -113,11 +130,15 @@ pub(crate) fn confirm<F: Folder>(
     claimed: Claimed,
     folder: &mut F,
 ) -> State
-    requires { StandsAs (moment (F.admits folder.old) (F.told folder.old) (F.fault_count folder.old))
+    requires { StandsAs
+        (moment (F.admits folder.old) (F.told folder.old) (F.fault_count folder.old))
         runner.now (State.Confirming claimed) }
-    ensures turns { Turns (moment (F.admits folder.old) (F.told folder.old) (F.fault_count folder.old))
-        (moment (F.admits folder.new) (F.told folder.new) (F.fault_count folder.new)) runner.now result }
+    ensures turns { Turns
+        (moment (F.admits folder.old) (F.told folder.old) (F.fault_count folder.old))
+        (moment (F.admits folder.new) (F.told folder.new) (F.fault_count folder.new))
+        runner.now result }
     ensures nearer { turns_left result < turns_left (State.Confirming claimed) }
+    ensures counted { Listed (F.told folder.new) runner.now (State.Confirming claimed) result }
 {
     match claimed.confirm(folder) {
         Ok(confirmed) => after_listing(confirmed),
@@ -142,11 +163,15 @@ pub(crate) fn withdraw<F: Folder>(
     loser: Loser,
     folder: &mut F,
 ) -> State
-    requires { StandsAs (moment (F.admits folder.old) (F.told folder.old) (F.fault_count folder.old))
+    requires { StandsAs
+        (moment (F.admits folder.old) (F.told folder.old) (F.fault_count folder.old))
         runner.now (State.Withdrawing loser) }
-    ensures turns { Turns (moment (F.admits folder.old) (F.told folder.old) (F.fault_count folder.old))
-        (moment (F.admits folder.new) (F.told folder.new) (F.fault_count folder.new)) runner.now result }
+    ensures turns { Turns
+        (moment (F.admits folder.old) (F.told folder.old) (F.fault_count folder.old))
+        (moment (F.admits folder.new) (F.told folder.new) (F.fault_count folder.new))
+        runner.now result }
     ensures nearer { turns_left result < turns_left (State.Withdrawing loser) }
+    ensures counted { calls_left result < calls_left (State.Withdrawing loser) }
 {
     stopped(alloc, runner, loser.withdraw(folder))
 }

@@ -1,7 +1,7 @@
 // The turns in which a keeper reads the intent, and carries out one that another session left.
 ghost use Rattle.std.specs.Prelude.{◌≡◌, ◌<◌, length};
 ghost use Rattle.suite_core.specs.Locking.{cause_of_fault};
-ghost use Rattle.suite_core.specs.Left.{turns_left};
+ghost use Rattle.suite_core.specs.Left.{calls_left, turns_left};
 ghost use Rattle.suite_core.specs.Moment.{moment};
 ghost use Rattle.suite_core.specs.Recovering.{after_intent, Refuses};
 ghost use Rattle.suite_core.specs.Stands.{AnswersWith, StandsAs, Turns};
@@ -23,11 +23,15 @@ pub(crate) fn read_intent<F: Folder>(
     keeper: Keeper<Unknown>,
     folder: &mut F,
 ) -> State
-    requires { StandsAs (moment (F.admits folder.old) (F.told folder.old) (F.fault_count folder.old))
+    requires { StandsAs
+        (moment (F.admits folder.old) (F.told folder.old) (F.fault_count folder.old))
         runner.now (State.ReadingIntent keeper) }
-    ensures turns { Turns (moment (F.admits folder.old) (F.told folder.old) (F.fault_count folder.old))
-        (moment (F.admits folder.new) (F.told folder.new) (F.fault_count folder.new)) runner.now result }
+    ensures turns { Turns
+        (moment (F.admits folder.old) (F.told folder.old) (F.fault_count folder.old))
+        (moment (F.admits folder.new) (F.told folder.new) (F.fault_count folder.new))
+        runner.now result }
     ensures nearer { turns_left result < turns_left (State.ReadingIntent keeper) }
+    ensures counted { calls_left result < calls_left (State.ReadingIntent keeper) }
 {
     match recovery::read_intent(alloc, keeper, folder) {
         Ok(seen) => after_intent(seen),
@@ -72,11 +76,15 @@ pub(crate) fn recover<F: Folder>(
     recovering: Recovering,
     folder: &mut F,
 ) -> State
-    requires { StandsAs (moment (F.admits folder.old) (F.told folder.old) (F.fault_count folder.old))
+    requires { StandsAs
+        (moment (F.admits folder.old) (F.told folder.old) (F.fault_count folder.old))
         runner.now (State.Recovering recovering) }
-    ensures turns { Turns (moment (F.admits folder.old) (F.told folder.old) (F.fault_count folder.old))
-        (moment (F.admits folder.new) (F.told folder.new) (F.fault_count folder.new)) runner.now result }
+    ensures turns { Turns
+        (moment (F.admits folder.old) (F.told folder.old) (F.fault_count folder.old))
+        (moment (F.admits folder.new) (F.told folder.new) (F.fault_count folder.new))
+        runner.now result }
     ensures nearer { turns_left result < turns_left (State.Recovering recovering) }
+    ensures counted { calls_left result < calls_left (State.Recovering recovering) }
 {
     if recovering.left() > 0 {
         stage_table(alloc, runner, recovering, folder)
@@ -96,9 +104,12 @@ fn stage_table<F: Folder>(
     requires stands { StandsAs
         (moment (F.admits folder.old) (F.told folder.old) (F.fault_count folder.old))
         runner.now (State.Recovering recovering) }
-    ensures turns { Turns (moment (F.admits folder.old) (F.told folder.old) (F.fault_count folder.old))
-        (moment (F.admits folder.new) (F.told folder.new) (F.fault_count folder.new)) runner.now result }
+    ensures turns { Turns
+        (moment (F.admits folder.old) (F.told folder.old) (F.fault_count folder.old))
+        (moment (F.admits folder.new) (F.told folder.new) (F.fault_count folder.new))
+        runner.now result }
     ensures nearer { turns_left result < turns_left (State.Recovering recovering) }
+    ensures counted { calls_left result < calls_left (State.Recovering recovering) }
 {
     match recovering.stage_next(folder) {
         Ok(moving) => State::Moving(moving),
@@ -117,9 +128,12 @@ fn remove_intent<F: Folder>(
     requires stands { StandsAs
         (moment (F.admits folder.old) (F.told folder.old) (F.fault_count folder.old))
         runner.now (State.Recovering recovering) }
-    ensures turns { Turns (moment (F.admits folder.old) (F.told folder.old) (F.fault_count folder.old))
-        (moment (F.admits folder.new) (F.told folder.new) (F.fault_count folder.new)) runner.now result }
+    ensures turns { Turns
+        (moment (F.admits folder.old) (F.told folder.old) (F.fault_count folder.old))
+        (moment (F.admits folder.new) (F.told folder.new) (F.fault_count folder.new))
+        runner.now result }
     ensures nearer { turns_left result < turns_left (State.Recovering recovering) }
+    ensures counted { calls_left result < calls_left (State.Recovering recovering) }
 {
     match recovering.remove_intent(folder) {
         Ok(keeper) => State::Loading(Loader::start(keeper)),
@@ -134,11 +148,15 @@ pub(crate) fn move_table<F: Folder>(
     moving: Moving,
     folder: &mut F,
 ) -> State
-    requires { StandsAs (moment (F.admits folder.old) (F.told folder.old) (F.fault_count folder.old))
+    requires { StandsAs
+        (moment (F.admits folder.old) (F.told folder.old) (F.fault_count folder.old))
         runner.now (State.Moving moving) }
-    ensures turns { Turns (moment (F.admits folder.old) (F.told folder.old) (F.fault_count folder.old))
-        (moment (F.admits folder.new) (F.told folder.new) (F.fault_count folder.new)) runner.now result }
+    ensures turns { Turns
+        (moment (F.admits folder.old) (F.told folder.old) (F.fault_count folder.old))
+        (moment (F.admits folder.new) (F.told folder.new) (F.fault_count folder.new))
+        runner.now result }
     ensures nearer { turns_left result < turns_left (State.Moving moving) }
+    ensures counted { calls_left result < calls_left (State.Moving moving) }
 {
     match moving.move_next(folder) {
         Ok(recovering) => State::Recovering(recovering),

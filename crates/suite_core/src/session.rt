@@ -4,8 +4,9 @@ ghost use Rattle.std.specs.Option.{option_copied};
 ghost use Rattle.acct_text.specs.Limits.{last_day, table_limit};
 ghost use Rattle.account_model.specs.Words.{Asks, fault as first_fault};
 ghost use Rattle.option_words.specs.Parsed.{request_in};
+ghost use Rattle.suite_core.specs.Bound.{SessionCounts};
 ghost use Rattle.suite_core.specs.Moment.{moment};
-ghost use Rattle.suite_core.specs.Session.{IsStarted, SessionStands, SessionTurns, answer_of, outcome_of, output_failed, phase_left, state_failed};
+ghost use Rattle.suite_core.specs.Session.{IsStarted, OthersStand, SessionStands, SessionTurns, answer_of, outcome_of, output_failed, phase_left, state_failed};
 ghost use Rattle.suite_core.specs.Streams.{after_fault, left_by, status_left};
 
 use crate::runner::{Asked, Runner, copy_words, memory_answer};
@@ -114,7 +115,8 @@ impl Session {
 
     /// Makes the session's next call of the folder; none once it has answered.
     ///
-    /// A fault of the folder, and want of memory, become its answer.
+    /// A fault of the folder, and want of memory, become its answer. Every other session stands where it
+    /// stood, so sessions can be turned in any order.
     pub fn turn<F: Folder>(&mut self, folder: &mut F)
         requires { SessionStands
             (moment (F.admits folder.old) (F.told folder.old) (F.fault_count folder.old)) self.old }
@@ -122,7 +124,12 @@ impl Session {
             (moment (F.admits folder.old) (F.told folder.old) (F.fault_count folder.old))
             (moment (F.admits folder.new) (F.told folder.new) (F.fault_count folder.new))
             self.old self.new }
+        ensures others { OthersStand
+            (moment (F.admits folder.old) (F.told folder.old) (F.fault_count folder.old))
+            (moment (F.admits folder.new) (F.told folder.new) (F.fault_count folder.new))
+            self.old self.new }
         ensures nearer { answer_of self.old ≡ None → phase_left self.new < phase_left self.old }
+        ensures counted { SessionCounts (F.told folder.new) self.old self.new }
         ensures ends { IsSome (answer_of self.old) → IsSome (outcome_of self.new) }
     {
         let alloc = self.alloc;

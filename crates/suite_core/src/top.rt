@@ -35,6 +35,9 @@ use suite_answers::{Cause, Outcome};
 /// and without these two the folder isn't called. Where the folder tells its history, and that was
 /// lawful, it stays so whatever other sessions do in between, and the answer is the tool's on the
 /// files at the place of the command's lock.
+///
+/// A command that is alone, where no lock and no intent stands in its way and nothing outside fails,
+/// has no other answer than its tool's on the files of its entry, or that there was no memory.
 pub fn run_suite<F: Folder, S: Source, O: Sink, E: Sink, C: Clock>(
     alloc: Global,
     words: &[Word],

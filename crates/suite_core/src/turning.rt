@@ -2,6 +2,7 @@
 ghost use Rattle.std.specs.Prelude.{◌≡◌, ◌<◌, None, Ok, IfOk, IsSome};
 ghost use Rattle.account_model.specs.Words.{request_of};
 ghost use Rattle.suite_core.specs.Moment.{moment};
+ghost use Rattle.suite_core.specs.Bound.{CountsTo, SessionCounts};
 ghost use Rattle.suite_core.specs.Left.{turns_left};
 ghost use Rattle.suite_core.specs.Session.{IsFirst, SessionStands, SessionTurns, answer_of, given_in, outcome_of, phase_left};
 ghost use Rattle.suite_core.specs.Stands.{StandsAs, Turns};
@@ -29,6 +30,7 @@ pub(crate) fn turned<F: Folder>(alloc: Global, phase: Phase, folder: &mut F) -> 
         (moment (F.admits folder.new) (F.told folder.new) (F.fault_count folder.new))
         phase result }
     ensures nearer { answer_of phase ≡ None → phase_left result < phase_left phase }
+    ensures counted { SessionCounts (F.told folder.new) phase result }
     ensures ends { IsSome (answer_of phase) → IsSome (outcome_of result) }
 {
     match phase {
@@ -40,13 +42,15 @@ pub(crate) fn turned<F: Folder>(alloc: Global, phase: Phase, folder: &mut F) -> 
 
 /// The phase after the one call of a session that has begun: the answer, or another.
 fn stepped<F: Folder>(alloc: Global, runner: Runner, state: State, folder: &mut F) -> Phase
-    requires { StandsAs (moment (F.admits folder.old) (F.told folder.old) (F.fault_count folder.old))
+    requires { StandsAs
+        (moment (F.admits folder.old) (F.told folder.old) (F.fault_count folder.old))
         runner state }
     ensures turns { SessionTurns
         (moment (F.admits folder.old) (F.told folder.old) (F.fault_count folder.old))
         (moment (F.admits folder.new) (F.told folder.new) (F.fault_count folder.new))
         (Phase.Begun runner state) result }
     ensures nearer { given_in state ≡ None → phase_left result < turns_left state }
+    ensures counted { SessionCounts (F.told folder.new) (Phase.Begun runner state) result }
     ensures ends { IsSome (given_in state) → IsSome (outcome_of result) }
 {
     match state {
@@ -65,6 +69,7 @@ fn begin<F: Folder>(alloc: Global, asked: Asked, folder: &mut F) -> Phase
         (moment (F.admits folder.new) (F.told folder.new) (F.fault_count folder.new))
         (Phase.Waiting asked) result }
     ensures nearer { phase_left result < phase_left (Phase.Waiting asked) }
+    ensures counted { SessionCounts (F.told folder.new) (Phase.Waiting asked) result }
 {
     match folder.begin(&asked.words, &asked.input, asked.day) {
         Ok(token) => {
@@ -103,9 +108,12 @@ fn go_on<F: Folder>(alloc: Global, runner: &Runner, state: State, folder: &mut F
     requires stands { StandsAs
         (moment (F.admits folder.old) (F.told folder.old) (F.fault_count folder.old))
         runner.now state }
-    ensures turns { Turns (moment (F.admits folder.old) (F.told folder.old) (F.fault_count folder.old))
-        (moment (F.admits folder.new) (F.told folder.new) (F.fault_count folder.new)) runner.now result }
+    ensures turns { Turns
+        (moment (F.admits folder.old) (F.told folder.old) (F.fault_count folder.old))
+        (moment (F.admits folder.new) (F.told folder.new) (F.fault_count folder.new))
+        runner.now result }
     ensures nearer { turns_left result < turns_left state }
+    ensures counted { CountsTo (F.told folder.new) runner.now state result }
 {
     match state {
         State::Looking(looking) => look(alloc, runner, looking, folder),
@@ -131,7 +139,8 @@ fn go_on<F: Folder>(alloc: Global, runner: &Runner, state: State, folder: &mut F
 
 /// Gives the answer, the session's last call.
 fn answered<F: Folder>(runner: Runner, answer: Answer, folder: &mut F) -> Phase
-    requires { StandsAs (moment (F.admits folder.old) (F.told folder.old) (F.fault_count folder.old))
+    requires { StandsAs
+        (moment (F.admits folder.old) (F.told folder.old) (F.fault_count folder.old))
         runner (State.Answering answer) }
     ensures turns { SessionTurns
         (moment (F.admits folder.old) (F.told folder.old) (F.fault_count folder.old))

@@ -6,7 +6,7 @@
 // A fault of the folder replaces the answer, and keeps its stage of the commit.
 ghost use Rattle.std.specs.Prelude.{◌<◌, length};
 ghost use Rattle.suite_core.specs.Locking.{cause_of_fault};
-ghost use Rattle.suite_core.specs.Left.{turns_left};
+ghost use Rattle.suite_core.specs.Left.{calls_left, turns_left};
 ghost use Rattle.suite_core.specs.Moment.{moment};
 ghost use Rattle.suite_core.specs.Stands.{AnswersWith, LeavesWith, StandsAs, Turns};
 
@@ -26,11 +26,15 @@ pub(crate) fn unlock<F: Folder>(
     answer: Answer,
     folder: &mut F,
 ) -> State
-    requires { StandsAs (moment (F.admits folder.old) (F.told folder.old) (F.fault_count folder.old))
+    requires { StandsAs
+        (moment (F.admits folder.old) (F.told folder.old) (F.fault_count folder.old))
         runner.now (State.Unlocking keeper answer) }
-    ensures turns { Turns (moment (F.admits folder.old) (F.told folder.old) (F.fault_count folder.old))
-        (moment (F.admits folder.new) (F.told folder.new) (F.fault_count folder.new)) runner.now result }
+    ensures turns { Turns
+        (moment (F.admits folder.old) (F.told folder.old) (F.fault_count folder.old))
+        (moment (F.admits folder.new) (F.told folder.new) (F.fault_count folder.new))
+        runner.now result }
     ensures nearer { turns_left result < turns_left (State.Unlocking keeper answer) }
+    ensures counted { calls_left result < calls_left (State.Unlocking keeper answer) }
 {
     if keeper.lower() > 0 {
         remove_lower(alloc, runner, keeper, answer, folder)
@@ -51,9 +55,12 @@ fn remove_lower<F: Folder>(
     requires stands { StandsAs
         (moment (F.admits folder.old) (F.told folder.old) (F.fault_count folder.old))
         runner.now (State.Unlocking keeper answer) }
-    ensures turns { Turns (moment (F.admits folder.old) (F.told folder.old) (F.fault_count folder.old))
-        (moment (F.admits folder.new) (F.told folder.new) (F.fault_count folder.new)) runner.now result }
+    ensures turns { Turns
+        (moment (F.admits folder.old) (F.told folder.old) (F.fault_count folder.old))
+        (moment (F.admits folder.new) (F.told folder.new) (F.fault_count folder.new))
+        runner.now result }
     ensures nearer { turns_left result < turns_left (State.Unlocking keeper answer) }
+    ensures counted { calls_left result < calls_left (State.Unlocking keeper answer) }
 {
     match keeper.clean_next(folder) {
         Ok(keeper) => State::Unlocking(keeper, answer),
@@ -69,11 +76,15 @@ fn stage_free<F: Folder>(
     answer: Answer,
     folder: &mut F,
 ) -> State
-    requires { StandsAs (moment (F.admits folder.old) (F.told folder.old) (F.fault_count folder.old))
+    requires { StandsAs
+        (moment (F.admits folder.old) (F.told folder.old) (F.fault_count folder.old))
         runner.now (State.Unlocking keeper answer) }
-    ensures turns { Turns (moment (F.admits folder.old) (F.told folder.old) (F.fault_count folder.old))
-        (moment (F.admits folder.new) (F.told folder.new) (F.fault_count folder.new)) runner.now result }
+    ensures turns { Turns
+        (moment (F.admits folder.old) (F.told folder.old) (F.fault_count folder.old))
+        (moment (F.admits folder.new) (F.told folder.new) (F.fault_count folder.new))
+        runner.now result }
     ensures nearer { turns_left result < turns_left (State.Unlocking keeper answer) }
+    ensures counted { calls_left result < calls_left (State.Unlocking keeper answer) }
 {
     match keeper.stage_free(folder) {
         Ok(freeing) => State::Freeing(freeing, answer),
@@ -89,11 +100,15 @@ pub(crate) fn free<F: Folder>(
     answer: Answer,
     folder: &mut F,
 ) -> State
-    requires { StandsAs (moment (F.admits folder.old) (F.told folder.old) (F.fault_count folder.old))
+    requires { StandsAs
+        (moment (F.admits folder.old) (F.told folder.old) (F.fault_count folder.old))
         runner.now (State.Freeing freeing answer) }
-    ensures turns { Turns (moment (F.admits folder.old) (F.told folder.old) (F.fault_count folder.old))
-        (moment (F.admits folder.new) (F.told folder.new) (F.fault_count folder.new)) runner.now result }
+    ensures turns { Turns
+        (moment (F.admits folder.old) (F.told folder.old) (F.fault_count folder.old))
+        (moment (F.admits folder.new) (F.told folder.new) (F.fault_count folder.new))
+        runner.now result }
     ensures nearer { turns_left result < turns_left (State.Freeing freeing answer) }
+    ensures counted { calls_left result < calls_left (State.Freeing freeing answer) }
 {
     match freeing.move_free(folder) {
         Ok(_) => State::Answering(answer),

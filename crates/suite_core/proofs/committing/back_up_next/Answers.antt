@@ -13,6 +13,7 @@ use Rattle.suite_core.proofs.TurnLemmas.{turns, stops}
 use Rattle.suite_core.proofs.UnlockingTurns.{fault-stage, fault-met, fault-plain}
 use Rattle.suite_core.proofs.LeadsLemmas.{leads-on, leads-stage, leads-failed}
 use Rattle.suite_core.proofs.CommittingTurns.{at-place, backs-on, backup-calls, backup-quiet, walks-nearer}
+use Rattle.suite_core.proofs.CallsLemmas.{answers-fewer, backed-calls, backing-some}
 use Rattle.suite_core.proofs.committing.back_up_next.Goals as goal
 
 pub returns-in-Ok-clause-turns : goal.returns-in-Ok-clause-turns
@@ -62,3 +63,14 @@ returns-in-Err-clause-turns g c =
     (λ told. c.back_up_next.ensures.faults.failed (c.in-Err.is
     ∙ ap Err (leads-failed (step_on c.args.backing) Before shown.1.answer fault shown.1.shown
     told)))
+
+pub returns-in-Ok-clause-counted : goal.returns-in-Ok-clause-counted
+returns-in-Ok-clause-counted g c =
+    let shown = at-place c.args.backing c.requires.left c.in-Ok.ensures.call in
+    backed-calls c.args.backing c.in-Ok.backing c.args.answer
+    (leads-on (step_on c.args.backing) before_commit shown.1.answer c.in-Ok.backing shown.1.shown)
+    c.requires.left
+
+pub returns-in-Err-clause-counted : goal.returns-in-Err-clause-counted
+returns-in-Err-clause-counted g c =
+    answers-fewer _ _ c.stopped.result c.stopped.ensures _ (backing-some c.args.backing c.args.answer)

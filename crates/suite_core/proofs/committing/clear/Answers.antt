@@ -15,6 +15,7 @@ use Rattle.suite_core.proofs.TurnLemmas.{turns, stops}
 use Rattle.suite_core.proofs.UnlockingTurns.{fault-stage, fault-met, fault-plain}
 use Rattle.suite_core.proofs.LeadsLemmas.{leads-on, leads-stage, leads-failed}
 use Rattle.suite_core.proofs.CommittingTurns.{clears}
+use Rattle.suite_core.proofs.CallsLemmas.{answers-fewer, cleared-calls, installing-some}
 use Rattle.suite_core.proofs.committing.clear.Goals as goal
 
 pub returns-in-Ok-clause-turns : goal.returns-in-Ok-clause-turns
@@ -57,3 +58,14 @@ returns-in-Err-clause-turns g c =
     (λ told. c.clear.ensures.faults.failed (c.in-Err.is
     ∙ ap Err (leads-failed (c.args.installing.change.inputs.keeper) Committed
     c.in-Err.ensures.call.answer fault c.in-Err.ensures.call.shown told)))
+
+pub returns-in-Ok-clause-counted : goal.returns-in-Ok-clause-counted
+returns-in-Ok-clause-counted g c =
+    cleared-calls c.args.installing c.forget.result c.args.answer
+    (c.forget.ensures ∙ (c.release.ensures
+    ∙ leads-on c.args.installing.change.inputs.keeper after_commit c.in-Ok.ensures.call.answer
+    c.in-Ok.cleared c.in-Ok.ensures.call.shown))
+
+pub returns-in-Err-clause-counted : goal.returns-in-Err-clause-counted
+returns-in-Err-clause-counted g c =
+    answers-fewer _ _ c.stopped.result c.stopped.ensures _ (installing-some c.args.installing c.args.answer)

@@ -5,7 +5,8 @@ use Rattle.suite_core.specs.Moment.{moment}
 use Rattle.suite_core.specs.Locking.{cause_of_fault}
 use Rattle.suite_core.proofs.TurnLemmas.{answers-fault}
 use Rattle.suite_core.proofs.LeadsLemmas.{leads-on}
-use Rattle.suite_core.proofs.CommittingTurns.{is-deed, commit-extends, commits-stands, unsure-stands, commit-failed}
+use Rattle.suite_core.proofs.CommittingTurns.{is-deed, commit-grew, commits-stands, unsure-stands, commit-failed}
+use Rattle.suite_core.proofs.CallsLemmas.{answers-fewer, committed-calls, committing-some}
 use Rattle.suite_core.proofs.committing.commit.Goals as goal
 
 pub returns-in-Ok-clause-turns : goal.returns-in-Ok-clause-turns
@@ -19,7 +20,7 @@ returns-in-Ok-clause-turns g c =
           c.in-Ok.ensures.call c.commit.ensures.own c.in-Ok.installing
           (leads-on (walk_of c.args.staged) at_commit c.in-Ok.ensures.call.answer
           c.in-Ok.installing c.in-Ok.ensures.call.shown) c.in-Ok.ensures.next;
-      extends = commit-extends before now c.args.runner.now c.args.answer c.args.staged c.requires _
+      grew = commit-grew before now c.args.runner.now c.args.answer c.args.staged c.requires _
           c.in-Ok.ensures.call c.commit.ensures.own;
       lawful = λ deeds ours. c.commit.ensures.lawful deeds
           (is-deed before now c.args.runner.now c.args.answer c.args.staged c.requires deeds ours);
@@ -39,7 +40,7 @@ returns-in-Err-clause-turns g c =
       stands = unsure-stands before now c.args.runner.now c.args.answer c.args.staged c.requires _
           c.in-Err.ensures.call c.commit.ensures.own fault c.stopped.result c.stopped.ensures
           c.in-Err.ensures.unsure;
-      extends = commit-extends before now c.args.runner.now c.args.answer c.args.staged c.requires _
+      grew = commit-grew before now c.args.runner.now c.args.answer c.args.staged c.requires _
           c.in-Err.ensures.call c.commit.ensures.own;
       lawful = λ deeds ours. c.commit.ensures.lawful deeds
           (is-deed before now c.args.runner.now c.args.answer c.args.staged c.requires deeds ours);
@@ -50,3 +51,13 @@ returns-in-Err-clause-turns g c =
           c.in-Err.ensures.call.shown (answers-fault c.args.runner.now.asked.request.tool
           (cause_of_fault fault.stage fault.fault) c.stopped.result c.stopped.ensures told)));
     }
+
+pub returns-in-Ok-clause-counted : goal.returns-in-Ok-clause-counted
+returns-in-Ok-clause-counted g c =
+    committed-calls c.args.staged c.in-Ok.installing c.args.answer
+    (leads-on (walk_of c.args.staged) at_commit c.in-Ok.ensures.call.answer
+    c.in-Ok.installing c.in-Ok.ensures.call.shown)
+
+pub returns-in-Err-clause-counted : goal.returns-in-Err-clause-counted
+returns-in-Err-clause-counted g c =
+    answers-fewer _ _ c.stopped.result c.stopped.ensures _ (committing-some c.args.staged c.args.answer)

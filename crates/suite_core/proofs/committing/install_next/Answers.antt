@@ -13,6 +13,7 @@ use Rattle.suite_core.proofs.TurnLemmas.{turns, stops}
 use Rattle.suite_core.proofs.UnlockingTurns.{fault-stage, fault-met, fault-plain}
 use Rattle.suite_core.proofs.LeadsLemmas.{leads-on, leads-stage, leads-failed}
 use Rattle.suite_core.proofs.CommittingTurns.{at-place, installs-on, install-calls, install-quiet, walks-nearer}
+use Rattle.suite_core.proofs.CallsLemmas.{answers-fewer, installed-calls, installing-some}
 use Rattle.suite_core.proofs.committing.install_next.Goals as goal
 
 pub returns-in-Ok-clause-turns : goal.returns-in-Ok-clause-turns
@@ -67,3 +68,15 @@ returns-in-Err-clause-turns g c =
     (λ told. c.install_next.ensures.faults.failed (c.in-Err.is
     ∙ ap Err (leads-failed (step_on c.args.installing) Committed shown.1.answer fault shown.1.shown
     told)))
+
+pub returns-in-Ok-clause-counted : goal.returns-in-Ok-clause-counted
+returns-in-Ok-clause-counted g c =
+    let shown = at-place c.args.installing c.requires.left c.in-Ok.ensures.call in
+    installed-calls c.args.installing c.in-Ok.installing c.args.answer
+    (leads-on (step_on c.args.installing) after_commit shown.1.answer c.in-Ok.installing
+    shown.1.shown)
+    c.requires.left
+
+pub returns-in-Err-clause-counted : goal.returns-in-Err-clause-counted
+returns-in-Err-clause-counted g c =
+    answers-fewer _ _ c.stopped.result c.stopped.ensures _ (installing-some c.args.installing c.args.answer)

@@ -4,6 +4,7 @@ use Rattle.acct_outside.specs.declared.Name.TheVariants.{IntentStage}
 use Rattle.acct_outside.specs.Calls.{writes}
 use Rattle.intent_file.specs.Intent.{intent_text}
 use Rattle.suite_rules.specs.Standing.{commit_uncalled}
+use Rattle.suite_rules.specs.Outcomes.{before_commit}
 use Rattle.commit_steps.specs.States.{intended}
 use Rattle.commit_steps.specs.Walks.{token_of}
 use Rattle.commit_steps.specs.Stands.{BacksUp}
@@ -12,8 +13,9 @@ use Rattle.suite_core.specs.Moment.{moment, commit_at}
 use Rattle.suite_core.specs.Locking.{cause_of_fault}
 use Rattle.suite_core.proofs.TurnLemmas.{turns, stops}
 use Rattle.suite_core.proofs.UnlockingTurns.{fault-stage, fault-met, fault-plain}
-use Rattle.suite_core.proofs.LeadsLemmas.{leads-stage, leads-failed}
+use Rattle.suite_core.proofs.LeadsLemmas.{leads-on, leads-stage, leads-failed}
 use Rattle.suite_core.proofs.CommittingTurns.{stages-intent}
+use Rattle.suite_core.proofs.CallsLemmas.{answers-fewer, backing-some, intended-calls}
 use Rattle.suite_core.proofs.committing.stage_intent.Goals as goal
 
 pub returns-in-Ok-clause-turns : goal.returns-in-Ok-clause-turns
@@ -56,3 +58,12 @@ returns-in-Err-clause-turns g c =
     (λ told. c.stage_intent.ensures.faults.failed (c.in-Err.is
     ∙ ap Err (leads-failed (c.args.backing.change) Before c.in-Err.ensures.call.answer fault
     c.in-Err.ensures.call.shown told)))
+
+pub returns-in-Ok-clause-counted : goal.returns-in-Ok-clause-counted
+returns-in-Ok-clause-counted g c =
+    intended-calls c.args.backing c.in-Ok.staged c.args.answer
+    (leads-on c.args.backing.change before_commit _ c.in-Ok.staged c.in-Ok.ensures.call.shown)
+
+pub returns-in-Err-clause-counted : goal.returns-in-Err-clause-counted
+returns-in-Err-clause-counted g c =
+    answers-fewer _ _ c.stopped.result c.stopped.ensures _ (backing-some c.args.backing c.args.answer)

@@ -4,8 +4,9 @@ use Rattle.suite_rules.specs.Standing.{commit_uncalled}
 use Rattle.commit_steps.specs.States.{next_name}
 use Rattle.commit_steps.specs.Stands.{HasRead}
 use Rattle.suite_core.specs.Moment.{moment}
-use Rattle.suite_core.proofs.TurnLemmas.{extended, turns}
+use Rattle.suite_core.proofs.TurnLemmas.{grown, turns}
 use Rattle.suite_core.proofs.LoadingTurns.{loads-stands, loads-quiet, loads-left, ended-stands, ended-failed, ended-left}
+use Rattle.suite_core.proofs.CallsLemmas.{ended-calls, loads-calls}
 use Rattle.suite_core.proofs.loading.load.Goals as goal
 
 pub returns-in-Ok-clause-turns : goal.returns-in-Ok-clause-turns
@@ -39,7 +40,7 @@ returns-in-Err-clause-turns g c =
     record {
       stands = ended-stands before now c.args.runner.now c.args.loader c.requires.1 c.requires.0 end
           c.ended.result c.is_sound.ensures c.ended.ensures c.in-Err.ensures.call c.in-Err.ensures.refused;
-      extends = extended before now c.args.runner.now commit_uncalled (HasRead c.args.loader)
+      grew = grown before now c.args.runner.now commit_uncalled (HasRead c.args.loader)
           c.requires.1 c.args.loader.keeper.token c.requires.0
           (reads (next_name c.args.loader.next)) tt _ (λ result stood. refl)
           c.in-Err.ensures.call;
@@ -53,3 +54,13 @@ returns-in-Err-clause-turns g c =
 
 pub returns-in-Err-clause-nearer : goal.returns-in-Err-clause-nearer
 returns-in-Err-clause-nearer g c = ended-left _ c.in-Err.end c.ended.result c.ended.ensures _
+
+pub returns-in-Ok-clause-counted : goal.returns-in-Ok-clause-counted
+returns-in-Ok-clause-counted g c =
+    loads-calls c.args.runner.now c.args.loader c.in-Ok.loading c.after_load.result
+    c.in-Ok.ensures.call.answer c.after_load.ensures c.in-Ok.ensures.call.shown
+
+pub returns-in-Err-clause-counted : goal.returns-in-Err-clause-counted
+returns-in-Err-clause-counted g c =
+    ended-calls _ c.args.loader c.in-Err.ensures.call.answer c.in-Err.end c.ended.result
+    c.ended.ensures c.in-Err.ensures.call.shown

@@ -1,4 +1,4 @@
-use Rattle.std.proofs.Common.{refl, sym, ap, ◌∙◌, Err}
+use Rattle.std.proofs.Common.{refl, sym, ap, ◌∙◌, Err, arith, rules}
 use Rattle.suite_core.specs.declared.state.State.TheVariants.{Claiming}
 use Rattle.acct_outside.specs.Calls.{asks}
 use Rattle.suite_rules.specs.Standing.{commit_uncalled}
@@ -7,6 +7,7 @@ use Rattle.suite_core.specs.Moment.{moment, commit_at}
 use Rattle.suite_core.proofs.MetLemmas.{ask-met}
 use Rattle.suite_core.proofs.TurnLemmas.{got, goes-on, turns, stops}
 use Rattle.suite_core.proofs.LockingLemmas.{end-plain, end-stage, end-failed, asks-token}
+use Rattle.suite_core.proofs.CallsLemmas.{answers-fewer}
 use Rattle.suite_core.proofs.locking.ask.Goals as goal
 
 pub returns-in-Ok-clause-turns : goal.returns-in-Ok-clause-turns
@@ -46,3 +47,7 @@ returns-in-Err-clause-turns g c =
     (ap commit_at (sym (end-stage c.in-Err.end)))
     (λ fault. c.ask.ensures.faults.failed
     (c.in-Err.is ∙ ap Err (end-failed c.in-Err.end fault)))
+
+pub returns-in-Err-clause-counted : goal.returns-in-Err-clause-counted
+returns-in-Err-clause-counted g c =
+    answers-fewer _ _ c.stopped.result c.stopped.ensures _ (search (arith, rules))

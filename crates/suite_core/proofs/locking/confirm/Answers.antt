@@ -7,6 +7,7 @@ use Rattle.suite_core.proofs.MetLemmas.{confirm-met}
 use Rattle.suite_core.proofs.TurnLemmas.{got, turns, stops}
 use Rattle.suite_core.proofs.LockingLemmas.{end-plain, end-stage, end-failed}
 use Rattle.suite_core.proofs.LockingTurns.{confirm-stands, confirm-quiet}
+use Rattle.suite_core.proofs.CallsLemmas.{answers-listed, listing-calls}
 use Rattle.suite_core.proofs.locking.confirm.Goals as goal
 
 pub returns-in-Ok-clause-turns : goal.returns-in-Ok-clause-turns
@@ -43,3 +44,21 @@ returns-in-Err-clause-turns g c =
     (ap commit_at (sym (end-stage c.in-Err.end)))
     (λ fault. c.confirm.ensures.faults.failed
     (c.in-Err.is ∙ ap Err (end-failed c.in-Err.end fault)))
+
+pub returns-in-Ok-clause-counted : goal.returns-in-Ok-clause-counted
+returns-in-Ok-clause-counted g c =
+    let before = moment (g.F.Folder.admits c.args.folder.now) (g.F.Folder.told c.args.folder.now)
+    (g.F.Folder.fault_count c.args.folder.now) in
+    let now = moment (g.F.Folder.admits c.confirm.new.folder) (g.F.Folder.told c.confirm.new.folder)
+    (g.F.Folder.fault_count c.confirm.new.folder) in
+    rw c.after_listing.ensures
+    (listing-calls now.told c.args.runner.now c.args.claimed c.in-Ok.ensures.call.answer
+    c.in-Ok.confirmed c.in-Ok.ensures.call.shown
+    (got before now c.args.runner.now commit_uncalled (HasMade c.args.claimed) c.requires.1
+    c.args.claimed.token c.requires.0 (lists) tt _ (λ result stood. refl)
+    c.in-Ok.ensures.call))
+
+pub returns-in-Err-clause-counted : goal.returns-in-Err-clause-counted
+returns-in-Err-clause-counted g c =
+    answers-listed (g.F.Folder.told c.confirm.new.folder) c.args.runner.now c.args.claimed _ _
+    c.stopped.result c.stopped.ensures

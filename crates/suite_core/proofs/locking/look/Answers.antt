@@ -1,4 +1,4 @@
-use Rattle.std.proofs.Common.{refl, sym, ap, ◌∙◌, Err}
+use Rattle.std.proofs.Common.{refl, sym, ap, ◌∙◌, Err, arith, rules}
 use Rattle.acct_outside.specs.Calls.{lists}
 use Rattle.suite_rules.specs.Standing.{commit_uncalled}
 use Rattle.lock_steps.specs.Stands.{HasNoLock}
@@ -7,6 +7,7 @@ use Rattle.suite_core.proofs.MetLemmas.{look-met}
 use Rattle.suite_core.proofs.TurnLemmas.{got, turns, stops}
 use Rattle.suite_core.proofs.LockingLemmas.{end-plain, end-stage, end-failed}
 use Rattle.suite_core.proofs.LockingTurns.{look-stands, look-quiet}
+use Rattle.suite_core.proofs.CallsLemmas.{answers-fewer, look-calls}
 use Rattle.suite_core.proofs.locking.look.Goals as goal
 
 pub returns-in-Ok-clause-turns : goal.returns-in-Ok-clause-turns
@@ -43,3 +44,11 @@ returns-in-Err-clause-turns g c =
     (ap commit_at (sym (end-stage c.in-Err.end)))
     (λ fault. c.look.ensures.faults.failed
     (c.in-Err.is ∙ ap Err (end-failed c.in-Err.end fault)))
+
+pub returns-in-Ok-clause-counted : goal.returns-in-Ok-clause-counted
+returns-in-Ok-clause-counted g c =
+    rw c.after_look.ensures (look-calls c.in-Ok.seen)
+
+pub returns-in-Err-clause-counted : goal.returns-in-Err-clause-counted
+returns-in-Err-clause-counted g c =
+    answers-fewer _ _ c.stopped.result c.stopped.ensures _ (search (arith, rules))

@@ -1,4 +1,4 @@
-use Rattle.std.proofs.Common.{refl, sym, ap, ◌∙◌, Err}
+use Rattle.std.proofs.Common.{refl, sym, ap, ◌∙◌, Err, arith, rules}
 use Rattle.acct_outside.specs.declared.Name.TheVariants.{Lock}
 use Rattle.acct_outside.specs.Calls.{reads}
 use Rattle.suite_rules.specs.Standing.{commit_uncalled}
@@ -8,6 +8,7 @@ use Rattle.suite_core.proofs.MetLemmas.{read-met}
 use Rattle.suite_core.proofs.TurnLemmas.{got, turns, stops}
 use Rattle.suite_core.proofs.LockingLemmas.{end-plain, end-stage, end-failed}
 use Rattle.suite_core.proofs.LockingTurns.{read-stands, read-quiet}
+use Rattle.suite_core.proofs.CallsLemmas.{answers-fewer, read-calls}
 use Rattle.suite_core.proofs.locking.read.Goals as goal
 
 pub returns-in-Ok-clause-turns : goal.returns-in-Ok-clause-turns
@@ -36,10 +37,18 @@ returns-in-Err-clause-turns g c =
     c.read.ensures.lawful c.read.ensures.faults.never_falls _ c.stopped.result
     c.stopped.ensures (end-plain c.in-Err.end)
     (read-met c.args.runner.now.token now.told c.args.seen c.in-Err.ensures.call.answer c.in-Err.end
-    c.in-Err.ensures.call.shown
+    c.requires.1 c.in-Err.ensures.call.shown
     (got before now c.args.runner.now commit_uncalled (HasLooked c.args.seen) c.requires.2
     c.args.seen.token c.requires.0 (reads (Lock c.args.seen.greatest)) tt _ (λ result stood. refl)
     c.in-Err.ensures.call))
     (ap commit_at (sym (end-stage c.in-Err.end)))
     (λ fault. c.read.ensures.faults.failed
     (c.in-Err.is ∙ ap Err (end-failed c.in-Err.end fault)))
+
+pub returns-in-Ok-clause-counted : goal.returns-in-Ok-clause-counted
+returns-in-Ok-clause-counted g c =
+    rw c.after_read.ensures (read-calls c.in-Ok.told)
+
+pub returns-in-Err-clause-counted : goal.returns-in-Err-clause-counted
+returns-in-Err-clause-counted g c =
+    answers-fewer _ _ c.stopped.result c.stopped.ensures _ (search (arith, rules))

@@ -1,4 +1,4 @@
-use Rattle.std.proofs.Common.{refl, sym, ap, Err}
+use Rattle.std.proofs.Common.{refl, sym, ap, Err, arith, rules}
 use Rattle.acct_outside.specs.declared.Name.TheVariants.{Lock}
 use Rattle.acct_outside.specs.Calls.{removes}
 use Rattle.suite_rules.specs.Standing.{commit_uncalled}
@@ -7,6 +7,7 @@ use Rattle.suite_core.specs.Moment.{moment, commit_at}
 use Rattle.suite_core.proofs.MetLemmas.{withdraw-met}
 use Rattle.suite_core.proofs.TurnLemmas.{got, stops}
 use Rattle.suite_core.proofs.LockingLemmas.{end-plain, end-stage, end-failed}
+use Rattle.suite_core.proofs.CallsLemmas.{answers-fewer}
 use Rattle.suite_core.proofs.locking.withdraw.Goals as goal
 
 pub returns-clause-turns : goal.returns-clause-turns
@@ -27,3 +28,7 @@ returns-clause-turns g c =
     c.withdraw.ensures.call))
     (ap commit_at (sym (end-stage c.withdraw.result)))
     (λ fault. c.withdraw.ensures.faults.failed (ap Err (end-failed c.withdraw.result fault)))
+
+pub returns-clause-counted : goal.returns-clause-counted
+returns-clause-counted g c =
+    answers-fewer _ _ c.stopped.result c.stopped.ensures _ (search (arith, rules))

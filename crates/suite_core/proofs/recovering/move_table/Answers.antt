@@ -11,6 +11,7 @@ use Rattle.suite_core.proofs.RecoveringTurns.{some-next}
 use Rattle.suite_core.proofs.LeadsLemmas.{leads-on, leads-stage, leads-failed}
 use Rattle.suite_rules.specs.Outcomes.{before_commit}
 use Rattle.acct_outside.specs.declared.CommitStage.TheVariants.{Before}
+use Rattle.suite_core.proofs.CallsLemmas.{answers-fewer, moved-calls, moving-some}
 use Rattle.suite_core.proofs.recovering.move_table.Goals as goal
 
 pub move_next-requires : goal.move_next-requires
@@ -59,3 +60,14 @@ returns-in-Err-clause-turns g c =
     (λ told. c.move_next.ensures.faults.failed
     (c.in-Err.is ∙ ap Err (leads-failed (moved_once c.args.moving) Before _ fault shown.1.shown
     told)))
+
+pub returns-in-Ok-clause-counted : goal.returns-in-Ok-clause-counted
+returns-in-Ok-clause-counted g c =
+    let shown = some-next c.args.moving.left c.requires.1 c.in-Ok.ensures.call in
+    moved-calls c.args.moving c.in-Ok.recovering
+    (leads-on (moved_once c.args.moving) before_commit _ c.in-Ok.recovering shown.1.shown)
+    c.requires.1
+
+pub returns-in-Err-clause-counted : goal.returns-in-Err-clause-counted
+returns-in-Err-clause-counted g c =
+    answers-fewer _ _ c.stopped.result c.stopped.ensures _ (moving-some c.args.moving)

@@ -4,8 +4,9 @@ use Rattle.acct_outside.specs.Calls.{reads}
 use Rattle.suite_rules.specs.Standing.{commit_uncalled}
 use Rattle.lock_steps.specs.Stands.{Keeps, KnowsAnything}
 use Rattle.suite_core.specs.Moment.{moment}
-use Rattle.suite_core.proofs.TurnLemmas.{may-step, extended, turns}
+use Rattle.suite_core.proofs.TurnLemmas.{may-step, grown, turns}
 use Rattle.suite_core.proofs.RecoveringTurns.{seen-stands, seen-quiet, refused-stands, refused-failed}
+use Rattle.suite_core.proofs.CallsLemmas.{intent-calls, refused-calls}
 use Rattle.suite_core.proofs.recovering.read_intent.Goals as goal
 
 pub read_intent-requires : goal.read_intent-requires
@@ -44,7 +45,7 @@ returns-in-Err-clause-turns g c =
       stands = refused-stands before now c.args.runner.now c.args.keeper c.requires.1 c.requires.0
           end
           c.refused.result c.refused.ensures c.in-Err.ensures.call c.in-Err.ensures.refused;
-      extends = extended before now c.args.runner.now commit_uncalled
+      grew = grown before now c.args.runner.now commit_uncalled
           (Keeps c.args.keeper KnowsAnything) c.requires.1
           c.args.keeper.token c.requires.0 (reads Intent) tt _ (λ result stood. refl)
           c.read_intent.ensures.call;
@@ -55,3 +56,13 @@ returns-in-Err-clause-turns g c =
           (refused-failed _ end c.refused.result c.refused.ensures c.args.keeper _
           c.in-Err.ensures.call.shown told));
     }
+
+pub returns-in-Ok-clause-counted : goal.returns-in-Ok-clause-counted
+returns-in-Ok-clause-counted g c =
+    rw c.after_intent.ensures (intent-calls c.args.keeper c.in-Ok.ensures.call.answer c.in-Ok.seen
+    c.in-Ok.ensures.call.shown)
+
+pub returns-in-Err-clause-counted : goal.returns-in-Err-clause-counted
+returns-in-Err-clause-counted g c =
+    refused-calls _ c.args.keeper c.in-Err.ensures.call.answer c.in-Err.end c.refused.result
+    c.refused.ensures c.in-Err.ensures.call.shown

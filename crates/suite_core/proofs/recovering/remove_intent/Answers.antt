@@ -14,6 +14,7 @@ use Rattle.suite_core.proofs.RecoveringTurns.{starts-loading}
 use Rattle.suite_core.proofs.LeadsLemmas.{leads-on, leads-stage, leads-failed}
 use Rattle.suite_rules.specs.Outcomes.{before_commit}
 use Rattle.acct_outside.specs.declared.CommitStage.TheVariants.{Before}
+use Rattle.suite_core.proofs.CallsLemmas.{answers-fewer, recovering-some, removed-calls}
 use Rattle.suite_core.proofs.recovering.remove_intent.Goals as goal
 
 pub remove_intent-requires-clause-stands : goal.remove_intent-requires-clause-stands
@@ -69,3 +70,13 @@ returns-in-Err-clause-turns g c =
     (λ told. c.remove_intent.ensures.faults.failed
     (c.in-Err.is ∙ ap Err (leads-failed c.args.recovering.keeper Before _ fault
     c.in-Err.ensures.call.shown told)))
+
+pub returns-in-Ok-clause-counted : goal.returns-in-Ok-clause-counted
+returns-in-Ok-clause-counted g c =
+    rw c.start.ensures (removed-calls c.args.recovering c.in-Ok.keeper
+    (leads-on c.args.recovering.keeper before_commit _ c.in-Ok.keeper
+    c.in-Ok.ensures.call.shown))
+
+pub returns-in-Err-clause-counted : goal.returns-in-Err-clause-counted
+returns-in-Err-clause-counted g c =
+    answers-fewer _ _ c.stopped.result c.stopped.ensures _ (recovering-some c.args.recovering)

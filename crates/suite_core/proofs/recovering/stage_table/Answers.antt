@@ -11,6 +11,7 @@ use Rattle.suite_core.proofs.RecoveringTurns.{some-next}
 use Rattle.suite_core.proofs.LeadsLemmas.{leads-on, leads-stage, leads-failed}
 use Rattle.suite_rules.specs.Outcomes.{before_commit}
 use Rattle.acct_outside.specs.declared.CommitStage.TheVariants.{Before}
+use Rattle.suite_core.proofs.CallsLemmas.{answers-fewer, recovering-some, staged-calls}
 use Rattle.suite_core.proofs.recovering.stage_table.Goals as goal
 
 pub stage_next-requires-clause-stands : goal.stage_next-requires-clause-stands
@@ -64,3 +65,13 @@ returns-in-Err-clause-turns g c =
     ∙ leads-stage c.args.recovering Before _ fault shown.1.shown)))
     (λ told. c.stage_next.ensures.faults.failed
     (c.in-Err.is ∙ ap Err (leads-failed c.args.recovering Before _ fault shown.1.shown told)))
+
+pub returns-in-Ok-clause-counted : goal.returns-in-Ok-clause-counted
+returns-in-Ok-clause-counted g c =
+    let shown = some-next c.args.recovering.left c.requires.left c.in-Ok.ensures.call in
+    staged-calls c.args.recovering c.in-Ok.moving
+    (leads-on c.args.recovering before_commit _ c.in-Ok.moving shown.1.shown)
+
+pub returns-in-Err-clause-counted : goal.returns-in-Err-clause-counted
+returns-in-Err-clause-counted g c =
+    answers-fewer _ _ c.stopped.result c.stopped.ensures _ (recovering-some c.args.recovering)

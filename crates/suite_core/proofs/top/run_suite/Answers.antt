@@ -12,6 +12,7 @@ use Rattle.suite_core.specs.Runner.{question}
 use Rattle.suite_core.specs.Streams.{streams}
 use Rattle.suite_core.specs.Supplies.{AreSupplied, reads_input, supplies}
 use Rattle.suite_core.specs.Top.{EndsEarly, EndsUnsupplied, Ran}
+use Rattle.suite_core.proofs.CompleteLemmas.{ends-unsupplied}
 use Rattle.suite_core.proofs.RanLemmas.{finished-ran}
 use Rattle.suite_core.proofs.TopLemmas.{named-asked, no-fault, one-request}
 use Rattle.suite_core.proofs.top.run_suite.Goals as goal
@@ -42,14 +43,11 @@ returns-in-Err-clause-ran g c = λ request asks.
     ] in
     inl (
       refl,
-      record {
-        cause = Memory Before;
-        due = tt;
-        ends = subst (λ (one : Option Tool).
-            EndsEarly one (told request.tool (Memory Before)) was holds c.refuse_words.result)
-            (named-asked c.args.words.now request asks)
-            (c.refuse_words.ensures (told request.tool (Memory Before)) (inl memory));
-      },
+      ends-unsupplied request.tool _ _ was holds c.refuse_words.result (Memory Before) tt
+          (subst (λ (one : Option Tool).
+          EndsEarly one (told request.tool (Memory Before)) was holds c.refuse_words.result)
+          (named-asked c.args.words.now request asks)
+          (c.refuse_words.ensures (told request.tool (Memory Before)) (inl memory))),
     )
 
 -- words that ask for something

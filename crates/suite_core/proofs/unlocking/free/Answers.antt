@@ -1,10 +1,11 @@
-use Rattle.std.proofs.Common.{refl, sym, ap, ◌∙◌, Err}
+use Rattle.std.proofs.Common.{refl, sym, ap, ◌∙◌, Err, arith, rules}
 use Rattle.acct_outside.specs.declared.Name.TheVariants.{FreeStage, Lock}
 use Rattle.acct_outside.specs.Calls.{renames}
 use Rattle.lock_steps.specs.Stands.{HasStagedFree}
 use Rattle.suite_core.specs.Moment.{moment, commit_at}
 use Rattle.suite_core.proofs.TurnLemmas.{may-step, stops}
 use Rattle.suite_core.proofs.UnlockingTurns.{frees, fault-stage, fault-met, fault-plain, fault-failed}
+use Rattle.suite_core.proofs.CallsLemmas.{answers-fewer}
 use Rattle.suite_core.proofs.unlocking.free.Goals as goal
 
 pub move_free-requires : goal.move_free-requires
@@ -38,3 +39,7 @@ returns-in-Err-clause-turns g c =
     (ap commit_at (sym (fault-stage _ c.in-Err.fault ∙ c.stage.ensures)))
     (λ fault. c.move_free.ensures.faults.failed
     (c.in-Err.is ∙ ap Err (fault-failed _ c.in-Err.fault fault)))
+
+pub returns-in-Err-clause-counted : goal.returns-in-Err-clause-counted
+returns-in-Err-clause-counted g c =
+    answers-fewer _ _ c.failed.result c.failed.ensures _ (search (arith, rules))

@@ -1,10 +1,12 @@
 use Rattle.std.proofs.Common.{refl, sym, ap, ◌∙◌, Err, slice_index}
 use Rattle.acct_outside.specs.declared.Name.TheVariants.{Lock}
 use Rattle.acct_outside.specs.Calls.{removes}
+use Rattle.lock_steps.specs.Outcomes.{cleaned_once}
 use Rattle.lock_steps.specs.Stands.{Keeps, KnowsAnything}
 use Rattle.suite_core.specs.Moment.{moment, commit_at}
 use Rattle.suite_core.proofs.TurnLemmas.{may-step, stops}
-use Rattle.suite_core.proofs.UnlockingTurns.{lowers, fault-stage, fault-met, fault-plain, fault-failed}
+use Rattle.suite_core.proofs.UnlockingTurns.{leads, lowers, fault-stage, fault-met, fault-plain, fault-failed}
+use Rattle.suite_core.proofs.CallsLemmas.{answers-fewer, cleaned-calls, unlocking-some}
 use Rattle.suite_core.proofs.unlocking.remove_lower.Goals as goal
 
 pub clean_next-requires-clause-stands : goal.clean_next-requires-clause-stands
@@ -38,3 +40,13 @@ returns-in-Err-clause-turns g c =
     (ap commit_at (sym (fault-stage _ c.in-Err.fault ∙ c.stage.ensures)))
     (λ fault. c.clean_next.ensures.faults.failed
     (c.in-Err.is ∙ ap Err (fault-failed _ c.in-Err.fault fault)))
+
+pub returns-in-Ok-clause-counted : goal.returns-in-Ok-clause-counted
+returns-in-Ok-clause-counted g c =
+    cleaned-calls c.args.keeper c.in-Ok.keeper c.args.answer
+    (leads (cleaned_once c.args.keeper) c.in-Ok.ensures.call.answer c.in-Ok.keeper
+    c.in-Ok.ensures.call.shown) c.requires.left
+
+pub returns-in-Err-clause-counted : goal.returns-in-Err-clause-counted
+returns-in-Err-clause-counted g c =
+    answers-fewer _ _ c.failed.result c.failed.ensures _ (unlocking-some c.args.keeper c.args.answer)

@@ -6,6 +6,7 @@ use Rattle.lock_steps.specs.Stands.{Keeps, KnowsAnything}
 use Rattle.suite_core.specs.Moment.{moment, commit_at}
 use Rattle.suite_core.proofs.TurnLemmas.{may-step, stops}
 use Rattle.suite_core.proofs.UnlockingTurns.{stages, fault-stage, fault-met, fault-plain, fault-failed}
+use Rattle.suite_core.proofs.CallsLemmas.{answers-fewer, unlocking-more, unlocking-some}
 use Rattle.suite_core.proofs.unlocking.stage_free.Goals as goal
 
 pub stage_free-requires : goal.stage_free-requires
@@ -39,3 +40,11 @@ returns-in-Err-clause-turns g c =
     (ap commit_at (sym (fault-stage _ c.in-Err.fault ∙ c.stage.ensures)))
     (λ fault. c.stage_free.ensures.faults.failed
     (c.in-Err.is ∙ ap Err (fault-failed _ c.in-Err.fault fault)))
+
+pub returns-in-Ok-clause-counted : goal.returns-in-Ok-clause-counted
+returns-in-Ok-clause-counted g c =
+    unlocking-more c.args.keeper c.args.answer
+
+pub returns-in-Err-clause-counted : goal.returns-in-Err-clause-counted
+returns-in-Err-clause-counted g c =
+    answers-fewer _ _ c.failed.result c.failed.ensures _ (unlocking-some c.args.keeper c.args.answer)

@@ -1,0 +1,86 @@
+-- How many events a session makes: at most most_calls, and one for each lower lock that its second
+-- listing showed.
+use Rattle.std.specs.Prelude.{◌≡◌, ◌⊎◌, ⊤, ◌+◌, ◌<◌, ◌≤◌, ℕ, List, nat_lt, filter, length, Option, IfSome}
+use Rattle.acct_outside.specs.Tokens.{Token}
+use Rattle.acct_outside.specs.Folder.{greatest}
+use Rattle.acct_outside.specs.Calls.{lists}
+use Rattle.acct_outside.specs.History.{History, own_events}
+use Rattle.acct_outside.specs.Others.{Admission}
+use Rattle.acct_outside.specs.Contract.{Past}
+use Rattle.lock_steps.specs.Stands.{HasMade}
+use Rattle.suite_core.specs.declared.state.State.{State}
+use Rattle.suite_core.specs.declared.state.State.TheVariants.{Confirming}
+use Rattle.suite_core.specs.declared.session.Phase.{Phase}
+use Rattle.suite_core.specs.declared.session.Phase.TheVariants.{Waiting, Begun}
+use Rattle.suite_core.specs.Runner.{Runner}
+use Rattle.suite_core.specs.Causes.{Met}
+use Rattle.suite_core.specs.Grows.{Grows}
+use Rattle.suite_core.specs.Left.{most_calls, calls_left, ranked, turns_left}
+
+-- the session listed the locks once its create was done, its own was the greatest, and there were so
+-- many lower ones
+pub record ShowsLower (token : Token) (history : History) (lower : ℕ) : Type 0 where
+  pub number : ℕ
+  pub numbers : List ℕ
+  pub listed : Met token lists numbers (HasMade (record { token = token; number = number })) history
+  pub kept : greatest numbers ≡ number
+  pub are_lower : lower ≡ length (filter (λ other. nat_lt other number) numbers)
+
+-- so many lower locks, which the history shows, or none
+abbrev pub CountsLower : Token → History → ℕ → Type 0
+CountsLower token history lower = (lower ≡ 0) ⊎ ShowsLower token history lower
+
+-- the session's events are at most most_calls, and one for each lower lock that its second listing
+-- showed
+pub record IsWithin (token : Token) (history : History) : Type 0 where
+  pub lower : ℕ
+  pub counts : CountsLower token history lower
+  pub within : length (own_events token history) ≤ most_calls + lower
+
+-- the new events of the history were admitted from others or are the session's, and these are within
+-- the bound
+pub record IsBounded (admits : Admission) (token : Token) (old new : History) : Type 0 where
+  pub made : ℕ
+  pub grows : Grows admits token old made new
+  pub within : IsWithin token new
+
+-- ---- From turn to turn
+
+-- a listing leaves a call fewer, but for the lower locks that it shows
+pub record Listed (told : Option Past) (runner : Runner) (old new : State) : Type 0 where
+  pub lower : ℕ
+  pub counts : IfSome told (λ past. CountsLower runner.token past.history lower)
+  pub fewer : calls_left new < calls_left old + lower
+
+-- a turn leaves a call fewer; after the second listing there are the lower locks as well
+abbrev pub CountsTo : Option Past → Runner → State → State → Type 0
+CountsTo told runner (Confirming claimed) new = Listed told runner (Confirming claimed) new
+CountsTo told runner old new = calls_left new < calls_left old
+
+-- the begin was the session's only event, and leaves a call fewer than there are at most
+pub record CountsFrom (told : Option Past) (runner : Runner) (state : State) : Type 0 where
+  pub only : IfSome told (λ past. length (own_events runner.token past.history) ≤ 1)
+  pub fewer : calls_left state < most_calls
+
+-- what a turn makes of the calls that are left
+abbrev pub SessionCounts : Option Past → Phase → Phase → Type 0
+SessionCounts told (Waiting asked) (Begun runner state) = CountsFrom told runner state
+SessionCounts told (Begun runner state) (Begun same next) = CountsTo told runner state next
+SessionCounts told old new = ⊤
+
+-- the turns that are left where the second listing is next
+abbrev pub listing_next : ℕ
+listing_next = ranked 9 0
+
+-- The session has made so many calls that with those that are left they are within the bound. Before
+-- its second listing no lower locks are counted.
+pub record HasCalled (token : Token) (state : State) (history : History) : Type 0 where
+  pub lower : ℕ
+  pub counts : CountsLower token history lower
+  pub none_yet : listing_next ≤ turns_left state → lower ≡ 0
+  pub within : length (own_events token history) + calls_left state ≤ most_calls + lower
+
+-- so it is with a session on its way
+abbrev pub PhaseCalled : Phase → Past → Type 0
+PhaseCalled (Begun runner state) past = HasCalled runner.token state past.history
+PhaseCalled phase past = ⊤
