@@ -148,6 +148,19 @@ fn a_missing_folder_has_no_tables_and_no_listing(rt: HostRuntime) -> Result<(), 
 }
 
 #[test]
+fn a_folder_whose_name_is_not_utf_8_is_never_touched(rt: HostRuntime) -> Result<(), Fail> {
+    let mut folder = RealFolder::new(rt.clone()?);
+    folder.enter(&Bytes::of(rt.alloc(), b"out/caf\xE9")?)?;
+    let by = token(&rt, "me")?;
+    let text = Bytes::of(rt.alloc(), b"new\n")?;
+    assert!(rt; folder.locks(&by).is_err());
+    assert!(rt; folder.create(&by, 1).is_err());
+    assert!(rt; folder.write(&by, Name::IntentStage, &text).is_err());
+    assert_eq!(rt; folder.faults(), 3);
+    Ok(())
+}
+
+#[test]
 fn a_link_or_a_folder_is_no_table(rt: HostRuntime) -> Result<(), Fail> {
     let mut folder = image(&rt, "out/links")?;
     let by = token(&rt, "me")?;
