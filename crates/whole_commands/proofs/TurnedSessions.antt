@@ -1,12 +1,19 @@
 -- Claim: a session that hasn't begun stands (`waiting-stands`), and after a turn it stands (`turned-stands`).
 -- Way: each turn says so of the state that it leads to.
-use Rattle.std.proofs.Common.{sym, subst}
+-- Claim: where no history is told, it stands whatever others do (`waiting-untold`, `turned-untold`).
+-- Way: the one thing that a state then knows of the folder is a history that isn't told.
+use Rattle.std.proofs.Common.{ℕ, None, sym, subst}
+use Rattle.acct_outside.specs.Memory.{no_others}
+use Rattle.suite_answers.specs.declared.answer.Answer.{Answer}
+use Rattle.suite_core.specs.declared.state.State.{State}
+use Rattle.suite_core.specs.declared.state.State.TheVariants.{BackingUp, Committing, Installing, Unlocking, Freeing, Answering}
 use Rattle.suite_core.specs.declared.session.Phase.{Phase}
 use Rattle.suite_core.specs.declared.session.Phase.TheVariants.{Waiting, Begun, Over}
-use Rattle.suite_core.specs.Moment.{Moment}
+use Rattle.suite_core.specs.Moment.{Moment, moment}
 use Rattle.suite_core.specs.Runner.{Runner}
 use Rattle.suite_core.specs.Session.{IsWaiting, SessionStands, SessionTurns}
-use Rattle.suite_core.specs.Stands.{StandsAs}
+use Rattle.suite_core.specs.Stands.{Gives, StandsAs}
+use Rattle.whole_commands.specs.Untold.{StandsUntold}
 
 pub waiting-stands : (now : Moment) (phase : Phase) → IsWaiting phase → SessionStands now phase
 waiting-stands now (Waiting asked) is = tt
@@ -21,3 +28,59 @@ turned-stands before now (Begun runner state) (Begun same next) turns =
 turned-stands before now (Over answer) (Begun runner state) turns = absurd turns
 turned-stands before now old (Waiting asked) turns = tt
 turned-stands before now old (Over answer) turns = tt
+
+-- where no history is told, an answer is given however often the folder has failed
+untold-gives : (one other : ℕ) (runner : Runner) (answer : Answer)
+    → Gives (moment no_others None one) runner answer
+    → Gives (moment no_others None other) runner answer
+untold-gives one other runner answer is = record { says = is.says; due = tt }
+
+-- where no history is told, a state stands however often the folder has failed
+untold-state : (one other : ℕ) (runner : Runner) (state : State)
+    → StandsAs (moment no_others None one) runner state
+    → StandsAs (moment no_others None other) runner state
+untold-state one other runner (BackingUp walker answer) is =
+    record { same = is.same; stands = tt; of_change = is.of_change }
+untold-state one other runner (Committing change answer) is =
+    record { same = is.same; stands = tt; of_change = is.of_change }
+untold-state one other runner (Installing walker answer) is = record {
+  same = is.same;
+  stands = tt;
+  changed = is.changed;
+  gives = untold-gives one other runner answer is.gives;
+}
+untold-state one other runner (Unlocking keeper answer) is = record {
+  same = is.same;
+  stands = tt;
+  quiet = is.quiet;
+  gives = untold-gives one other runner answer is.gives;
+}
+untold-state one other runner (Freeing freeing answer) is = record {
+  same = is.same;
+  stands = tt;
+  quiet = is.quiet;
+  gives = untold-gives one other runner answer is.gives;
+}
+untold-state one other runner (Answering answer) is =
+    record { may_answer = tt; gives = untold-gives one other runner answer is.gives }
+untold-state one other runner state is = is
+
+-- where no history is told, a session stands however often the folder has failed
+untold-session : (one other : ℕ) (session : Phase)
+    → SessionStands (moment no_others None one) session
+    → SessionStands (moment no_others None other) session
+untold-session one other (Begun runner state) is = untold-state one other runner state is
+untold-session one other (Waiting asked) is = tt
+untold-session one other (Over answer) is = tt
+
+-- a session that hasn't begun stands where no history is told
+pub waiting-untold : (session : Phase) → IsWaiting session → StandsUntold session
+waiting-untold session is faults = waiting-stands (moment no_others None faults) session is
+
+-- after a turn where no history is told the session stands, however often the folder will have failed
+pub turned-untold : (before now : ℕ) (old new : Phase)
+    → SessionTurns (moment no_others None before) (moment no_others None now) old new
+    → StandsUntold new
+turned-untold before now old new turns faults =
+    untold-session now faults new
+    (turned-stands (moment no_others None before) (moment no_others None now) old new turns)

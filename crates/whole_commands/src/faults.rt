@@ -1,5 +1,5 @@
-// Commands that can't go on: locks and intents that others left, tables that aren't there, and calls
-// that fail.
+// Commands that can't go on: locks and intents that others left, tables that aren't there, and
+// calls that fail.
 use crate::{folder_of, no_accounts, put, text_at, told};
 use acct_outside::{Effect, MemoryFolder, Mishap, Name, Token};
 use acct_text::Tab;

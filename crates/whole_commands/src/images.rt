@@ -9,18 +9,37 @@ use std::alloc::{AllocError, Global};
 /// The files of a folder before a test.
 pub type Contents = Vec<(Name, Bytes)>;
 
-/// The six tables of a small system.
+/// The six tables and the settings of a small system.
 pub fn image(alloc: Global) -> Result<Contents, AllocError>
+    ensures { IfOk result (λ files. All (λ file. IsName file.0) files.items) }
+{
+    let mut files = image_without_shadow(alloc)?;
+    put(&mut files, Name::Table(Tab::Shadow), SHADOW)?;
+    Ok(files)
+}
+
+/// The same without the table shadow.
+pub fn image_without_shadow(alloc: Global) -> Result<Contents, AllocError>
     ensures { IfOk result (λ files. All (λ file. IsName file.0) files.items) }
 {
     let mut files = Vec::new(alloc);
     put(&mut files, Name::Table(Tab::Passwd), PASSWD)?;
-    put(&mut files, Name::Table(Tab::Shadow), SHADOW)?;
     put(&mut files, Name::Table(Tab::Group), GROUP)?;
     put(&mut files, Name::Table(Tab::Gshadow), GSHADOW)?;
     put(&mut files, Name::Table(Tab::Subuid), SUBIDS)?;
     put(&mut files, Name::Table(Tab::Subgid), SUBIDS)?;
     put(&mut files, Name::Defs, SETTINGS)?;
+    Ok(files)
+}
+
+/// The small system with this line behind its last user.
+pub fn image_with_user(alloc: Global, line: &[u8]) -> Result<Contents, AllocError>
+    ensures { IfOk result (λ files. All (λ file. IsName file.0) files.items) }
+{
+    let mut passwd = Bytes::of(alloc, PASSWD)?;
+    passwd.push(line)?;
+    let mut files = image(alloc)?;
+    put(&mut files, Name::Table(Tab::Passwd), passwd.as_slice())?;
     Ok(files)
 }
 
@@ -34,6 +53,16 @@ pub fn no_accounts(alloc: Global) -> Result<Contents, AllocError>
     Ok(files)
 }
 
+/// The tables passwd and group, both empty, and this file, or it in place of one of them.
+pub fn with_file(alloc: Global, name: Name, text: &[u8]) -> Result<Contents, AllocError>
+    requires { IsName name }
+    ensures { IfOk result (λ files. All (λ file. IsName file.0) files.items) }
+{
+    let mut files = no_accounts(alloc)?;
+    put(&mut files, name, text)?;
+    Ok(files)
+}
+
 /// Puts a file of this text among the others.
 pub fn put(files: &mut Contents, name: Name, text: &[u8]) -> Result<(), AllocError>
     requires name { IsName name }
@@ -43,6 +72,13 @@ pub fn put(files: &mut Contents, name: Name, text: &[u8]) -> Result<(), AllocErr
     let text = Bytes::of(*files.allocator(), text)?;
     files.push((name, text))?;
     Ok(())
+}
+
+/// A folder with these files, in which no call fails.
+pub fn sound_folder(alloc: Global, files: Contents) -> Result<MemoryFolder, AllocError>
+    requires { All (λ file. IsName file.0) files.items }
+{
+    folder_of(alloc, files, Vec::new(alloc))
 }
 
 /// A folder with these files, in which these calls fail.

@@ -9,10 +9,52 @@ use acct_text::{Bytes, Tab, Word, push_decimal};
 use std::alloc::{AllocError, Global};
 use std::mem;
 use std::test::Fail;
-use suite_core::{Session, run_suite};
+use suite_core::{Outcome, Session, run_suite};
 
 // The day of each command, which is 2024-10-04.
 const DAY: u32 = 20000;
+
+/// What a command reads, and what it prints to.
+#[derive(Drop)]
+pub struct Streams {
+    /// What chpasswd(8) takes.
+    pub input: MemorySource,
+    /// Where the output goes.
+    pub out: MemorySink,
+    /// Where the message goes.
+    pub err: MemorySink,
+}
+
+impl Streams {
+    /// An input of this text, and streams that hold nothing. No call of them fails.
+    pub fn new(alloc: Global, input: &[u8]) -> Result<Self, AllocError> {
+        Ok(Streams {
+            input: MemorySource::new(alloc, Bytes::of(alloc, input)?, Vec::new(alloc)),
+            out: MemorySink::new(alloc, Vec::new(alloc)),
+            err: MemorySink::new(alloc, Vec::new(alloc)),
+        })
+    }
+}
+
+/// Runs a command on these streams.
+pub fn run(
+    alloc: Global,
+    folder: &mut MemoryFolder,
+    command: &[u8],
+    streams: &mut Streams,
+) -> Result<Outcome, AllocError> {
+    let words = words_of(alloc, command)?;
+    let mut clock = MemoryClock::new(DAY, Vec::new(alloc));
+    Ok(run_suite(
+        alloc,
+        words.as_slice(),
+        folder,
+        &mut streams.input,
+        &mut streams.out,
+        &mut streams.err,
+        &mut clock,
+    ))
+}
 
 /// What a command tells: its status, a blank, and what it prints on both streams.
 pub fn told(alloc: Global, folder: &mut MemoryFolder, command: &[u8]) -> Result<Bytes, AllocError> {
@@ -26,53 +68,34 @@ pub fn told_with(
     command: &[u8],
     input: &[u8],
 ) -> Result<Bytes, AllocError> {
-    let words = words_of(alloc, command)?;
-    let mut input = MemorySource::new(alloc, Bytes::of(alloc, input)?, Vec::new(alloc));
-    let mut out = MemorySink::new(alloc, Vec::new(alloc));
-    let mut err = MemorySink::new(alloc, Vec::new(alloc));
-    let mut clock = MemoryClock::new(DAY, Vec::new(alloc));
-    let outcome = run_suite(
-        alloc,
-        words.as_slice(),
-        folder,
-        &mut input,
-        &mut out,
-        &mut err,
-        &mut clock,
-    );
+    let mut streams = Streams::new(alloc, input)?;
+    let outcome = run(alloc, folder, command, &mut streams)?;
     let mut told = Bytes::new(alloc);
     push_decimal(&mut told, u64::from(outcome.status))?;
     told.push(b" ")?;
-    told.push(out.held().as_slice())?;
-    told.push(err.held().as_slice())?;
+    told.push(streams.out.held().as_slice())?;
+    told.push(streams.err.held().as_slice())?;
     Ok(told)
 }
 
-/// What a command tells, and then a line for each line of a table that went, `-passwd LINE`, and that
-/// came, `+passwd LINE`.
+/// What a command tells, and then a line for each line of a table that went, `-passwd LINE`, and
+/// that came, `+passwd LINE`.
 pub fn done(alloc: Global, folder: &mut MemoryFolder, command: &[u8]) -> Result<Bytes, AllocError> {
-    let before = tables(alloc, folder)?;
-    let mut done = told(alloc, folder, command)?;
-    let after = tables(alloc, folder)?;
-    push_lines_beside(&mut done, b"-", &before, &after)?;
-    push_lines_beside(&mut done, b"+", &after, &before)?;
-    Ok(done)
+    done_with(alloc, folder, command, b"")
 }
 
-/// The same of the last of these commands, which a `;` parts, after all others have run.
-pub fn done_last(
+/// The same of a command with this input.
+pub fn done_with(
     alloc: Global,
     folder: &mut MemoryFolder,
-    commands: &[u8],
+    command: &[u8],
+    input: &[u8],
 ) -> Result<Bytes, AllocError> {
-    let mut last = b"".as_slice();
-    for command in commands.split(|byte| *byte == b';') {
-        if !last.is_empty() {
-            told(alloc, folder, last)?;
-        }
-        last = command;
-    }
-    done(alloc, folder, last)
+    let before = tables(alloc, folder)?;
+    let mut done = told_with(alloc, folder, command, input)?;
+    let after = tables(alloc, folder)?;
+    push_changes(&mut done, &before, &after)?;
+    Ok(done)
 }
 
 /// The session of a command makes this many calls of the folder, and dies within the next, of which
@@ -88,8 +111,8 @@ pub fn die_after(
     die_all(alloc, folder)
 }
 
-// The session of a command, which hasn't begun.
-fn session_of(alloc: Global, command: &[u8]) -> Result<Session, Fail>
+/// The session of a command, which hasn't begun.
+pub(crate) fn session_of(alloc: Global, command: &[u8]) -> Result<Session, Fail>
     ensures { IfOk result IsWaiting }
 {
     let words = words_of(alloc, command)?;
@@ -128,13 +151,29 @@ pub fn text_at(folder: &MemoryFolder, name: Name) -> &[u8] {
     folder.file(name).map_or(b"", |bytes| bytes.as_slice())
 }
 
-// The words of a command, cut at blanks.
+// The words of a command, cut at blanks. What stands between two `'` is one word.
 fn words_of(alloc: Global, command: &[u8]) -> Result<Vec<Word>, AllocError> {
     let mut words = Vec::new(alloc);
-    for word in command.split(|byte| *byte == b' ') {
-        words.push(Word::of(alloc, word)?)?;
+    let mut is_quoted = false;
+    for part in command.split(|byte| *byte == b'\'') {
+        if is_quoted {
+            words.push(Word::of(alloc, part)?)?;
+        } else {
+            push_words(alloc, &mut words, part)?;
+        }
+        is_quoted = !is_quoted;
     }
     Ok(words)
+}
+
+// Pushes each word of this part of a command.
+fn push_words(alloc: Global, words: &mut Vec<Word>, part: &[u8]) -> Result<(), AllocError> {
+    for word in part.split(|byte| *byte == b' ') {
+        if !word.is_empty() {
+            words.push(Word::of(alloc, word)?)?;
+        }
+    }
+    Ok(())
 }
 
 /// Each line of the tables, behind the name of its table and a blank.
@@ -151,6 +190,12 @@ pub fn tables(alloc: Global, folder: &MemoryFolder) -> Result<Bytes, AllocError>
         }
     }
     Ok(tables)
+}
+
+/// Pushes a line for each line of the tables that went, `-passwd LINE`, and that came.
+pub fn push_changes(text: &mut Bytes, before: &Bytes, after: &Bytes) -> Result<(), AllocError> {
+    push_lines_beside(text, b"-", before, after)?;
+    push_lines_beside(text, b"+", after, before)
 }
 
 // Pushes, behind a sign, each line that isn't among the others.
