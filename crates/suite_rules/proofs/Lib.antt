@@ -1,12 +1,12 @@
 pub mod Cut
 pub mod Own
 pub mod StepLemmas
-mod Numbers
+pub mod Numbers
 pub mod Names
 pub mod Listed
 pub mod KeeperParts
 mod Sessions
-mod Effects
+pub mod Effects
 mod LockSteps
 mod LockOrigins
 mod LockFacts
@@ -18,7 +18,7 @@ mod ViewSteps
 mod FileSteps
 pub mod Changed
 mod SettledSteps
-mod Commitments
+pub mod Commitments
 pub mod Settles
 pub mod Places
 pub mod Once

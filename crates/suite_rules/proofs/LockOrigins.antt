@@ -11,7 +11,7 @@ use Rattle.acct_outside.specs.History.{History}
 use Rattle.acct_outside.specs.Gives.{GivesVerdict}
 use Rattle.acct_outside.specs.Life.{is_running}
 use Rattle.suite_rules.specs.OwnLock.{OwnLock, lock_uncalled, lock_called, lock_unsure, lock_made, lock_kept, lock_freed, made_number, held_number, kept_number, has_called_create, makes, confirm_step}
-use Rattle.suite_rules.specs.Listing.{Listing, new_listing, with_text, text_step, verdict_step, before_create}
+use Rattle.suite_rules.specs.Listing.{Listing, new_listing, with_text, text_step, verdict_step, before_create, with_removed}
 use Rattle.suite_rules.specs.Standing.{Standing}
 use Rattle.suite_rules.specs.Rules.{CreateRule}
 use Rattle.suite_rules.proofs.Numbers.{number-is, number-differs}
@@ -305,14 +305,33 @@ module _ (history : History) (token : Token) (before after : Folder)
       later.listing ≡ Some listing → ListingOrigin history before standing listing
   same-listing listing same is = known_before listing (sym same ∙ is) refl refl refl
 
-  -- a listing on which a create came stays known
+  -- so does one with a note that leaves its numbers, its texts and whether it is judged
+  noted-listing : (note : Listing → Listing) →
+      ((one : Listing) → ((note one).numbers ≡ one.numbers) × ((note one).texts ≡ one.texts)
+      × ((note one).is_judged ≡ one.is_judged)) → (listing : Listing) →
+      later.listing ≡ option_map note standing.listing →
+      later.listing ≡ Some listing → ListingOrigin history before standing listing
+  noted-listing note leaves listing same is =
+      let old = map-origin note standing.listing listing (sym same ∙ is) in
+      let left = leaves old.0 in
+      known_before old.0 old.1 (ap (λ (one : Listing). one.numbers) old.2 ∙ left.0)
+      (ap (λ (one : Listing). one.texts) old.2 ∙ left.1)
+      (ap (λ (one : Listing). one.is_judged) old.2 ∙ left.2)
+
+  -- so does one on which a create came
   created-listing : (listing : Listing) →
       later.listing ≡ option_map before_create standing.listing →
       later.listing ≡ Some listing → ListingOrigin history before standing listing
-  created-listing listing same is =
-      let old = map-origin before_create standing.listing listing (sym same ∙ is) in
-      known_before old.0 old.1 (ap (λ (one : Listing). one.numbers) old.2)
-      (ap (λ (one : Listing). one.texts) old.2) (ap (λ (one : Listing). one.is_judged) old.2)
+  created-listing = noted-listing before_create (λ one. (refl, refl, refl))
+
+  -- and one of which a lock was removed
+  removed-listing : (number : ℕ) (listing : Listing) →
+      (later.listing ≡ standing.listing)
+      ⊎ (later.listing ≡ option_map (with_removed number) standing.listing) →
+      later.listing ≡ Some listing → ListingOrigin history before standing listing
+  removed-listing number listing (inl same) is = same-listing listing same is
+  removed-listing number listing (inr noted) is =
+      noted-listing (with_removed number) (λ one. (refl, refl, refl)) listing noted is
 
   -- where the listing after the event comes from
   pub listing-origin : LockStep history token before after standing later → (listing : Listing) →
@@ -350,4 +369,5 @@ module _ (history : History) (token : Token) (before after : Folder)
       created-listing listing same is
   listing-origin (lock_given_up lock text keeps added own same) listing is =
       same-listing listing same is
-  listing-origin (lock_removed lock rule taken own same) listing is = same-listing listing same is
+  listing-origin (lock_removed lock rule taken own same) listing is =
+      removed-listing lock listing same is

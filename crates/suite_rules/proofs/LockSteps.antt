@@ -9,12 +9,12 @@ use Rattle.acct_outside.specs.declared.Created.TheVariants.{Done, Exists}
 use Rattle.acct_outside.specs.Names.{name_limit}
 use Rattle.acct_outside.specs.Tokens.{Token, held_text}
 use Rattle.acct_outside.specs.Folder.{Folder, greatest, top}
-use Rattle.acct_outside.specs.Calls.{Call, Answer, CallResult, Effect, Found, lists, reads, asks, creates, writes, renames, removes, done, failed, died, happened, nothing, left, found_absent, found_bytes, found_too_large, effect_of, changed_by}
+use Rattle.acct_outside.specs.Calls.{Call, Answer, CallResult, Found, lists, reads, asks, creates, writes, renames, removes, done, failed, died, happened, nothing, left, found_absent, found_bytes, found_too_large, effect_of, changed_by}
 use Rattle.acct_outside.specs.History.{History}
 use Rattle.acct_outside.specs.Gives.{GivesVerdict, GivesEffect, GivesResult}
 use Rattle.suite_rules.specs.Deeds.{SuiteDeeds}
 use Rattle.suite_rules.specs.OwnLock.{lock_called, lock_unsure, lock_made, lock_kept, lock_freed, held_number, has_called_create, makes, confirm_step, freed_at}
-use Rattle.suite_rules.specs.Listing.{new_listing, text_step, verdict_step, before_create}
+use Rattle.suite_rules.specs.Listing.{new_listing, text_step, verdict_step, before_create, with_removed}
 use Rattle.suite_rules.specs.Standing.{Standing, standing_step}
 use Rattle.suite_rules.specs.Rules.{CreateRule, UnlockRule, moves_backup, moves_free, Permits, free_begin, free_listing, free_read, free_verdict, create_rule, staging_rule, commit_rule, install_rule, clear_rule, move_rule, unlock_rule, answer_rule}
 use Rattle.suite_rules.proofs.Numbers.{number-same}
@@ -55,9 +55,11 @@ pub data LockStep (history : History) (token : Token) (before after : Folder)
   lock_given_up : (number : ℕ) (text : Bytes) → standing.own ≡ lock_kept number →
       WithLock number text before after → later.own ≡ lock_freed number →
       later.listing ≡ standing.listing → LockStep history token before after standing later
-  -- a removal of a lock
+  -- a removal of a lock, which the listing notes where it was answered
   lock_removed : (number : ℕ) → UnlockRule standing number → WithoutLock number before after →
-      later.own ≡ standing.own → later.listing ≡ standing.listing →
+      later.own ≡ standing.own →
+      (later.listing ≡ standing.listing)
+      ⊎ (later.listing ≡ option_map (with_removed number) standing.listing) →
       LockStep history token before after standing later
 
 module _ (deeds : SuiteDeeds) (history : History) (token : Token) (folder : Folder)
@@ -157,15 +159,19 @@ module _ (deeds : SuiteDeeds) (history : History) (token : Token) (folder : Fold
   free-step number (died (left content)) keeps given = absurd given
 
   -- a removal of a lock
-  unlock-step : (number : ℕ) (later : Standing) (effect : Effect) → UnlockRule standing number →
-      later.own ≡ standing.own → later.listing ≡ standing.listing →
-      LockStep history token folder (changed_by token (removes (Lock number)) effect folder)
-      standing later
-  unlock-step number later happened rule own listing =
-      lock_removed number rule (record { numbers = refl; texts = λ other. refl }) own listing
-  unlock-step number later nothing rule own listing = lock_quiet (locks-same folder) own listing
-  unlock-step number later (left content) rule own listing =
-      lock_quiet (locks-same folder) own listing
+  unlock-step : (number : ℕ) (result : CallResult (Unit {0})) → UnlockRule standing number →
+      GivesEffect folder (removes (Lock number)) (effect_of (removes (Lock number)) result) →
+      StepOf (removes (Lock number)) result
+  unlock-step number (done answer) rule given =
+      lock_removed number rule (record { numbers = refl; texts = λ other. refl }) refl (inr refl)
+  unlock-step number (failed happened) rule given =
+      lock_removed number rule (record { numbers = refl; texts = λ other. refl }) refl (inl refl)
+  unlock-step number (failed nothing) rule given = lock_quiet (locks-same folder) refl refl
+  unlock-step number (failed (left content)) rule given = absurd given
+  unlock-step number (died happened) rule given =
+      lock_removed number rule (record { numbers = refl; texts = λ other. refl }) refl (inl refl)
+  unlock-step number (died nothing) rule given = lock_quiet (locks-same folder) refl refl
+  unlock-step number (died (left content)) rule given = absurd given
 
   -- the step of a permitted call
   pub lock-step : (call : Call) (result : CallResult (Answer call)) → Permits deeds standing call →
@@ -196,5 +202,6 @@ module _ (deeds : SuiteDeeds) (history : History) (token : Token) (folder : Fold
       free-step keeper.number result keeper.keeps
       (gives-effect folder history token (renames FreeStage (Lock keeper.number)) result gives)
   lock-step _ result (unlock_rule number rule) gives =
-      unlock-step number _ (effect_of (removes (Lock number)) result) rule refl refl
+      unlock-step number result rule
+      (gives-effect folder history token (removes (Lock number)) result gives)
   lock-step _ result (answer_rule status rule) gives = lock_quiet (locks-same folder) refl refl

@@ -284,6 +284,7 @@ module _ (deeds : SuiteDeeds) where
           texts = codes "held z\n" ∷ [];
           is_judged = true;
           follows_create = false;
+          removed = [];
         };
         listed = refl;
         first = refl;
@@ -360,6 +361,7 @@ module _ (deeds : SuiteDeeds) where
           texts = free_text ∷ [];
           is_judged = true;
           follows_create = false;
+          removed = [];
         };
         listed = refl;
         first = refl;
@@ -398,6 +400,7 @@ module _ (deeds : SuiteDeeds) where
           texts = codes "held z\n" ∷ [];
           is_judged = true;
           follows_create = false;
+          removed = [];
         };
         listed = refl;
         first = refl;

@@ -153,6 +153,7 @@ created_above-lawful = goes_on _ _ told_dead-lawful (record {
         texts = codes "held m1\n" ∷ [];
         is_judged = true;
         follows_create = false;
+        removed = [];
       };
       listed = refl;
       first = refl;

@@ -1,6 +1,7 @@
--- What a session knows of the standing locks: its last listing, and whether it has judged the
--- greatest lock of it, so that it may take over (docs/ARCHITECTURE.md, "Taking over").
-use Rattle.std.specs.Prelude.{ℕ, Bool, false, ◌||◌, ◌==◌, if◌then◌else◌, List, [], ◌∷◌, Option, Some, option_map, bytes_eq}
+-- What a session knows of the standing locks: its last listing, whether it has judged the greatest
+-- lock of it, so that it may take over, and which locks it removed since (docs/ARCHITECTURE.md,
+-- "Taking over").
+use Rattle.std.specs.Prelude.{ℕ, Bool, false, ◌||◌, ◌==◌, if◌then◌else◌, List, [], ◌∷◌, ◌++◌, Option, Some, option_map, bytes_eq}
 use Rattle.acct_text.specs.Bytes.{Bytes}
 use Rattle.acct_outside.specs.declared.Name.{Name}
 use Rattle.acct_outside.specs.declared.Name.TheVariants.{Lock}
@@ -8,7 +9,7 @@ use Rattle.acct_outside.specs.declared.Verdict.{Verdict}
 use Rattle.acct_outside.specs.declared.Verdict.TheVariants.{Alive, Dead}
 use Rattle.acct_outside.specs.Tokens.{Token, held_text, free_text}
 use Rattle.acct_outside.specs.Folder.{greatest}
-use Rattle.acct_outside.specs.Calls.{Call, Answer, CallResult, Found, lists, reads, asks, creates, done, found_bytes}
+use Rattle.acct_outside.specs.Calls.{Call, Answer, CallResult, Found, lists, reads, asks, creates, removes, done, found_bytes}
 use Rattle.suite_rules.specs.OwnLock.{OwnLock, has_called_create}
 
 -- a listing of the locks, and what was learned of the greatest since
@@ -22,6 +23,8 @@ pub record Listing : Type 0 where
   pub is_judged : Bool
   -- it came after the session's create
   pub follows_create : Bool
+  -- the locks that the session removed since, in order
+  pub removed : List ℕ
 
 -- what was just listed, by a session that has called create or not
 abbrev pub new_listing : Bool → List ℕ → Listing
@@ -30,6 +33,7 @@ new_listing follows numbers = record {
   texts = [];
   is_judged = greatest numbers == 0;
   follows_create = follows;
+  removed = [];
 }
 
 -- one of the texts is that of a lock which the session holds
@@ -59,6 +63,10 @@ verdict_step token Dead listing =
 abbrev pub before_create : Listing → Listing
 before_create listing = record listing { follows_create = false }
 
+-- the lock of this number was removed since
+abbrev pub with_removed : ℕ → Listing → Listing
+with_removed number listing = record listing { removed = listing.removed ++ (number ∷ []) }
+
 -- a file was read
 abbrev pub read_step : Name → Found → Option Listing → Option Listing
 read_step (Lock number) (found_bytes text) listing = option_map (text_step number text) listing
@@ -72,4 +80,6 @@ listing_step own (reads name) (done found) listing = read_step name found listin
 listing_step own (asks token) (done verdict) listing =
     option_map (verdict_step token verdict) listing
 listing_step own (creates number) result listing = option_map before_create listing
+listing_step own (removes (Lock number)) (done answer) listing =
+    option_map (with_removed number) listing
 listing_step own _ _ listing = listing
