@@ -1,11 +1,11 @@
 -- Claim: a keeper's call on other files leaves its lock and the lower locks, whatever it answered,
 -- so that it stands as a keeper with what it knows then (`keeps-aside`). Way: such a call is no
--- listing, no verdict, no create, no read of a lock and no move of the free text, so it changes
--- neither the own lock (`own-aside`) nor the last listing (`listing-aside`). It is keeper as the
+-- listing, no verdict, no create, no read or removal of a lock and no move of the free text, so it
+-- changes neither the own lock (`own-aside`) nor the last listing (`listing-aside`). It is keeper as the
 -- rules ask (`is-keeper`).
 use Rattle.std.proofs.Common.{◌≡◌, refl, sym, subst, ◌∙◌, Option}
 use Rattle.acct_outside.specs.declared.Name.TheVariants.{FreeStage, Lock}
-use Rattle.acct_outside.specs.Calls.{Call, Answer, CallResult, lists, reads, asks, creates, renames, done}
+use Rattle.acct_outside.specs.Calls.{Call, Answer, CallResult, lists, reads, asks, creates, renames, removes, done}
 use Rattle.suite_rules.specs.OwnLock.{OwnLock, own_step}
 use Rattle.suite_rules.specs.Listing.{Listing, listing_step}
 use Rattle.suite_rules.specs.Knowledge.{Knowledge, nothing_seen, knows_step}
@@ -22,6 +22,7 @@ IsAside (asks token) = ⊥
 IsAside (creates number) = ⊥
 IsAside (reads (Lock number)) = ⊥
 IsAside (renames FreeStage (Lock number)) = ⊥
+IsAside (removes (Lock number)) = ⊥
 IsAside _ = Unit {0}
 
 -- it leaves the own lock
@@ -41,6 +42,7 @@ listing-aside (asks token) aside result own listing = absurd aside
 listing-aside (creates number) aside result own listing = absurd aside
 listing-aside (reads (Lock number)) aside result own listing = absurd aside
 listing-aside (reads name) aside (done found) own listing = refl
+listing-aside (removes (Lock number)) aside result own listing = absurd aside
 listing-aside call aside result own listing = refl
 
 -- the session keeps its number, with the same lower locks

@@ -2,7 +2,7 @@
 -- outcome the call was done with the answer that leads there, and StandsLemmas has what that makes
 -- of the standing. The lemmas stand in the order of the calls. Where a step tells that the folder
 -- failed, its call told so (`counts`).
-use Rattle.std.proofs.Common.{ap, ℕ, ◌+◌, ◌<◌, List, length, Option, Result, Ok, Err}
+use Rattle.std.proofs.Common.{ap, ℕ, ◌+◌, ◌≡◌, ◌<◌, List, length, get_or, Option, Result, Ok, Err}
 use Rattle.std.specs.Prelude.{IfOk, IsErrOf}
 use Rattle.acct_outside.specs.declared.FolderFault.{FolderFault}
 use Rattle.acct_outside.specs.declared.FolderFault.TheVariants.{Failed}
@@ -141,35 +141,38 @@ module _ (before_admits admits : Admission) (narrows : Narrows before_admits adm
       (keeper : Kept) (Knows : Knowledge → Type 0) (number : ℕ)
       (answer : Result (Unit {0}) FolderFault) (result : Result Kept FolderFault)
       → 0 < length keeper.lower
+      → number ≡ get_or keeper.lower 0 0
       → LeadsTo (cleaned_once keeper) answer result
       → StandsIn before_admits before token (Keeps keeper Knows)
       → Tells before_admits before now token (removes (Lock number)) answer
       → IfOk result (λ next. StandsIn admits now token (Keeps next Knows))
-  clean-leads keeper Knows number (Ok tt) (Ok next) some shown stands tells =
+  clean-leads keeper Knows number (Ok tt) (Ok next) some first shown stands tells =
       stands-done before_admits admits narrows token (removes (Lock number)) tt
       (Keeps keeper Knows) (Keeps next Knows) tt
-      (λ stood held. cleaned keeper Knows number stood held some next
+      (λ stood held. cleaned keeper Knows number stood held some first next
       (ap (λ (one : Kept). one.number) shown) (ap (λ (one : Kept). one.lower) shown))
       before now stands tells
-  clean-leads keeper Knows number (Err fault) (Ok next) some shown stands tells = absurd shown
-  clean-leads keeper Knows number answer (Err came) some shown stands tells = tt
+  clean-leads keeper Knows number (Err fault) (Ok next) some first shown stands tells =
+      absurd shown
+  clean-leads keeper Knows number answer (Err came) some first shown stands tells = tt
 
   -- a write of the free text
   pub stage-leads :
       (keeper : Kept) (Knows : Knowledge → Type 0)
       (answer : Result (Unit {0}) FolderFault) (result : Result Maker FolderFault)
+      → length keeper.lower ≡ 0
       → LeadsTo (freeing_of keeper) answer result
       → StandsIn before_admits before token (Keeps keeper Knows)
       → Tells before_admits before now token (writes FreeStage free_text) answer
       → IfOk result (λ freeing. StandsIn admits now token (HasStagedFree freeing))
-  stage-leads keeper Knows (Ok tt) (Ok freeing) shown stands tells =
+  stage-leads keeper Knows (Ok tt) (Ok freeing) none shown stands tells =
       stands-done before_admits admits narrows token (writes FreeStage free_text) tt
       (Keeps keeper Knows) (HasStagedFree freeing) tt
-      (λ stood held. staged-free keeper Knows stood held freeing
+      (λ stood held. staged-free keeper Knows stood held none freeing
       (ap (λ (one : Maker). one.number) shown))
       before now stands tells
-  stage-leads keeper Knows (Err fault) (Ok freeing) shown stands tells = absurd shown
-  stage-leads keeper Knows answer (Err came) shown stands tells = tt
+  stage-leads keeper Knows (Err fault) (Ok freeing) none shown stands tells = absurd shown
+  stage-leads keeper Knows answer (Err came) none shown stands tells = tt
 
   -- a move of the free text
   pub move-leads :
@@ -178,10 +181,10 @@ module _ (before_admits admits : Admission) (narrows : Narrows before_admits adm
       → LeadsTo the_end answer result
       → StandsIn before_admits before token (HasStagedFree freeing)
       → Tells before_admits before now token (renames FreeStage (Lock freeing.number)) answer
-      → IfOk result (λ _. StandsIn admits now token (HasFreed freeing))
+      → IfOk result (λ _. StandsIn admits now token (HasFreed freeing.number))
   move-leads freeing (Ok tt) (Ok ended) shown stands tells =
       stands-done before_admits admits narrows token (renames FreeStage (Lock freeing.number)) tt
-      (HasStagedFree freeing) (HasFreed freeing) tt
+      (HasStagedFree freeing) (HasFreed freeing.number) tt
       (λ stood held. freed freeing stood held) before now stands tells
   move-leads freeing (Err fault) (Ok ended) shown stands tells = absurd shown
   move-leads freeing answer (Err came) shown stands tells = tt

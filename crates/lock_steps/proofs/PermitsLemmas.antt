@@ -54,4 +54,4 @@ module _ (deeds : SuiteDeeds) (stood : Standing) where
   pub may-move-free : (freeing : Maker) → HasStagedFree freeing stood →
       Permits deeds stood (renames FreeStage (Lock freeing.number))
   may-move-free freeing held = move_rule FreeStage (Lock freeing.number)
-      (record { number = freeing.number; keeps = held.keeps }) (moves_free held.staged)
+      (record { number = freeing.number; keeps = held.locks.owns }) (moves_free held.staged)

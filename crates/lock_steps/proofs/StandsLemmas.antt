@@ -1,7 +1,7 @@
 -- Claim: each call leads from the standing of its state to that of the next, by one step of the
 -- standing. Way: the own lock, the last listing and the knowledge are three parts with a step each,
 -- and each lemma takes the parts that its call changes. The lemmas stand in the order of the calls.
-use Rattle.std.proofs.Common.{◌≡◌, refl, sym, ap, subst, ◌∙◌, ℕ, ◌<◌, Bool, true, false, ◌||◌, ◌==◌, nat_lt, cond, List, [], ◌∷◌, ◌++◌, length, drop, filter, Option, Some, append_assoc, true≢false, arith}
+use Rattle.std.proofs.Common.{◌≡◌, refl, sym, ap, ap₂, subst, ◌∙◌, ℕ, ◌<◌, Bool, true, false, ◌||◌, ◌==◌, nat_lt, cond, List, [], ◌∷◌, ◌++◌, length, drop, filter, get_or, Option, Some, append_assoc, true≢false, arith}
 use Rattle.std.proofs.lemmas.Bool.{cond-true, cond-false}
 use Rattle.std.proofs.lemmas.Bool.Decides.{Decides-eqb}
 use Rattle.std.specs.Option.{option_map}
@@ -14,14 +14,14 @@ use Rattle.acct_outside.specs.Tokens.{held_text, free_text}
 use Rattle.acct_outside.specs.Folder.{greatest}
 use Rattle.acct_outside.specs.Calls.{Call, Answer, CallResult, lists, reads, asks, creates, writes, renames, removes, done, failed, died, found_bytes}
 use Rattle.suite_rules.specs.OwnLock.{OwnLock, lock_made, lock_kept, lock_freed, makes, confirm_step, held_number, freed_at, own_step, has_called_create}
-use Rattle.suite_rules.specs.Listing.{Listing, new_listing, with_text, text_step, verdict_step, is_held_in}
+use Rattle.suite_rules.specs.Listing.{Listing, new_listing, with_text, text_step, verdict_step, with_removed, is_held_in}
 use Rattle.suite_rules.specs.Knowledge.{Knowledge, knows_step}
 use Rattle.suite_rules.specs.Standing.{Standing, standing_step, keeper_part}
 use Rattle.suite_rules.specs.Steps.{Work, work}
 use Rattle.std.proofs.lemmas.Slice.Eq.{bytes_eq-Decides}
 use Rattle.lock_steps.specs.States.{Lister, Asker, Maker, Overtaken, Kept}
 use Rattle.lock_steps.specs.LockText.{IsHeldBy}
-use Rattle.lock_steps.specs.Stands.{HasNoLock, HasLooked, HasReadHeld, HasJudged, HasMade, WasOvertaken, Keeps, KnowsAnything, HasStagedFree, HasFreed}
+use Rattle.lock_steps.specs.Stands.{HasNoLock, HasLooked, HasReadHeld, HasJudged, HasMade, WasOvertaken, AreLeft, HasLocks, Keeps, KnowsAnything, HasStagedFree, HasFreed}
 
 -- a number is equal to itself by the test
 number-same : (number : ℕ) → (number == number) ≡ true
@@ -157,11 +157,8 @@ module _ (claimed : Maker) (numbers : List ℕ) (stood : Standing)
       is_greatest = is_greatest ∙ sym number;
       is_such = (
         follows,
-        (
-          [],
-          subst (λ (bound : ℕ). filter (λ other. nat_lt other bound) numbers ≡ keeper.lower)
-              (sym number) (sym lower),
-        ),
+        subst (λ (bound : ℕ). filter (λ other. nat_lt other bound) numbers ≡ keeper.lower)
+            (sym number) (sym lower),
       );
     };
     knows = tt;
@@ -188,12 +185,11 @@ pub kept-part : {A : Type 0} (number : ℕ) (own later : OwnLock) (begun changed
     own ≡ lock_kept number → keeper_part own later begun changed same ≡ changed
 kept-part number own later begun changed same is = rw is refl
 
--- without the first of a list, it is left as it was
+-- the first of those left goes behind those removed
 first-removed : (removed lower : List ℕ) → 0 < length lower →
-    (more : List ℕ) × (removed ++ lower ≡ more ++ drop 1 lower)
+    removed ++ lower ≡ (removed ++ get_or lower 0 0 ∷ []) ++ drop 1 lower
 first-removed removed [] some = absurd (omega arith)
-first-removed removed (first ∷ lower) some =
-    (removed ++ first ∷ [], sym (append_assoc removed (first ∷ []) lower))
+first-removed removed (first ∷ lower) some = sym (append_assoc removed (first ∷ []) lower)
 
 -- What a keeper's removal of a lock leaves.
 module _ (keeper : Kept) (Knows : Knowledge → Type 0) (number : ℕ) (stood : Standing)
@@ -209,34 +205,34 @@ module _ (keeper : Kept) (Knows : Knowledge → Type 0) (number : ℕ) (stood : 
       (kept-part keeper.number stood.own stood.own _ _ stood.knows held.locks.owns)
 
   -- its lock and its knowledge, with one lower lock less where it was the first of them
-  pub cleaned : 0 < length keeper.lower → (next : Kept) → next.number ≡ keeper.number →
-      next.lower ≡ drop 1 keeper.lower →
+  pub cleaned : 0 < length keeper.lower → number ≡ get_or keeper.lower 0 0 → (next : Kept) →
+      next.number ≡ keeper.number → next.lower ≡ drop 1 keeper.lower →
       Keeps next Knows (standing_step (removes (Lock number)) (done tt) stood)
-  cleaned some next same lower =
-      let left = first-removed held.locks.is_such.1.0 keeper.lower some in
+  cleaned some first next same lower =
+      let listed = held.locks.listing in
       record {
         locks = record {
           owns = held.locks.owns ∙ ap lock_kept (sym same);
-          listing = held.locks.listing;
-          listed = held.locks.listed;
+          listing = with_removed number listed;
+          listed = ap (option_map (with_removed number)) held.locks.listed;
           is_greatest = held.locks.is_greatest ∙ sym same;
           is_such = (
             held.locks.is_such.0,
-            (
-              left.0,
-              subst (λ (bound : ℕ).
-                  filter (λ other. nat_lt other bound) held.locks.listing.numbers
-                  ≡ left.0 ++ next.lower)
-                  (sym same)
-                  (held.locks.is_such.1.1 ∙ (left.1
-                  ∙ ap (λ (rest : List ℕ). left.0 ++ rest) (sym lower))),
-            ),
+            subst (λ (bound : ℕ). AreLeft bound (with_removed number listed) next.lower) (sym same)
+                (held.locks.is_such.1 ∙ (first-removed listed.removed keeper.lower some
+                ∙ ap₂ (λ (one : ℕ) (rest : List ℕ). (listed.removed ++ one ∷ []) ++ rest)
+                (sym first) (sym lower))),
           );
         };
         knows = subst Knows
             (sym (kept-part keeper.number stood.own stood.own _ _ stood.knows held.locks.owns))
             held.knows;
       }
+
+-- a list without elements is empty
+no-elements : (list : List ℕ) → length list ≡ 0 → list ≡ []
+no-elements [] none = refl
+no-elements (first ∷ list) none = absurd (cc none)
 
 -- What a keeper's write of the free text does.
 module _ (keeper : Kept) (Knows : Knowledge → Type 0) (stood : Standing)
@@ -251,11 +247,23 @@ module _ (keeper : Kept) (Knows : Knowledge → Type 0) (stood : Standing)
   } in left)
       (kept-part keeper.number stood.own stood.own _ _ stood.knows held.locks.owns)
 
-  -- done, it stages the text
-  pub staged-free : (freeing : Maker) → freeing.number ≡ keeper.number →
+  -- done, it stages the text, where no lower lock is left
+  pub staged-free : length keeper.lower ≡ 0 → (freeing : Maker) →
+      freeing.number ≡ keeper.number →
       HasStagedFree freeing (standing_step (writes FreeStage free_text) (done tt) stood)
-  staged-free freeing same = record {
-    keeps = held.locks.owns ∙ ap lock_kept (sym same);
+  staged-free none freeing same = record {
+    locks = subst (λ (number : ℕ). HasLocks (lock_kept number) number []
+        (standing_step (writes FreeStage free_text) (done tt) stood)) (sym same) (record {
+          owns = held.locks.owns;
+          listing = held.locks.listing;
+          listed = held.locks.listed;
+          is_greatest = held.locks.is_greatest;
+          is_such = (
+            held.locks.is_such.0,
+            subst (AreLeft keeper.number held.locks.listing) (no-elements keeper.lower none)
+                held.locks.is_such.1,
+          );
+        });
     staged = ap (λ (staged : Name → Option Bytes). staged FreeStage)
         (kept-part keeper.number stood.own stood.own _ _ stood.staged held.locks.owns);
   }
@@ -282,11 +290,17 @@ module _ (freeing : Maker) (stood : Standing) (held : HasStagedFree freeing stoo
     commit = stood.commit;
   } in left)
       (kept-part freeing.number stood.own (own_step move result stood.own) _ _ stood.knows
-      held.keeps
+      held.locks.owns
       ∙ knows-left result)
 
   -- done, it frees the lock
-  pub freed : HasFreed freeing (standing_step move (done tt) stood)
-  freed = ap (λ (own : OwnLock). freed_at freeing.number (held_number own) own) held.keeps
-      ∙ cond-true (freeing.number == freeing.number) (lock_freed freeing.number)
-      (lock_kept freeing.number) (number-same freeing.number)
+  pub freed : HasFreed freeing.number (standing_step move (done tt) stood)
+  freed = record {
+    owns = ap (λ (own : OwnLock). freed_at freeing.number (held_number own) own) held.locks.owns
+        ∙ cond-true (freeing.number == freeing.number) (lock_freed freeing.number)
+        (lock_kept freeing.number) (number-same freeing.number);
+    listing = held.locks.listing;
+    listed = held.locks.listed;
+    is_greatest = held.locks.is_greatest;
+    is_such = held.locks.is_such;
+  }

@@ -1,6 +1,6 @@
 -- The standing of a session in each typed state (docs/ARCHITECTURE.md, "Typed steps"). Each is
 -- found from the session's own events alone.
-use Rattle.std.specs.Prelude.{◌≡◌, ℕ, ◌++◌, nat_lt, true, List, filter, Option, Some}
+use Rattle.std.specs.Prelude.{◌≡◌, ℕ, ◌++◌, nat_lt, true, List, [], filter, Option, Some}
 use Rattle.acct_outside.specs.Others.{Admission}
 use Rattle.acct_outside.specs.Contract.{Past}
 use Rattle.acct_outside.specs.declared.Name.TheVariants.{FreeStage}
@@ -53,18 +53,20 @@ abbrev pub WasOvertaken : Overtaken → Standing → Type 0
 WasOvertaken loser = HasListed (lock_made loser.number) loser.greatest
     (λ listing. listing.follows_create ≡ true)
 
--- the locks below the number, of which these are left
-abbrev pub AreLeft : ℕ → List ℕ → List ℕ → Type 0
-AreLeft number numbers left =
-    (removed : List ℕ) × (filter (λ other. nat_lt other number) numbers ≡ removed ++ left)
+-- of the locks below the number that were listed these are left, behind those removed since
+abbrev pub AreLeft : ℕ → Listing → List ℕ → Type 0
+AreLeft number listing left =
+    filter (λ other. nat_lt other number) listing.numbers ≡ listing.removed ++ left
 
--- It keeps its number, which a listing after its create showed as the greatest; of the lower locks
--- in that listing these are left; and such is what it knows of the intent.
+-- It has this own lock, of this number, which its last listing, after its create, showed as the
+-- greatest; and of the lower locks in that listing these are left.
+abbrev pub HasLocks : OwnLock → ℕ → List ℕ → Standing → Type 0
+HasLocks own number left = HasListed own number
+    (λ listing. (listing.follows_create ≡ true) × AreLeft number listing left)
+
+-- it keeps its number, these lower locks are left, and such is what it knows of the intent
 pub record Keeps (keeper : Kept) (Knows : Knowledge → Type 0) (standing : Standing) : Type 0 where
-  pub locks : HasListed (lock_kept keeper.number) keeper.number
-      (λ listing. (listing.follows_create ≡ true)
-      × AreLeft keeper.number listing.numbers keeper.lower)
-      standing
+  pub locks : HasLocks (lock_kept keeper.number) keeper.number keeper.lower standing
   pub knows : Knows standing.knows
 
 -- anything may be so of the intent
@@ -79,14 +81,14 @@ KnowsNone knows = (seen : Seen) × (knows ≡ knows_none seen)
 abbrev pub KnowsNoneYet : Knowledge → Type 0
 KnowsNoneYet knows = knows ≡ knows_none nothing_seen
 
--- it keeps its number, and has staged the free text
+-- it keeps its number, no lower lock is left, and it has staged the free text
 pub record HasStagedFree (freeing : Maker) (standing : Standing) : Type 0 where
-  pub keeps : standing.own ≡ lock_kept freeing.number
+  pub locks : HasLocks (lock_kept freeing.number) freeing.number [] standing
   pub staged : standing.staged FreeStage ≡ Some free_text
 
--- it has freed its lock
-abbrev pub HasFreed : Maker → Standing → Type 0
-HasFreed freeing standing = standing.own ≡ lock_freed freeing.number
+-- it has freed its lock of this number, and no lower lock is left
+abbrev pub HasFreed : ℕ → Standing → Type 0
+HasFreed number = HasLocks (lock_freed number) number []
 
 -- after the greatest lock was read: it is judged, or read as held
 abbrev pub StandsTold : Admission → Option Past → Token → Told → Type 0

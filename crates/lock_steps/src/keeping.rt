@@ -1,7 +1,7 @@
 // The states of a keeper, the one session that may change the account files:
 //
 // 1. `Keeper`: its lock is the greatest. `clean_next` removes the lower locks one by one.
-//    `stage_free` leads to `Freeing`.
+//    Once none is left, `stage_free` leads to `Freeing`.
 // 2. `Freeing`: the text that frees its lock is staged. `move_free` leads to `Ended`.
 // 3. `Ended`: its lock is free. Only the answer of the session is left.
 ghost use Rattle.std.specs.Prelude.{◌≡◌, ◌<◌, IfOk, IsErrOf, length, nat_lt, slice_index, filter, All};
@@ -198,11 +198,12 @@ impl<K: Knowing> Keeper<K> {
         Ok(self)
     }
 
-    /// Writes the text that frees its lock.
+    /// Writes the text that frees its lock, once no lower lock is left.
     ///
     /// At a fault the keeper is spent, and its lock stands.
     pub fn stage_free<F: Folder>(self, folder: &mut F) -> Result<Freeing, FolderFault>
-        requires { StandsIn (F.admits folder.old) (F.told folder.old) self.token
+        requires none_left { length self.lower ≡ 0 }
+        requires stands { StandsIn (F.admits folder.old) (F.told folder.old) self.token
             (Keeps self K.knows) }
         ensures call { MakesCall (F.admits folder.old) (F.admits folder.new) (F.told folder.old)
             (F.told folder.new) self.token (writes FreeStage free_text)
@@ -243,7 +244,8 @@ impl Freeing {
             (F.told folder.new) self.token (renames FreeStage (Lock self.number))
             (λ answer. LeadsTo the_end answer result) }
         ensures next { IfOk result (λ _.
-            StandsIn (F.admits folder.new) (F.told folder.new) self.token (HasFreed self)) }
+            StandsIn (F.admits folder.new) (F.told folder.new) self.token
+            (HasFreed self.number)) }
         ensures work { Leaves work self.token (F.told folder.old) (F.told folder.new) }
         ensures lawful { AlwaysStaysLawful (F.admits folder.old) (F.told folder.old)
             (F.told folder.new) }

@@ -86,6 +86,9 @@ fn the_first_keeper_has_number_1_and_frees_it(rt: HostRuntime) -> Result<(), Fai
         panic!(rt; "lock 1 isn't the greatest")
     };
     assert_eq!(rt; keeper.number(), 1);
+    if keeper.lower() > 0 {
+        panic!(rt; "a lock stands below the first")
+    }
     keeper.stage_free(&mut folder)?.move_free(&mut folder)?;
     let text = folder.file(Name::Lock(1)).map(|text| text.as_slice());
     assert_eq!(rt; text, Some(b"free\n".as_slice()));

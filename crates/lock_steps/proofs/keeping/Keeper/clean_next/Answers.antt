@@ -1,4 +1,4 @@
-use Rattle.std.proofs.Common.{ap, subst, ◌<◌, length, get_or}
+use Rattle.std.proofs.Common.{refl, ap, subst, ◌<◌, length, get_or}
 use Rattle.acct_outside.specs.declared.Name.TheVariants.{Lock}
 use Rattle.acct_outside.specs.Calls.{removes}
 use Rattle.suite_rules.specs.Steps.{work}
@@ -28,7 +28,7 @@ returns g c =
       call = makes-call _ _ c.remove-removed.ensures.narrows keeper.token (removes (Lock lowest)) tt
           (Keeps keeper knows) _ removed _ _ c.requires.stands tells c.after_removal.ensures.shown;
       next = clean-leads _ _ c.remove-removed.ensures.narrows keeper.token _ _ keeper knows lowest
-          removed c.after_removal.result c.requires.left c.after_removal.ensures.shown
+          removed c.after_removal.result c.requires.left refl c.after_removal.ensures.shown
           c.requires.stands tells;
       work = leaves _ _ c.remove-removed.ensures.narrows keeper.token (removes (Lock lowest)) tt
           (Keeps keeper knows) work

@@ -20,16 +20,16 @@ returns g c =
     at c.write-written.ensures.told in
     record {
       call = makes-call _ _ c.write-written.ensures.narrows keeper.token
-          (writes FreeStage free_text) tt (Keeps keeper knows) _ written _ _ c.requires tells c.after_write.ensures.shown;
+          (writes FreeStage free_text) tt (Keeps keeper knows) _ written _ _ c.requires.stands tells c.after_write.ensures.shown;
       next = stage-leads _ _ c.write-written.ensures.narrows keeper.token _ _ keeper knows written
-          c.after_write.result c.after_write.ensures.shown c.requires tells;
+          c.after_write.result c.requires.none_left c.after_write.ensures.shown c.requires.stands tells;
       work = leaves _ _ c.write-written.ensures.narrows keeper.token (writes FreeStage free_text) tt
           (Keeps keeper knows) work
           (λ result stood held. write-leaves keeper knows stood held result) written _ _
-          c.requires tells;
+          c.requires.stands tells;
       lawful = λ deeds. stays-lawful deeds _ keeper.token (writes FreeStage free_text) tt
           (Keeps keeper knows) (λ stood held. may-stage-free deeds stood keeper knows held) written
-          _ _ c.requires tells;
+          _ _ c.requires.stands tells;
       faults = counts _ _ _ written c.after_write.result c.after_write.ensures.failed
           c.write-written.ensures.faults;
     }
