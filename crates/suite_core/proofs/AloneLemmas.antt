@@ -2,11 +2,10 @@
 -- so its answer is that on the files as they stood, and it alone changed them (`answers-alone`).
 -- Way: it was keeper after that moment (`suffixes`), and since then only its own events committed
 -- (`committed-own`); so its place is the whole list of that moment, which settles to the files.
-use Rattle.std.proofs.Common.{◌≡◌, ◌⊎◌, refl, sym, ap, ap₂, subst, ◌∙◌, ◌∷◌, ◌++◌, [], ℕ, ◌<◌, true, All, bytes_eq, List, inl, inr, Option, Some, None, arith}
+use Rattle.std.proofs.Common.{◌≡◌, ◌⊎◌, refl, sym, ap, ap₂, subst, ◌∙◌, ◌∷◌, ◌++◌, [], ℕ, ◌<◌, true, bytes_eq, List, inl, inr, Option, Some, None, arith}
 use Rattle.std.specs.List.{AllByRecursion}
 use Rattle.std.proofs.lemmas.List.{append_assoc, append-nil}
-use Rattle.std.proofs.lemmas.Bool.{lt-ltb}
-use Rattle.std.proofs.lemmas.List.Elements.{All-head, All-tail, filter-append}
+use Rattle.std.proofs.lemmas.List.Elements.{filter-append, recursion_from_All}
 use Rattle.std.proofs.lemmas.Slice.Eq.{bytes_eq-Decides}
 use Rattle.acct_text.specs.Bytes.{Bytes}
 use Rattle.acct_text.specs.Contents.{Contents}
@@ -20,8 +19,9 @@ use Rattle.suite_rules.specs.OwnLock.{lock_uncalled, lock_kept, kept_number, mad
 use Rattle.suite_rules.specs.Standing.{Standing, no_standing, standing}
 use Rattle.suite_rules.specs.Lawful.{Lawful}
 use Rattle.suite_rules.specs.Settled.{settled}
-use Rattle.suite_rules.specs.Committed.{Commitment, commitment_of, commits, committed, commitments_of, place, after_deed, fold_deeds, folded}
+use Rattle.suite_rules.specs.Committed.{Commitment, commitment_of, commits, committed, commitments_of, place, fold_deeds, folded}
 use Rattle.suite_rules.proofs.Places.{places-stay}
+use Rattle.suite_rules.proofs.Commitments.{fold-append, place-below}
 use Rattle.suite_rules.proofs.Once.{committed-once, kept-stays}
 use Rattle.suite_rules.proofs.Own.{own-standing}
 use Rattle.suite_rules.proofs.Cut.{lawful-prefix}
@@ -68,7 +68,7 @@ second-empty [] second is = is
 second-empty (one ∷ first) second is = absurd (cc is)
 
 -- a token is its own
-same-token : (token : Token) → bytes_eq token token ≡ true
+pub same-token : (token : Token) → bytes_eq token token ≡ true
 same-token token = (bytes_eq-Decides token token).1 refl
 
 module _ (token : Token) where
@@ -118,25 +118,7 @@ module _ (token : Token) where
           (commits-own event.call (effect_of event.call event.result)
           (standing token (between ++ old)))
 
--- commands after others change what these made
-fold-append : (deeds : SuiteDeeds) (defs : Option Bytes) (files : Contents)
-    (list others : List Commitment) → fold_deeds deeds defs files (list ++ others)
-    ≡ fold_deeds deeds defs (fold_deeds deeds defs files list) others
-fold-append deeds defs files [] others = refl
-fold-append deeds defs files (one ∷ list) others =
-    fold-append deeds defs (after_deed deeds defs files one.command) list others
-
 -- ---- Alone
-
--- a list of which all lie below a number is the place of it
-pub place-whole : (number : ℕ) (list : List Commitment) → All (λ one. one.number < number) list →
-    place number list ≡ list
-place-whole number [] below = refl
-place-whole number (one ∷ list) below =
-    rw (lt-ltb one.number number (All-head (λ (other : Commitment). other.number < number) one list
-    below))
-    (ap (λ (others : List Commitment). one ∷ others) (place-whole number list
-    (All-tail (λ (other : Commitment). other.number < number) one list below)))
 
 -- who has no events has no standing
 pub no-events : (token : Token) (history : History) → own_events token history ≡ [] →
@@ -203,8 +185,9 @@ module _ (deeds : SuiteDeeds) (first : Folder) (history : History)
       let top_is = (facts.keeper_view token was.number was.active).0 in
       ap (λ (one : History). place was.number (committed one)) was.parts
       ∙ (places-stay.stays deeds first was.newer was.older whole was.number (omega (arith, top_is))
-      ∙ (place-whole was.number (committed was.older)
-      (facts.settled_is_fold.below_keeper token was.number was.active was.uncommitted)
+      ∙ (place-below was.number (committed was.older)
+      (recursion_from_All (λ one. one.number < was.number) (committed was.older)
+      (facts.settled_is_fold.below_keeper token was.number was.active was.uncommitted))
       ∙ keeper-list))
 
 -- the claim

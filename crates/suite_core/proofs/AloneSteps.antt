@@ -2,11 +2,11 @@
 -- folder (`locks-step`): up to its create the folder is as it stood then, and what it has listed and
 -- read is what stood; once it has made a lock this is the greatest, and it hasn't listed the locks
 -- since.
--- Way: only a create leads on from where a session began, with a number above all (`greatest-next`);
--- and the next listing makes its session keeper.
-use Rattle.std.proofs.Common.{◌≡◌, refl, sym, ap, subst, ◌∙◌, ◌∷◌, [], ℕ, ◌<◌, ◌≤◌, max, Bool, true, false, ◌==◌, ◌||◌, nat_lt, cond, if◌then◌else◌, length, List, Option, Some, None, IfSome, option_map, true≢false, arith}
+-- Way: only a create leads on from where a session began, with a number above all; and the next
+-- listing makes its session keeper.
+use Rattle.std.proofs.Common.{◌≡◌, refl, sym, ap, subst, ◌∙◌, ℕ, ◌<◌, Bool, true, false, ◌==◌, if◌then◌else◌, List, Option, Some, None, IfSome, option_map, true≢false, arith}
 use Rattle.std.specs.List.{AllByRecursion}
-use Rattle.std.proofs.lemmas.Bool.Decides.{nat_tests, Decides-eqb}
+use Rattle.std.proofs.lemmas.Bool.Decides.{Decides-eqb}
 use Rattle.acct_text.specs.Bytes.{Bytes}
 use Rattle.acct_outside.specs.declared.Name.{Name}
 use Rattle.acct_outside.specs.declared.Name.TheVariants.{FreeStage, Lock}
@@ -15,8 +15,8 @@ use Rattle.acct_outside.specs.declared.Verdict.TheVariants.{Alive, Dead}
 use Rattle.acct_outside.specs.declared.Created.TheVariants.{Done, Exists}
 use Rattle.acct_outside.specs.Names.{name_limit}
 use Rattle.acct_outside.specs.Tokens.{Token}
-use Rattle.acct_outside.specs.Folder.{Folder, greatest, has_number, top, with_number}
-use Rattle.acct_outside.specs.Calls.{Call, Answer, CallResult, Effect, Found, lists, reads, asks, creates, renames, done, failed, died, happened, nothing, left, found_absent, found_bytes, found_too_large, found_within, effect_of, changed_by}
+use Rattle.acct_outside.specs.Folder.{Folder, greatest, top}
+use Rattle.acct_outside.specs.Calls.{Call, Answer, CallResult, Effect, Found, lists, reads, asks, creates, renames, done, failed, died, happened, nothing, left, found_absent, found_bytes, found_too_large, effect_of, changed_by}
 use Rattle.acct_outside.specs.History.{History}
 use Rattle.acct_outside.specs.Gives.{GivesResult}
 use Rattle.suite_rules.specs.Deeds.{SuiteDeeds}
@@ -24,81 +24,8 @@ use Rattle.suite_rules.specs.OwnLock.{OwnLock, lock_uncalled, lock_called, lock_
 use Rattle.suite_rules.specs.Listing.{Listing, new_listing, with_text, text_step, verdict_step, before_create}
 use Rattle.suite_rules.specs.Standing.{Standing, standing_step}
 use Rattle.suite_rules.specs.Rules.{CreateRule, KeeperRule, moves_backup, moves_free, unlocks_below, unlocks_own, Permits, free_begin, free_listing, free_read, free_verdict, create_rule, staging_rule, commit_rule, install_rule, clear_rule, move_rule, unlock_rule, answer_rule}
-
--- ---- The numbers of a listing
-
--- a number above all is the greatest once it is there
-greatest-next : (number : ℕ) (numbers : List ℕ) → greatest numbers < number →
-    greatest (with_number number numbers) ≡ number
-greatest-next number [] above = omega arith
-greatest-next number (head ∷ numbers) above =
-    cases (greatest-next number numbers) (nat_lt number head) (number == head) refl refl
-  where
-    cases : (greatest numbers < number → greatest (with_number number numbers) ≡ number) →
-        (less same : Bool) → nat_lt number head ≡ less → (number == head) ≡ same →
-        greatest (cond less (number ∷ head ∷ numbers)
-        (cond same (head ∷ numbers) (head ∷ with_number number numbers)))
-        ≡ number
-    cases rest true same is_less is_same =
-        let below : number < head = grind (arith, nat_tests) in absurd (omega (arith, below, above))
-    cases rest false true is_less is_same =
-        let equal : number ≡ head = (Decides-eqb number head).0 is_same in
-        absurd (omega (arith, equal, above))
-    cases rest false false is_less is_same =
-        let last = rest (omega (arith, above)) in omega (arith, last, above)
-
--- a number that stands is at most the greatest
-pub stands-most : (number : ℕ) (numbers : List ℕ) → has_number number numbers ≡ true →
-    number ≤ greatest numbers
-stands-most number [] stands = absurd (true≢false (sym stands))
-stands-most number (head ∷ numbers) stands =
-    cases (number == head) refl (stands-most number numbers) stands
-  where
-    cases : (same : Bool) → (number == head) ≡ same →
-        (has_number number numbers ≡ true → number ≤ greatest numbers) →
-        (same || has_number number numbers) ≡ true → number ≤ max head (greatest numbers)
-    cases true is rest there =
-        let equal : number ≡ head = (Decides-eqb number head).0 is in omega (arith, equal)
-    cases false is rest there = let most = rest there in omega (arith, most)
-
--- the greatest number stands, where there is one
-pub greatest-stands : (numbers : List ℕ) → 0 < greatest numbers →
-    has_number (greatest numbers) numbers ≡ true
-greatest-stands [] above = absurd (omega (arith, above))
-greatest-stands (head ∷ numbers) above =
-    cases (greatest-stands numbers) (nat_lt (greatest numbers) head) refl
-  where
-    here : (number : ℕ) (rest : Bool) → number ≡ head → ((number == head) || rest) ≡ true
-    here number rest is = rw ((Decides-eqb number head).1 is) refl
-
-    there : (test rest : Bool) → rest ≡ true → (test || rest) ≡ true
-    there true rest is = refl
-    there false rest is = is
-
-    cases : (0 < greatest numbers → has_number (greatest numbers) numbers ≡ true) →
-        (less : Bool) → nat_lt (greatest numbers) head ≡ less →
-        ((max head (greatest numbers) == head) || has_number (max head (greatest numbers)) numbers)
-        ≡ true
-    cases rest true is_less =
-        let is : max head (greatest numbers) ≡ head = grind (arith, nat_tests) in
-        here (max head (greatest numbers)) _ is
-    cases rest false is_less =
-        let is : max head (greatest numbers) ≡ greatest numbers = grind (arith, nat_tests) in
-        there (max head (greatest numbers) == head) _ (rw is (rest (rw is at above)))
-
--- ---- What stands where a read found it
-
--- bytes that were found stand
-pub bytes-stand : (limit : ℕ) (content : Option Bytes) (text : Bytes) →
-    found_bytes text ≡ found_within limit content → content ≡ Some text
-bytes-stand limit None text is = absurd (cc is)
-bytes-stand limit (Some bytes) text is = cases (nat_lt limit (length bytes)) is
-  where
-    cases : (large : Bool) →
-        found_bytes text ≡ (if large then found_too_large else found_bytes bytes) →
-        Some bytes ≡ Some text
-    cases true same = absurd (cc same)
-    cases false same = cc same
+use Rattle.suite_rules.proofs.Effects.{bytes-stand}
+use Rattle.suite_rules.proofs.Numbers.{greatest-with}
 
 -- ---- The locks
 
@@ -114,11 +41,12 @@ LocksAlone entry now listing (lock_made number) =
     (top now ≡ number) × IfSome listing (λ one. one.follows_create ≡ false)
 LocksAlone entry now listing own = Unit {0}
 
--- whatever holds of a listing holds of it once a part was noted that leaves that
-noted : (P : Listing → Type 0) (note : Listing → Listing) →
-    ((one : Listing) → P one → P (note one)) → (listing : Option Listing) → IfSome listing P → IfSome (option_map note listing) P
-noted P note stays None holds = tt
-noted P note stays (Some listing) holds = stays listing holds
+-- where a note leads from one fact of a listing to another, it does so where there is a listing
+pub noted : (P Q : Listing → Type 0) (note : Listing → Listing) →
+    ((one : Listing) → P one → Q (note one)) → (listing : Option Listing) →
+    IfSome listing P → IfSome (option_map note listing) Q
+noted P Q note leads None holds = tt
+noted P Q note leads (Some listing) holds = leads listing holds
 
 -- what holds of a listing that there is
 pub there : (P : Listing → Type 0) (listing : Option Listing) (one : Listing) → listing ≡ Some one →
@@ -152,27 +80,33 @@ module _ (entry now : Folder) (listing : Option Listing) where
       ((one : Listing) → one.follows_create ≡ false → (note one).follows_create ≡ false) →
       (own : OwnLock) → LocksAlone entry now listing own →
       LocksAlone entry now (option_map note listing) own
-  note-alone note first second lock_uncalled held =
-      (held.0, noted (IsListingOf entry) note (λ one. first one held.0) listing held.1)
-  note-alone note first second (lock_made number) held =
-      (held.0, noted (λ one. one.follows_create ≡ false) note second listing held.1)
+  note-alone note first second lock_uncalled held = (
+    held.0,
+    noted (IsListingOf entry) (IsListingOf entry) note (λ one. first one held.0) listing held.1,
+  )
+  note-alone note first second (lock_made number) held = (
+    held.0,
+    noted (λ one. one.follows_create ≡ false) (λ one. one.follows_create ≡ false) note
+        second listing held.1,
+  )
   note-alone note first second lock_called held = tt
   note-alone note first second (lock_unsure number) held = tt
   note-alone note first second (lock_kept number) held = tt
   note-alone note first second (lock_freed number) held = tt
 
   -- a removal of the own lock, once it was outrun: that doesn't happen
-  outrun-alone : (later : Folder) (own : OwnLock) (number : ℕ) → made_number own ≡ Some number →
-      (one : Listing) → listing ≡ Some one → one.follows_create ≡ true →
-      LocksAlone entry now listing own → LocksAlone entry later listing own
-  outrun-alone later lock_uncalled number made one listed follows held = absurd (cc made)
-  outrun-alone later (lock_made own) number made one listed follows held =
+  outrun-alone : (later : Folder) (listed_then : Option Listing) (own : OwnLock) (number : ℕ) →
+      made_number own ≡ Some number → (one : Listing) → listing ≡ Some one →
+      one.follows_create ≡ true → LocksAlone entry now listing own →
+      LocksAlone entry later listed_then own
+  outrun-alone later listed_then lock_uncalled number made one listed follows held = absurd (cc made)
+  outrun-alone later listed_then (lock_made own) number made one listed follows held =
       absurd (true≢false (sym follows
       ∙ there (λ other. other.follows_create ≡ false) listing one listed held.1))
-  outrun-alone later lock_called number made one listed follows held = tt
-  outrun-alone later (lock_unsure own) number made one listed follows held = tt
-  outrun-alone later (lock_kept own) number made one listed follows held = tt
-  outrun-alone later (lock_freed own) number made one listed follows held = tt
+  outrun-alone later listed_then lock_called number made one listed follows held = tt
+  outrun-alone later listed_then (lock_unsure own) number made one listed follows held = tt
+  outrun-alone later listed_then (lock_kept own) number made one listed follows held = tt
+  outrun-alone later listed_then (lock_freed own) number made one listed follows held = tt
 
 -- the text of the greatest lock is noted, and of no other
 text-noted : (entry : Folder) (number : ℕ) (text : Bytes) → entry.file (Lock number) ≡ Some text →
@@ -281,8 +215,10 @@ module _ (deeds : SuiteDeeds) (history : History) (token : Token) (entry folder 
         created : (one : CallResult (Answer (creates number))) → LocksAlone entry
             (changed_by token (creates number) (effect_of (creates number) one) folder)
             (option_map before_create stood.listing) (create_step number one lock_uncalled)
-        created (done Done) =
-            (greatest-next number folder.locks above, none-follows stood.listing)
+        created (done Done) = (
+          let with_is = greatest-with number folder.locks in omega (arith, with_is, above),
+          none-follows stood.listing,
+        )
         created (done Exists) = tt
         created (failed happened) = tt
         created (failed nothing) = tt
@@ -338,8 +274,8 @@ module _ (deeds : SuiteDeeds) (history : History) (token : Token) (entry folder 
     locks-step _ result (move_rule _ _ keeper (moves_free staged)) gives =
         free-locks keeper.number result keeper
     locks-step _ result (unlock_rule number (unlocks_below keeper below)) gives =
-        kept-alone entry _ stood.listing stood.own keeper.number keeper.keeps
+        kept-alone entry _ _ stood.own keeper.number keeper.keeps
     locks-step _ result (unlock_rule number (unlocks_own outrun)) gives =
-        outrun-alone entry folder stood.listing _ stood.own number outrun.made outrun.listing
+        outrun-alone entry folder stood.listing _ _ stood.own number outrun.made outrun.listing
         outrun.listed outrun.follows held
     locks-step _ result (answer_rule status rule) gives = held

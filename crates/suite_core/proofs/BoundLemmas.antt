@@ -1,7 +1,10 @@
--- Claim: a turn of a session on its way keeps its calls within the bound (`called-then`), as its begin
--- does (`called-first`); so its answer is (`called-last`).
--- Way: of a turn's new events one at most is the session's (`own-most`), and one call fewer is left.
-use Rattle.std.proofs.Common.{◌≡◌, refl, sym, subst, ◌<◌, ◌≤◌, ◌+◌, ◌++◌, ◌∷◌, ℕ, Bool, true, false, cond, length, inl, inr, Option, Some, None, IfSome, arith}
+-- Claim: a turn of a session on its way keeps its calls within the bound, and its backups to the
+-- tables that it is to change (`called-then`); so do its begin (`called-first`) and its answer
+-- (`called-last`).
+-- Way: of a turn's new events one at most is the session's (`own-most`), and one call fewer is
+-- left; each new event says itself which table it backs up.
+use Rattle.std.proofs.Common.{◌≡◌, refl, sym, ap, subst, ◌<◌, ◌≤◌, ◌+◌, ◌++◌, ◌∷◌, ℕ, Bool, true, false, cond, length, inl, inr, Option, Some, None, IfSome, arith}
+use Rattle.std.specs.List.{AllByRecursion}
 use Rattle.acct_outside.specs.Tokens.{Token}
 use Rattle.acct_outside.specs.History.{Event, History, is_of, own_events}
 use Rattle.acct_outside.specs.Others.{Admission, none_came, one_came}
@@ -10,10 +13,13 @@ use Rattle.suite_rules.proofs.StepLemmas.{stayed}
 use Rattle.suite_answers.specs.declared.answer.Answer.{Answer}
 use Rattle.suite_core.specs.declared.state.State.{State}
 use Rattle.suite_core.specs.declared.state.State.TheVariants.{Confirming, Answering}
+use Rattle.suite_core.specs.declared.session.Phase.TheVariants.{Begun}
 use Rattle.suite_core.specs.Runner.{Runner}
-use Rattle.suite_core.specs.Bound.{CountsFrom, CountsLower, CountsTo, HasCalled, IsWithin, listing_next}
+use Rattle.suite_core.specs.Backing.{BackedUpChanges}
+use Rattle.suite_core.specs.Bound.{CountsFrom, CountsLower, CountsTo, IsWithin, PhaseCalled, listing_next}
 use Rattle.suite_core.specs.Grows.{Grows, none_new, others_new, own_new, Grew}
 use Rattle.suite_core.specs.Left.{turns_left}
+use Rattle.suite_core.proofs.BackingLemmas.{NeverBacksUp, own-backed, grows-backed}
 use Rattle.suite_core.proofs.DueLemmas.{met-later}
 use Rattle.suite_core.proofs.GrowsLemmas.{grows-extends}
 use Rattle.suite_core.proofs.MetLemmas.{told-as}
@@ -36,7 +42,7 @@ own-most admits token old own most _ (others_new _ event new grown admitted) =
     (one_came event new none_came admitted)).same_events in
     subst (λ (events : History). length events ≤ length (own_events token old) + most) (sym none)
     (own-most admits token old own most new grown)
-own-most admits token old own _ _ (own_new most event new grown is) =
+own-most admits token old own _ _ (own_new most event new grown is backs) =
     let before = own-most admits token old own most new grown in
     let more = one-own (is_of token event) event (own_events token new) in
     omega (arith, before, more)
@@ -77,7 +83,7 @@ sums-listed : (was now old new none lower most : ℕ) → now ≤ was + 1 → ne
 sums-listed was now old new none lower most more fewer is within =
     omega (arith, more, fewer, is, within)
 
-sums-first : (now new most : ℕ) → now ≤ 1 → new < most → now + new ≤ most + 0
+sums-first : (now new most : ℕ) → now ≡ 1 → new < most → now + new ≤ most + 0
 sums-first now new most only fewer = omega (arith, only, fewer)
 
 sums-last : (was now lower most : ℕ) → now ≤ was + 1 → was + 1 ≤ most + lower → now ≤ most + lower
@@ -85,59 +91,79 @@ sums-last was now lower most more within = omega (arith, more, within)
 
 -- a session that has begun
 pub called-first : (runner : Runner) (state : State) (told : Option Past) →
-    CountsFrom told runner state → IfSome told (λ past. HasCalled runner.token state past.history)
+    CountsFrom told runner state → IfSome told (PhaseCalled (Begun runner state))
 called-first runner state told counts = told-as told
-    (λ past only. record {
-      lower = 0;
-      counts = inl refl;
-      none_yet = λ early. refl;
-      within = sums-first _ _ _ only counts.fewer;
-    }) counts.only
+    (λ past only. (
+      record {
+        lower = 0;
+        counts = inl refl;
+        none_yet = λ early. refl;
+        within = sums-first _ _ _ (ap (λ (events : History). length events) only) counts.fewer;
+      },
+      own-backed runner.token past.history
+          (subst (AllByRecursion NeverBacksUp) (sym only) (λ stood. tt, tt)),
+    )) counts.only
 
 module _ (admits : Admission) (runner : Runner) where
+  -- its next turn keeps its backups to the tables that it is to change
+  backed-then : (was past : Past) → NeverAdmits admits runner.token →
+      Grows admits runner.token was.history 1 past.history →
+      BackedUpChanges runner.token was.history → BackedUpChanges runner.token past.history
+  backed-then was past own grown =
+      grows-backed admits runner.token was.history own 1 past.history grown
+
   -- after its next turn
   pub called-then : (next state : State) (was told : Option Past) →
       turns_left next < turns_left state → CountsTo told runner state next →
       Grew admits runner.token 1 was told → IfSome was (λ past. NeverAdmits admits runner.token) →
-      IfSome was (λ past. HasCalled runner.token state past.history) →
-      IfSome told (λ past. HasCalled runner.token next past.history)
+      IfSome was (PhaseCalled (Begun runner state)) → IfSome told (PhaseCalled (Begun runner next))
   called-then next state None None nearer counts grew own called = tt
-  called-then next (Confirming claimed) (Some was) (Some past) nearer counts grew own called =
-      record {
-        lower = counts.lower;
-        counts = counts.counts;
-        none_yet = λ early. absurd (not-above _ _ nearer early);
-        within = sums-listed _ _ _ _ _ _ _
-            (own-most admits runner.token was.history own 1 past.history grew.1) counts.fewer
-            (called.none_yet (same-bound listing_next)) called.within;
-      }
+  called-then next (Confirming claimed) (Some was) (Some past) nearer counts grew own called = (
+    record {
+      lower = counts.lower;
+      counts = counts.counts;
+      none_yet = λ early. absurd (not-above _ _ nearer early);
+      within = sums-listed _ _ _ _ _ _ _
+          (own-most admits runner.token was.history own 1 past.history grew.1) counts.fewer
+          (called.0.none_yet (same-bound listing_next)) called.0.within;
+    },
+    backed-then was past own grew.1 called.1,
+  )
   called-then next state (Some was) (Some past) nearer counts grew own called =
-      let longer = grows-extends admits runner.token was.history 1 past.history grew.1 in
-      record {
-        lower = called.lower;
-        counts = counts-later runner.token was.history past.history longer.0 longer.1 called.lower
-            called.counts;
-        none_yet = λ early. called.none_yet (above-then _ _ _ early nearer);
-        within = sums-then _ _ _ _ _ _
-            (own-most admits runner.token was.history own 1 past.history grew.1) counts called.within;
-      }
+      let longer = grows-extends admits runner.token was.history 1 past.history grew.1 in (
+        record {
+          lower = called.0.lower;
+          counts = counts-later runner.token was.history past.history longer.0 longer.1
+              called.0.lower called.0.counts;
+          none_yet = λ early. called.0.none_yet (above-then _ _ _ early nearer);
+          within = sums-then _ _ _ _ _ _
+              (own-most admits runner.token was.history own 1 past.history grew.1) counts
+              called.0.within;
+        },
+        backed-then was past own grew.1 called.1,
+      )
   called-then next state None (Some past) nearer counts grew own called = absurd grew
   called-then next state (Some was) None nearer counts grew own called = absurd grew
 
   -- with its answer
-  pub called-last : (given : Answer) (was told : Option Past) → Grew admits runner.token 1 was told →
+  pub called-last : (given : Answer) (was told : Option Past) →
+      Grew admits runner.token 1 was told →
       IfSome was (λ past. NeverAdmits admits runner.token) →
-      IfSome was (λ past. HasCalled runner.token (Answering given) past.history) →
-      IfSome told (λ past. IsWithin runner.token past.history)
+      IfSome was (PhaseCalled (Begun runner (Answering given))) →
+      IfSome told (λ past.
+      IsWithin runner.token past.history × BackedUpChanges runner.token past.history)
   called-last given None None grew own called = tt
   called-last given (Some was) (Some past) grew own called =
-      let longer = grows-extends admits runner.token was.history 1 past.history grew.1 in
-      record {
-        lower = called.lower;
-        counts = counts-later runner.token was.history past.history longer.0 longer.1 called.lower
-            called.counts;
-        within = sums-last _ _ _ _
-            (own-most admits runner.token was.history own 1 past.history grew.1) called.within;
-      }
+      let longer = grows-extends admits runner.token was.history 1 past.history grew.1 in (
+        record {
+          lower = called.0.lower;
+          counts = counts-later runner.token was.history past.history longer.0 longer.1
+              called.0.lower called.0.counts;
+          within = sums-last _ _ _ _
+              (own-most admits runner.token was.history own 1 past.history grew.1)
+              called.0.within;
+        },
+        backed-then was past own grew.1 called.1,
+      )
   called-last given None (Some past) grew own called = absurd grew
   called-last given (Some was) None grew own called = absurd grew

@@ -48,7 +48,7 @@ use Rattle.suite_core.specs.Recovering.{after_intent, Refuses}
 use Rattle.suite_core.specs.Stands.{AnswersWith, LeavesWith}
 use Rattle.suite_core.proofs.MetLemmas.{told-as}
 use Rattle.suite_core.proofs.CommittingTurns.{changed-most, fewer-steps, step-change}
-use Rattle.suite_core.proofs.LoadingTurns.{done-keeper, large-shown, missing-shown, more-shown}
+use Rattle.suite_core.proofs.LoadingLemmas.{done-keeper, large-shown, missing-shown, more-shown}
 
 -- ---- To the answer
 

@@ -3,7 +3,7 @@
 -- it to the next with the answer still due (`installs-on`, `clears`).
 -- Way: the typed step gives the standing. Just before the commit the session is a clean keeper that
 -- has seen the inputs, and this stays an earlier moment of each longer history.
-use Rattle.std.proofs.Common.{◌≡◌, [], refl, sym, ap, subst, ◌∙◌, ◌≤◌, ◌<◌, ◌+◌, ◌-◌, ◌*◌, ◌∷◌, ℕ, Bool, true, false, List, length, slice_get, if◌then◌else◌, Option, Some, None, IfSome, option_map, Result, Ok, Err, arith, rules}
+use Rattle.std.proofs.Common.{◌≡◌, [], refl, sym, ap, subst, ◌∙◌, ◌≤◌, ◌<◌, ◌+◌, ◌-◌, ◌*◌, ◌∷◌, ℕ, Bool, true, false, List, length, slice_get, if◌then◌else◌, Option, Some, None, IfSome, Result, Ok, Err, arith, rules}
 use Rattle.std.proofs.lemmas.Option.{slice_get-get_or}
 use Rattle.acct_text.specs.declared.Tab.{Tab}
 use Rattle.acct_text.specs.declared.Tab.TheVariants.{Passwd}
@@ -20,17 +20,14 @@ use Rattle.acct_outside.specs.declared.Name.TheVariants.{Intent, IntentStage}
 use Rattle.acct_outside.specs.Tokens.{Token}
 use Rattle.acct_outside.specs.Calls.{Command, Call, Answer, CallResult, renames}
 use Rattle.acct_outside.specs.Contract.{Past, MayAnswer}
-use Rattle.account_model.specs.Answer.{AnswerCause, deed, new_files as new_of}
-use Rattle.account_model.specs.declared.word_fault.WordFault.{WordFault}
-use Rattle.account_model.specs.Request.{Request}
-use Rattle.account_model.proofs.AsksLaws.{asks_iff_read}
 use Rattle.intent_file.specs.Intent.{NewTable}
 use Rattle.intent_file.specs.ChangedTables.{with_new_table, changed_among}
 use Rattle.suite_rules.specs.Deeds.{SuiteDeeds}
+use Rattle.suite_rules.specs.Knowledge.{nothing_seen}
 use Rattle.suite_rules.specs.Standing.{Commit, Standing, standing_step, commit_uncalled, commit_done}
 use Rattle.suite_rules.specs.Steps.{StandsIn, Leaves, MakesCall, own_command, asked as asked_of}
 use Rattle.suite_rules.specs.Outcomes.{LeadsTo, at_commit, before_commit}
-use Rattle.suite_rules.proofs.StepLemmas.{IsNoAnswer, stands-left, stands-weaker}
+use Rattle.suite_rules.proofs.StepLemmas.{stands-left, stands-weaker}
 use Rattle.lock_steps.specs.States.{Kept}
 use Rattle.lock_steps.specs.Stands.{Keeps, KnowsAnything}
 use Rattle.commit_steps.specs.States.{Change, Walker, old_files, new_files, changed, step_on, steps_left, walk_of}
@@ -48,15 +45,17 @@ use Rattle.suite_core.specs.declared.state.State.TheVariants.{Answering}
 use Rattle.suite_core.specs.Runner.{Runner}
 use Rattle.suite_core.specs.Moment.{Moment, commit_at, Runs, At}
 use Rattle.suite_core.specs.Answers.{cause_of_answer, IsTold, Says}
-use Rattle.suite_core.specs.Deeds.{AreOfTools, files_of, tools_deed}
+use Rattle.suite_core.specs.Deeds.{AreOfTools}
 use Rattle.suite_core.specs.Due.{AnsweredAll, IsShown, IsDue}
 use Rattle.suite_core.specs.Grows.{Grew}
 use Rattle.suite_core.specs.Left.{most_steps, ranked}
 use Rattle.suite_core.specs.Locking.{cause_of_fault}
 use Rattle.suite_core.specs.Stands.{AnswersWith, IsOutside, IsOfChange, Gives, Extends, StandsAs, StandsChanging, StandsInstalling, StandsUnlocking}
-use Rattle.suite_core.proofs.TurnLemmas.{goes-on, extended, told-met, told-stage, told-plain, told-says, plain-shown}
+use Rattle.suite_core.proofs.BackingLemmas.{IsTurnCall, is-to-change, made-deed}
+use Rattle.suite_core.proofs.LeavingLemmas.{clean-known}
+use Rattle.suite_core.proofs.TurnLemmas.{goes-on, extended, told-left, told-met, told-stage, told-plain, told-says, plain-shown}
 use Rattle.suite_core.proofs.MetLemmas.{fault-shows}
-use Rattle.suite_core.proofs.UnlockingTurns.{fault-stage, fault-plain}
+use Rattle.suite_core.proofs.UnlockingTurns.{fault-left, fault-stage, fault-plain}
 use Rattle.suite_core.proofs.LeadsLemmas.{leads-on, leads-fault}
 use Rattle.suite_core.proofs.DueLemmas.{earlier-stays}
 use Rattle.suite_core.proofs.GrowsLemmas.{grew-extends, tells-grow}
@@ -81,15 +80,24 @@ commit-failed next answer fault shown told =
 
 -- ---- Calls for a table at the place
 
--- neither a write nor a rename of a backup answers or commits
-pub backup-calls : (walker : Walker) (next : NewTable) → IsNoAnswer (backup_call walker next)
-backup-calls walker next = cases walker.is_staged
+-- a backup is of a table that differs, so the session is to change it
+pub backup-calls : (runner : Runner) (answer : FinalAnswer) (walker : Walker) (next : NewTable) →
+    IsOfChange runner walker.change answer →
+    slice_get (changed walker.change) walker.place ≡ Some next →
+    IsTurnCall (Runs runner commit_uncalled (BacksUp walker)) (backup_call walker next)
+backup-calls runner answer walker next of_change is = cases walker.is_staged
   where
-    cases : (staged : Bool) →
-        IsNoAnswer (backup_call (record walker { is_staged = staged }) next)
-    cases true = tt
+    cases : (staged : Bool) → IsTurnCall (Runs runner commit_uncalled (BacksUp walker))
+        (backup_call (record walker { is_staged = staged }) next)
+    cases true = λ stood runs. is-to-change runner answer walker.change of_change walker.place next
+        is stood (record {
+          holds = runs.holds.keeps.knows.inputs;
+          asked = runs.asked;
+          commits = runs.commits;
+        })
     cases false = tt
 
+-- neither a write nor a rename of a backup commits
 pub backup-quiet : (walker : Walker) (next : NewTable)
     (result : CallResult (Answer (backup_call walker next))) (stood : Standing) →
     own_command (standing_step (backup_call walker next) result stood) ≡ own_command stood
@@ -103,12 +111,13 @@ backup-quiet walker next = cases walker.is_staged
     cases true result stood = refl
     cases false result stood = refl
 
--- nor does one of an installation
-pub install-calls : (walker : Walker) (next : NewTable) → IsNoAnswer (install_call walker next)
-install-calls walker next = cases walker.is_staged
+-- nor does one of an installation, which backs up nothing
+pub install-calls : (Stood : Standing → Type 0) (walker : Walker) (next : NewTable) →
+    IsTurnCall Stood (install_call walker next)
+install-calls Stood walker next = cases walker.is_staged
   where
     cases : (staged : Bool) →
-        IsNoAnswer (install_call (record walker { is_staged = staged }) next)
+        IsTurnCall Stood (install_call (record walker { is_staged = staged }) next)
     cases true = tt
     cases false = tt
 
@@ -132,14 +141,16 @@ next-there walker some is = absurd (cc (sym is
     ∙ slice_get-get_or (changed walker.change) walker.place (record { table = Passwd; bytes = [] })
     (place-within (length (changed walker.change)) walker.place walker.is_staged some)))
 
+-- so what holds of the one there holds of a table
 pub at-place : {P : NewTable → Type 0} (walker : Walker) → 0 < steps_left walker →
-    IfSome (slice_get (changed walker.change) walker.place) P → (next : NewTable) × P next
+    IfSome (slice_get (changed walker.change) walker.place) P →
+    (next : NewTable) × P next × (slice_get (changed walker.change) walker.place ≡ Some next)
 at-place {P} walker some holds = cases (slice_get (changed walker.change) walker.place) refl holds
   where
     cases : (found : Option NewTable) →
         slice_get (changed walker.change) walker.place ≡ found → IfSome found P →
-        (next : NewTable) × P next
-    cases (Some next) is holds = (next, holds)
+        (next : NewTable) × P next × (slice_get (changed walker.change) walker.place ≡ Some next)
+    cases (Some next) is holds = (next, holds, is)
     cases None is holds = absurd (next-there walker some is)
 
 -- ---- Each step leaves fewer
@@ -204,38 +215,41 @@ module _ (before now : Moment) (runner : Runner) (answer : FinalAnswer) where
   module _ (walker : Walker)
       (stood : StandsChanging before runner walker.change (BacksUp walker) answer) where
     -- a step of the backups
-    pub backs-on : (next : NewTable) (walked : Walker) →
+    pub backs-on : (next : NewTable) →
+        slice_get (changed walker.change) walker.place ≡ Some next → (walked : Walker) →
         MakesCall before.admits now.admits before.told now.told (token_of walker)
         (backup_call walker next)
         (λ result. LeadsTo (step_on walker) before_commit result (Ok walked)) →
         StandsIn now.admits now.told (token_of walker) (BacksUp walked) →
         StandsChanging now runner walked.change (BacksUp walked) answer
-    backs-on next walked made stands =
+    backs-on next place_is walked made stands =
         let is = leads-on (step_on walker) before_commit made.answer walked made.shown in
         let change = ap (λ (one : Walker). one.change) is ∙ step-change walker in
         record {
           same = ap (λ (one : Change). one.inputs.keeper.token) change ∙ stood.same;
           stands = goes-on before now runner commit_uncalled (BacksUp walker) stood.stands
-              (token_of walker) stood.same (backup_call walker next) (backup-calls walker next) _
+              (token_of walker) stood.same (backup_call walker next)
+              (backup-calls runner answer walker next stood.of_change place_is) _
               (backup-quiet walker next) made (BacksUp walked) stands;
           of_change = subst (λ (one : Change). IsOfChange runner one answer) (sym change)
               stood.of_change;
         }
 
     -- the write of the intent
-    pub stages-intent : (call : Call) (no_answer : IsNoAnswer call)
+    pub stages-intent : (call : Call)
+        (of_turn : IsTurnCall (Runs runner commit_uncalled (BacksUp walker)) call)
         (quiet : (result : CallResult (Answer call)) (one : Standing) →
         own_command (standing_step call result one) ≡ own_command one) (staged : Change) →
         MakesCall before.admits now.admits before.told now.told (token_of walker) call
         (λ result. LeadsTo walker.change before_commit result (Ok staged)) →
         StandsIn now.admits now.told (token_of walker) (HasStagedIntent staged) →
         StandsChanging now runner staged (HasStagedIntent staged) answer
-    stages-intent call no_answer quiet staged made stands =
+    stages-intent call of_turn quiet staged made stands =
         let change = leads-on walker.change before_commit made.answer staged made.shown in
         record {
           same = ap (λ (one : Change). one.inputs.keeper.token) change ∙ stood.same;
           stands = goes-on before now runner commit_uncalled (BacksUp walker) stood.stands
-              (token_of walker) stood.same call no_answer _ quiet made (HasStagedIntent staged)
+              (token_of walker) stood.same call of_turn _ quiet made (HasStagedIntent staged)
               stands;
           of_change = subst (λ (one : Change). IsOfChange runner one answer) (sym change)
               stood.of_change;
@@ -286,24 +300,11 @@ module _ (before now : Moment) (runner : Runner) (answer : FinalAnswer) where
           is_asked = runs.asked;
           is_deed = ap (λ (deed : Command → Contents → Option Bytes → Option Contents).
               deed runner.asked.command (table_of change.inputs.files) change.inputs.defs)
-              ours.is_deed ∙ made-deed;
+              ours.is_deed ∙ made-deed runner answer change stood.of_change;
         })
         before.told
         (subst (λ (token : Token). StandsIn before.admits before.told token
         (Runs runner commit_uncalled (HasStagedIntent change))) (sym stood.same) stood.stands)
-      where
-        made-deed : tools_deed runner.asked.command (table_of change.inputs.files)
-            change.inputs.defs ≡ Some (table_of change.new)
-        made-deed = ap (λ (read : Result Request WordFault). elim read [
-          | Err fault ↦ None
-          | Ok request ↦ option_map table_of
-              (deed request runner.asked.command.input runner.asked.command.day
-              (files_of (table_of change.inputs.files)) change.inputs.defs)
-        ])
-            ((asks_iff_read runner.asked.command.words runner.asked.request).0
-            stood.of_change.asks)
-            ∙ ap (λ (cause : AnswerCause). option_map table_of (new_of cause))
-            stood.of_change.is_change
 
     module _ (Shows : Result (Unit {0}) FolderFault → Type 0)
         (made : MakesCall before.admits now.admits before.told now.told
@@ -314,7 +315,7 @@ module _ (before now : Moment) (runner : Runner) (answer : FinalAnswer) where
       commit-grew = subst (λ (token : Token). Grew before.admits token 1 before.told now.told)
           stood.same
           (tells-grow before.admits change.inputs.keeper.token (renames IntentStage Intent) made.answer
-          before.told now.told made.told)
+          before.told now.told (λ past is between others. tt) made.told)
 
       -- so it is extended
       commit-extends : Extends before.told now.told
@@ -414,6 +415,8 @@ module _ (before now : Moment) (runner : Runner) (answer : FinalAnswer) where
               (subst (λ (token : Token). StandsUnsure now.told token fault) stood.same unsure)
               left-asked;
         };
+        left = told-left now runner (cause_of_fault fault.stage fault.fault) given says
+            (fault-left now runner fault.stage fault.fault);
       }
       unsure-stands fault state says unsure = absurd says
 
@@ -435,7 +438,8 @@ module _ (before now : Moment) (runner : Runner) (answer : FinalAnswer) where
     changed-due Holds None (Some past) due stands extends = absurd extends
     changed-due Holds (Some was) None due stands extends = absurd extends
 
-    module _ (call : Call) (no_answer : IsNoAnswer call)
+    module _ (call : Call)
+        (of_turn : IsTurnCall (Runs runner commit_done (Installs walker)) call)
         (Shows : Result (Answer call) FolderFault → Type 0)
         (quiet : (result : CallResult (Answer call)) (one : Standing) →
         own_command (standing_step call result one) ≡ own_command one)
@@ -448,7 +452,7 @@ module _ (before now : Moment) (runner : Runner) (answer : FinalAnswer) where
         says = stood.gives.says;
         due = changed-due Holds before.told now.told stood.gives.due stands
             (extended before now runner commit_done (Installs walker) stood.stands
-            (token_of walker) stood.same call no_answer Shows quiet made);
+            (token_of walker) stood.same call of_turn Shows quiet made);
       }
 
       -- a step of the installation
@@ -457,7 +461,7 @@ module _ (before now : Moment) (runner : Runner) (answer : FinalAnswer) where
           StandsInstalling now runner walked answer
       installs-on walked is next =
           let stands = goes-on before now runner commit_done (Installs walker) stood.stands
-          (token_of walker) stood.same call no_answer Shows quiet made (Installs walked) next in
+          (token_of walker) stood.same call of_turn Shows quiet made (Installs walked) next in
           record {
             same = ap token_of is
                 ∙ (ap (λ (one : Change). one.inputs.keeper.token) (step-change walker)
@@ -473,7 +477,7 @@ module _ (before now : Moment) (runner : Runner) (answer : FinalAnswer) where
           StandsUnlocking now runner cleared answer
       clears cleared is next =
           let stands = goes-on before now runner commit_done (Installs walker) stood.stands
-          (token_of walker) stood.same call no_answer Shows quiet made
+          (token_of walker) stood.same call of_turn Shows quiet made
           (Keeps cleared KnowsAnything)
           (stands-weaker now.admits (token_of walker) (HasCleared cleared)
           (Keeps cleared KnowsAnything)
@@ -482,6 +486,10 @@ module _ (before now : Moment) (runner : Runner) (answer : FinalAnswer) where
             same = ap (λ (one : Kept). one.token) is ∙ stood.same;
             stands = subst (λ (one : Commit). At now runner one (Keeps cleared KnowsAnything))
                 (ap (λ (cause : Cause). commit_at (stage_of cause)) (sym stood.changed)) stands;
+            clean = clean-known runner.token answer.outcome.cause now.admits (HasCleared cleared)
+                (λ one held. (nothing_seen, held.keeps.knows)) now.told
+                (subst (λ (token : Token). StandsIn now.admits now.told token (HasCleared cleared))
+                stood.same next);
             quiet = λ fault. subst IsOutside stood.changed fault;
             gives = gives-still (Keeps cleared KnowsAnything) stands;
           }

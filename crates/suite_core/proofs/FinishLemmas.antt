@@ -22,11 +22,12 @@ use Rattle.suite_core.specs.Moment.{Moment}
 use Rattle.suite_core.specs.Answers.{Says}
 use Rattle.suite_core.specs.Due.{IsDue}
 use Rattle.suite_core.specs.Session.{HasAnswered, SessionStands, SessionTurns, answer_of, given_in, outcome_of, state_failed}
-use Rattle.suite_core.specs.Stands.{MayGive, StandsAs}
+use Rattle.suite_core.specs.Stands.{IsStopped, MayGive, StandsAs}
 use Rattle.suite_core.specs.Streams.{Streams, Serves, after_fault, after_streams, left_by}
 use Rattle.suite_core.specs.Course.{Comes, Concludes, Finished, phase_after}
 use Rattle.suite_core.proofs.BoundLemmas.{called-last}
 use Rattle.suite_core.proofs.CourseLemmas.{turns-then, turns-as}
+use Rattle.suite_core.proofs.MetLemmas.{told-as}
 use Rattle.suite_core.proofs.OthersLemmas.{state-own}
 use Rattle.suite_core.proofs.RanLemmas.{stays-turns}
 
@@ -52,6 +53,11 @@ fault-says : (asked : Question) (fault : SinkFault) (answer : Answer) →
 fault-says asked Failed answer = refl
 fault-says asked NoMemory answer = refl
 
+-- it stopped the command
+left-stopped : (fault : SinkFault) (stage : CommitStage) → IsStopped (left_by fault stage)
+left-stopped Failed stage = tt
+left-stopped NoMemory stage = tt
+
 -- so the session may give it
 fault-gives : (now : Moment) (runner : Runner) (fault : SinkFault) (answer : Answer) →
     MayGive now runner answer → MayGive now runner (after_fault fault answer)
@@ -61,6 +67,7 @@ fault-gives now runner fault answer may = record {
     says = fault-says runner.asked fault answer;
     due = fault-due runner fault answer now.told may.gives.due;
   };
+  left = λ goes_on. absurd (goes_on (left-stopped fault (stage_of answer.outcome.cause)));
 }
 
 -- the state of an answer still stands
@@ -134,6 +141,8 @@ module _ (asked : Question) (entry between now : Moment) (was holds : Streams) (
           let is : outcome ≡ (after_streams put given).outcome =
           (let one : final.outcome ≡ outcome = cc ends in sym one)
           ∙ ap (λ (one : Answer). one.outcome) (sym same) in
+          let called = called-last between.admits runner given between.told now.told turns.1.grew
+          (state-own between runner (Answering given) comes.turns.stands.1) comes.called in
           record {
             given = given;
             says = subst (λ (one : Question). Says one given given.outcome.cause)
@@ -151,10 +160,8 @@ module _ (asked : Question) (entry between now : Moment) (was holds : Streams) (
                   fresh = comes.turns.stands.2;
                   answered = subst (λ (one : Answer). IfSome now.told (HasAnswered runner one))
                       (sym same) gave.answered;
-                  within = called-last between.admits runner given between.told now.told
-                      turns.1.grew
-                      (state-own between runner (Answering given) comes.turns.stands.1)
-                      comes.called;
+                  within = told-as now.told (λ past both. both.0) called;
+                  backed = told-as now.told (λ past both. both.1) called;
                 }))
                 (λ outside. risen-later entry.faults between.faults now.faults
                 comes.turns.never_falls (comes.turns.risen outside) turns.1.never_falls)

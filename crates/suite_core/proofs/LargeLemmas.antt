@@ -7,6 +7,7 @@ use Rattle.std.specs.Prelude.{IsSome, unwrap_or}
 use Rattle.std.specs.Option.{option_or}
 use Rattle.std.proofs.lemmas.Bool.{lt-leb, ltb-true}
 use Rattle.std.proofs.lemmas.List.{append_assoc}
+use Rattle.std.proofs.lemmas.List.Elements.{recursion_from_All}
 use Rattle.acct_text.specs.declared.Tab.{Tab}
 use Rattle.acct_text.specs.declared.Tab.TheVariants.{Passwd, Shadow, Group, Gshadow, Subuid, Subgid}
 use Rattle.acct_text.specs.declared.files.Files.{Files}
@@ -33,6 +34,7 @@ use Rattle.suite_rules.specs.Committed.{Commitment, committed, place, folded}
 use Rattle.suite_rules.specs.Invariant.{KnownStands, NoneStands}
 use Rattle.suite_rules.specs.Laws.{IsCleanKeeper}
 use Rattle.suite_rules.proofs.Places.{places-stay}
+use Rattle.suite_rules.proofs.Commitments.{place-below}
 use Rattle.suite_rules.proofs.Once.{committed-once, kept-stays}
 use Rattle.suite_rules.proofs.Cut.{lawful-prefix}
 use Rattle.suite_rules.proofs.Settles.{file-facts, lawful-settles}
@@ -46,7 +48,7 @@ use Rattle.suite_core.specs.Answers.{answer_on, cause_of_answer, IsAnswerOn, giv
 use Rattle.suite_core.specs.Deeds.{files_of}
 use Rattle.suite_core.specs.Due.{AnswersLarge}
 use Rattle.suite_core.specs.Top.{HasStayed, IsAnswerAt}
-use Rattle.suite_core.proofs.AloneLemmas.{answers-alone, place-whole}
+use Rattle.suite_core.proofs.AloneLemmas.{answers-alone}
 use Rattle.suite_core.proofs.AnswerLemmas.{first-is, first-skips, problem-answers, sound-table}
 use Rattle.suite_core.proofs.DeedLemmas.{files-have}
 
@@ -202,8 +204,10 @@ module _ (deeds : SuiteDeeds) (first : Folder) where
         ≡ (after first history).file (Table table)
     place-stands table =
         ap (λ (list : List Commitment). folded deeds first list table)
-        (place-whole number (committed history) ((invariant deeds first history
-        lawful).settled_is_fold.below_keeper token number clean.active clean.uncommitted))
+        (place-below number (committed history)
+        (recursion_from_All (λ one. one.number < number) (committed history)
+        ((invariant deeds first history lawful).settled_is_fold.below_keeper token number clean.active
+        clean.uncommitted)))
         ∙ (sym (lawful-settles.is_fold deeds first history lawful table)
         ∙ ap (λ (content : Option Bytes).
         option_or (listed_in (listed_by content) table) (tables (after first history) table))

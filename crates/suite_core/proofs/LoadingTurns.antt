@@ -1,18 +1,17 @@
 -- Claims: a read of the inputs leads to the next read, or to what the tool decides on them
 -- (`loads-stands`), and one that leads no further to the way out or to the answer of a fault
 -- (`ended-stands`). Each is nearer to the answer (`loads-left`, `ended-left`).
--- Way: what the read shows names the keeper and what comes next; the typed step gives the standing,
--- of which the answer is due (proofs/AnswerLemmas).
+-- Way: what the read shows (proofs/LoadingLemmas) names the keeper and what comes next; the typed
+-- step gives the standing, of which the answer is due (proofs/AnswerLemmas).
 use Rattle.std.proofs.Common.{◌≡◌, refl, sym, ap, subst, ◌∙◌, ◌<◌, ℕ, false, true, inr, Option, Some, None, IfSome, Result, Ok, Err, arith, rules}
 use Rattle.acct_text.specs.declared.Tab.{Tab}
 use Rattle.acct_text.specs.declared.Tab.TheVariants.{Passwd, Shadow, Group, Gshadow, Subuid, Subgid}
 use Rattle.acct_text.specs.Bytes.{Bytes}
 use Rattle.acct_outside.specs.declared.FolderFault.{FolderFault}
 use Rattle.acct_outside.specs.declared.FolderFault.TheVariants.{Failed}
-use Rattle.acct_outside.specs.declared.StageFault.{StageFault}
 use Rattle.acct_outside.specs.declared.CommitStage.TheVariants.{Before}
 use Rattle.acct_outside.specs.declared.Name.{Name}
-use Rattle.acct_outside.specs.Calls.{Found, found_absent, found_bytes, found_too_large, reads}
+use Rattle.acct_outside.specs.Calls.{Found, found_too_large, reads}
 use Rattle.acct_outside.specs.History.{History}
 use Rattle.acct_outside.specs.Contract.{Past}
 use Rattle.account_model.specs.declared.tool.Tool.{Tool}
@@ -31,11 +30,10 @@ use Rattle.commit_steps.specs.declared.Loading.{Loading as Loaded}
 use Rattle.commit_steps.specs.declared.Loading.TheVariants.{More, Done}
 use Rattle.commit_steps.specs.declared.LoadEnd.{LoadEnd}
 use Rattle.commit_steps.specs.declared.LoadEnd.TheVariants.{Fault, TooLarge, NoTable}
-use Rattle.commit_steps.specs.States.{AreSound, Reader, Inputs, Walker, inputs_of, next_name, read_on, steps_left, table_after, walk_of}
+use Rattle.commit_steps.specs.States.{AreSound, Reader, Inputs, Walker, next_name, steps_left, table_after, walk_of}
 use Rattle.commit_steps.specs.Stands.{BacksUp, HasRead, HasLoaded, HasMissed, StandsLoading, StandsEnded}
-use Rattle.commit_steps.specs.Outcomes.{Loads, LoadsContent, is_missing}
+use Rattle.commit_steps.specs.Outcomes.{Loads, is_missing}
 use Rattle.commit_steps.proofs.BackupLemmas.{starts-backing}
-use Rattle.commit_steps.proofs.ReadsLemmas.{never-missing}
 use Rattle.suite_answers.specs.declared.cause.Which.TheVariants.{File}
 use Rattle.suite_answers.specs.declared.cause.Cause.TheVariants.{TooLarge as IsTooLarge, NoTable as HasNoTable, Memory}
 use Rattle.suite_answers.specs.declared.answer.Answer.{Answer as FinalAnswer}
@@ -54,103 +52,14 @@ use Rattle.suite_core.specs.Loading.{DecidesOn, DecidesTo, EndsAt, LoadsTo}
 use Rattle.suite_core.specs.Locking.{cause_of_fault}
 use Rattle.suite_core.specs.Stands.{IsOutside, LeavesWith, StandsAs, StandsChanging, StandsUnlocking, TellsOutside}
 use Rattle.suite_core.specs.Causes.{Met}
+use Rattle.suite_core.proofs.LeavingLemmas.{clean-known}
+use Rattle.suite_core.proofs.LoadingLemmas.{more-shown, done-keeper, missing-shown, large-shown, fault-before}
 use Rattle.suite_core.proofs.TurnLemmas.{goes-on, got, answers-turn, answers-fault, leaves-fault}
-use Rattle.suite_core.proofs.UnlockingTurns.{fault-met, fault-stage, fault-plain, fault-failed}
+use Rattle.suite_core.proofs.UnlockingTurns.{fault-met, fault-left, fault-stage, fault-plain, fault-failed}
 use Rattle.suite_core.proofs.LeftLemmas.{rank-drops, steps-drop, answer-drops, answers-left, leaves-left}
 use Rattle.suite_core.proofs.AnswerLemmas.{answer-says, answer-quiet, stay-stage, stay-shown, missed-shown}
 
--- ---- What a read shows
-
--- of one that leads to the next
-content-more : (reader more : Reader) (next : Option Tab) (content : Option Bytes) →
-    LoadsContent reader next content (Ok (More more)) →
-    (table : Tab) × (next ≡ Some table) × (more ≡ read_on reader table content)
-content-more reader more (Some table) content shown = (table, refl, shown.1)
-content-more reader more None content shown = absurd shown
-
-pub more-shown : (reader more : Reader) (answer : Result Found FolderFault) →
-    Loads reader answer (Ok (More more)) →
-    (content : Option Bytes) × ((table : Tab) × (reader.next ≡ Some table)
-    × (more ≡ read_on reader table content))
-more-shown reader more (Ok found_absent) shown =
-    (None, content-more reader more reader.next None shown)
-more-shown reader more (Ok (found_bytes bytes)) shown =
-    (Some bytes, content-more reader more reader.next (Some bytes) shown)
-more-shown reader more (Ok found_too_large) shown = absurd shown
-more-shown reader more (Err fault) shown = absurd shown
-
--- of the last
-content-done : (reader : Reader) (inputs : Inputs) (next : Option Tab) (content : Option Bytes) →
-    LoadsContent reader next content (Ok (Done inputs)) → inputs ≡ inputs_of reader content
-content-done reader inputs None content shown = shown
-content-done reader inputs (Some table) content shown = absurd shown
-
-pub done-keeper : (reader : Reader) (inputs : Inputs) (answer : Result Found FolderFault) →
-    Loads reader answer (Ok (Done inputs)) → inputs.keeper ≡ reader.keeper
-done-keeper reader inputs (Ok found_absent) shown = ap (λ (one : Inputs). one.keeper)
-    (content-done reader inputs reader.next None shown)
-done-keeper reader inputs (Ok (found_bytes bytes)) shown = ap (λ (one : Inputs). one.keeper)
-    (content-done reader inputs reader.next (Some bytes) shown)
-done-keeper reader inputs (Ok found_too_large) shown = absurd shown
-done-keeper reader inputs (Err fault) shown = absurd shown
-
--- of one that finds no table
-content-missing : (reader : Reader) (missing : Tab) (kept : Kept) (next : Option Tab) →
-    LoadsContent reader next None (Err (NoTable missing kept)) →
-    (is_missing missing None ≡ true) × (kept ≡ reader.keeper)
-content-missing reader missing kept (Some table) shown = (
-  subst (λ (one : Tab). is_missing one None ≡ true) (sym shown.1) shown.0,
-  shown.2,
-)
-content-missing reader missing kept None shown = absurd shown
-
-content-there : (reader : Reader) (missing : Tab) (kept : Kept) (next : Option Tab)
-    (bytes : Bytes) → LoadsContent reader next (Some bytes) (Err (NoTable missing kept)) → ⊥
-content-there reader missing kept (Some table) bytes shown = never-missing table bytes shown.0
-content-there reader missing kept None bytes shown = absurd shown
-
-pub missing-shown : (reader : Reader) (missing : Tab) (kept : Kept)
-    (answer : Result Found FolderFault) → Loads reader answer (Err (NoTable missing kept)) →
-    (is_missing missing None ≡ true) × (kept ≡ reader.keeper)
-missing-shown reader missing kept (Ok found_absent) shown =
-    content-missing reader missing kept reader.next shown
-missing-shown reader missing kept (Ok (found_bytes bytes)) shown =
-    absurd (content-there reader missing kept reader.next bytes shown)
-missing-shown reader missing kept (Ok found_too_large) shown = absurd shown
-missing-shown reader missing kept (Err fault) shown = absurd shown
-
--- of one that finds too much
-content-small : (reader : Reader) (name : Name) (kept : Kept) (next : Option Tab)
-    (content : Option Bytes) → LoadsContent reader next content (Err (TooLarge name kept)) → ⊥
-content-small reader name kept (Some table) content shown = shown
-content-small reader name kept None content shown = shown
-
-pub large-shown : (reader : Reader) (name : Name) (kept : Kept) (answer : Result Found FolderFault) →
-    Loads reader answer (Err (TooLarge name kept)) →
-    (answer ≡ Ok found_too_large) × (name ≡ next_name reader.next) × (kept ≡ reader.keeper)
-large-shown reader name kept (Ok found_too_large) shown = (refl, shown.0, shown.1)
-large-shown reader name kept (Ok found_absent) shown =
-    absurd (content-small reader name kept reader.next None shown)
-large-shown reader name kept (Ok (found_bytes bytes)) shown =
-    absurd (content-small reader name kept reader.next (Some bytes) shown)
-large-shown reader name kept (Err fault) shown = absurd shown
-
--- of a fault
-content-faultless : (reader : Reader) (fault : StageFault) (next : Option Tab)
-    (content : Option Bytes) → LoadsContent reader next content (Err (Fault fault)) → ⊥
-content-faultless reader fault (Some table) content shown = shown
-content-faultless reader fault None content shown = shown
-
-fault-before : (reader : Reader) (fault : StageFault) (answer : Result Found FolderFault) →
-    Loads reader answer (Err (Fault fault)) → fault.stage ≡ Before
-fault-before reader fault (Err came) shown = ap (λ (one : StageFault). one.stage) shown
-fault-before reader fault (Ok found_absent) shown =
-    absurd (content-faultless reader fault reader.next None shown)
-fault-before reader fault (Ok (found_bytes bytes)) shown =
-    absurd (content-faultless reader fault reader.next (Some bytes) shown)
-fault-before reader fault (Ok found_too_large) shown = absurd shown
-
--- ---- The standing after it
+-- ---- The standing after a read
 
 -- what shows that the next file is too large shows the cause
 shows-next : (runner : Runner) (answer : FinalAnswer) (history : History) (next : Option Tab) →
@@ -218,6 +127,10 @@ module _ (before now : Moment) (runner : Runner) (reader : Reader)
             commits = runs.commits;
           })
           now.told loaded);
+      clean = clean-known runner.token answer.outcome.cause now.admits
+          (Runs runner commit_uncalled (HasLoaded inputs))
+          (λ stood runs. (runs.holds.keeps.knows.seen, runs.holds.keeps.knows.clean))
+          now.told loaded;
       quiet = answer-quiet runner.asked inputs.files inputs.defs answer decided.1;
       gives = record {
         says = answer-says runner.asked inputs.files inputs.defs answer decided.1;
@@ -246,7 +159,8 @@ module _ (before now : Moment) (runner : Runner) (reader : Reader)
     decided-stands inputs (Answering answer) decided token next =
         answers-turn before now runner commit_uncalled (HasRead reader) stands reader.keeper.token
         same (reads (next_name reader.next)) tt _ (λ result stood. refl) made (Memory Before)
-        (Answering answer) (inr decided) tt (fault-met now runner Before FolderFault.Memory) refl
+        (Answering answer) (inr decided) tt (fault-met now runner Before FolderFault.Memory)
+        (fault-left now runner Before FolderFault.Memory) refl
     decided-stands inputs state decided token next = absurd decided
 
   -- after a read that leads on
@@ -294,6 +208,11 @@ module _ (before now : Moment) (runner : Runner) (reader : Reader)
           commits = runs.commits;
         })
         now.told missed;
+    clean = clean-known runner.token (HasNoTable table) now.admits
+        (Runs runner commit_uncalled (HasMissed table keeper))
+        (λ stood runs.
+        (runs.holds.is_read.keeps.knows.seen, runs.holds.is_read.keeps.knows.clean))
+        now.told missed;
     quiet = λ fault. fault;
     gives = record { says = refl; due = missed-due table keeper missing now.told missed };
   }
@@ -316,7 +235,8 @@ module _ (before now : Moment) (runner : Runner) (reader : Reader)
   missing-stands table kept (Answering answer) leaves made next =
       answers-turn before now runner commit_uncalled (HasRead reader) stands reader.keeper.token
       same (reads (next_name reader.next)) tt _ (λ result stood. refl) made (Memory Before)
-      (Answering answer) (inr leaves) tt (fault-met now runner Before FolderFault.Memory) refl
+      (Answering answer) (inr leaves) tt (fault-met now runner Before FolderFault.Memory)
+      (fault-left now runner Before FolderFault.Memory) refl
   missing-stands table kept state leaves made next = absurd leaves
 
   -- the answer that the next file is too large is due
@@ -358,6 +278,9 @@ module _ (before now : Moment) (runner : Runner) (reader : Reader)
               commits = runs.commits;
             })
             now.told stood;
+        clean = clean-known runner.token (IsTooLarge (File (next_name reader.next))) now.admits
+            (Runs runner commit_uncalled (Keeps kept KnowsNone))
+            (λ standing runs. runs.holds.knows) now.told stood;
         quiet = λ fault. fault;
         gives = record {
           says = refl;
@@ -370,7 +293,8 @@ module _ (before now : Moment) (runner : Runner) (reader : Reader)
   large-stands name kept (Answering answer) sound leaves made next =
       answers-turn before now runner commit_uncalled (HasRead reader) stands reader.keeper.token
       same (reads (next_name reader.next)) tt _ (λ result stood. refl) made (Memory Before)
-      (Answering answer) (inr leaves) tt (fault-met now runner Before FolderFault.Memory) refl
+      (Answering answer) (inr leaves) tt (fault-met now runner Before FolderFault.Memory)
+      (fault-left now runner Before FolderFault.Memory) refl
   large-stands name kept state sound leaves made next = absurd leaves
 
   -- after one that leads no further
@@ -383,7 +307,7 @@ module _ (before now : Moment) (runner : Runner) (reader : Reader)
       answers-turn before now runner commit_uncalled (HasRead reader) stands reader.keeper.token
       same (reads (next_name reader.next)) tt _ (λ result stood. refl) made
       (cause_of_fault fault.stage fault.fault) state ends (fault-plain fault.stage fault.fault)
-      (fault-met now runner fault.stage fault.fault)
+      (fault-met now runner fault.stage fault.fault) (fault-left now runner fault.stage fault.fault)
       (ap commit_at (sym (fault-stage fault.stage fault.fault
       ∙ fault-before reader fault made.answer made.shown)))
   ended-stands (TooLarge name kept) state sound ends made next =

@@ -28,6 +28,8 @@ use Rattle.suite_rules.specs.Listing.{Listing, is_held_in}
 use Rattle.suite_rules.specs.Standing.{Standing, commit_uncalled, standing, standing_step}
 use Rattle.suite_rules.specs.Lawful.{IsNext, Lawful, goes_on}
 use Rattle.suite_rules.proofs.Cut.{lawful-prefix}
+use Rattle.suite_rules.proofs.Effects.{bytes-stand}
+use Rattle.suite_rules.proofs.Numbers.{greatest-stands, has-most}
 use Rattle.suite_rules.proofs.Settles.{uncalled-before}
 use Rattle.suite_rules.proofs.Whole.{invariant}
 use Rattle.lock_steps.specs.Stands.{HasNoLock, HasListed, HasLooked, HasJudged, WasOvertaken}
@@ -35,7 +37,7 @@ use Rattle.suite_core.specs.Causes.{Met, HasKept, IsNoLockText, MetLast, MetNoLo
 use Rattle.suite_core.specs.Open.{LetsPass, NeverToldAlive, StandsOpen}
 use Rattle.suite_core.specs.Top.{IsAlone}
 use Rattle.suite_core.proofs.AloneLemmas.{all-rest, second-empty, suffixes}
-use Rattle.suite_core.proofs.AloneSteps.{IsListingOf, LocksAlone, bytes-stand, greatest-stands, stands-most, there}
+use Rattle.suite_core.proofs.AloneSteps.{IsListingOf, LocksAlone, there}
 use Rattle.suite_core.proofs.AloneStays.{IsIntentOf, alone-intent, alone-locks}
 use Rattle.suite_core.proofs.IntentLimits.{readable-within}
 
@@ -302,7 +304,7 @@ module _ (deeds : SuiteDeeds) (first : Folder) (old new : History) (token : Toke
       let seen = seen-top (creates number) Exists met.0 _ met.2.older call in
       let stands : IsSome (entry.file (Lock number)) =
       subst (λ (one : Folder). IsSome (one.file (Lock number))) seen.same call.next.gives in
-      let most = stands-most number entry.locks (is-folder.standing number ∙ stands) in
+      let most = has-most number entry.locks (is-folder.standing number ∙ stands) in
       let is = seen.is_top in
       let next = met.1 in
       absurd (omega (arith, most, is, next))

@@ -8,9 +8,10 @@ use Rattle.acct_outside.specs.Life.{runs_in}
 use Rattle.acct_outside.specs.Others.{Admission, ByOthers, none_came, one_came}
 use Rattle.acct_outside.specs.Contract.{Past, NeverAdmits, MayAnswer, Narrows}
 use Rattle.suite_rules.specs.OwnLock.{kept_number}
-use Rattle.suite_rules.specs.Standing.{Commit, Standing}
+use Rattle.suite_rules.specs.Standing.{Commit, Standing, standing}
 use Rattle.suite_rules.specs.Steps.{StandsIn}
 use Rattle.suite_rules.proofs.StepLemmas.{Stayed, stayed}
+use Rattle.suite_answers.specs.declared.cause.Cause.{Cause}
 use Rattle.suite_answers.specs.declared.answer.Answer.{Answer}
 use Rattle.suite_core.specs.declared.state.State.{State}
 use Rattle.suite_core.specs.declared.state.State.TheVariants.{Looking, Reading, Asking, Claiming, Confirming, Withdrawing, ReadingIntent, Recovering, Moving, Loading, BackingUp, Committing, Installing, Unlocking, Freeing, Answering}
@@ -20,10 +21,11 @@ use Rattle.suite_core.specs.Runner.{Runner}
 use Rattle.suite_core.specs.Moment.{Moment, Runs, At}
 use Rattle.suite_core.specs.Due.{IsDue}
 use Rattle.suite_core.specs.Grows.{Grows, none_new, others_new, own_new, Grew}
-use Rattle.suite_core.specs.Stands.{Gives, StandsAs}
+use Rattle.suite_core.specs.Stands.{Gives, HasLeft, KnowsDecided, StandsAs}
 use Rattle.suite_core.specs.Session.{OthersStand, SessionTurns, turn_token}
 use Rattle.suite_core.proofs.DueLemmas.{shown-stays}
 use Rattle.suite_core.proofs.GrowsLemmas.{grew-nothing, grows-extends}
+use Rattle.suite_core.proofs.LeavingLemmas.{clean-same, left-same}
 
 -- the folder admits the event, or it is of this session
 abbrev with_own : Admission → Token → Admission
@@ -35,7 +37,7 @@ all-others : (admits : Admission) (token : Token) (old : History) (most : ℕ) (
 all-others admits token old most _ (none_new _) = none_came
 all-others admits token old most _ (others_new _ event new grown admitted) =
     one_came event new (all-others admits token old most new grown) (inl admitted)
-all-others admits token old _ _ (own_new most event new grown is) =
+all-others admits token old _ _ (own_new most event new grown is backs) =
     one_came event new (all-others admits token old most new grown) (inr is)
 
 -- where a session stands, the folder admits no event of it
@@ -150,6 +152,20 @@ module _ (before now : Moment) (runner : Runner) (token : Token) (most : ℕ)
   due-still answer None (Some past) grew own due = absurd grew
   due-still answer (Some was) None grew own due = absurd grew
 
+  -- what is found from its standing is so still
+  found-still : (Holds : Past → Type 0) →
+      ((was past : Past) →
+      standing runner.token past.history ≡ standing runner.token was.history → Holds was →
+      Holds past) →
+      (was told : Option Past) → Grew before.admits token most was told →
+      IfSome was (λ past. NeverAdmits before.admits runner.token) → IfSome was Holds →
+      IfSome told Holds
+  found-still Holds stays None None grew own holds = tt
+  found-still Holds stays (Some was) (Some past) grew own holds =
+      stays was past (same own was.history past.history grew.1).same_standing holds
+  found-still Holds stays None (Some past) grew own holds = absurd grew
+  found-still Holds stays (Some was) None grew own holds = absurd grew
+
   module _ (grew : Grew before.admits token most before.told now.told) where
     -- it stands at the next moment as it did
     at-stays : (commit : Commit) (Holds : Standing → Type 0) → At before runner commit Holds →
@@ -164,6 +180,25 @@ module _ (before now : Moment) (runner : Runner) (token : Token) (most : ℕ)
       says = gives.says;
       due = due-still answer before.told now.told grew own gives.due;
     }
+
+    -- it knows still that no intent stands
+    clean-still : (cause : Cause) →
+        IfSome before.told (λ past. NeverAdmits before.admits runner.token) →
+        IfSome before.told (KnowsDecided runner.token cause) →
+        IfSome now.told (KnowsDecided runner.token cause)
+    clean-still cause = found-still (KnowsDecided runner.token cause)
+        (λ was past is. clean-same runner.token cause was past
+        (ap (λ (stood : Standing). stood.knows) is)) before.told now.told grew
+
+    -- and has left what it had
+    left-still : (cause : Cause) →
+        IfSome before.told (λ past. NeverAdmits before.admits runner.token) →
+        IfSome before.told (HasLeft runner.token cause) →
+        IfSome now.told (HasLeft runner.token cause)
+    left-still cause = found-still (HasLeft runner.token cause)
+        (λ was past is. left-same runner.token cause was past
+        (ap (λ (stood : Standing). stood.own) is) (ap (λ (stood : Standing). stood.listing) is)
+        (ap (λ (stood : Standing). stood.knows) is)) before.told now.told grew
 
     -- in each state
     state-stays : (state : State) → StandsAs before runner state → StandsAs now runner state
@@ -193,22 +228,31 @@ module _ (before now : Moment) (runner : Runner) (token : Token) (most : ℕ)
       changed = stands.changed;
       gives = gives-still answer (state-own before runner (Installing walker answer) stands) stands.gives;
     }
-    state-stays (Unlocking keeper answer) stands = record {
-      same = stands.same;
-      stands = at-stays _ _ stands.stands;
-      quiet = stands.quiet;
-      gives = gives-still answer (state-own before runner (Unlocking keeper answer) stands) stands.gives;
-    }
-    state-stays (Freeing freeing answer) stands = record {
-      same = stands.same;
-      stands = at-stays _ _ stands.stands;
-      quiet = stands.quiet;
-      gives = gives-still answer (state-own before runner (Freeing freeing answer) stands) stands.gives;
-    }
-    state-stays (Answering answer) stands = record {
-      may_answer = answer-stays before.told now.told grew stands.may_answer;
-      gives = gives-still answer (state-own before runner (Answering answer) stands) stands.gives;
-    }
+    state-stays (Unlocking keeper answer) stands =
+        let own = state-own before runner (Unlocking keeper answer) stands in
+        record {
+          same = stands.same;
+          stands = at-stays _ _ stands.stands;
+          clean = clean-still answer.outcome.cause own stands.clean;
+          quiet = stands.quiet;
+          gives = gives-still answer own stands.gives;
+        }
+    state-stays (Freeing freeing answer) stands =
+        let own = state-own before runner (Freeing freeing answer) stands in
+        record {
+          same = stands.same;
+          stands = at-stays _ _ stands.stands;
+          clean = clean-still answer.outcome.cause own stands.clean;
+          quiet = stands.quiet;
+          gives = gives-still answer own stands.gives;
+        }
+    state-stays (Answering answer) stands =
+        let own = state-own before runner (Answering answer) stands in
+        record {
+          may_answer = answer-stays before.told now.told grew stands.may_answer;
+          gives = gives-still answer own stands.gives;
+          left = λ goes_on. left-still answer.outcome.cause own (stands.left goes_on);
+        }
 
 -- what a turn leaves of the folder for others
 record Left (before now : Moment) (token : Token) : Type 0 where

@@ -28,12 +28,14 @@ use Rattle.suite_core.specs.Session.{HasAnswered, IsNew, IsUnbegun}
 use Rattle.suite_core.specs.Answers.{memory_answer}
 use Rattle.suite_core.specs.Bound.{IsBounded, IsWithin}
 use Rattle.suite_core.specs.Grows.{Grew, Grows}
-use Rattle.suite_core.specs.Stands.{Extends, IsDiskFault, IsOutside, StaysOurs, TurnsTo}
+use Rattle.suite_core.specs.Backing.{BackedUpChanges}
+use Rattle.suite_core.specs.Stands.{Extends, HasLeft, IsDiskFault, IsOutside, IsStopped, StaysOurs, TurnsTo}
 use Rattle.suite_core.specs.Streams.{Streams, Serves, after_streams}
 use Rattle.suite_core.specs.Course.{AnsweredAs, Finished}
-use Rattle.suite_core.specs.Top.{Answered, BegunOrNone, ExtendsLawfully, HasNoToken, IsAlwaysSettled, IsShownAt, Ran}
+use Rattle.suite_core.specs.Top.{Answered, BegunOrNone, ExtendsLawfully, HasNoToken, IsAlone, IsAlwaysSettled, IsShownAt, Leaves, Ran}
 use Rattle.suite_core.proofs.PlaceLemmas.{shown-at}
 use Rattle.suite_core.proofs.CompleteLemmas.{ran-complete}
+use Rattle.suite_core.proofs.LeavesLemmas.{leaves-alone, stopped-leaves, unbegun-stopped}
 use Rattle.suite_core.proofs.CourseLemmas.{new-from, turns-as, turns-none, turns-then}
 use Rattle.suite_core.proofs.GrowsLemmas.{grew-extends, grew-nothing}
 
@@ -177,6 +179,17 @@ module _ (asked : Question) (entry now : Moment) where
         by-put (Err Failed) is = tt
         by-put (Err NoMemory) is = tt
 
+    -- one session made the last event
+    last-token : (runner : Runner) (past : Past) → HasAnswered runner final past →
+        (token : Token) → Answered asked outcome token past.history → token ≡ runner.token
+    last-token runner past answered token claimed = heads claimed.last answered.last
+      where
+        heads : {one other : Event} {older earlier : History} →
+            past.history ≡ one ∷ older → past.history ≡ other ∷ earlier → one.token ≡ other.token
+        heads {one} {other} {older} {earlier} is was =
+            let both : one ∷ older ≡ other ∷ earlier = sym is ∙ was in
+            ap (λ (event : Event). event.token) (let same : one ≡ other = cc in same)
+
     -- what the history shows of the session that answered
     answered-shown : (runner : Runner) (past : Past) → runner.asked ≡ asked →
         HasAnswered runner final past → (deeds : SuiteDeeds) (first : Folder) →
@@ -184,7 +197,7 @@ module _ (asked : Question) (entry now : Moment) where
         Answered asked outcome token past.history →
         IsShownAt deeds asked first past.history token final outcome.cause
     answered-shown runner past same answered deeds first lawful token claimed =
-        let is : token ≡ runner.token = first-token claimed.last answered.last in
+        let is = last-token runner past answered token claimed in
         subst (λ (one : Token). IsShownAt deeds asked first past.history one final outcome.cause)
         (sym is)
         (subst (λ (one : Outcome).
@@ -192,12 +205,6 @@ module _ (asked : Question) (entry now : Moment) where
         (shown-at deeds first past.history lawful asked runner final same
         (answered.due.asked ∙ ap (λ (one : Question). Some one.command) same)
         final.outcome.cause answered.due.commits answered.due.shown))
-      where
-        first-token : {one other : Event} {older earlier : History} →
-            past.history ≡ one ∷ older → past.history ≡ other ∷ earlier → one.token ≡ other.token
-        first-token {one} {other} {older} {earlier} is was =
-            let both : one ∷ older ≡ other ∷ earlier = sym is ∙ was in
-            ap (λ (event : Event). event.token) (let heads : one ≡ other = cc in heads)
 
     -- what the history shows of either
     ran-shown : (by : Token) → AnsweredAs asked entry now by final ⊎ IsUnbegun asked given →
@@ -228,6 +235,60 @@ module _ (asked : Question) (entry now : Moment) where
           extends.0,
           λ deeds ours others lawful token claimed.
               unbegun-shown deeds was.first past.history token unbegun.plain,
+        )
+        by-told stands None (Some past) extends stays same = absurd extends
+        by-told stands (Some was) None extends stays same = absurd extends
+
+    -- what the session that answered leaves, where it was alone
+    answered-leaves : (runner : Runner) (past : Past) → runner.asked ≡ asked →
+        HasAnswered runner final past → BackedUpChanges runner.token past.history →
+        (deeds : SuiteDeeds) → AreOfTools deeds → (first : Folder) (old : History) →
+        Lawful deeds first past.history → (token : Token) →
+        Answered asked outcome token past.history → IsAlone token old past.history →
+        Leaves first old past.history token outcome.cause
+    answered-leaves runner past same answered backed deeds ours first old lawful token claimed
+        alone =
+        let is = last-token runner past answered token claimed in
+        leaves-alone deeds asked first past token final lawful ours old alone outcome.cause
+        claimed.commits
+        (answered-shown runner past same answered deeds first lawful token claimed)
+        (subst (λ (one : Token). (IsStopped outcome.cause → ⊥) → HasLeft one outcome.cause past)
+        (sym is)
+        (subst (λ (one : Outcome). (IsStopped one.cause → ⊥) → HasLeft runner.token one.cause past)
+        (sym ends) answered.left))
+        (subst (λ (one : Token). BackedUpChanges one past.history) (sym is) backed)
+
+    -- what either leaves
+    ran-leaves : (by : Token) → AnsweredAs asked entry now by final ⊎ IsUnbegun asked given →
+        (was : Option Past) → Extends was now.told → StaysOurs entry.admits was now.told →
+        WhereTold was now.told (λ first old new. (deeds : SuiteDeeds) → AreOfTools deeds →
+        LawfulOthers deeds entry.admits first → Lawful deeds first old →
+        (token : Token) → Answered asked outcome token new → IsAlone token old new →
+        Leaves first old new token outcome.cause)
+    ran-leaves by stands was extends stays =
+        by-told stands was now.told extends stays (λ P holds. holds)
+      where
+        by-told : AnsweredAs asked entry now by final ⊎ IsUnbegun asked given →
+            (was told : Option Past) → Extends was told → StaysOurs entry.admits was told →
+            ((P : Past → Type 0) → IfSome now.told P → IfSome told P) →
+            WhereTold was told (λ first old new. (deeds : SuiteDeeds) → AreOfTools deeds →
+            LawfulOthers deeds entry.admits first → Lawful deeds first old →
+            (token : Token) → Answered asked outcome token new → IsAlone token old new →
+            Leaves first old new token outcome.cause)
+        by-told stands None None extends stays same = tt
+        by-told (inl gave) (Some was) (Some past) extends stays same = (
+          extends.0,
+          λ deeds ours others lawful token claimed. answered-leaves gave.runner past gave.same
+              (same (HasAnswered gave.runner final) gave.answered)
+              (same (λ one. BackedUpChanges gave.runner.token one.history) gave.backed)
+              deeds ours was.first was.history ((stays deeds ours).1 others lawful) token claimed,
+        )
+        by-told (inr unbegun) (Some was) (Some past) extends stays same = (
+          extends.0,
+          λ deeds ours others lawful token claimed alone.
+              stopped-leaves was.first was.history past.history token outcome.cause
+              (subst (λ (one : Outcome). IsStopped one.cause) (sym ends)
+              (unbegun-stopped put given unbegun.plain)),
         )
         by-told stands None (Some past) extends stays same = absurd extends
         by-told stands (Some was) None extends stays same = absurd extends
@@ -265,6 +326,8 @@ finished-ran asked entry now was holds outcome finished =
           entry.told now.told extends turns.lawful;
       answered = begun;
       shown = shown;
+      leaves = ran-leaves asked entry now outcome finished.given finished.put finished.ends
+          finished.token turns.stands entry.told extends turns.lawful;
       complete = ran-complete asked entry now was holds outcome finished.given finished.says
           turns.risen finished.put finished.served finished.ends lawful begun shown;
       bounded = ran-bounded asked entry now outcome finished.given finished.put finished.ends
@@ -304,6 +367,7 @@ answered-from asked entry between now by one given extends (inl gave) = inl (rec
   fresh = new-from gave.runner.token entry.told between.told extends gave.fresh;
   answered = gave.answered;
   within = gave.within;
+  backed = gave.backed;
 })
 answered-from asked entry between now by one given extends (inr unbegun) = inr unbegun
 

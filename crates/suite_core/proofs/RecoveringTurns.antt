@@ -36,7 +36,7 @@ use Rattle.suite_core.specs.Recovering.{after_intent, Refuses}
 use Rattle.suite_core.specs.Stands.{StandsAs, TellsOutside}
 use Rattle.suite_core.proofs.MetLemmas.{damaged-met, large-met}
 use Rattle.suite_core.proofs.TurnLemmas.{goes-on, got, answers-turn, answers-fault, leaves-turn, leaves-fault}
-use Rattle.suite_core.proofs.UnlockingTurns.{fault-met, fault-stage, fault-plain, fault-failed}
+use Rattle.suite_core.proofs.UnlockingTurns.{fault-met, fault-left, fault-stage, fault-plain, fault-failed}
 
 -- ---- A read of the intent keeps the token
 
@@ -128,6 +128,7 @@ module _ (before now : Moment) (runner : Runner) (keeper : Kept)
       answers-turn before now runner commit_uncalled (Keeps keeper KnowsAnything) stands
       keeper.token same (reads Intent) tt _ (λ result stood. refl) made _ state refuses
       (fault-plain fault.stage fault.fault) (fault-met now runner fault.stage fault.fault)
+      (fault-left now runner fault.stage fault.fault)
       (ap commit_at (sym (fault-stage fault.stage fault.fault
       ∙ fault-before keeper made.answer fault made.shown)))
   refused-stands (Damaged part kept) state refuses made next =

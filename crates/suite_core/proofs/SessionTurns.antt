@@ -2,7 +2,7 @@
 -- and the answer of a session is its last event, which the rules permit (`answers-turn`).
 -- Way: a begin's event is the session's only one, and an answer's leaves its standing; both are
 -- events of their own after those of others.
-use Rattle.std.proofs.Common.{◌≡◌, ◌⊎◌, refl, sym, ap, subst, ◌∙◌, ℕ, ◌<◌, ◌≤◌, Bool, true, false, List, [], ◌∷◌, length, inl, inr, Option, Some, None, IfSome, Result, Ok, Err, arith}
+use Rattle.std.proofs.Common.{◌≡◌, ◌⊎◌, refl, sym, ap, subst, ◌∙◌, ℕ, ◌<◌, ◌≤◌, Bool, true, false, List, [], ◌∷◌, inl, inr, Option, Some, None, IfSome, Result, Ok, Err, arith}
 use Rattle.std.proofs.lemmas.List.Elements.{filter-append}
 use Rattle.std.proofs.lemmas.Slice.Eq.{bytes_eq-Decides}
 use Rattle.acct_text.specs.Bytes.{Bytes}
@@ -37,13 +37,14 @@ use Rattle.suite_core.specs.Moment.{Moment, Runs, At}
 use Rattle.suite_core.specs.Answers.{memory_answer, IsTold, Says}
 use Rattle.suite_core.specs.Deeds.{AreOfTools}
 use Rattle.suite_core.specs.Due.{IsDue}
-use Rattle.suite_core.specs.Bound.{CountsFrom}
+use Rattle.suite_core.specs.Bound.{CountsFrom, begun_event}
 use Rattle.suite_core.specs.Grows.{Grew}
 use Rattle.suite_core.specs.Left.{calls_left, most_calls}
 use Rattle.suite_core.specs.Locking.{cause_of_fault}
 use Rattle.suite_core.specs.Session.{IsFirst, HasAnswered, Gave, IsNew, IsUnbegun}
-use Rattle.suite_core.specs.Stands.{Extends, MayGive, IsOutside, StandsAs, TellsOutside, TurnsTo, Turns}
+use Rattle.suite_core.specs.Stands.{Extends, HasLeft, MayGive, IsOutside, IsStopped, StandsAs, TellsOutside, TurnsTo, Turns}
 use Rattle.suite_core.proofs.AloneLemmas.{second-empty}
+use Rattle.suite_core.proofs.LeavingLemmas.{left-same}
 use Rattle.suite_core.proofs.TurnLemmas.{told-says, told-cause}
 use Rattle.suite_core.proofs.GrowsLemmas.{grew-extends, others-extend, tells-grow}
 use Rattle.suite_core.proofs.DueLemmas.{shown-stays}
@@ -79,7 +80,7 @@ begin-grows : (admits : Admission) (command : Command) (result : Result Token Fo
     Grew admits (begun_token result) 1 before now
 begin-grows admits command result before now tells =
     tells-grow admits (begun_token result) (begins command) (begun_answer result) before now
-    (begin-tells admits command result before now tells)
+    (λ past is between others. tt) (begin-tells admits command result before now tells)
 
 -- its token is new
 pub begin-new : (admits : Admission) (command : Command) (token : Token) (before now : Option Past) →
@@ -137,21 +138,19 @@ begin-lawful deeds admits command result None (Some now) tells = absurd tells
 begin-lawful deeds admits command result (Some before) None tells = absurd tells
 
 -- a begin is the only event of its session, which then has no more calls than a listing leaves
-pub begins-counts : (admits : Admission) (command : Command) (runner : Runner)
-    (before now : Option Past) →
-    WhereTold before now (TellsBegin admits command (Ok runner.token)) → (state : State) →
-    IsFirst runner state → CountsFrom now runner state
-begins-counts admits command runner before now tells state is = record {
+pub begins-counts : (admits : Admission) (runner : Runner) (before now : Option Past) →
+    WhereTold before now (TellsBegin admits runner.asked.command (Ok runner.token)) →
+    (state : State) → IsFirst runner state → CountsFrom now runner state
+begins-counts admits runner before now tells state is = record {
   only = by-told before now tells;
   fewer = first-fewer state is;
 }
   where
     by-told : (was told : Option Past) →
-        WhereTold was told (TellsBegin admits command (Ok runner.token)) →
-        IfSome told (λ past. length (own_events runner.token past.history) ≤ 1)
+        WhereTold was told (TellsBegin admits runner.asked.command (Ok runner.token)) →
+        IfSome told (λ past. own_events runner.token past.history ≡ begun_event runner ∷ [])
     by-told None None told = tt
-    by-told (Some was) (Some past) told =
-        let one = ap (λ (events : History). length events) told.1.1 in omega (arith, one)
+    by-told (Some was) (Some past) told = told.1.1
     by-told None (Some past) told = absurd told
     by-told (Some was) None told = tt
 
@@ -205,6 +204,7 @@ module _ (before now : Moment) where
       may_answer = may-answer-now now.admits runner.token (Runs runner commit_uncalled HasNoLock)
           now.told begun-stands;
       gives = record { says = refl; due = memory-due now.told begun-stands };
+      left = λ goes_on. absurd (goes_on tt);
     }
 
     -- it stands in its first state
@@ -298,15 +298,19 @@ module _ (before now : Moment) (runner : Runner) (answer : FinalAnswer) where
   abbrev call : Call
   call = answers answer.outcome.status
 
-  -- the answer is due after it too
+  -- the answer is due after it too, and what was left is so
   answered-due : (was told : Option Past) → MayAnswer before.admits was runner.token →
       Tells before.admits was told runner.token call (Ok tt) → Extends was told →
-      IfSome was (IsDue runner answer) → IfSome told (HasAnswered runner answer)
-  answered-due None None may tells extends due = tt
-  answered-due (Some was) (Some past) may tells extends due =
+      IfSome was (IsDue runner answer) → ((IsStopped answer.outcome.cause → ⊥) →
+      IfSome was (HasLeft runner.token answer.outcome.cause)) →
+      IfSome told (HasAnswered runner answer)
+  answered-due None None may tells extends due left = tt
+  answered-due (Some was) (Some past) may tells extends due left =
       let step = stepped before.admits runner.token may.own call (done tt) _
       was.history past.history tells.1 in
       let stood = standing runner.token was.history in
+      let knows = ap (λ (one : Standing). one.knows) step.next_standing
+      ∙ answer-knows answer.outcome.status stood in
       record {
         older = tells.1.others_then.between;
         last = tells.1.others_then.last;
@@ -315,13 +319,14 @@ module _ (before now : Moment) (runner : Runner) (answer : FinalAnswer) where
           commits = ap (λ (one : Standing). one.commit) step.next_standing ∙ due.commits;
           shown = shown-stays runner answer was.history past.history extends.1.0 extends.1.1
               (ap (λ (one : Standing). kept_number one.own) step.next_standing)
-              (ap (λ (one : Standing). one.knows) step.next_standing
-              ∙ answer-knows answer.outcome.status stood)
-              answer.outcome.cause due.shown;
+              knows answer.outcome.cause due.shown;
         };
+        left = λ goes_on. left-same runner.token answer.outcome.cause was past
+            (ap (λ (one : Standing). one.own) step.next_standing)
+            (ap (λ (one : Standing). one.listing) step.next_standing) knows (left goes_on);
       }
-  answered-due None (Some past) may tells extends due = absurd tells
-  answered-due (Some was) None may tells extends due = absurd tells
+  answered-due None (Some past) may tells extends due left = absurd tells
+  answered-due (Some was) None may tells extends due left = absurd tells
 
   -- it keeps a history lawful, for the deeds of the tools
   answered-lawful : request_of runner.asked.command.words ≡ Ok runner.asked.request →
@@ -361,13 +366,14 @@ module _ (before now : Moment) (runner : Runner) (answer : FinalAnswer) where
       Narrows before.admits now.admits → before.faults ≤ now.faults →
       TurnsTo before now runner.token 1 (Gave now runner answer) ⊥
   answers-turn read gives tells narrows never_falls =
-      let grew = tells-grow before.admits runner.token call (Ok tt) before.told now.told tells in
+      let grew = tells-grow before.admits runner.token call (Ok tt) before.told now.told
+      (λ past is between others. tt) tells in
       record {
         stands = record {
           says = gives.gives.says;
           answered = answered-due before.told now.told gives.may_answer tells
               (grew-extends before.admits runner.token 1 before.told now.told grew)
-              gives.gives.due;
+              gives.gives.due gives.left;
         };
         grew = grew;
         lawful = λ deeds ours. answered-lawful read deeds ours before.told now.told

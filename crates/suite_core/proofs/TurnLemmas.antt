@@ -12,7 +12,7 @@ use Rattle.acct_outside.specs.Contract.{Past, Tells as OutsideTells}
 use Rattle.acct_outside.specs.Faults.{HasRisen}
 use Rattle.suite_rules.specs.Standing.{Commit, Standing, standing_step}
 use Rattle.suite_rules.specs.Steps.{StandsIn, AlwaysStaysLawful, Leaves, MakesCall}
-use Rattle.suite_rules.proofs.StepLemmas.{IsNoAnswer, leaves, stands-left, stands-weaker, stayed}
+use Rattle.suite_rules.proofs.StepLemmas.{IsNoAnswer, leaves, stands-done, stands-left, stands-weaker, stayed}
 use Rattle.lock_steps.specs.States.{Kept}
 use Rattle.lock_steps.specs.Stands.{Keeps, KnowsAnything}
 use Rattle.suite_rules.specs.Steps.{OwnCommand, own_command}
@@ -31,8 +31,10 @@ use Rattle.suite_core.specs.Answers.{given_for, IsTold, Says}
 use Rattle.suite_core.specs.Causes.{Met, HasMet}
 use Rattle.suite_core.specs.Due.{IsShown, IsDue}
 use Rattle.suite_core.specs.Grows.{Grew}
+use Rattle.suite_core.proofs.BackingLemmas.{IsTurnCall, turn-no-answer, turn-backs-then}
 use Rattle.suite_core.proofs.GrowsLemmas.{tells-grow, grew-extends}
-use Rattle.suite_core.specs.Stands.{Extends, MayGive, StandsAs, AnswersWith, LeavesWith, IsOutside, TellsOutside, Turns}
+use Rattle.suite_core.specs.Stands.{Extends, Gives, MayGive, HasLeft, StandsAs, AnswersWith, LeavesWith, IsDecided, IsOutside, IsStopped, TellsOutside, Turns}
+use Rattle.suite_core.proofs.LeavingLemmas.{KeepsNone, LeavesUnkept, clean-else, none-left}
 
 -- what the runner was asked, and this commit
 abbrev own_of : Runner → Commit → OwnCommand
@@ -95,6 +97,17 @@ IsPlain (NoTable table) = ⊥
 IsPlain (TooLarge (File (Table table))) = ⊥
 IsPlain (TooLarge (File Defs)) = ⊥
 IsPlain cause = Unit {0}
+
+-- so no tool decided it
+plain-undecided : (cause : Cause) → IsPlain cause → IsDecided cause → ⊥
+plain-undecided Changed plain decided = plain
+plain-undecided Same plain decided = plain
+plain-undecided (Refused refusal) plain decided = plain
+plain-undecided (BadSetting line) plain decided = plain
+plain-undecided (NoTable table) plain decided = plain
+plain-undecided (TooLarge (File (Table table))) plain decided = plain
+plain-undecided (TooLarge (File Defs)) plain decided = plain
+plain-undecided cause plain decided = decided
 
 -- it says what tells its cause
 plain-says : (asked : Question) (answer : FinalAnswer) (cause : Cause) → IsPlain cause →
@@ -187,6 +200,21 @@ leaves-fault tool keeper cause state is fault = absurd is
 abbrev pub HasMetNow : Moment → Runner → Cause → Type 0
 HasMetNow now runner cause = IfSome now.told (λ past. HasMet runner.token past.history cause)
 
+-- the runner has left what it must with the cause, unless that stopped it
+abbrev pub HasLeftNow : Moment → Runner → Cause → Type 0
+HasLeftNow now runner cause =
+    (IsStopped cause → ⊥) → IfSome now.told (HasLeft runner.token cause)
+
+-- so it has with an answer that tells the cause, or that there was no memory to tell it
+pub told-left : (now : Moment) (runner : Runner) (cause : Cause) (answer : FinalAnswer) →
+    IsTold runner.asked.request.tool cause answer → HasLeftNow now runner cause →
+    HasLeftNow now runner answer.outcome.cause
+told-left now runner cause answer told has_left =
+    elim (told-cause runner.asked.request.tool cause answer told) [
+      | inl is ↦ subst (HasLeftNow now runner) (sym is) has_left
+      | inr is ↦ λ goes_on. absurd (goes_on (subst IsStopped (sym is) tt))
+    ]
+
 -- what the runner met of a cause shows the answer that tells it
 shown-now : (runner : Runner) (cause : Cause) (answer : FinalAnswer) (told : Option Past) →
     IsPlain cause → IsTold runner.asked.request.tool cause answer →
@@ -200,7 +228,7 @@ shown-now runner cause answer (Some past) plain tells met =
 
 module _ (before now : Moment) (runner : Runner) (commit : Commit) (Held : Standing → Type 0)
     (stands : At before runner commit Held) (token : Token) (same : token ≡ runner.token)
-    (call : Call) (no_answer : IsNoAnswer call)
+    (call : Call) (of_turn : IsTurnCall (Runs runner commit Held) call)
     (Shows : Result (Answer call) FolderFault → Type 0)
     (quiet : (result : CallResult (Answer call)) (stood : Standing) →
     own_command (standing_step call result stood) ≡ own_command stood)
@@ -209,6 +237,10 @@ module _ (before now : Moment) (runner : Runner) (commit : Commit) (Held : Stand
   by-runner : MakesCall before.admits now.admits before.told now.told runner.token call Shows
   by-runner = subst
       (λ one. MakesCall before.admits now.admits before.told now.told one call Shows) same made
+
+  -- the call isn't the answer
+  no_answer : IsNoAnswer call
+  no_answer = turn-no-answer (Runs runner commit Held) call of_turn
 
   -- the runner's command and its commit are as before the call
   left : Leaves own_command runner.token before.told now.told
@@ -232,13 +264,17 @@ module _ (before now : Moment) (runner : Runner) (commit : Commit) (Held : Stand
       before.admits now.admits runner.token before.told now.told stands left
       (subst (λ one. StandsIn now.admits now.told one Holds) same stands_now))
 
+  -- the folder tells what the call answered
+  answered : (answer : Answer call) → made.answer ≡ Ok answer →
+      OutsideTells before.admits before.told now.told runner.token call (Ok answer)
+  answered answer is = subst (OutsideTells before.admits before.told now.told runner.token call) is
+      (subst (λ one. OutsideTells before.admits before.told now.told one call made.answer) same
+      made.told)
+
   -- what the call answered, the session met
   pub got : (answer : Answer call) → made.answer ≡ Ok answer →
       IfSome now.told (λ past. Met runner.token call answer Held past.history)
-  got answer is = by-told before.told now.told stands
-      (subst (OutsideTells before.admits before.told now.told runner.token call) is
-      (subst (λ one. OutsideTells before.admits before.told now.told one call made.answer) same
-      made.told))
+  got answer is = by-told before.told now.told stands (answered answer is)
     where
       by-told : (was told : Option Past) →
           StandsIn before.admits was runner.token (Runs runner commit Held) →
@@ -260,7 +296,8 @@ module _ (before now : Moment) (runner : Runner) (commit : Commit) (Held : Stand
   -- the history got an event of the runner, or none, after those of others
   pub grown : Grew before.admits runner.token 1 before.told now.told
   grown = tells-grow before.admits runner.token call by-runner.answer before.told now.told
-      by-runner.told
+      (turn-backs-then before.admits runner.token (Runs runner commit Held) call of_turn
+      before.told stands) by-runner.told
 
   -- so it is extended
   pub extended : Extends before.told now.told
@@ -282,30 +319,49 @@ module _ (before now : Moment) (runner : Runner) (commit : Commit) (Held : Stand
   is-due answer is None (Some past) stood kept shown = absurd kept
   is-due answer is (Some was) None stood kept shown = absurd kept
 
-  -- an answer that tells a plain cause of this commit is due, and the runner may give it
-  pub may-give : (cause : Cause) (answer : FinalAnswer) →
+  -- where it leaves no lock kept, the runner has left what it must with a plain cause
+  pub unkept-left : (cause : Cause) → IsPlain cause →
+      ((IsStopped cause → ⊥) → LeavesUnkept call made.answer Held) → HasLeftNow now runner cause
+  unkept-left cause plain leaves_unkept goes_on =
+      let one = leaves_unkept goes_on in
+      none-left runner.token cause now.admits (plain-undecided cause plain) now.told
+      (stands-done before.admits now.admits made.narrows runner.token call no_answer
+      (Runs runner commit Held) KeepsNone one.given (λ stood runs. one.unkept stood runs.holds)
+      before.told now.told stands (answered one.given one.is))
+
+  -- an answer that tells a plain cause of this commit is due
+  gives-plain : (cause : Cause) (answer : FinalAnswer) →
       commit ≡ commit_at (stage_of answer.outcome.cause) → IsPlain cause →
       IsTold runner.asked.request.tool cause answer → HasMetNow now runner cause →
-      MayGive now runner answer
-  may-give cause answer is plain tells met =
+      Gives now runner answer
+  gives-plain cause answer is plain tells met =
       let shown = shown-now runner cause answer now.told plain tells met in
       record {
-        may_answer = by-runner.may_answer;
-        gives = record {
-          says = told-says runner.asked cause answer plain tells;
-          due = is-due answer is before.told now.told stands left shown;
-        };
+        says = told-says runner.asked cause answer plain tells;
+        due = is-due answer is before.told now.told stands left shown;
       }
+
+  -- and the runner may give it, once it has left what it must
+  may-give : (cause : Cause) (answer : FinalAnswer) →
+      IsTold runner.asked.request.tool cause answer → IsPlain cause →
+      HasMetNow now runner cause → HasLeftNow now runner answer.outcome.cause →
+      commit ≡ commit_at (stage_of cause) → MayGive now runner answer
+  may-give cause answer told plain met has_left is = record {
+    may_answer = by-runner.may_answer;
+    gives = gives-plain cause answer
+        (is ∙ ap commit_at (sym (told-stage runner.asked.request.tool cause answer told))) plain
+        told met;
+    left = has_left;
+  }
 
   -- so it stands in a state that answers with a plain cause
   pub answers-turn : (cause : Cause) (state : State) →
       AnswersWith runner.asked.request.tool cause state → IsPlain cause →
-      HasMetNow now runner cause → commit ≡ commit_at (stage_of cause) →
-      StandsAs now runner state
-  answers-turn cause (Answering answer) told plain met is =
-      let stage = told-stage runner.asked.request.tool cause answer told in
-      may-give cause answer (is ∙ ap commit_at (sym stage)) plain told met
-  answers-turn cause state told plain met is = absurd told
+      HasMetNow now runner cause → HasLeftNow now runner cause →
+      commit ≡ commit_at (stage_of cause) → StandsAs now runner state
+  answers-turn cause (Answering answer) told plain met has_left is =
+      may-give cause answer told plain met (told-left now runner cause answer told has_left) is
+  answers-turn cause state told plain met has_left is = absurd told
 
   -- or in one that leaves with a plain cause
   pub leaves-turn : (keeper : Kept) (cause : Cause) (state : State) →
@@ -323,11 +379,15 @@ module _ (before now : Moment) (runner : Runner) (commit : Commit) (Held : Stand
             (goes-on (Keeps kept KnowsAnything)
             (subst (λ (one : Kept). StandsIn now.admits now.told token (Keeps one KnowsAnything))
             (sym shown.0) next));
+        clean = clean-else runner.token answer.outcome.cause
+            (plain-undecided answer.outcome.cause (subst IsPlain (sym has) plain)) now.told;
         quiet = λ fault. quiet (subst IsOutside has fault);
-        gives = (may-give cause answer at plain (inl shown.1) met).gives;
+        gives = gives-plain cause answer at plain (inl shown.1) met;
       }
   leaves-turn keeper cause (Answering answer) shown plain met quiet is owned next =
-      answers-turn cause (Answering answer) (inr shown) plain met is
+      let has = ap (λ (given : FinalAnswer). given.outcome.cause) shown in
+      may-give cause answer (inr shown) plain met
+      (λ goes_on. absurd (goes_on (subst IsStopped (sym has) tt))) is
   leaves-turn keeper cause state shown plain met quiet is owned next = absurd shown
 
   module _ (lawful : AlwaysStaysLawful before.admits before.told now.told)
@@ -347,10 +407,11 @@ module _ (before now : Moment) (runner : Runner) (commit : Commit) (Held : Stand
     -- a turn to the answer of a plain cause
     pub stops : (cause : Cause) (state : State) →
         AnswersWith runner.asked.request.tool cause state → IsPlain cause →
-        HasMetNow now runner cause → commit ≡ commit_at (stage_of cause) → (IsOutside cause → HasRisen before.faults now.faults)
-        → Turns before now runner state
-    stops cause state told plain met is failed = record {
-      stands = answers-turn cause state told plain met is;
+        HasMetNow now runner cause → HasLeftNow now runner cause →
+        commit ≡ commit_at (stage_of cause) →
+        (IsOutside cause → HasRisen before.faults now.faults) → Turns before now runner state
+    stops cause state told plain met has_left is failed = record {
+      stands = answers-turn cause state told plain met has_left is;
       grew = grown;
       lawful = λ deeds ours. lawful deeds;
       narrows = made.narrows;

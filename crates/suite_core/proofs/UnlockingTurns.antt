@@ -20,12 +20,13 @@ use Rattle.suite_answers.specs.declared.answer.Answer.{Answer as FinalAnswer}
 use Rattle.suite_answers.specs.Reasons.{stage_of}
 use Rattle.suite_core.specs.declared.state.State.TheVariants.{Unlocking, Freeing, Answering}
 use Rattle.suite_core.specs.Runner.{Runner}
-use Rattle.suite_core.specs.Moment.{Moment, commit_at}
+use Rattle.suite_core.specs.Moment.{Moment, commit_at, Runs}
 use Rattle.suite_core.specs.Locking.{cause_of_fault}
 use Rattle.suite_core.specs.Stands.{IsOutside, StandsUnlocking, StandsFreeing, Turns}
 use Rattle.suite_core.specs.Causes.{HasMet}
 use Rattle.suite_core.proofs.MetLemmas.{fault-shows}
-use Rattle.suite_core.proofs.TurnLemmas.{HasMetNow, IsPlain, goes-on, extended, turns}
+use Rattle.suite_core.proofs.TurnLemmas.{HasMetNow, HasLeftNow, IsPlain, goes-on, extended, turns}
+use Rattle.suite_core.proofs.LeavingLemmas.{fault-stopped, clean-stays, freed-left}
 use Rattle.suite_rules.proofs.StepLemmas.{may-answer-now}
 use Rattle.suite_core.proofs.DueLemmas.{gives-stay}
 
@@ -58,6 +59,11 @@ fault-met now runner stage fault = by-told now.told
     by-told None = tt
     by-told (Some past) = fault-shows stage fault runner.token past.history
 
+-- and nothing more need be left
+pub fault-left : (now : Moment) (runner : Runner) (stage : CommitStage) (fault : FolderFault) →
+    HasLeftNow now runner (cause_of_fault stage fault)
+fault-left now runner stage fault goes_on = absurd (goes_on (fault-stopped stage fault))
+
 -- it is told as a fault of the folder only where that failed
 pub fault-failed : (stage : CommitStage) (fault : FolderFault) →
     IsOutside (cause_of_fault stage fault) → fault ≡ Failed
@@ -72,12 +78,12 @@ kept-number keeper stood keeps = ap kept_number keeps.locks.owns
 -- that of one that has staged the free text too
 staged-number : (freeing : Maker) (stood : Standing) → HasStagedFree freeing stood →
     kept_number stood.own ≡ Some freeing.number
-staged-number freeing stood staged = ap kept_number staged.keeps
+staged-number freeing stood staged = ap kept_number staged.locks.owns
 
 -- and that of one that has freed its lock
-freed-number : (freeing : Maker) (stood : Standing) → HasFreed freeing stood →
-    kept_number stood.own ≡ Some freeing.number
-freed-number freeing stood freed = ap kept_number freed
+freed-number : (number : ℕ) (stood : Standing) → HasFreed number stood →
+    kept_number stood.own ≡ Some number
+freed-number number stood freed = ap kept_number freed.owns
 
 module _ (before now : Moment) (runner : Runner) (answer : FinalAnswer) where
   abbrev commit : Commit
@@ -98,18 +104,22 @@ module _ (before now : Moment) (runner : Runner) (answer : FinalAnswer) where
         let stands = goes-on before now runner commit (Keeps keeper KnowsAnything) stood.stands
         keeper.token stood.same call tt _ (λ result stood. refl) made (Keeps kept KnowsAnything)
         next in
+        let kept_work = subst (λ (token : Token). Leaves work token before.told now.told) stood.same
+        left in
         turns before now runner commit (Keeps keeper KnowsAnything) stood.stands keeper.token
         stood.same call tt _ (λ result stood. refl) made lawful never_falls (Unlocking kept answer)
         (record {
           same = ap (λ (one : Kept). one.token) is ∙ stood.same;
           stands = stands;
+          clean = clean-stays runner.token answer.outcome.cause before.told now.told kept_work
+              stood.clean;
           quiet = stood.quiet;
           gives = gives-stay runner answer commit keeper.number (Keeps keeper KnowsAnything)
               (Keeps kept KnowsAnything) (kept-number keeper)
               (λ one keeps. kept-number kept one keeps
               ∙ ap (λ (other : Kept). Some other.number) is)
               before now stood.stands stands
-              (subst (λ (token : Token). Leaves work token before.told now.told) stood.same left)
+              kept_work
               (extended before now runner commit (Keeps keeper KnowsAnything) stood.stands
               keeper.token stood.same call tt _ (λ result stood. refl) made)
               stood.gives;
@@ -129,18 +139,22 @@ module _ (before now : Moment) (runner : Runner) (answer : FinalAnswer) where
         let call = writes FreeStage free_text in
         let stands = goes-on before now runner commit (Keeps keeper KnowsAnything) stood.stands
         keeper.token stood.same call tt _ (λ result stood. refl) made (HasStagedFree freeing) next in
+        let kept_work = subst (λ (token : Token). Leaves work token before.told now.told) stood.same
+        left in
         turns before now runner commit (Keeps keeper KnowsAnything) stood.stands keeper.token
         stood.same call tt _ (λ result stood. refl) made lawful never_falls (Freeing freeing answer)
         (record {
           same = ap (λ (one : Maker). one.token) is ∙ stood.same;
           stands = stands;
+          clean = clean-stays runner.token answer.outcome.cause before.told now.told kept_work
+              stood.clean;
           quiet = stood.quiet;
           gives = gives-stay runner answer commit keeper.number (Keeps keeper KnowsAnything)
               (HasStagedFree freeing) (kept-number keeper)
               (λ one staged. staged-number freeing one staged
               ∙ ap (λ (other : Maker). Some other.number) is)
               before now stood.stands stands
-              (subst (λ (token : Token). Leaves work token before.told now.told) stood.same left)
+              kept_work
               (extended before now runner commit (Keeps keeper KnowsAnything) stood.stands
               keeper.token stood.same call tt _ (λ result stood. refl) made)
               stood.gives;
@@ -152,24 +166,32 @@ module _ (before now : Moment) (runner : Runner) (answer : FinalAnswer) where
     pub frees : (ended : Ended) →
         MakesCall before.admits now.admits before.told now.told freeing.token
         (renames FreeStage (Lock freeing.number)) (λ result. LeadsTo the_end result (Ok ended)) →
-        StandsIn now.admits now.told freeing.token (HasFreed freeing) →
+        StandsIn now.admits now.told freeing.token (HasFreed freeing.number) →
         Leaves work freeing.token before.told now.told →
         AlwaysStaysLawful before.admits before.told now.told → before.faults ≤ now.faults →
         Turns before now runner (Answering answer)
     frees ended made next left lawful never_falls =
         let call = renames FreeStage (Lock freeing.number) in
         let stands = goes-on before now runner commit (HasStagedFree freeing) stood.stands
-        freeing.token stood.same call tt _ (λ result stood. refl) made (HasFreed freeing) next in
+        freeing.token stood.same call tt _ (λ result stood. refl) made (HasFreed freeing.number)
+        next in
+        let kept_work = subst (λ (token : Token). Leaves work token before.told now.told) stood.same
+        left in
         turns before now runner commit (HasStagedFree freeing) stood.stands freeing.token
         stood.same call tt _ (λ result stood. refl) made lawful never_falls (Answering answer)
         (record {
           may_answer = may-answer-now now.admits runner.token _ now.told stands;
           gives = gives-stay runner answer commit freeing.number (HasStagedFree freeing)
-              (HasFreed freeing) (staged-number freeing) (freed-number freeing)
+              (HasFreed freeing.number) (staged-number freeing) (freed-number freeing.number)
               before now stood.stands stands
-              (subst (λ (token : Token). Leaves work token before.told now.told) stood.same left)
+              kept_work
               (extended before now runner commit (HasStagedFree freeing) stood.stands
               freeing.token stood.same call tt _ (λ result stood. refl) made)
               stood.gives;
+          left = λ goes_on. freed-left runner.token answer.outcome.cause now.admits
+              (Runs runner commit (HasFreed freeing.number)) freeing.number
+              (λ one runs. runs.holds) now.told stands
+              (clean-stays runner.token answer.outcome.cause before.told now.told kept_work
+              stood.clean);
         })
         stood.quiet

@@ -1,10 +1,10 @@
 -- How many events a session makes: at most most_calls, and one for each lower lock that its second
 -- listing showed.
-use Rattle.std.specs.Prelude.{◌≡◌, ◌⊎◌, ⊤, ◌+◌, ◌<◌, ◌≤◌, ℕ, List, nat_lt, filter, length, Option, IfSome}
+use Rattle.std.specs.Prelude.{◌≡◌, ◌⊎◌, ⊤, [], ◌∷◌, ◌+◌, ◌<◌, ◌≤◌, ℕ, List, nat_lt, filter, length, Option, IfSome}
 use Rattle.acct_outside.specs.Tokens.{Token}
 use Rattle.acct_outside.specs.Folder.{greatest}
-use Rattle.acct_outside.specs.Calls.{lists}
-use Rattle.acct_outside.specs.History.{History, own_events}
+use Rattle.acct_outside.specs.Calls.{begins, lists, done}
+use Rattle.acct_outside.specs.History.{Event, History, own_events}
 use Rattle.acct_outside.specs.Others.{Admission}
 use Rattle.acct_outside.specs.Contract.{Past}
 use Rattle.lock_steps.specs.Stands.{HasMade}
@@ -14,6 +14,7 @@ use Rattle.suite_core.specs.declared.session.Phase.{Phase}
 use Rattle.suite_core.specs.declared.session.Phase.TheVariants.{Waiting, Begun}
 use Rattle.suite_core.specs.Runner.{Runner}
 use Rattle.suite_core.specs.Causes.{Met}
+use Rattle.suite_core.specs.Backing.{BackedUpChanges}
 use Rattle.suite_core.specs.Grows.{Grows}
 use Rattle.suite_core.specs.Left.{most_calls, calls_left, ranked, turns_left}
 
@@ -57,9 +58,18 @@ abbrev pub CountsTo : Option Past → Runner → State → State → Type 0
 CountsTo told runner (Confirming claimed) new = Listed told runner (Confirming claimed) new
 CountsTo told runner old new = calls_left new < calls_left old
 
+-- the begin of the session
+abbrev pub begun_event : Runner → Event
+begun_event runner = record {
+  token = runner.token;
+  call = begins runner.asked.command;
+  result = done tt;
+}
+
 -- the begin was the session's only event, and leaves a call fewer than there are at most
 pub record CountsFrom (told : Option Past) (runner : Runner) (state : State) : Type 0 where
-  pub only : IfSome told (λ past. length (own_events runner.token past.history) ≤ 1)
+  pub only : IfSome told (λ past.
+      own_events runner.token past.history ≡ begun_event runner ∷ [])
   pub fewer : calls_left state < most_calls
 
 -- what a turn makes of the calls that are left
@@ -80,7 +90,8 @@ pub record HasCalled (token : Token) (state : State) (history : History) : Type 
   pub none_yet : listing_next ≤ turns_left state → lower ≡ 0
   pub within : length (own_events token history) + calls_left state ≤ most_calls + lower
 
--- so it is with a session on its way
+-- so it is with a session on its way, which has backed up tables that it is to change alone
 abbrev pub PhaseCalled : Phase → Past → Type 0
-PhaseCalled (Begun runner state) past = HasCalled runner.token state past.history
+PhaseCalled (Begun runner state) past =
+    HasCalled runner.token state past.history × BackedUpChanges runner.token past.history
 PhaseCalled phase past = ⊤

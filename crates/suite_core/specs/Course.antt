@@ -7,6 +7,7 @@ use Rattle.suite_answers.specs.declared.answer.Answer.{Answer}
 use Rattle.suite_core.specs.declared.session.Phase.{Phase}
 use Rattle.suite_core.specs.declared.session.Phase.TheVariants.{Waiting, Begun, Over}
 use Rattle.suite_core.specs.Runner.{Question, Runner}
+use Rattle.suite_core.specs.Backing.{BackedUpChanges}
 use Rattle.suite_core.specs.Bound.{IsWithin, PhaseCalled}
 use Rattle.suite_core.specs.Moment.{Moment}
 use Rattle.suite_core.specs.Answers.{Says}
@@ -50,8 +51,8 @@ pub record Concludes (before now : Moment) (phase : Phase) (outcome : Outcome) :
   pub turns : SessionTurns before now phase last
   pub ends : outcome_of last ≡ Some outcome
 
--- the session of the token, which is new since its entry, was asked this, and answered so with its
--- last event
+-- The session of the token, which is new since its entry, was asked this, and answered so with its
+-- last event. Its events are within the bound, and it has backed up tables that it was to change alone.
 pub record AnsweredAs (asked : Question) (entry now : Moment) (token : Token) (final : Answer)
     : Type 0 where
   pub runner : Runner
@@ -60,6 +61,7 @@ pub record AnsweredAs (asked : Question) (entry now : Moment) (token : Token) (f
   pub fresh : IsNew entry.told runner.token
   pub answered : IfSome now.told (HasAnswered runner final)
   pub within : IfSome now.told (λ past. IsWithin runner.token past.history)
+  pub backed : IfSome now.told (λ past. BackedUpChanges runner.token past.history)
 
 -- The session came to an answer, which the streams left so, and the outcome is that. It answered with
 -- its last event, or its begin gave no token.

@@ -6,6 +6,7 @@ pub mod Deeds
 pub mod Causes
 pub mod Open
 pub mod Due
+pub mod Backing
 pub mod Grows
 pub mod Stands
 pub mod Recovering

@@ -20,7 +20,7 @@ use Rattle.suite_core.specs.Moment.{Moment}
 use Rattle.suite_core.specs.Answers.{Says, memory_answer}
 use Rattle.suite_core.specs.Due.{IsDue}
 use Rattle.suite_core.specs.Left.{ranked, turns_left}
-use Rattle.suite_core.specs.Stands.{IsOutside, StandsAs, TurnsTo, Turns}
+use Rattle.suite_core.specs.Stands.{HasLeft, IsOutside, IsStopped, StandsAs, TurnsTo, Turns}
 
 -- the session hasn't begun, and was asked this by words that ask for something
 abbrev pub IsStarted : Command → Phase → Type 0
@@ -76,7 +76,8 @@ abbrev pub SessionStands : Moment → Phase → Type 0
 SessionStands now (Begun runner state) = StandsAs now runner state
 SessionStands now phase = ⊤
 
--- the last event of the history is the session's answer, which is due
+-- the last event of the history is the session's answer, which is due; it has left the locks and the
+-- intent as it must, unless a fault or want of memory stopped it
 pub record HasAnswered (runner : Runner) (answer : Answer) (past : Past) : Type 0 where
   pub older : History
   pub last : past.history ≡ record {
@@ -85,6 +86,8 @@ pub record HasAnswered (runner : Runner) (answer : Answer) (past : Past) : Type 
     result = done tt;
   } ∷ older
   pub due : IsDue runner answer past
+  pub left : (IsStopped answer.outcome.cause → ⊥) →
+      HasLeft runner.token answer.outcome.cause past
 
 -- the session has given this answer
 pub record Gave (now : Moment) (runner : Runner) (answer : Answer) : Type 0 where

@@ -1,15 +1,17 @@
 -- How a session stands in each of its states, by its own events, and what one turn of it does.
-use Rattle.std.specs.Prelude.{◌≡◌, ⊤, ℕ, ◌<◌, ◌≤◌, ◌++◌, length, Option, IfSome}
+use Rattle.std.specs.Prelude.{◌≡◌, ⊤, ℕ, ◌<◌, ◌≤◌, ◌++◌, length, Option, Some, IfSome}
 use Rattle.acct_outside.specs.Faults.{HasRisen}
+use Rattle.acct_outside.specs.declared.Name.TheVariants.{Table, Defs}
 use Rattle.acct_outside.specs.Tokens.{Token}
 use Rattle.acct_outside.specs.History.{History}
 use Rattle.acct_outside.specs.Others.{Admission}
 use Rattle.acct_outside.specs.Contract.{Past, Narrows, MayAnswer, WhereTold}
-use Rattle.suite_rules.specs.Standing.{Standing, commit_uncalled, commit_done}
+use Rattle.suite_rules.specs.OwnLock.{kept_number}
+use Rattle.suite_rules.specs.Standing.{Standing, standing, commit_uncalled, commit_done}
 use Rattle.lock_steps.specs.States.{Maker, Kept}
 use Rattle.suite_rules.specs.Deeds.{SuiteDeeds}
 use Rattle.suite_rules.specs.Steps.{StaysLawful}
-use Rattle.lock_steps.specs.Stands.{HasNoLock, HasLooked, HasReadHeld, HasJudged, HasMade, WasOvertaken, Keeps, KnowsAnything, HasStagedFree}
+use Rattle.lock_steps.specs.Stands.{HasNoLock, HasLooked, HasReadHeld, HasJudged, HasMade, WasOvertaken, Keeps, KnowsAnything, KnowsNone, HasStagedFree, HasFreed}
 use Rattle.recovery.specs.Stands.{Recovers, HasStagedNext}
 use Rattle.account_model.specs.declared.tool.Tool.{Tool}
 use Rattle.account_model.specs.Answer.{Changed as ChangedTo}
@@ -17,8 +19,9 @@ use Rattle.account_model.specs.Words.{Asks}
 use Rattle.commit_steps.specs.States.{Change, Walker}
 use Rattle.commit_steps.specs.Walks.{token_of}
 use Rattle.commit_steps.specs.Stands.{HasRead, BacksUp, HasStagedIntent, Installs}
+use Rattle.suite_answers.specs.declared.cause.Which.TheVariants.{File}
 use Rattle.suite_answers.specs.declared.cause.Cause.{Cause}
-use Rattle.suite_answers.specs.declared.cause.Cause.TheVariants.{Changed, DiskFault, InputFault, OutputFault, ClockFault}
+use Rattle.suite_answers.specs.declared.cause.Cause.TheVariants.{Changed, Same, Refused, NoTable, BadSetting, TooLarge, DiskFault, InputFault, OutputFault, ClockFault, Memory}
 use Rattle.suite_answers.specs.declared.answer.Answer.{Answer}
 use Rattle.suite_answers.specs.Reasons.{stage_of}
 use Rattle.suite_core.specs.declared.state.State.{State}
@@ -44,6 +47,33 @@ IsOutside (OutputFault stage) = ⊤
 IsOutside ClockFault = ⊤
 IsOutside cause = ⊥
 
+-- a fault outside the session, or want of memory, stopped the command
+abbrev pub IsStopped : Cause → Type 0
+IsStopped (Memory stage) = ⊤
+IsStopped cause = IsOutside cause
+
+-- the cause is what a tool decided on the files
+abbrev pub IsDecided : Cause → Type 0
+IsDecided Changed = ⊤
+IsDecided Same = ⊤
+IsDecided (Refused refusal) = ⊤
+IsDecided (NoTable table) = ⊤
+IsDecided (BadSetting line) = ⊤
+IsDecided (TooLarge (File (Table table))) = ⊤
+IsDecided (TooLarge (File Defs)) = ⊤
+IsDecided cause = ⊥
+
+-- a session with an answer of its tool knows that no intent stands
+abbrev pub KnowsDecided : Token → Cause → Past → Type 0
+KnowsDecided token cause past = IsDecided cause → KnowsNone (standing token past.history).knows
+
+-- A session that answers with this cause has freed the lock that it kept, and removed all lower ones;
+-- with an answer of its tool it knows that no intent stands.
+pub record HasLeft (token : Token) (cause : Cause) (past : Past) : Type 0 where
+  pub freed : (number : ℕ) → kept_number (standing token past.history).own ≡ Some number →
+      HasFreed number (standing token past.history)
+  pub clean : KnowsDecided token cause past
+
 -- a keeper frees its lock with the answer to this cause, or there was no memory for its text
 abbrev pub LeavesWith : Tool → Kept → Cause → State → Type 0
 LeavesWith tool keeper cause (Unlocking kept answer) =
@@ -56,10 +86,13 @@ pub record Gives (now : Moment) (runner : Runner) (answer : Answer) : Type 0 whe
   pub says : Says runner.asked answer answer.outcome.cause
   pub due : IfSome now.told (IsDue runner answer)
 
--- the runner may answer so: no other call of it is left
+-- the runner may answer so: no other call of it is left, as it has left the locks and the intent as it
+-- must, unless a fault or want of memory stopped it
 pub record MayGive (now : Moment) (runner : Runner) (answer : Answer) : Type 0 where
   pub may_answer : MayAnswer now.admits now.told runner.token
   pub gives : Gives now runner answer
+  pub left : (IsStopped answer.outcome.cause → ⊥) →
+      IfSome now.told (HasLeft runner.token answer.outcome.cause)
 
 -- the answer is that on the inputs of the change, which becomes its new files
 pub record IsOfChange (runner : Runner) (change : Change) (answer : Answer) : Type 0 where
@@ -88,6 +121,7 @@ pub record StandsUnlocking (now : Moment) (runner : Runner) (keeper : Kept) (ans
     : Type 0 where
   pub same : keeper.token ≡ runner.token
   pub stands : At now runner (commit_at (stage_of answer.outcome.cause)) (Keeps keeper KnowsAnything)
+  pub clean : IfSome now.told (KnowsDecided runner.token answer.outcome.cause)
   pub quiet : IsOutside answer.outcome.cause → ⊥
   pub gives : Gives now runner answer
 
@@ -96,6 +130,7 @@ pub record StandsFreeing (now : Moment) (runner : Runner) (freeing : Maker) (ans
     : Type 0 where
   pub same : freeing.token ≡ runner.token
   pub stands : At now runner (commit_at (stage_of answer.outcome.cause)) (HasStagedFree freeing)
+  pub clean : IfSome now.told (KnowsDecided runner.token answer.outcome.cause)
   pub quiet : IsOutside answer.outcome.cause → ⊥
   pub gives : Gives now runner answer
 

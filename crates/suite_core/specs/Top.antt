@@ -1,13 +1,13 @@
 -- What the top call answers: how a command ends that asks for nothing, and what the history of a
 -- folder shows of one that ran.
-use Rattle.std.specs.Prelude.{◌≡◌, ◌⊎◌, ◌∷◌, ◌++◌, [], ℕ, Some, None, Option, List, slice_get, Result}
+use Rattle.std.specs.Prelude.{◌≡◌, ◌≢◌, ◌⊎◌, ◌∷◌, ◌++◌, [], ℕ, Some, None, Option, List, slice_get, Result}
 use Rattle.std.specs.List.{AllByRecursion}
 use Rattle.acct_text.specs.declared.Tab.{Tab}
-use Rattle.acct_outside.specs.declared.Name.TheVariants.{Table, Defs}
+use Rattle.acct_outside.specs.declared.Name.TheVariants.{Table, Backup, Intent, Lock, Defs}
 use Rattle.acct_outside.specs.declared.CommitStage.{CommitStage}
 use Rattle.acct_outside.specs.declared.CommitStage.TheVariants.{Before}
 use Rattle.acct_outside.specs.declared.streams.SinkFault.{SinkFault}
-use Rattle.acct_outside.specs.Tokens.{Token}
+use Rattle.acct_outside.specs.Tokens.{Token, free_text}
 use Rattle.acct_outside.specs.Faults.{HasRisen}
 use Rattle.acct_outside.specs.Folder.{Folder, settings_file}
 use Rattle.acct_outside.specs.Calls.{answers, done}
@@ -37,7 +37,7 @@ use Rattle.suite_core.specs.Bound.{IsBounded}
 use Rattle.suite_core.specs.Causes.{HasMet, MetGreater}
 use Rattle.suite_core.specs.Deeds.{AreOfTools, files_of}
 use Rattle.suite_core.specs.Open.{StandsOpen}
-use Rattle.suite_core.specs.Stands.{IsDiskFault, IsOutside}
+use Rattle.suite_core.specs.Stands.{IsDecided, IsDiskFault, IsOutside, IsStopped}
 use Rattle.suite_core.specs.Streams.{Streams, Serves, after_streams}
 use Rattle.suite_core.specs.Supplies.{Supplies, IsUnsupplied, LacksNothing}
 
@@ -138,6 +138,28 @@ IsShownAt deeds asked first history token given (Outrun number other) =
     MetGreater token number other history
 IsShownAt deeds asked first history token given cause = HasMet token history cause
 
+-- one lock stands, of this number, and it is free
+pub record IsOnlyLock (folder : Folder) (number : ℕ) : Type 0 where
+  pub only : folder.locks ≡ number ∷ []
+  pub free : folder.file (Lock number) ≡ Some free_text
+
+-- a table that changed has its bytes of before as backup, and any other the backup of before
+pub record IsBackedUp (before now : Folder) (table : Tab) : Type 0 where
+  pub changed : settled now table ≢ settled before table →
+      now.file (Backup table) ≡ settled before table
+  pub unchanged : settled now table ≡ settled before table →
+      now.file (Backup table) ≡ before.file (Backup table)
+
+-- What a session that answered with this cause leaves, where it was alone since an earlier moment: its
+-- own lock, which is free, where it kept one; no intent, where its tool decided; and backups of what it
+-- changed. A fault or want of memory may leave more.
+pub record Leaves (first : Folder) (old new : History) (token : Token) (cause : Cause) : Type 0 where
+  pub lock : (IsStopped cause → ⊥) → (number : ℕ) →
+      kept_number (standing token new).own ≡ Some number → IsOnlyLock (after first new) number
+  pub intent : IsDecided cause → (after first new).file Intent ≡ None
+  pub backups : cause ≡ Changed → (table : Tab) →
+      IsBackedUp (after first old) (after first new) table
+
 -- there was no memory, or the answer is the tool's on the settled files of the earlier moment
 abbrev pub AnswersOnOld : SuiteDeeds → Question → Folder → History → History → Token → Answer → Type 0
 AnswersOnOld deeds asked first old new token given =
@@ -193,8 +215,8 @@ pub record EndsUnsupplied (tool : Tool) (before now : Supplies) (was holds : Str
 -- fault of the folder is told only where its count rose. A lawful history stays lawful, and always
 -- settles to the fold of its commitments. The session began in this call, its last event is its
 -- answer, and the history shows what the cause of that says. New events are of others, or the
--- session's own within the bound. A session that was alone, in whose way nothing stood, gives the
--- tool's answer, or finds no memory.
+-- session's own within the bound. A session that was alone leaves the locks, the intent and the backups
+-- as it must; and where nothing stood in its way it gives the tool's answer, or finds no memory.
 pub record Ran (asked : Question) (before now : Moment) (was holds : Streams) (outcome : Outcome)
     : Type 0 where
   pub given : Answer
@@ -210,6 +232,9 @@ pub record Ran (asked : Question) (before now : Moment) (was holds : Streams) (o
   pub shown : WhereLawful before now (λ deeds first old new.
       (token : Token) → Answered asked outcome token new →
       IsShownAt deeds asked first new token (after_streams put given) outcome.cause)
+  pub leaves : WhereLawful before now (λ deeds first old new.
+      (token : Token) → Answered asked outcome token new → IsAlone token old new →
+      Leaves first old new token outcome.cause)
   pub bounded : WhereTold before.told now.told (λ first old new. ((token : Token)
       × Answered asked outcome token new × IsBounded before.admits token old new)
       ⊎ HasNoToken given)

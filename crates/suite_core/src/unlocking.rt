@@ -4,7 +4,7 @@
 // 2. It moves the free text to its lock (`free`). Only the answer is left then.
 //
 // A fault of the folder replaces the answer, and keeps its stage of the commit.
-ghost use Rattle.std.specs.Prelude.{◌<◌, length};
+ghost use Rattle.std.specs.Prelude.{◌≡◌, ◌<◌, length};
 ghost use Rattle.suite_core.specs.Locking.{cause_of_fault};
 ghost use Rattle.suite_core.specs.Left.{calls_left, turns_left};
 ghost use Rattle.suite_core.specs.Moment.{moment};
@@ -68,7 +68,7 @@ fn remove_lower<F: Folder>(
     }
 }
 
-/// Stages the free text.
+/// Stages the free text, once no lower lock is left.
 fn stage_free<F: Folder>(
     alloc: Global,
     runner: &Runner,
@@ -76,7 +76,8 @@ fn stage_free<F: Folder>(
     answer: Answer,
     folder: &mut F,
 ) -> State
-    requires { StandsAs
+    requires left { length keeper.lower ≡ 0 }
+    requires stands { StandsAs
         (moment (F.admits folder.old) (F.told folder.old) (F.fault_count folder.old))
         runner.now (State.Unlocking keeper answer) }
     ensures turns { Turns

@@ -10,7 +10,7 @@ use Rattle.suite_core.specs.declared.state.State.TheVariants.{BackingUp}
 use Rattle.suite_core.specs.Moment.{moment, commit_at}
 use Rattle.suite_core.specs.Locking.{cause_of_fault}
 use Rattle.suite_core.proofs.TurnLemmas.{turns, stops}
-use Rattle.suite_core.proofs.UnlockingTurns.{fault-stage, fault-met, fault-plain}
+use Rattle.suite_core.proofs.UnlockingTurns.{fault-stage, fault-met, fault-left, fault-plain}
 use Rattle.suite_core.proofs.LeadsLemmas.{leads-on, leads-stage, leads-failed}
 use Rattle.suite_core.proofs.CommittingTurns.{at-place, backs-on, backup-calls, backup-quiet, walks-nearer}
 use Rattle.suite_core.proofs.CallsLemmas.{answers-fewer, backed-calls, backing-some}
@@ -26,12 +26,13 @@ returns-in-Ok-clause-turns g c =
     let shown = at-place c.args.backing c.requires.left c.in-Ok.ensures.call in
     turns before now c.args.runner.now commit_uncalled (BacksUp c.args.backing)
     c.requires.stands.stands (token_of c.args.backing) c.requires.stands.same
-    (backup_call c.args.backing shown.0) (backup-calls c.args.backing shown.0) _
+    (backup_call c.args.backing shown.0) (backup-calls c.args.runner.now c.args.answer
+    c.args.backing shown.0 c.requires.stands.of_change shown.2) _
     (backup-quiet c.args.backing shown.0) shown.1
     c.back_up_next.ensures.lawful c.back_up_next.ensures.faults.never_falls
     (BackingUp c.in-Ok.backing c.args.answer)
     (backs-on before now c.args.runner.now c.args.answer c.args.backing c.requires.stands shown.0
-    c.in-Ok.backing shown.1 c.in-Ok.ensures.next)
+    shown.2 c.in-Ok.backing shown.1 c.in-Ok.ensures.next)
     (λ fault. fault)
 
 pub returns-in-Ok-clause-nearer : goal.returns-in-Ok-clause-nearer
@@ -53,12 +54,14 @@ returns-in-Err-clause-turns g c =
     let stage = leads-stage (step_on c.args.backing) Before shown.1.answer fault shown.1.shown in
     stops before now c.args.runner.now commit_uncalled (BacksUp c.args.backing)
     c.requires.stands.stands (token_of c.args.backing) c.requires.stands.same
-    (backup_call c.args.backing shown.0) (backup-calls c.args.backing shown.0) _
+    (backup_call c.args.backing shown.0) (backup-calls c.args.runner.now c.args.answer
+    c.args.backing shown.0 c.requires.stands.of_change shown.2) _
     (backup-quiet c.args.backing shown.0) shown.1
     c.back_up_next.ensures.lawful c.back_up_next.ensures.faults.never_falls
     (cause_of_fault fault.stage fault.fault) c.stopped.result c.stopped.ensures
     (fault-plain fault.stage fault.fault)
     (fault-met now c.args.runner.now fault.stage fault.fault)
+    (fault-left now c.args.runner.now fault.stage fault.fault)
     (ap commit_at (sym (fault-stage fault.stage fault.fault ∙ stage)))
     (λ told. c.back_up_next.ensures.faults.failed (c.in-Err.is
     ∙ ap Err (leads-failed (step_on c.args.backing) Before shown.1.answer fault shown.1.shown

@@ -12,7 +12,7 @@ use Rattle.suite_core.specs.Stands.{Turns}
 use Rattle.suite_core.specs.Moment.{moment, commit_at}
 use Rattle.suite_core.specs.Locking.{cause_of_fault}
 use Rattle.suite_core.proofs.TurnLemmas.{turns, stops}
-use Rattle.suite_core.proofs.UnlockingTurns.{fault-stage, fault-met, fault-plain}
+use Rattle.suite_core.proofs.UnlockingTurns.{fault-stage, fault-met, fault-left, fault-plain}
 use Rattle.suite_core.proofs.LeadsLemmas.{leads-on, leads-stage, leads-failed}
 use Rattle.suite_core.proofs.CommittingTurns.{clears}
 use Rattle.suite_core.proofs.CallsLemmas.{answers-fewer, cleared-calls, installing-some}
@@ -54,6 +54,7 @@ returns-in-Err-clause-turns g c =
     (cause_of_fault fault.stage fault.fault) c.stopped.result c.stopped.ensures
     (fault-plain fault.stage fault.fault)
     (fault-met now c.args.runner.now fault.stage fault.fault)
+    (fault-left now c.args.runner.now fault.stage fault.fault)
     (ap commit_at (sym (fault-stage fault.stage fault.fault ∙ stage)))
     (λ told. c.clear.ensures.faults.failed (c.in-Err.is
     ∙ ap Err (leads-failed (c.args.installing.change.inputs.keeper) Committed

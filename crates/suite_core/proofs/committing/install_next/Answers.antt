@@ -10,7 +10,7 @@ use Rattle.suite_core.specs.declared.state.State.TheVariants.{Installing}
 use Rattle.suite_core.specs.Moment.{moment, commit_at}
 use Rattle.suite_core.specs.Locking.{cause_of_fault}
 use Rattle.suite_core.proofs.TurnLemmas.{turns, stops}
-use Rattle.suite_core.proofs.UnlockingTurns.{fault-stage, fault-met, fault-plain}
+use Rattle.suite_core.proofs.UnlockingTurns.{fault-stage, fault-met, fault-left, fault-plain}
 use Rattle.suite_core.proofs.LeadsLemmas.{leads-on, leads-stage, leads-failed}
 use Rattle.suite_core.proofs.CommittingTurns.{at-place, installs-on, install-calls, install-quiet, walks-nearer}
 use Rattle.suite_core.proofs.CallsLemmas.{answers-fewer, installed-calls, installing-some}
@@ -26,12 +26,12 @@ returns-in-Ok-clause-turns g c =
     let shown = at-place c.args.installing c.requires.left c.in-Ok.ensures.call in
     turns before now c.args.runner.now commit_done (Installs c.args.installing)
     c.requires.stands.stands (token_of c.args.installing) c.requires.stands.same
-    (install_call c.args.installing shown.0) (install-calls c.args.installing shown.0) _
+    (install_call c.args.installing shown.0) (install-calls _ c.args.installing shown.0) _
     (install-quiet c.args.installing shown.0) shown.1
     c.install_next.ensures.lawful c.install_next.ensures.faults.never_falls
     (Installing c.in-Ok.installing c.args.answer)
     (installs-on before now c.args.runner.now c.args.answer c.args.installing c.requires.stands
-    (install_call c.args.installing shown.0) (install-calls c.args.installing shown.0) _
+    (install_call c.args.installing shown.0) (install-calls _ c.args.installing shown.0) _
     (install-quiet c.args.installing shown.0) shown.1 c.in-Ok.installing
     (leads-on (step_on c.args.installing) after_commit shown.1.answer c.in-Ok.installing
     shown.1.shown) c.in-Ok.ensures.next)
@@ -58,12 +58,13 @@ returns-in-Err-clause-turns g c =
     shown.1.shown in
     stops before now c.args.runner.now commit_done (Installs c.args.installing)
     c.requires.stands.stands (token_of c.args.installing) c.requires.stands.same
-    (install_call c.args.installing shown.0) (install-calls c.args.installing shown.0) _
+    (install_call c.args.installing shown.0) (install-calls _ c.args.installing shown.0) _
     (install-quiet c.args.installing shown.0) shown.1
     c.install_next.ensures.lawful c.install_next.ensures.faults.never_falls
     (cause_of_fault fault.stage fault.fault) c.stopped.result c.stopped.ensures
     (fault-plain fault.stage fault.fault)
     (fault-met now c.args.runner.now fault.stage fault.fault)
+    (fault-left now c.args.runner.now fault.stage fault.fault)
     (ap commit_at (sym (fault-stage fault.stage fault.fault ∙ stage)))
     (λ told. c.install_next.ensures.faults.failed (c.in-Err.is
     ∙ ap Err (leads-failed (step_on c.args.installing) Committed shown.1.answer fault shown.1.shown

@@ -5,7 +5,8 @@ use Rattle.suite_rules.specs.Standing.{commit_uncalled}
 use Rattle.lock_steps.specs.Stands.{HasReadHeld, HasJudged}
 use Rattle.suite_core.specs.Moment.{moment, commit_at}
 use Rattle.suite_core.proofs.MetLemmas.{ask-met}
-use Rattle.suite_core.proofs.TurnLemmas.{got, goes-on, turns, stops}
+use Rattle.suite_core.proofs.TurnLemmas.{got, unkept-left, goes-on, turns, stops}
+use Rattle.suite_core.proofs.LeavingLemmas.{ask-unkept}
 use Rattle.suite_core.proofs.LockingLemmas.{end-plain, end-stage, end-failed, asks-token}
 use Rattle.suite_core.proofs.CallsLemmas.{answers-fewer}
 use Rattle.suite_core.proofs.locking.ask.Goals as goal
@@ -44,6 +45,11 @@ returns-in-Err-clause-turns g c =
     (got before now c.args.runner.now commit_uncalled (HasReadHeld c.args.asking) c.requires.1
     c.args.asking.token c.requires.0 (asks c.args.asking.asked) tt _ (λ result stood. refl)
     c.in-Err.ensures.call))
+    (unkept-left before now c.args.runner.now commit_uncalled (HasReadHeld c.args.asking)
+    c.requires.1 c.args.asking.token c.requires.0 (asks c.args.asking.asked) tt _ (λ result stood. refl)
+    c.in-Err.ensures.call _ (end-plain c.in-Err.end)
+    (ask-unkept c.args.asking c.in-Err.ensures.call.answer c.in-Err.end
+    c.in-Err.ensures.call.shown))
     (ap commit_at (sym (end-stage c.in-Err.end)))
     (λ fault. c.ask.ensures.faults.failed
     (c.in-Err.is ∙ ap Err (end-failed c.in-Err.end fault)))

@@ -5,7 +5,8 @@ use Rattle.suite_rules.specs.Standing.{commit_uncalled}
 use Rattle.lock_steps.specs.Stands.{HasMade, HasJudged}
 use Rattle.suite_core.specs.Moment.{moment, commit_at}
 use Rattle.suite_core.proofs.MetLemmas.{claim-met}
-use Rattle.suite_core.proofs.TurnLemmas.{got, goes-on, turns, stops}
+use Rattle.suite_core.proofs.TurnLemmas.{got, unkept-left, goes-on, turns, stops}
+use Rattle.suite_core.proofs.LeavingLemmas.{claim-unkept}
 use Rattle.suite_core.proofs.LockingLemmas.{end-plain, end-stage, end-failed, claims-token}
 use Rattle.suite_core.proofs.CallsLemmas.{answers-fewer}
 use Rattle.suite_core.proofs.locking.claim.Goals as goal
@@ -44,6 +45,11 @@ returns-in-Err-clause-turns g c =
     (got before now c.args.runner.now commit_uncalled (HasJudged c.args.judged) c.requires.1
     c.args.judged.token c.requires.0 (creates (c.args.judged.greatest + 1)) tt _ (λ result stood. refl)
     c.in-Err.ensures.call))
+    (unkept-left before now c.args.runner.now commit_uncalled (HasJudged c.args.judged) c.requires.1
+    c.args.judged.token c.requires.0 (creates (c.args.judged.greatest + 1)) tt _
+    (λ result stood. refl) c.in-Err.ensures.call _ (end-plain c.in-Err.end)
+    (claim-unkept c.args.judged c.in-Err.ensures.call.answer c.in-Err.end
+    c.in-Err.ensures.call.shown))
     (ap commit_at (sym (end-stage c.in-Err.end)))
     (λ fault. c.claim.ensures.faults.failed
     (c.in-Err.is ∙ ap Err (end-failed c.in-Err.end fault)))

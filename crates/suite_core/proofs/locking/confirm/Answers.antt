@@ -4,7 +4,8 @@ use Rattle.suite_rules.specs.Standing.{commit_uncalled}
 use Rattle.lock_steps.specs.Stands.{HasMade}
 use Rattle.suite_core.specs.Moment.{moment, commit_at}
 use Rattle.suite_core.proofs.MetLemmas.{confirm-met}
-use Rattle.suite_core.proofs.TurnLemmas.{got, turns, stops}
+use Rattle.suite_core.proofs.TurnLemmas.{got, unkept-left, turns, stops}
+use Rattle.suite_core.proofs.LeavingLemmas.{confirm-unkept}
 use Rattle.suite_core.proofs.LockingLemmas.{end-plain, end-stage, end-failed}
 use Rattle.suite_core.proofs.LockingTurns.{confirm-stands, confirm-quiet}
 use Rattle.suite_core.proofs.CallsLemmas.{answers-listed, listing-calls}
@@ -41,6 +42,11 @@ returns-in-Err-clause-turns g c =
     (got before now c.args.runner.now commit_uncalled (HasMade c.args.claimed) c.requires.1
     c.args.claimed.token c.requires.0 (lists) tt _ (λ result stood. refl)
     c.in-Err.ensures.call))
+    (unkept-left before now c.args.runner.now commit_uncalled (HasMade c.args.claimed) c.requires.1
+    c.args.claimed.token c.requires.0 (lists) tt _ (λ result stood. refl)
+    c.in-Err.ensures.call _ (end-plain c.in-Err.end)
+    (confirm-unkept c.args.claimed c.in-Err.ensures.call.answer c.in-Err.end
+    c.in-Err.ensures.call.shown))
     (ap commit_at (sym (end-stage c.in-Err.end)))
     (λ fault. c.confirm.ensures.faults.failed
     (c.in-Err.is ∙ ap Err (end-failed c.in-Err.end fault)))

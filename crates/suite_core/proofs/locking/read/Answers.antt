@@ -5,7 +5,8 @@ use Rattle.suite_rules.specs.Standing.{commit_uncalled}
 use Rattle.lock_steps.specs.Stands.{HasLooked}
 use Rattle.suite_core.specs.Moment.{moment, commit_at}
 use Rattle.suite_core.proofs.MetLemmas.{read-met}
-use Rattle.suite_core.proofs.TurnLemmas.{got, turns, stops}
+use Rattle.suite_core.proofs.TurnLemmas.{got, unkept-left, turns, stops}
+use Rattle.suite_core.proofs.LeavingLemmas.{read-unkept}
 use Rattle.suite_core.proofs.LockingLemmas.{end-plain, end-stage, end-failed}
 use Rattle.suite_core.proofs.LockingTurns.{read-stands, read-quiet}
 use Rattle.suite_core.proofs.CallsLemmas.{answers-fewer, read-calls}
@@ -41,6 +42,11 @@ returns-in-Err-clause-turns g c =
     (got before now c.args.runner.now commit_uncalled (HasLooked c.args.seen) c.requires.2
     c.args.seen.token c.requires.0 (reads (Lock c.args.seen.greatest)) tt _ (λ result stood. refl)
     c.in-Err.ensures.call))
+    (unkept-left before now c.args.runner.now commit_uncalled (HasLooked c.args.seen) c.requires.2
+    c.args.seen.token c.requires.0 (reads (Lock c.args.seen.greatest)) tt _ (λ result stood. refl)
+    c.in-Err.ensures.call _ (end-plain c.in-Err.end)
+    (read-unkept c.args.seen c.in-Err.ensures.call.answer c.in-Err.end
+    c.in-Err.ensures.call.shown))
     (ap commit_at (sym (end-stage c.in-Err.end)))
     (λ fault. c.read.ensures.faults.failed
     (c.in-Err.is ∙ ap Err (end-failed c.in-Err.end fault)))

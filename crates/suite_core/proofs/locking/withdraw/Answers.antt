@@ -5,7 +5,8 @@ use Rattle.suite_rules.specs.Standing.{commit_uncalled}
 use Rattle.lock_steps.specs.Stands.{WasOvertaken}
 use Rattle.suite_core.specs.Moment.{moment, commit_at}
 use Rattle.suite_core.proofs.MetLemmas.{withdraw-met}
-use Rattle.suite_core.proofs.TurnLemmas.{got, stops}
+use Rattle.suite_core.proofs.TurnLemmas.{got, unkept-left, stops}
+use Rattle.suite_core.proofs.LeavingLemmas.{withdraw-unkept}
 use Rattle.suite_core.proofs.LockingLemmas.{end-plain, end-stage, end-failed}
 use Rattle.suite_core.proofs.CallsLemmas.{answers-fewer}
 use Rattle.suite_core.proofs.locking.withdraw.Goals as goal
@@ -26,6 +27,11 @@ returns-clause-turns g c =
     (got before now c.args.runner.now commit_uncalled (WasOvertaken c.args.loser) c.requires.2
     c.args.loser.token c.requires.0 (removes (Lock c.args.loser.number)) tt _ (λ result stood. refl)
     c.withdraw.ensures.call))
+    (unkept-left before now c.args.runner.now commit_uncalled (WasOvertaken c.args.loser)
+    c.requires.2 c.args.loser.token c.requires.0 (removes (Lock c.args.loser.number)) tt _
+    (λ result stood. refl) c.withdraw.ensures.call _ (end-plain c.withdraw.result)
+    (withdraw-unkept c.args.loser c.withdraw.ensures.call.answer c.withdraw.result
+    c.withdraw.ensures.call.shown))
     (ap commit_at (sym (end-stage c.withdraw.result)))
     (λ fault. c.withdraw.ensures.faults.failed (ap Err (end-failed c.withdraw.result fault)))
 

@@ -6,7 +6,7 @@ use Rattle.recovery.specs.Stands.{Recovers, HasStagedNext}
 use Rattle.suite_core.specs.declared.state.State.TheVariants.{Recovering}
 use Rattle.suite_core.specs.Moment.{moment, commit_at}
 use Rattle.suite_core.proofs.TurnLemmas.{may-step, goes-on, turns, stops}
-use Rattle.suite_core.proofs.UnlockingTurns.{fault-stage, fault-met, fault-plain}
+use Rattle.suite_core.proofs.UnlockingTurns.{fault-stage, fault-met, fault-left, fault-plain}
 use Rattle.suite_core.proofs.RecoveringTurns.{some-next}
 use Rattle.suite_core.proofs.LeadsLemmas.{leads-on, leads-stage, leads-failed}
 use Rattle.suite_rules.specs.Outcomes.{before_commit}
@@ -55,6 +55,7 @@ returns-in-Err-clause-turns g c =
     c.move_next.ensures.lawful c.move_next.ensures.faults.never_falls _ c.stopped.result
     c.stopped.ensures (fault-plain fault.stage fault.fault)
     (fault-met now c.args.runner.now fault.stage fault.fault)
+    (fault-left now c.args.runner.now fault.stage fault.fault)
     (ap commit_at (sym (fault-stage fault.stage fault.fault
     ∙ leads-stage (moved_once c.args.moving) Before _ fault shown.1.shown)))
     (λ told. c.move_next.ensures.faults.failed

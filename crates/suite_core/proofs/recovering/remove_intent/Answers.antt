@@ -9,7 +9,7 @@ use Rattle.suite_core.specs.declared.state.State.TheVariants.{Loading}
 use Rattle.commit_steps.specs.States.{start_of}
 use Rattle.suite_core.specs.Moment.{moment, commit_at}
 use Rattle.suite_core.proofs.TurnLemmas.{may-step, goes-on, turns, stops}
-use Rattle.suite_core.proofs.UnlockingTurns.{fault-stage, fault-met, fault-plain}
+use Rattle.suite_core.proofs.UnlockingTurns.{fault-stage, fault-met, fault-left, fault-plain}
 use Rattle.suite_core.proofs.RecoveringTurns.{starts-loading}
 use Rattle.suite_core.proofs.LeadsLemmas.{leads-on, leads-stage, leads-failed}
 use Rattle.suite_rules.specs.Outcomes.{before_commit}
@@ -65,6 +65,7 @@ returns-in-Err-clause-turns g c =
     c.remove_intent.ensures.lawful c.remove_intent.ensures.faults.never_falls _ c.stopped.result
     c.stopped.ensures (fault-plain fault.stage fault.fault)
     (fault-met now c.args.runner.now fault.stage fault.fault)
+    (fault-left now c.args.runner.now fault.stage fault.fault)
     (ap commit_at (sym (fault-stage fault.stage fault.fault
     ∙ leads-stage c.args.recovering.keeper Before _ fault c.in-Err.ensures.call.shown)))
     (λ told. c.remove_intent.ensures.faults.failed

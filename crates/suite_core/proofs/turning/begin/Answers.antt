@@ -27,7 +27,7 @@ returns-in-Ok-clause-turns g c =
 pub returns-in-Ok-clause-counted : goal.returns-in-Ok-clause-counted
 returns-in-Ok-clause-counted g c =
     let asked = c.args.asked in
-    begins-counts (g.F.Folder.admits c.args.folder.now) asked.command
+    begins-counts (g.F.Folder.admits c.args.folder.now)
     (record { token = c.in-Ok.token; asked = asked }) (g.F.Folder.told c.args.folder.now)
     (g.F.Folder.told c.begin.new.self)
     (subst (λ (command : Command). WhereTold (g.F.Folder.told c.args.folder.now)

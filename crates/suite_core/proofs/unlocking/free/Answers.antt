@@ -4,7 +4,7 @@ use Rattle.acct_outside.specs.Calls.{renames}
 use Rattle.lock_steps.specs.Stands.{HasStagedFree}
 use Rattle.suite_core.specs.Moment.{moment, commit_at}
 use Rattle.suite_core.proofs.TurnLemmas.{may-step, stops}
-use Rattle.suite_core.proofs.UnlockingTurns.{frees, fault-stage, fault-met, fault-plain, fault-failed}
+use Rattle.suite_core.proofs.UnlockingTurns.{frees, fault-stage, fault-met, fault-left, fault-plain, fault-failed}
 use Rattle.suite_core.proofs.CallsLemmas.{answers-fewer}
 use Rattle.suite_core.proofs.unlocking.free.Goals as goal
 
@@ -36,6 +36,7 @@ returns-in-Err-clause-turns g c =
     c.move_free.ensures.lawful c.move_free.ensures.faults.never_falls _ c.failed.result
     c.failed.ensures (fault-plain _ c.in-Err.fault)
     (fault-met now c.args.runner.now _ c.in-Err.fault)
+    (fault-left now c.args.runner.now _ c.in-Err.fault)
     (ap commit_at (sym (fault-stage _ c.in-Err.fault ∙ c.stage.ensures)))
     (λ fault. c.move_free.ensures.faults.failed
     (c.in-Err.is ∙ ap Err (fault-failed _ c.in-Err.fault fault)))

@@ -5,7 +5,7 @@ use Rattle.lock_steps.specs.Outcomes.{cleaned_once}
 use Rattle.lock_steps.specs.Stands.{Keeps, KnowsAnything}
 use Rattle.suite_core.specs.Moment.{moment, commit_at}
 use Rattle.suite_core.proofs.TurnLemmas.{may-step, stops}
-use Rattle.suite_core.proofs.UnlockingTurns.{leads, lowers, fault-stage, fault-met, fault-plain, fault-failed}
+use Rattle.suite_core.proofs.UnlockingTurns.{leads, lowers, fault-stage, fault-met, fault-left, fault-plain, fault-failed}
 use Rattle.suite_core.proofs.CallsLemmas.{answers-fewer, cleaned-calls, unlocking-some}
 use Rattle.suite_core.proofs.unlocking.remove_lower.Goals as goal
 
@@ -37,6 +37,7 @@ returns-in-Err-clause-turns g c =
     c.clean_next.ensures.lawful c.clean_next.ensures.faults.never_falls _ c.failed.result
     c.failed.ensures (fault-plain _ c.in-Err.fault)
     (fault-met now c.args.runner.now _ c.in-Err.fault)
+    (fault-left now c.args.runner.now _ c.in-Err.fault)
     (ap commit_at (sym (fault-stage _ c.in-Err.fault ∙ c.stage.ensures)))
     (λ fault. c.clean_next.ensures.faults.failed
     (c.in-Err.is ∙ ap Err (fault-failed _ c.in-Err.fault fault)))
