@@ -52,17 +52,22 @@ untold-state one other runner (Installing walker answer) is = record {
 untold-state one other runner (Unlocking keeper answer) is = record {
   same = is.same;
   stands = tt;
+  clean = tt;
   quiet = is.quiet;
   gives = untold-gives one other runner answer is.gives;
 }
 untold-state one other runner (Freeing freeing answer) is = record {
   same = is.same;
   stands = tt;
+  clean = tt;
   quiet = is.quiet;
   gives = untold-gives one other runner answer is.gives;
 }
-untold-state one other runner (Answering answer) is =
-    record { may_answer = tt; gives = untold-gives one other runner answer is.gives }
+untold-state one other runner (Answering answer) is = record {
+  may_answer = tt;
+  gives = untold-gives one other runner answer is.gives;
+  left = λ goes_on. tt;
+}
 untold-state one other runner state is = is
 
 -- where no history is told, a session stands however often the folder has failed
