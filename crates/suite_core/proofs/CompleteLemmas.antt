@@ -49,7 +49,7 @@ module _ (deeds : SuiteDeeds) (asked : Question) (first : Folder) (old new : His
     (lawful : Lawful deeds first new) (alone : IsAlone token old new)
     (opened : StandsOpen (after first old) token new) (given : Answer) where
   -- it gives the tool's answer, by the cause of its own
-  answers-as : (cause : Cause) → given.outcome.cause ≡ cause →
+  pub answers-as : (cause : Cause) → given.outcome.cause ≡ cause →
       (standing token new).commit ≡ commit_at (stage_of cause) → Says asked given cause →
       (IsOutside cause → ⊥) → IsShownAt deeds asked first new token given cause →
       AnswersOnOld deeds asked first old new token given

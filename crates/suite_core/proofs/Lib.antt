@@ -38,4 +38,5 @@ mod SessionTurns
 mod SuppliesLemmas
 mod TopLemmas
 mod TurnLemmas
+mod TurnedLemmas
 mod UnlockingTurns

@@ -18,4 +18,5 @@ pub mod Streams
 pub mod Supplies
 pub mod Course
 pub mod Top
+pub mod Turned
 pub mod Deciding

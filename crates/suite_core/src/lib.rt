@@ -11,6 +11,7 @@ mod course;
 mod deciding;
 mod deeds;
 mod ending;
+mod laws;
 mod loading;
 mod locking;
 mod recovering;
@@ -24,6 +25,7 @@ mod turning;
 mod unlocking;
 
 pub use deeds::tools_have_deeds;
+pub use laws::answers_keep_promises;
 pub use session::Session;
 pub use suite_answers::{Answer, Cause, Outcome, Which};
 pub use top::run_suite;
