@@ -4,3 +4,4 @@ pub mod ReadsLemmas
 pub mod InstallLemmas
 pub mod BackupLemmas
 pub mod CommitLemmas
+pub mod PreparedLemmas

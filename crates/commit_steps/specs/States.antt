@@ -1,6 +1,7 @@
 -- What contracts see of the states of a commit: the keeper, what it has read, the new files, and how
 -- far it has come with the tables that differ (docs/ARCHITECTURE.md, "The commit").
 use Rattle.std.specs.Prelude.{◌≡◌, ◌≤◌, ℕ, ◌+◌, ◌-◌, ◌*◌, nat_lt, Bool, true, false, if◌then◌else◌, List, [], length, Option, Some, None, IsSome, unwrap_or}
+use Rattle.std.specs.Option.{option_or}
 use Rattle.acct_text.specs.declared.Tab.{Tab}
 use Rattle.acct_text.specs.declared.Tab.TheVariants.{Passwd, Shadow, Group, Gshadow, Subuid, Subgid}
 use Rattle.acct_text.specs.declared.files.Files.{Files}
@@ -11,7 +12,7 @@ use Rattle.acct_text.specs.Files.{table_of}
 use Rattle.acct_text.specs.Tables.{table_place}
 use Rattle.acct_outside.specs.declared.Name.{Name}
 use Rattle.acct_outside.specs.declared.Name.TheVariants.{Table, Defs}
-use Rattle.intent_file.specs.Intent.{NewTable, Intended}
+use Rattle.intent_file.specs.Intent.{NewTable, Intended, listed_in}
 use Rattle.intent_file.specs.ChangedTables.{changed_tables, intent_of}
 use Rattle.lock_steps.specs.States.{Kept}
 
@@ -60,6 +61,17 @@ with_table Gshadow content files = record files { gshadow = content }
 with_table Subuid content files = record files { subuid = content }
 with_table Subgid content files = record files { subgid = content }
 
+-- the files, each table that is listed with the bytes listed for it
+abbrev pub with_tables : List NewTable → Files → Files
+with_tables tables files = record {
+  passwd = option_or (listed_in tables Passwd) files.passwd;
+  shadow = option_or (listed_in tables Shadow) files.shadow;
+  group = option_or (listed_in tables Group) files.group;
+  gshadow = option_or (listed_in tables Gshadow) files.gshadow;
+  subuid = option_or (listed_in tables Subuid) files.subuid;
+  subgid = option_or (listed_in tables Subgid) files.subgid;
+}
+
 -- the table that is read after one, and none after the last
 abbrev pub table_after : Tab → Option Tab
 table_after Passwd = Some Shadow
@@ -101,6 +113,10 @@ read_on reader table content = record reader {
 abbrev pub inputs_of : Reader → Option Bytes → Inputs
 inputs_of reader content =
     record { keeper = reader.keeper; files = reader.files; defs = content }
+
+-- the change of the inputs by which the listed tables get their new bytes
+abbrev pub change_by : List NewTable → Inputs → Change
+change_by tables inputs = record { inputs = inputs; new = with_tables tables inputs.files }
 
 -- the six tables as they were read
 abbrev pub old_files : Change → Contents

@@ -12,11 +12,11 @@ use intent_file::{Intent, NewTable};
 use std::alloc::{AllocError, Global};
 use std::marker::Model;
 
-/// The inputs, the new files, and the intent that leads from the one to the other.
+/// The inputs, the tables that differ with their new bytes, and the text of the intent that lists
+/// them. The new files aren't held: they are the old ones with these tables in their place.
 #[derive(Debug, Drop)]
 pub(crate) struct Prepared {
     loaded: Loaded,
-    new: Files,
     tables: Vec<NewTable>,
     text: Bytes,
 }
@@ -24,20 +24,18 @@ pub(crate) struct Prepared {
 impl Model for Prepared {
     ghost use Rattle.std.specs.Prelude.{◌≡◌};
     ghost use Rattle.acct_text.specs.Contents.{IsChange};
-    ghost use Rattle.acct_text.specs.Files.{table_of};
     ghost use Rattle.intent_file.specs.Intent.{ReadsIntent};
-    ghost use Rattle.commit_steps.specs.States.{Change, changed, intended};
+    ghost use Rattle.commit_steps.specs.States.{Change, change_by, changed, intended, new_files, old_files};
 
     ghost Value = { Change };
 
-    ghost view = { λ prepared. record { inputs = prepared.loaded; new = prepared.new } };
+    ghost view = { λ prepared. change_by prepared.tables.items prepared.loaded };
 
     ghost invariant = { λ prepared.
-        IsChange (table_of prepared.loaded.files) (table_of prepared.new)
-        × (prepared.tables.items
-        ≡ changed (record { inputs = prepared.loaded; new = prepared.new }))
-        × ReadsIntent prepared.text
-        (intended (record { inputs = prepared.loaded; new = prepared.new })) };
+        let change : Change = change_by prepared.tables.items prepared.loaded in
+        IsChange (old_files change) (new_files change)
+        × (prepared.tables.items ≡ changed change)
+        × ReadsIntent prepared.text (intended change) };
 }
 
 impl Prepared {
@@ -46,11 +44,10 @@ impl Prepared {
         requires { IsChange (table_of loaded.files) (table_of new) }
         ensures { IfOk result (λ prepared. prepared ≡ record { inputs = loaded; new = new }) }
     {
-        let intent = Intent::new(alloc, loaded.keeper().number(), loaded.files(), &new)?;
+        let intent = intent_of(alloc, &loaded, new)?;
         let text = intent.print(alloc)?;
         Ok(Prepared {
             loaded,
-            new,
             tables: intent.into_tables(),
             text,
         })
@@ -96,4 +93,14 @@ impl Prepared {
     {
         self.loaded
     }
+}
+
+/// The intent that leads from what was read to the new files. It lets these go, so that they are gone
+/// when the text is made. The error says that memory ran out.
+fn intent_of(alloc: Global, loaded: &Loaded, new: Files) -> Result<Intent, AllocError>
+    requires { IsChange (table_of loaded.now.files) (table_of new) }
+    ensures { IfOk result (λ intent.
+        intent ≡ intended (record { inputs = loaded.now; new = new })) }
+{
+    Intent::new(alloc, loaded.keeper().number(), loaded.files(), &new)
 }
