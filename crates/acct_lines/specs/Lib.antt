@@ -1,2 +1,4 @@
 pub mod Reading
 pub mod Fields
+pub mod Naming
+pub mod NamingLaws

@@ -6,6 +6,7 @@ ghost use Rattle.acct_text.specs.Numbers.{number_within};
 ghost use Rattle.account_model.specs.Faults.{field_at};
 ghost use Rattle.account_model.specs.Records.{read_days, read_names};
 ghost use Rattle.acct_lines.specs.Fields.{AreFields, IsMiscount, IsFirstName, IsUnnamed};
+ghost use Rattle.acct_lines.specs.Naming.{first_field as first_of};
 ghost use Rattle.acct_lines.specs.Reading.{MatchRead};
 
 use crate::{LineFault, ReadFault};
@@ -113,6 +114,17 @@ impl<'a> Fields<'a> {
         ensures { IfOk result (λ names. names ≡ read_names (field_at place self.now)) }
     {
         cut_names(alloc, self.at(place))
+    }
+}
+
+/// The text in front of the first colon of a line, and the whole line where it has none. Where the
+/// line is a record, this is its name.
+pub fn first_field(line: &[u8]) -> &[u8]
+    ensures { result.now ≡ first_of line.now }
+{
+    match memchr(b':', line) {
+        Some(end) => &line[..end],
+        None => line,
     }
 }
 

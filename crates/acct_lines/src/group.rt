@@ -8,6 +8,7 @@ impl TableRecord for GroupRecord {
     ghost use Rattle.account_model.specs.Records.{group_format};
     ghost use Rattle.account_model.specs.Faults.{group_fault};
     ghost use Rattle.account_model.proofs.FormatLaws.{group-is_format};
+    ghost use Rattle.acct_lines.specs.NamingLaws.{group-names_first};
 
     ghost format = { group_format };
 
@@ -38,4 +39,6 @@ impl TableRecord for GroupRecord {
     }
 
     ghost is_line_format = { group-is_format };
+
+    ghost names_first = { group-names_first };
 }

@@ -8,6 +8,7 @@ impl TableRecord for GshadowRecord {
     ghost use Rattle.account_model.specs.Records.{gshadow_format};
     ghost use Rattle.account_model.specs.Faults.{gshadow_fault};
     ghost use Rattle.account_model.proofs.FormatLaws.{gshadow-is_format};
+    ghost use Rattle.acct_lines.specs.NamingLaws.{gshadow-names_first};
 
     ghost format = { gshadow_format };
 
@@ -37,4 +38,6 @@ impl TableRecord for GshadowRecord {
     }
 
     ghost is_line_format = { gshadow-is_format };
+
+    ghost names_first = { gshadow-names_first };
 }

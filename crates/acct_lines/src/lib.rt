@@ -19,7 +19,7 @@ mod subid;
 pub use account_model::{
     GroupRecord, GshadowRecord, LineFault, PasswdRecord, ShadowRecord, SubidRecord,
 };
-pub use fields::cut_names;
+pub use fields::{cut_names, first_field};
 pub use names::{is_digits, is_valid_name};
 pub use record::{ReadFault, TableRecord};
 

@@ -8,6 +8,7 @@ impl TableRecord for PasswdRecord {
     ghost use Rattle.account_model.specs.Records.{passwd_format};
     ghost use Rattle.account_model.specs.Faults.{passwd_fault};
     ghost use Rattle.account_model.proofs.FormatLaws.{passwd-is_format};
+    ghost use Rattle.acct_lines.specs.NamingLaws.{passwd-names_first};
 
     ghost format = { passwd_format };
 
@@ -45,4 +46,6 @@ impl TableRecord for PasswdRecord {
     }
 
     ghost is_line_format = { passwd-is_format };
+
+    ghost names_first = { passwd-names_first };
 }

@@ -6,6 +6,7 @@ ghost use Rattle.account_model.specs.declared.fault.LineFault.{LineFault};
 ghost use Rattle.account_model.specs.Format.{Format};
 ghost use Rattle.account_model.specs.LineFormat.{IsLineFormat};
 ghost use Rattle.account_model.specs.Written.{IsWritten};
+ghost use Rattle.acct_lines.specs.Naming.{NamesFirst};
 ghost use Rattle.acct_lines.specs.Reading.{MatchRead};
 
 use account_model::LineFault;
@@ -73,4 +74,7 @@ pub trait TableRecord: Sized {
 
     // records are told apart, and what was read is printed so that it is read again
     ghost is_line_format: { IsLineFormat format fault };
+
+    // the name of a record is the first field of its line
+    ghost names_first: { NamesFirst format };
 }

@@ -8,6 +8,7 @@ impl TableRecord for ShadowRecord {
     ghost use Rattle.account_model.specs.Records.{shadow_format};
     ghost use Rattle.account_model.specs.Faults.{shadow_fault};
     ghost use Rattle.account_model.proofs.FormatLaws.{shadow-is_format};
+    ghost use Rattle.acct_lines.specs.NamingLaws.{shadow-names_first};
 
     ghost format = { shadow_format };
 
@@ -53,4 +54,6 @@ impl TableRecord for ShadowRecord {
     }
 
     ghost is_line_format = { shadow-is_format };
+
+    ghost names_first = { shadow-names_first };
 }

@@ -14,6 +14,7 @@ impl TableRecord for SubidRecord {
     ghost use Rattle.account_model.specs.Records.{subid_format};
     ghost use Rattle.account_model.specs.Faults.{subid_fault};
     ghost use Rattle.account_model.proofs.FormatLaws.{subid-is_format};
+    ghost use Rattle.acct_lines.specs.NamingLaws.{subid-names_first};
 
     ghost format = { subid_format };
 
@@ -47,6 +48,8 @@ impl TableRecord for SubidRecord {
     }
 
     ghost is_line_format = { subid-is_format };
+
+    ghost names_first = { subid-names_first };
 }
 
 // Whether the count is 0, or the last ID passes the greatest.
