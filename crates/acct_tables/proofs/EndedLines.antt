@@ -1,8 +1,9 @@
 -- Claim: lines of which each is given an end, one after another, have all got one (`end-next`,
--- `all-ended`), and with a new line among them they are those of `with_line` (`ended-with`).
+-- `all-ended`), and with a new line among them they are those of `with_line` (`ended-with`,
+-- `appended`).
 use Rattle.std.proofs.Common.{◌≡◌, ℕ, ◌+◌, ◌<◌, ◌≤◌, true, List, [], ◌∷◌, ◌++◌, length, map, take, drop, get_or, zero, suc, refl, sym, ◌∙◌, ap, arith, add-one}
 use Rattle.std.proofs.Math.ListN.{set}
-use Rattle.std.proofs.lemmas.List.{append-nil, map-append, take_all}
+use Rattle.std.proofs.lemmas.List.{append-nil, length-map, map-append, take_all}
 use Rattle.acct_text.specs.Lines.{Line}
 use Rattle.account_model.specs.Edits.{as_ended, with_line}
 
@@ -65,3 +66,17 @@ written-back new old count same all =
     ap (λ rest. take count (new ++ rest)) (drop-none (length new) old (omega arith))
     ∙ ap (take count) (append-nil new)
     ∙ take_all count new (omega arith)
+
+-- lines behind which a new one was put, and of which then each was given an end in its place
+pub appended :
+    (lines pushed ended : List Line) (line : Line) (text : List ℕ) (count : ℕ)
+    → pushed ≡ lines ++ line ∷ []
+    → ended ≡ map as_ended pushed
+    → line ≡ record { text = text; ended = true }
+    → count ≡ length pushed
+    → take count (ended ++ drop (length ended) pushed) ≡ with_line text lines
+appended lines pushed ended line text count behind all is counted =
+    written-back ended pushed count (ap length all ∙ length-map pushed as_ended) counted
+    ∙ all
+    ∙ ap (map as_ended) behind
+    ∙ ended-with lines line text is

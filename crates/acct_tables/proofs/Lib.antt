@@ -1,5 +1,6 @@
 pub mod RecordLines
 pub mod LoadedLines
+pub mod PlacedTexts
 pub mod PlaceLemmas
 pub mod EndedLines
 pub mod OnlyPlace

@@ -1,9 +1,11 @@
--- Claim: the lines at the places of the lines of a file are the lines of the file (`lines-at`).
+-- Claim: the lines at the places of the lines of a file are the lines of the file (`lines-at`,
+-- `all-lines`), and none holds a newline (`line-lacks`).
 -- Way: of a line that has an end, a newline comes behind its place; of one that has none, its place
 -- ends with the file.
-use Rattle.std.proofs.Common.{◌≡◌, ℕ, ◌+◌, ◌<◌, Bool, true, false, List, [], ◌∷◌, ◌++◌, length, map, get_or, zero, suc, refl, sym, ◌∙◌, ap, subst, arith, length-append, zero-add}
+use Rattle.std.proofs.Common.{◌≡◌, ℕ, ◌+◌, ◌<◌, ◌≤◌, Bool, true, false, List, [], ◌∷◌, ◌++◌, length, map, take, get_or, zero, suc, refl, sym, ◌∙◌, ap, subst, arith, length-append, zero-add}
 use Rattle.std.proofs.lemmas.Bool.{lt-ltb, le-ltb, true≢false}
-use Rattle.std.specs.Prelude.{nat_lt, if◌then◌else◌}
+use Rattle.std.proofs.lemmas.List.{take_all, get_or_default}
+use Rattle.std.specs.Prelude.{nat_lt, slice_index_or, if◌then◌else◌}
 use Rattle.std.specs.List.{AllByRecursion}
 use Rattle.acct_text.specs.Pieces.{Lacks}
 use Rattle.acct_text.specs.Bytes.{newline, part_of, places_from}
@@ -97,15 +99,30 @@ all-texts :
 all-texts P [] all = tt
 all-texts P (line ∷ lines) all = (all.0, all-texts P lines all.1)
 
--- no line of a file holds a newline
+-- the text at a line's place holds no newline
 pub line-lacks :
-    (text : List ℕ) (places : List (ℕ × ℕ)) (index : ℕ) (place : ℕ × ℕ)
+    (text : List ℕ) (places kept : List (ℕ × ℕ)) (index : ℕ)
+    → kept ≡ places
     → map (part_of text) places ≡ texts_of (lines_of text)
-    → index < length places
-    → place ≡ get_or places index place
-    → Lacks newline (part_of text place)
-line-lacks text places index place texts inside is =
-    all-at (Lacks newline) (part_of text) places index place
-    (subst (AllByRecursion (Lacks newline)) (sym texts)
+    → index < length kept
+    → Lacks newline (part_of text (slice_index_or kept index (0, 0)))
+line-lacks text places kept index are texts inside =
+    let place = slice_index_or kept index (0, 0) in
+    all-at (Lacks newline) (part_of text) kept index place
+    (subst (AllByRecursion (Lacks newline)) (sym (ap (map (part_of text)) are ∙ texts))
     (all-texts (Lacks newline) (lines_of text) (lines_of-are text).apart))
-    inside is
+    inside (get_or_default kept index (0, 0) place inside)
+
+-- the lines at all places are those of the file
+pub all-lines :
+    (text : List ℕ) (places kept : List (ℕ × ℕ)) (count : ℕ) (lines : List Line)
+    → kept ≡ places
+    → places ≡ places_from 0 (texts_of (lines_of text))
+    → map (part_of text) places ≡ texts_of (lines_of text)
+    → length kept ≤ count
+    → lines ≡ map (line_at text) (take count kept)
+    → lines ≡ lines_of text
+all-lines text places kept count lines are from texts all so_far =
+    so_far
+    ∙ ap (map (line_at text)) (take_all count kept all ∙ are)
+    ∙ lines-at text places from texts

@@ -8,3 +8,5 @@ pub mod Renaming
 pub mod RenamedRecords
 pub mod Refusing
 pub mod DecimalTexts
+pub mod LinePlaces
+pub mod EditedTexts

@@ -2,12 +2,18 @@
 //! list of lines (passwd(5), shadow(5), group(5), gshadow(5), subuid(5), subgid(5)); and what a
 //! command decides on the tables, with the text and the status of each refusal.
 //!
+//! A `Table` holds its records; `FileLines` and `EditedLines` leave the lines of a large file where
+//! they stand in its bytes, and read a record when it is asked for.
+//!
 //! A line keeps its bytes until an edit puts another record into it. After a refusal and after want
 //! of memory a table is as before the call.
 #![tactic(auto)]
 
 mod decision;
+mod edited_line;
+mod edited_lines;
 mod fault;
+mod file_lines;
 mod line;
 mod list_record;
 mod owner;
@@ -20,7 +26,10 @@ mod tool_fault;
 pub use account_model::{LineProblem, Refusal};
 pub use acct_lines::TableRecord;
 pub use decision::{Decision, Output};
+pub use edited_lines::EditedLines;
 pub use fault::TableFault;
+pub use file_lines::FileLines;
+pub use line::read_record;
 pub use list_record::ListRecord;
 pub use owner::{is_owned, last_id};
 pub use refusal::refusal_text;

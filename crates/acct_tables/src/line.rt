@@ -16,6 +16,19 @@ use acct_text::Bytes;
 use std::alloc::{AllocError, Global};
 use std::marker::Model;
 
+/// The record that a line is; none where it is other text.
+pub fn read_record<R: TableRecord>(alloc: Global, line: &[u8]) -> Result<Option<R>, AllocError>
+    ensures found { IfOk result (λ found. found ≡ R.format.read line.now) }
+    ensures written { Lacks newline line.now
+        → IfOk result (λ found. IfSome found (IsWritten R.format)) }
+{
+    match R::read(alloc, line) {
+        Ok(record) => Ok(Some(record)),
+        Err(ReadFault::Line(_)) => Ok(None),
+        Err(ReadFault::Memory) => Err(AllocError),
+    }
+}
+
 /// A line of a table, which keeps its bytes until another record is put into it.
 #[derive(Drop)]
 pub(crate) struct TableLine<R: TableRecord> {
@@ -41,11 +54,7 @@ impl<R: TableRecord + Drop> TableLine<R> {
         requires { Lacks newline text.now }
         ensures { IfOk result (λ line. line ≡ record { text = text.now; ended = ended }) }
     {
-        let record = match R::read(alloc, text) {
-            Ok(record) => Some(record),
-            Err(ReadFault::Line(_)) => None,
-            Err(ReadFault::Memory) => return Err(AllocError),
-        };
+        let record = read_record(alloc, text)?;
         Ok(TableLine {
             text: Bytes::of(alloc, text)?,
             ended,

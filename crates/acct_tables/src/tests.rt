@@ -26,6 +26,11 @@ fn has(alloc: Global, table: &Table<GroupRecord>, wanted: &[u8]) -> Result<bool,
     Ok(table.text(alloc)?.as_slice() == wanted)
 }
 
+// The GID of a group, where there is one.
+fn gid(found: Option<GroupRecord>) -> Option<u32> {
+    Some(found?.gid)
+}
+
 #[test]
 fn a_line_without_an_end_gets_one_behind_which_is_added(rt: HostRuntime) -> Result<(), Fail> {
     let alloc = rt.alloc();
@@ -73,5 +78,28 @@ fn lines_are_set_and_moved_by_their_places(rt: HostRuntime) -> Result<(), Fail> 
     table.append_any(group(alloc, b"b:x:4:")?)?;
     table.remove_at(0)?;
     assert!(rt; has(alloc, &table, b"c:x:3:\nb:x:4:\n".as_slice())?);
+    Ok(())
+}
+
+#[test]
+fn the_first_of_a_name_is_found_where_it_stands(rt: HostRuntime) -> Result<(), Fail> {
+    let alloc = rt.alloc();
+    let lines = FileLines::of(alloc, b"# x\nab:x:1:\na:x:2:\na:x:3:")?;
+    assert_eq!(rt; gid(lines.find(alloc, b"a")?), Some(2));
+    assert_eq!(rt; gid(lines.record_at(alloc, 0)?), None);
+    assert_eq!(rt; gid(lines.record_at(alloc, 3)?), Some(3));
+    Ok(())
+}
+
+#[test]
+fn edited_lines_keep_the_bytes_of_the_same_record(rt: HostRuntime) -> Result<(), Fail> {
+    let alloc = rt.alloc();
+    let mut lines = EditedLines::of(alloc, b"a:x:01:\nb:x:2:")?;
+    lines.set_at(0, &group(alloc, b"a:x:1:")?)?;
+    lines.append_any(&group(alloc, b"c:x:3:")?)?;
+    lines.remove_at(1);
+    lines.insert_at(1, &group(alloc, b"d:x:4:")?)?;
+    let wanted = b"a:x:01:\nd:x:4:\nc:x:3:\n".as_slice();
+    assert_eq!(rt; lines.text()?.as_slice(), wanted);
     Ok(())
 }

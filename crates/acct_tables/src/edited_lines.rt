@@ -1,0 +1,176 @@
+// The lines of a table's file while edits change them.
+ghost use Rattle.std.specs.Prelude.{◌≡◌, ◌<◌, ◌≤◌, length, map, IfOk, IfSome, OnOk, OnErr};
+ghost use Rattle.std.specs.List.{remove};
+ghost use Rattle.acct_text.specs.Lines.{lines_of, file_bytes};
+ghost use Rattle.account_model.specs.Edits.{as_ended, with_line};
+ghost use Rattle.account_model.specs.Written.{IsWritten};
+ghost use Rattle.acct_tables.specs.TableLines.{changed_at, is_named_at, record_at, with_record, with_record_at};
+
+use crate::edited_line::EditedLine;
+use acct_lines::TableRecord;
+use acct_text::{Bytes, lines};
+use std::alloc::{AllocError, Global};
+use std::marker::Model;
+
+/// The lines of a table's file, which edits change. A line stays where it is in the file's bytes
+/// until a record is put into it, and is read as a record when it is asked for. Contracts see them
+/// as those of a `Table`, and each call keeps what the same call of `Table` keeps.
+#[derive(Drop)]
+pub struct EditedLines<'a> {
+    lines: Vec<EditedLine<'a>>,
+}
+
+impl<'a> Model for EditedLines<'a> {
+    ghost use Rattle.std.specs.Prelude.{List};
+    ghost use Rattle.acct_text.specs.Lines.{Line};
+
+    ghost Value = { List Line };
+
+    ghost view = { λ t. t.lines.items };
+}
+
+impl<'a> EditedLines<'a> {
+    /// The lines of a file with these bytes. They take the memory of later calls from the same
+    /// allocator.
+    pub fn of(alloc: Global, text: &'a [u8]) -> Result<Self, AllocError>
+        ensures { IfOk result (λ lines. lines ≡ lines_of text.now) }
+    {
+        let places = lines(alloc, text)?;
+        let mut kept = Vec::new(alloc);
+        'lines: for (start, end) in &places {
+            let ended = *end < text.len();
+            kept.push(EditedLine::of(&text[*start..*end], ended))?;
+        }
+        Ok(EditedLines { lines: kept })
+    }
+
+    /// The number of lines, of records and other text.
+    pub fn len(&self) -> usize
+        ensures { result ≡ length self.now }
+    {
+        self.lines.len()
+    }
+
+    /// The record at a place, counted from 0 over all lines; none past the end and at other text.
+    pub fn record_at<R: TableRecord + Drop>(&self, place: usize) -> Result<Option<R>, AllocError>
+        ensures found { IfOk result (λ found. found ≡ record_at R.format self.now place) }
+        ensures written { IfOk result (λ found. IfSome found (IsWritten R.format)) }
+    {
+        match self.lines.get(place) {
+            Some(line) => line.record(self.allocator()),
+            None => Ok(None),
+        }
+    }
+
+    /// Whether a record of the name stands at the place. Only a line that begins with the name is
+    /// read.
+    pub fn is_named_at<R: TableRecord + Drop>(
+        &self,
+        place: usize,
+        name: &[u8],
+    ) -> Result<bool, AllocError>
+        ensures { IfOk result (λ named. named ≡ is_named_at R.format name.now self.now place) }
+    {
+        match self.lines.get(place) {
+            Some(line) => line.is_named::<R>(self.allocator(), name),
+            None => Ok(false),
+        }
+    }
+
+    /// Adds a record behind the last line, which gets an end where it had none. Its name may have
+    /// records. At `AllocError` the lines are as before.
+    pub fn append_any<R: TableRecord + Drop>(&mut self, item: &R) -> Result<(), AllocError>
+        requires { IsWritten R.format item.now }
+        ensures appended { OnOk result (self.new ≡ with_line (R.format.print item.now) self.old) }
+        ensures unchanged { OnErr result (self.new ≡ self.old) }
+    {
+        let line = EditedLine::printed(self.allocator(), item)?;
+        self.lines.push(line)?;
+        end_all(&mut self.lines);
+        Ok(())
+    }
+
+    /// Adds a record behind the last line, where each line has an end: `append_any`, without a pass
+    /// over the lines. At `AllocError` the lines are as before.
+    pub fn append_ended<R: TableRecord + Drop>(&mut self, item: &R) -> Result<(), AllocError>
+        requires written { IsWritten R.format item.now }
+        requires ended { map as_ended self.old ≡ self.old }
+        ensures appended { OnOk result (self.new ≡ with_line (R.format.print item.now) self.old) }
+        ensures unchanged { OnErr result (self.new ≡ self.old) }
+    {
+        let line = EditedLine::printed(self.allocator(), item)?;
+        self.lines.push(line)?;
+        Ok(())
+    }
+
+    /// Puts a record into the line at a place, which keeps its end, and its bytes where it is the
+    /// same record. At `AllocError` the lines are as before.
+    pub fn set_at<R: TableRecord + Drop>(
+        &mut self,
+        place: usize,
+        item: &R,
+    ) -> Result<(), AllocError>
+        requires inside { place < length self.old }
+        requires written { IsWritten R.format item.now }
+        ensures set { OnOk result (self.new ≡
+            changed_at (with_record R.format item.now) place self.old) }
+        ensures unchanged { OnErr result (self.new ≡ self.old) }
+    {
+        let alloc = self.allocator();
+        self.lines[place].put(alloc, item)
+    }
+
+    /// Puts the line of a new record, with an end, in front of the line at a place; at the end it
+    /// is `append_any`. At `AllocError` the lines are as before.
+    pub fn insert_at<R: TableRecord + Drop>(
+        &mut self,
+        place: usize,
+        item: &R,
+    ) -> Result<(), AllocError>
+        requires inside { place ≤ length self.old }
+        requires written { IsWritten R.format item.now }
+        ensures inserted { OnOk result (self.new ≡
+            with_record_at R.format item.now place self.old) }
+        ensures unchanged { OnErr result (self.new ≡ self.old) }
+    {
+        if place == self.lines.len() {
+            return self.append_any(item);
+        }
+        let line = EditedLine::printed(self.allocator(), item)?;
+        self.lines.insert(place, line)?;
+        Ok(())
+    }
+
+    /// Removes the line at a place, with its end.
+    pub fn remove_at(&mut self, place: usize)
+        requires { place < length self.old }
+        ensures { self.new ≡ remove self.old place }
+    {
+        self.lines.remove(place);
+    }
+
+    /// The bytes of the lines, one behind the other.
+    pub fn text(&self) -> Result<Bytes, AllocError>
+        ensures { IfOk result (λ bytes. bytes ≡ file_bytes self.now) }
+    {
+        let mut text = Bytes::new(self.allocator());
+        for line in &self.lines {
+            line.push_to(&mut text)?;
+        }
+        Ok(text)
+    }
+
+    // The allocator of the lines.
+    fn allocator(&self) -> Global {
+        *self.lines.allocator()
+    }
+}
+
+// Gives each line an end.
+fn end_all(lines: &mut [EditedLine<'_>])
+    ensures { lines.new ≡ map as_ended lines.old }
+{
+    for line in lines.iter_mut() {
+        line.end();
+    }
+}
