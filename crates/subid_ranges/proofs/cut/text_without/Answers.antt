@@ -1,6 +1,5 @@
 use Rattle.std.proofs.Common.{◌∙◌, map, ap, arith}
-use Rattle.std.proofs.lemmas.List.{take_all, get_or_default}
-use Rattle.std.specs.Prelude.{slice_index_or}
+use Rattle.std.proofs.lemmas.List.{take_all}
 use Rattle.acct_text.specs.Bytes.{part_of}
 use Rattle.acct_text.specs.Lines.{file_bytes}
 use Rattle.acct_tables.proofs.LoadedLines.{line_at, line-lacks, lines-at}
@@ -10,12 +9,8 @@ use Rattle.subid_ranges.proofs.cut.text_without.Goals as goal
 pub push_cut-requires-clause-one_line : goal.push_cut-requires-clause-one_line
 push_cut-requires-clause-one_line c =
     let text = c.args.text.now in
-    let places = c.deref-start-items.result.now in
-    let index = c.lines.start-index in
-    let place = slice_index_or places index (0, 0) in
-    line-lacks text places index place
-    (ap (map (part_of text)) c.deref-start-items.ensures.value ∙ c.in_ok-places.ensures.texts)
-    (omega arith) (get_or_default places index (0, 0) place (omega arith))
+    line-lacks text c.in_ok-places.places.items c.deref-start-items.result.now c.lines.start-index
+    c.deref-start-items.ensures.value c.in_ok-places.ensures.texts (omega arith)
 
 pub returns : goal.returns
 returns c =
