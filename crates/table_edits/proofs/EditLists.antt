@@ -1,12 +1,21 @@
 -- Claim: what is asked of all edits holds of the one at a place (`edit-at`), so each edit of a list may be carried out
 -- in its turn (`edits-more`).
-use Rattle.std.proofs.Common.{◌≡◌, ℕ, ◌+◌, ◌<◌, List, [], ◌∷◌, length, drop, get_or, zero, suc, sym, ◌∙◌, ap, subst, arith}
+use Rattle.std.proofs.Common.{◌≡◌, ◌==◌, ℕ, ◌+◌, ◌<◌, true, false, List, [], ◌∷◌, length, drop, get_or, zero, suc, refl, sym, ◌∙◌, ap, subst, arith}
 use Rattle.std.specs.List.{AllByRecursion}
+use Rattle.std.proofs.lemmas.Bool.{ne_eqb}
 use Rattle.std.proofs.lemmas.List.{drop_more}
 use Rattle.account_model.specs.Edits.{edited, edited_by}
 use Rattle.account_model.specs.Edits as model
 use Rattle.table_edits.specs.declared.edit.Edit.{Edit}
 use Rattle.table_edits.specs.SeenEdits.{seen_edit, seen_edits}
+
+-- a list of no length is empty
+pub no-edits : {X : Type 0} (edits : List X) → (length edits == 0) ≡ true → edits ≡ []
+no-edits [] is = refl
+no-edits (edit ∷ edits) is =
+    let more : (length (edit ∷ edits) == 0) ≡ false =
+    ne_eqb (length (edit ∷ edits)) 0 (λ same. omega (arith, same)) in
+    absurd cc
 
 module _ {R C : Type 0} (becomes : C → R → List R) where
   -- what holds of all holds of the edit at a place

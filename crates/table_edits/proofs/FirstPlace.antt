@@ -1,5 +1,5 @@
 -- Claim: a `Put` sets the record at the first place of its name (`put-sets`), and adds it where there is none
--- (`put-adds`). Way: by the line at each place, from the first on.
+-- (`put-adds`), as `AddMissing` does (`missing-added`), which else does nothing (`found-stays`). Way: by the line at each place, from the first on.
 use Rattle.std.proofs.Common.{◌≡◌, ℕ, ◌+◌, ◌<◌, Bool, true, false, List, [], ◌∷◌, ◌++◌, length, map, take, drop, suc, refl, sym, ◌∙◌, ap, arith, add-one}
 use Rattle.std.specs.Prelude.{Option, Some, None, if◌then◌else◌}
 use Rattle.std.specs.List.{position_from, cons_option}
@@ -8,8 +8,7 @@ use Rattle.acct_text.specs.Lines.{Line}
 use Rattle.account_model.specs.Format.{Format, records_of, is_named, has_named}
 use Rattle.account_model.specs.Edits.{line_becomes, put_first, edited, with_line}
 use Rattle.account_model.specs.Edits as model
-use Rattle.acct_tables.specs.TableLines.{line_is_named, changed_at, with_record}
-use Rattle.table_edits.specs.Places.{is_named_at}
+use Rattle.acct_tables.specs.TableLines.{line_is_named, is_named_at, changed_at, with_record}
 use Rattle.table_edits.proofs.Splices.{blank_line}
 use Rattle.table_edits.proofs.ChangedLines.{line_here, record-here}
 
@@ -186,6 +185,12 @@ module _ {R : Type 0} (format : Format R) (r : R) where
     pub put-inside : place < length lines
     put-inside = let set = set-from lines 0 place found in omega (arith, set.is, set.inside)
 
+    -- a record of the name is there, so none is added
+    pub found-stays : lines ≡ edited format lines (model.AddMissing r)
+    found-stays =
+        ap (λ has. if has then lines else with_line (format.print r) lines)
+        (sym (set-from lines 0 place found).has)
+
     -- to set the record there is to put it
     pub put-sets :
         changed_at (with_record format r) place lines ≡ edited format lines (model.Put r)
@@ -197,7 +202,16 @@ module _ {R : Type 0} (format : Format R) (r : R) where
         ∙ ap (λ has. if has then put_first format r lines else with_line (format.print r) lines)
         (sym set.has)
 
-  -- where no line has the name, to add the record is to put it
+  -- where no line has the name, the record is added
+  pub missing-added :
+      (lines : List Line)
+      → position_from is_it 0 lines ≡ None
+      → with_line (format.print r) lines ≡ edited format lines (model.AddMissing r)
+  missing-added lines none =
+      ap (λ has. if has then lines else with_line (format.print r) lines)
+      (sym (none-has format (format.name r) lines 0 none))
+
+  -- and to add it is to put it
   pub put-adds :
       (lines : List Line)
       → position_from is_it 0 lines ≡ None

@@ -3,9 +3,7 @@ pub mod ChangedLines
 pub mod FirstPlace
 pub mod EditLists
 pub mod TouchedRecords
-pub mod LoadedFiles
 pub mod RecordLemmas
-pub mod TableLemmas
 pub mod DecidingLemmas
 pub mod ActingLemmas
 pub mod RepeatLemmas
@@ -15,3 +13,4 @@ pub mod ToldPlaces
 pub mod FirstLemmas
 pub mod NamingLemmas
 pub mod KnownLemmas
+pub mod FileLemmas

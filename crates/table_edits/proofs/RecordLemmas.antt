@@ -1,14 +1,38 @@
 -- Claim: the records of the lines from a place on begin with the record there (`records-from`), so
 -- a table is searched place by place (`find-met`, `find-passed`, `find-other`), and its IDs are
--- gathered so (`ids-more`, `ids-other`, `ids-all`).
-use Rattle.std.proofs.Common.{◌≡◌, ℕ, zero, suc, ◌+◌, ◌<◌, Bool, true, false, List, [], ◌∷◌, length, drop, map, refl, sym, ◌∙◌, ap, arith, add-one}
-use Rattle.std.specs.Prelude.{Option, Some, None, find, ◌||◌, ◌==◌}
+-- gathered so (`ids-more`, `ids-other`, `ids-end`); and a name is that of a record (`record-named`).
+use Rattle.std.proofs.Common.{◌≡◌, ℕ, zero, suc, ◌+◌, ◌<◌, ◌≤◌, Bool, true, false, List, [], ◌∷◌, length, drop, map, refl, sym, ◌∙◌, ap, arith, add-one}
+use Rattle.std.specs.Prelude.{Option, Some, None, option_map, find, ◌||◌, ◌==◌}
 use Rattle.std.specs.List.{cons_option}
+use Rattle.std.proofs.Math.ListN.{drop_of_length-le}
 use Rattle.acct_text.specs.Lines.{Line}
 use Rattle.account_model.specs.Format.{Format, records_of}
 use Rattle.account_model.specs.Ids.{is_used}
 use Rattle.acct_tables.specs.TableLines.{record_at}
 use Rattle.id_choice.specs.Used.{AreThoseOf}
+
+-- what was found is a record of this name
+pub record IsRecordOf {R : Type 0} (format : Format R) (found : Option R) (name : List ℕ)
+    : Type 0 where
+  pub item : R
+  pub is : found ≡ Some item
+  pub named : format.name item ≡ name
+
+-- where there is a name, it is that of a record
+pub record-named :
+    {R : Type 0} (format : Format R) (found : Option R) (name : List ℕ)
+    → Some name ≡ option_map format.name found
+    → IsRecordOf format found name
+record-named format None name is = absurd cc
+record-named format (Some r) name is = record { item = r; is = refl; named = cc }
+
+-- where there is none, there is no record
+pub none-named :
+    {R : Type 0} (format : Format R) (found : Option R)
+    → None ≡ option_map format.name found
+    → found ≡ None
+none-named format None is = refl
+none-named format (Some r) is = absurd cc
 
 -- what lies behind a place is the same behind one more line
 drop-next :
@@ -75,6 +99,11 @@ reordered true false third = refl
 reordered false true third = refl
 reordered false false third = refl
 
+-- a test alone
+alone : (test : Bool) → (test || false) ≡ test
+alone true = refl
+alone false = refl
+
 module _ {R : Type 0} (format : Format R) (number : R → ℕ) (lines : List Line) where
   -- the IDs of the records from a place on
   abbrev pub ids_from : ℕ → List ℕ
@@ -114,4 +143,16 @@ module _ {R : Type 0} (format : Format R) (number : R → ℕ) (lines : List Lin
   ids-other used place inside is gathers = λ id.
       ap (λ records. is_used used id || is_used (map number records) id)
       (sym (records-by format lines place inside None is))
+      ∙ gathers id
+
+  -- behind the last line those that are used are all
+  pub ids-end :
+      (used : List ℕ) (place : ℕ)
+      → length lines ≤ place
+      → Gathers used place
+      → AreThoseOf used (map number (records_of format lines))
+  ids-end used place past gathers = λ id.
+      let none : ids_from place ≡ [] =
+      ap (λ left. map number (records_of format left)) (drop_of_length-le lines past) in
+      sym (ap (λ left. is_used used id || is_used left id) none ∙ alone (is_used used id))
       ∙ gathers id

@@ -6,7 +6,7 @@ use Rattle.std.proofs.Common.{◌≡◌, ℕ, suc, ◌+◌, ◌<◌, Bool, true,
 use Rattle.std.specs.Prelude.{Option, Some, None, option_map, bytes_eq, unwrap_or}
 use Rattle.std.specs.HashMap.{HashMap}
 use Rattle.std.proofs.lemmas.Bool.{cases_Bool}
-use Rattle.std.proofs.lemmas.List.{at_drop_more, drop_more}
+use Rattle.std.proofs.lemmas.List.{at_drop_more}
 use Rattle.std.proofs.lemmas.Slice.Eq.{bytes_eq-Decides}
 use denote.Ref.{Bor}
 use Rattle.acct_text.specs.Lines.{Line}
@@ -15,7 +15,7 @@ use Rattle.acct_tables.specs.TableLines.{record_at}
 use Rattle.table_edits.specs.declared.name_places.NamePlace.{NamePlace}
 use Rattle.table_edits.specs.declared.name_places.NamePlace.TheVariants.{Nowhere, Only}
 use Rattle.table_edits.specs.NamePlaces.{IsPlaceNoted, IsToldAs, TellsPlaces, TellsSomePlaces, place_from, place_in, place_of_name, told_place, with_place}
-use Rattle.table_edits.specs.NamedLines.{AreWritten, IsWrittenRead, line_names}
+use Rattle.table_edits.specs.NamedLines.{line_names}
 use Rattle.table_edits.proofs.AddedNames.{added-other, added-there}
 use Rattle.table_edits.proofs.ChangedLines.{record-here}
 use Rattle.table_edits.proofs.Splices.{blank_line}
@@ -73,17 +73,6 @@ module _ {R : Type 0} (format : Format R) (lines : List Line) (place : ℕ)
       tells name
       ∙ ap (λ n. place_from name n (line_names format (drop (place + 1) lines))) (add-one place)
       ∙ ap (place_from name place) (sym (names-here None is))
-
-  -- the lines from the place on can be written where that there and those behind it can
-  pub written-here :
-      (found : Option R)
-      → record_at format lines place ≡ found
-      → IsWrittenRead format found
-      → AreWritten format (drop (place + 1) lines)
-      → AreWritten format (drop place lines)
-  written-here found is here behind =
-      subst (AreWritten format) (sym (drop_more lines place blank_line inside))
-      (subst (IsWrittenRead format) (sym is ∙ record-here format lines place inside) here, behind)
 
 -- ---- The places of some names
 

@@ -1,12 +1,12 @@
 -- Claim: the first record that is met among those from a place on is the one at the place, or else the first behind it
--- (`met-here`, `passed-here`). Way: by the line at the place.
-use Rattle.std.proofs.Common.{◌≡◌, ℕ, ◌+◌, ◌<◌, Bool, true, false, List, length, drop, refl, sym, ◌∙◌, ap}
+-- (`met-here`, `passed-here`); without edits none is (`none-met`). Way: by the line at the place.
+use Rattle.std.proofs.Common.{◌≡◌, ℕ, ◌+◌, ◌<◌, Bool, true, false, List, [], ◌∷◌, length, drop, refl, sym, ◌∙◌, ap}
 use Rattle.std.specs.Prelude.{Option, Some, None, option_map, find, if◌then◌else◌}
 use Rattle.std.specs.List.{cons_option}
 use Rattle.std.proofs.lemmas.List.{at_drop_more}
 use Rattle.acct_text.specs.Lines.{Line}
 use Rattle.account_model.specs.Format.{Format, records_of}
-use Rattle.account_model.specs.Edits.{Edit}
+use Rattle.account_model.specs.Edits.{Edit, first_multiple}
 use Rattle.table_edits.specs.Touching.{is_met, first_touched, met_at}
 use Rattle.table_edits.proofs.Splices.{blank_line}
 use Rattle.table_edits.proofs.ChangedLines.{line_here, record-here}
@@ -72,3 +72,9 @@ module _ {R : Type 0} (format : Format R) (edits : List (Edit R)) where
         → first_from place ≡ first_from (place + 1)
     passed-here place inside passed =
         step-here place inside ∙ ap (λ first. or_first first (first_from (place + 1))) passed
+
+-- no edit touches a record
+pub none-met :
+    {R : Type 0} (format : Format R) (records : List R) → first_multiple format [] records ≡ None
+none-met format [] = refl
+none-met format (r ∷ records) = none-met format records

@@ -7,7 +7,6 @@ pub mod PasswdChanges
 pub mod ShadowChanges
 pub mod SubidChanges
 pub mod SeenScript
-pub mod LoadedTables
 pub mod Acting
 pub mod Additions
 pub mod TablesOfLines

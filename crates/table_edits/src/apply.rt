@@ -1,59 +1,84 @@
-// The edits of a table, carried out one after another.
-ghost use Rattle.std.specs.Prelude.{◌≡◌, ◌<◌, [], ◌∷◌, length, map, OnOk};
+// The edits of a table, carried out in the lines of its file one after another.
+ghost use Rattle.std.specs.Prelude.{◌≡◌, ◌<◌, [], ◌∷◌, length, map, IfOk, OnOk};
 ghost use Rattle.std.specs.List.{AllByRecursion, position_from};
+ghost use Rattle.acct_text.specs.Lines.{file_bytes, lines_of};
 ghost use Rattle.account_model.specs.Edits.{becomes, edited, edited_by, printed_line};
 ghost use Rattle.account_model.specs.Edits as model;
 ghost use Rattle.account_model.specs.RecordEdits.{IsWrittenEdit};
 ghost use Rattle.account_model.specs.Written.{IsWritten};
 ghost use Rattle.acct_tables.specs.TableLines.{line_is_named};
-ghost use Rattle.table_edits.specs.Places.{is_named_at, spliced_at};
+ghost use Rattle.table_edits.specs.NamedLines.{IsKnown};
+ghost use Rattle.table_edits.specs.Places.{spliced_at};
 ghost use Rattle.table_edits.specs.SeenEdits.{seen_edit, seen_edits};
 
-use crate::named_edits::{apply_there, known_before, place_of};
+use crate::named_edits::{Known, apply_there, known_before, place_of};
 use crate::{Becoming, Edit, EditedRecord};
-use acct_tables::Table;
+use acct_tables::EditedLines;
+use acct_text::Bytes;
 use std::alloc::{AllocError, Global};
 
 // From so many edits on it pays to look for the places of all names at once.
 const MANY_EDITS: usize = 8;
 
-/// Carries out the edits, in their order: the lines that they don't touch keep their bytes.
+/// The bytes of a table's file after the edits, in their order: the lines that they don't touch keep
+/// their bytes.
 ///
-/// Many edits that each name the records that they touch take one pass over the table in all. At
-/// `AllocError` some of the edits may be done.
-pub fn apply_edits<R: EditedRecord + Drop>(
+/// Many edits that each name the records that they touch take one pass over the file in all.
+pub fn edited_text<R: EditedRecord + Drop>(
     alloc: Global,
-    table: &mut Table<R>,
+    text: &[u8],
+    edits: &[Edit<R, R::Change>],
+) -> Result<Bytes, AllocError>
+    requires { AllByRecursion (IsWrittenEdit R.format) (seen_edits R.becomes edits.now) }
+    ensures { IfOk result (λ bytes. bytes ≡ file_bytes
+        (edited_by R.format (seen_edits R.becomes edits.now) (lines_of text.now))) }
+{
+    if edits.is_empty() {
+        return Bytes::of(alloc, text);
+    }
+    let mut lines = EditedLines::of(alloc, text)?;
+    apply_edits(alloc, text, &mut lines, edits)?;
+    lines.text()
+}
+
+// Carries out the edits in the lines of the text. At `AllocError` some of them may be done.
+fn apply_edits<R: EditedRecord + Drop>(
+    alloc: Global,
+    text: &[u8],
+    lines: &mut EditedLines<'_>,
     edits: &[Edit<R, R::Change>],
 ) -> Result<(), AllocError>
-    requires { AllByRecursion (IsWrittenEdit R.format) (seen_edits R.becomes edits.now) }
-    ensures { OnOk result (table.new ≡
-        edited_by R.format (seen_edits R.becomes edits.now) table.old) }
+    requires of_text { lines.old ≡ lines_of text.now }
+    requires written { AllByRecursion (IsWrittenEdit R.format) (seen_edits R.becomes edits.now) }
+    ensures { OnOk result (lines.new ≡
+        edited_by R.format (seen_edits R.becomes edits.now) lines.old) }
 {
     if edits.len() < MANY_EDITS {
-        return apply_in_order(alloc, table, edits);
+        return apply_in_order(alloc, lines, edits);
     }
-    apply_by_name(alloc, table, edits)
+    let known = known_before(alloc, text, edits)?;
+    apply_by_name(alloc, lines, edits, known)
 }
 
 // Carries out the edits where the records of their names stand, and from the first on that may
 // touch others one after another.
-fn apply_by_name<R: EditedRecord + Drop>(
+fn apply_by_name<'e, R: EditedRecord + Drop>(
     alloc: Global,
-    table: &mut Table<R>,
-    edits: &[Edit<R, R::Change>],
+    lines: &mut EditedLines<'_>,
+    edits: &'e [Edit<R, R::Change>],
+    mut known: Known<'e>,
 ) -> Result<(), AllocError>
-    requires { AllByRecursion (IsWrittenEdit R.format) (seen_edits R.becomes edits.now) }
-    ensures { OnOk result (table.new ≡
-        edited_by R.format (seen_edits R.becomes edits.now) table.old) }
+    requires known { IsKnown R.format lines.old known }
+    requires written { AllByRecursion (IsWrittenEdit R.format) (seen_edits R.becomes edits.now) }
+    ensures { OnOk result (lines.new ≡
+        edited_by R.format (seen_edits R.becomes edits.now) lines.old) }
 {
-    let mut known = known_before(alloc, table, edits)?;
     'edits: for index in 0..edits.len() {
         let edit = &edits[index];
         let Some(place) = place_of(&known, edit) else {
-            return apply_in_order(alloc, table, &edits[index..]);
+            return apply_in_order(alloc, lines, &edits[index..]);
         };
-        apply_there(alloc, table, edit, place, &mut known)?;
+        apply_there(alloc, lines, edit, place, &mut known)?;
     }
     Ok(())
 }
@@ -61,15 +86,15 @@ fn apply_by_name<R: EditedRecord + Drop>(
 // Carries out the edits, one after another.
 fn apply_in_order<R: EditedRecord + Drop>(
     alloc: Global,
-    table: &mut Table<R>,
+    lines: &mut EditedLines<'_>,
     edits: &[Edit<R, R::Change>],
 ) -> Result<(), AllocError>
     requires { AllByRecursion (IsWrittenEdit R.format) (seen_edits R.becomes edits.now) }
-    ensures { OnOk result (table.new ≡
-        edited_by R.format (seen_edits R.becomes edits.now) table.old) }
+    ensures { OnOk result (lines.new ≡
+        edited_by R.format (seen_edits R.becomes edits.now) lines.old) }
 {
     'edits: for edit in edits {
-        apply_edit(alloc, table, edit)?;
+        apply_edit(alloc, lines, edit)?;
     }
     Ok(())
 }
@@ -77,86 +102,75 @@ fn apply_in_order<R: EditedRecord + Drop>(
 // Carries out one edit.
 fn apply_edit<R: EditedRecord + Drop>(
     alloc: Global,
-    table: &mut Table<R>,
+    lines: &mut EditedLines<'_>,
     edit: &Edit<R, R::Change>,
 ) -> Result<(), AllocError>
     requires { IsWrittenEdit R.format (seen_edit R.becomes edit.now) }
-    ensures { OnOk result (table.new ≡ edited R.format table.old (seen_edit R.becomes edit.now)) }
+    ensures { OnOk result (lines.new ≡ edited R.format lines.old (seen_edit R.becomes edit.now)) }
 {
     match edit {
-        Edit::Become(change) => change_each(alloc, table, change),
-        Edit::Add(item) => table.append_any(item.copy(alloc)?),
-        Edit::AddMissing(item) => add_missing(alloc, table, item),
-        Edit::Put(item) => put(alloc, table, item),
+        Edit::Become(change) => change_each::<R>(alloc, lines, change),
+        Edit::Add(item) => lines.append_any(item),
+        Edit::AddMissing(item) => add_missing(lines, item),
+        Edit::Put(item) => put(lines, item),
     }
 }
 
 // Adds the record where no record has its name.
 fn add_missing<R: EditedRecord + Drop>(
-    alloc: Global,
-    table: &mut Table<R>,
+    lines: &mut EditedLines<'_>,
     item: &R,
 ) -> Result<(), AllocError>
     requires { IsWritten R.format item.now }
-    ensures { OnOk result (table.new ≡ edited R.format table.old (model.AddMissing item.now)) }
+    ensures { OnOk result (lines.new ≡ edited R.format lines.old (model.AddMissing item.now)) }
 {
-    if table.find(item.name()).is_some() {
-        return Ok(());
+    match first_place::<R>(lines, item.name())? {
+        Some(_) => Ok(()),
+        None => lines.append_any(item),
     }
-    table.append_any(item.copy(alloc)?)
 }
 
 // Puts the record in place of the first of its name, or adds it.
-fn put<R: EditedRecord + Drop>(
-    alloc: Global,
-    table: &mut Table<R>,
-    item: &R,
-) -> Result<(), AllocError>
+fn put<R: EditedRecord + Drop>(lines: &mut EditedLines<'_>, item: &R) -> Result<(), AllocError>
     requires { IsWritten R.format item.now }
-    ensures { OnOk result (table.new ≡ edited R.format table.old (model.Put item.now)) }
+    ensures { OnOk result (lines.new ≡ edited R.format lines.old (model.Put item.now)) }
 {
-    match first_place(table, item.name()) {
-        Some(place) => table.set_at(place, item.copy(alloc)?),
-        None => table.append_any(item.copy(alloc)?),
+    match first_place::<R>(lines, item.name())? {
+        Some(place) => lines.set_at(place, item),
+        None => lines.append_any(item),
     }
 }
 
 // The place of the first record of the name.
-fn first_place<R: EditedRecord + Drop>(table: &Table<R>, name: &[u8]) -> Option<usize>
-    ensures { result ≡ position_from (line_is_named R.format name.now) 0 table.now }
+fn first_place<R: EditedRecord + Drop>(
+    lines: &EditedLines<'_>,
+    name: &[u8],
+) -> Result<Option<usize>, AllocError>
+    ensures { IfOk result (λ place.
+        place ≡ position_from (line_is_named R.format name.now) 0 lines.now) }
 {
-    'places: for place in 0..table.len() {
-        if is_named_at(table, place, name) {
-            return Some(place);
+    'places: for place in 0..lines.len() {
+        if lines.is_named_at::<R>(place, name)? {
+            return Ok(Some(place));
         }
     }
-    None
-}
-
-// Whether a record of the name stands at the place.
-fn is_named_at<R: EditedRecord + Drop>(table: &Table<R>, place: usize, name: &[u8]) -> bool
-    ensures { result ≡ is_named_at R.format name.now table.now place }
-{
-    match table.at(place) {
-        Some(item) => item.name() == name,
-        None => false,
-    }
+    Ok(None)
 }
 
 /// Puts in place of each record what becomes of it. The places go down, so that those to come stay.
 pub(crate) fn change_each<R: EditedRecord + Drop>(
     alloc: Global,
-    table: &mut Table<R>,
+    lines: &mut EditedLines<'_>,
     change: &R::Change,
 ) -> Result<(), AllocError>
     requires { IsWrittenEdit R.format (model.Become (R.becomes change.now)) }
-    ensures { OnOk result (table.new ≡
-        edited R.format table.old (model.Become (R.becomes change.now))) }
+    ensures { OnOk result (lines.new ≡
+        edited R.format lines.old (model.Become (R.becomes change.now))) }
 {
-    let mut place = table.len();
+    let mut place = lines.len();
     'places: while place > 0 {
         place -= 1;
-        change_at(alloc, table, place, change)?;
+        change_at::<R>(alloc, lines, place, change)?;
     }
     Ok(())
 }
@@ -164,42 +178,46 @@ pub(crate) fn change_each<R: EditedRecord + Drop>(
 /// Puts in place of the record at a place what becomes of it.
 pub(crate) fn change_at<R: EditedRecord + Drop>(
     alloc: Global,
-    table: &mut Table<R>,
+    lines: &mut EditedLines<'_>,
     place: usize,
     change: &R::Change,
 ) -> Result<(), AllocError>
-    requires inside { place < length table.old }
+    requires inside { place < length lines.old }
     requires written { IsWrittenEdit R.format (model.Become (R.becomes change.now)) }
-    ensures { OnOk result (table.new ≡
-        spliced_at (becomes R.format (R.becomes change.now)) place table.old) }
+    ensures { OnOk result (lines.new ≡
+        spliced_at (becomes R.format (R.becomes change.now)) place lines.old) }
 {
-    let Some(item) = table.at(place) else {
+    let Some(item) = lines.record_at::<R>(place)? else {
         return Ok(());
     };
     match item.becoming(alloc, change)? {
         Becoming::Stays => Ok(()),
-        Becoming::Changes(new) => table.set_at(place, new),
-        Becoming::Goes => table.remove_at(place),
-        Becoming::Splits(first, second) => split_at(table, place, first, second),
+        Becoming::Changes(new) => lines.set_at(place, &new),
+        Becoming::Goes => {
+            lines.remove_at(place);
+            Ok(())
+        }
+        Becoming::Splits(first, second) => split_at(lines, place, &first, &second),
     }
 }
 
 // Puts two lines in place of one. They go in front of it before it goes: behind the last line a new
 // one would end all others.
 fn split_at<R: EditedRecord + Drop>(
-    table: &mut Table<R>,
+    lines: &mut EditedLines<'_>,
     place: usize,
-    first: R,
-    second: R,
+    first: &R,
+    second: &R,
 ) -> Result<(), AllocError>
-    requires inside { place < length table.old }
-    requires first_written { IsWritten R.format first }
-    requires second_written { IsWritten R.format second }
-    ensures { OnOk result (table.new ≡
-        spliced_at (λ _. map (printed_line R.format) (first ∷ second ∷ [])) place table.old) }
+    requires inside { place < length lines.old }
+    requires first_written { IsWritten R.format first.now }
+    requires second_written { IsWritten R.format second.now }
+    ensures { OnOk result (lines.new ≡ spliced_at
+        (λ _. map (printed_line R.format) (first.now ∷ second.now ∷ [])) place lines.old) }
 {
-    let from_here = table.len() - place;
-    table.insert_at(place, second)?;
-    table.insert_at(place, first)?;
-    table.remove_at(table.len() - from_here)
+    let from_here = lines.len() - place;
+    lines.insert_at(place, second)?;
+    lines.insert_at(place, first)?;
+    lines.remove_at(lines.len() - from_here);
+    Ok(())
 }

@@ -1,23 +1,22 @@
 // What a command decides once none of its refusals is there, by its script.
-ghost use Rattle.std.specs.Prelude.{◌≡◌, ◌++◌, IfOk, OnOk, option_and_then};
+ghost use Rattle.std.specs.Prelude.{◌≡◌, ◌++◌, IfOk, OnOk};
 ghost use Rattle.std.specs.List.{AllByRecursion};
-ghost use Rattle.std.specs.Option.{option_copied};
 ghost use Rattle.acct_text.specs.Contents.{same_content};
 ghost use Rattle.account_model.specs.Action.{multiple_entries, multiple_in, outcome_of};
 ghost use Rattle.account_model.specs.Answer.{files_eq};
 ghost use Rattle.account_model.specs.Edits.{first_multiple};
-ghost use Rattle.account_model.specs.Format.{records_of};
 ghost use Rattle.account_model.specs.Messages.{message, messages};
 ghost use Rattle.account_model.specs.RecordEdits.{IsWrittenEdit};
+ghost use Rattle.account_model.specs.Tables.{table_records};
 ghost use Rattle.account_model.specs.WrittenScript.{IsWrittenScript};
 ghost use Rattle.acct_tables.specs.Decisions.{Decides, refusal_output};
 ghost use Rattle.table_edits.specs.Acting.{acting};
 ghost use Rattle.table_edits.specs.SeenEdits.{seen_edits};
 ghost use Rattle.table_edits.specs.SeenScript.{seen_script};
 
-use crate::{Edit, EditedRecord, Report, Script, Tables, first_multiple};
+use crate::{Edit, EditedRecord, Report, Script, Tables, file_lines, first_multiple};
 use account_model::{Refusal, Tool};
-use acct_tables::{Decision, Output, Table, refusal_status, refusal_text};
+use acct_tables::{Decision, Output, refusal_status, refusal_text};
 use acct_text::{Bytes, Files, Names, Tab};
 use std::alloc::{AllocError, Global};
 
@@ -27,17 +26,15 @@ use std::alloc::{AllocError, Global};
 pub fn decide_by(
     alloc: Global,
     tool: Tool,
-    files: &Files,
-    tables: Tables,
+    tables: &Tables,
     script: &Script,
     report: Report,
 ) -> Result<Decision, AllocError>
-    requires loaded { tables ≡ files.now }
-    requires written { IsWrittenScript (seen_script script.now) }
-    ensures { IfOk result (λ decision. Decides tool files.now
-        (outcome_of (acting (seen_script script.now) report) files.now) decision) }
+    requires { IsWrittenScript (seen_script script.now) }
+    ensures { IfOk result (λ decision. Decides tool tables.now
+        (outcome_of (acting (seen_script script.now) report) tables.now) decision) }
 {
-    if let Some(refusal) = multiple_entries(alloc, &tables, script)? {
+    if let Some(refusal) = multiple_entries(alloc, tables, script)? {
         return refuse(alloc, tool, refusal);
     }
     let new = tables.edited(alloc, script)?;
@@ -46,7 +43,7 @@ pub fn decide_by(
         out: report.out,
         err: messages(alloc, tool, &report.notices)?,
     };
-    if are_same(files, &new) {
+    if are_same(tables.files(), &new) {
         Ok(Decision::Same(output))
     } else {
         Ok(Decision::Change(new, output))
@@ -79,37 +76,36 @@ fn multiple_entries(
     ensures { IfOk result (λ refusal. refusal ≡
         multiple_entries (seen_script script.now) tables.now) }
 {
-    if let Some(name) = multiple_in(alloc, tables.passwd(), &script.passwd)? {
+    let files = tables.files();
+    if let Some(name) = multiple_in(alloc, &files.passwd, &script.passwd)? {
         return Ok(Some(Refusal::Multiple(Tab::Passwd, name)));
     }
-    if let Some(name) = multiple_in(alloc, tables.shadow(), &script.shadow)? {
+    if let Some(name) = multiple_in(alloc, &files.shadow, &script.shadow)? {
         return Ok(Some(Refusal::Multiple(Tab::Shadow, name)));
     }
-    if let Some(name) = multiple_in(alloc, tables.group(), &script.group)? {
+    if let Some(name) = multiple_in(alloc, &files.group, &script.group)? {
         return Ok(Some(Refusal::Multiple(Tab::Group, name)));
     }
-    if let Some(name) = multiple_in(alloc, tables.gshadow(), &script.gshadow)? {
+    if let Some(name) = multiple_in(alloc, &files.gshadow, &script.gshadow)? {
         return Ok(Some(Refusal::Multiple(Tab::Gshadow, name)));
     }
     Ok(None)
 }
 
-// The name of the first touched record of a table that has several; none where there is no table.
+// The name of the first touched record of a file that has several; no edit touches none.
 fn multiple_in<R: EditedRecord + Drop>(
     alloc: Global,
-    table: Option<&Table<R>>,
+    file: &Option<Bytes>,
     edits: &[Edit<R, R::Change>],
 ) -> Result<Option<Bytes>, AllocError>
     requires { AllByRecursion (IsWrittenEdit R.format) (seen_edits R.becomes edits.now) }
-    ensures { IfOk result (λ name. name ≡ option_and_then
-        (λ lines. first_multiple R.format (seen_edits R.becomes edits.now)
-        (records_of R.format lines))
-        (option_copied table.entry)) }
+    ensures { IfOk result (λ name. name ≡ first_multiple R.format (seen_edits R.becomes edits.now)
+        (table_records R.format file.now)) }
 {
-    match table {
-        Some(table) => first_multiple(alloc, table, edits),
-        None => Ok(None),
+    if edits.is_empty() {
+        return Ok(None);
     }
+    first_multiple(alloc, &file_lines(alloc, file)?, edits)
 }
 
 /// Whether all six files are equal, each absent in both or with the same bytes.

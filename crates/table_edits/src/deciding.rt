@@ -7,29 +7,26 @@ ghost use Rattle.table_edits.specs.Acting.{ActsBy, IsOfTool, IsReportOf};
 use crate::{Report, Script, Tables, decide_by, refuse};
 use account_model::{Tool, tools_are_written};
 use acct_tables::{Decision, ToolFault};
-use acct_text::Files;
 use std::alloc::{AllocError, Global};
 
 /// What a command decides whose tool has answered with a script or a refusal, and which reports
-/// this where it doesn't refuse. `tables` are those of the files.
+/// this where it doesn't refuse.
 pub fn decide_as(
     alloc: Global,
     tool: Tool,
-    files: &Files,
-    tables: Tables,
+    tables: &Tables,
     answer: Result<Script, ToolFault>,
     report: Report,
 ) -> Result<Decision, AllocError>
-    requires loaded { tables ≡ files.now }
-    requires of_tool { IsOfTool answer }
+    requires { IsOfTool answer }
     ensures { IfOk result (λ decision. (action : Action)
         → ActsBy action answer → IsReportOf action report
-        → Decides tool files.now (outcome_of action files.now) decision) }
+        → Decides tool tables.now (outcome_of action tables.now) decision) }
 {
     match answer {
         Ok(script) => {
             tools_are_written();
-            decide_by(alloc, tool, files, tables, &script, report)
+            decide_by(alloc, tool, tables, &script, report)
         }
         Err(ToolFault::Refused(refusal)) => refuse(alloc, tool, refusal),
         Err(ToolFault::Memory) => Err(AllocError),

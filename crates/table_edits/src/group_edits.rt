@@ -106,11 +106,11 @@ impl Script {
         ensures { OnOk result
             (HasAlso (gshadow_on_demand name.now tables.now) self.old self.new) }
     {
-        if tables.gshadow().is_none() || tables.gshadow_named(name).is_some() {
+        if !tables.has_gshadow_file() || tables.gshadow_named(alloc, name)?.is_some() {
             return Ok(());
         }
-        match tables.group_named(name) {
-            Some(group) => make_gshadow(alloc, self, group),
+        match tables.group_named(alloc, name)? {
+            Some(group) => make_gshadow(alloc, self, &group),
             None => Ok(()),
         }
     }
@@ -129,7 +129,7 @@ impl Script {
     {
         self.demand_gshadow(alloc, tables, name)?;
         let hash = Bytes::of(alloc, hash)?;
-        if tables.gshadow().is_some() {
+        if tables.has_gshadow_file() {
             self.change_gshadow(alloc, name, GshadowAct::SetPassword(hash))
         } else {
             self.change_group(alloc, name, GroupAct::SetPassword(hash))

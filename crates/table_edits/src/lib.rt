@@ -2,7 +2,7 @@
 //! interpreter that carries them out (passwd(5), shadow(5), group(5), gshadow(5), subuid(5),
 //! subgid(5)).
 //!
-//! A tool loads the `Tables`, looks up users and groups there for its refusals, and builds a
+//! A tool looks up users and groups in the `Tables` for its refusals, and builds a
 //! `Script`. `decide_as` takes its answer: a refusal, or the script, which is refused where an edit
 //! touches one of several records of a name. `edit` has the edits, `group_changes` and its like
 //! what becomes of a record, `group_edits` and `user_edits` the edits that several tools make,
@@ -42,8 +42,8 @@ pub use account_model::{Refusal, Tool};
 pub use acct_lines::{
     GroupRecord, GshadowRecord, PasswdRecord, ShadowRecord, SubidRecord, TableRecord,
 };
-pub use acct_tables::{Decision, Output, Table, ToolFault};
-pub use apply::apply_edits;
+pub use acct_tables::{Decision, FileLines, Output, ToolFault};
+pub use apply::edited_text;
 pub use decide::{are_same, decide_by, refuse};
 pub use deciding::decide_as;
 pub use edit::{Becoming, Edit, EditedRecord};
@@ -55,7 +55,7 @@ pub use multiple::first_multiple;
 pub use passwd_changes::{PasswdAct, PasswdChange, UserFields};
 pub use report::Report;
 pub use script::Script;
-pub use search::{RecordTest, first_passing};
+pub use search::{RecordTest, file_lines, first_passing};
 pub use shadow_changes::{ShadowAct, ShadowChange, ShadowFields};
 pub use subid_changes::{RangeCut, SubidChange};
 pub use tables::Tables;

@@ -12,7 +12,7 @@ ghost use Rattle.table_edits.specs.Touching.{is_met, met_at, touches_alone};
 
 use crate::repeats::{is_repeated, repeats};
 use crate::{Becoming, Edit, EditedRecord};
-use acct_tables::Table;
+use acct_tables::FileLines;
 use acct_text::Bytes;
 use std::alloc::{AllocError, Global};
 use std::collections::HashMap;
@@ -21,16 +21,16 @@ use std::collections::HashMap;
 /// where there is no such record.
 pub fn first_multiple<R: EditedRecord + Drop>(
     alloc: Global,
-    table: &Table<R>,
+    lines: &FileLines<'_>,
     edits: &[Edit<R, R::Change>],
 ) -> Result<Option<Bytes>, AllocError>
     requires { AllByRecursion (IsWrittenEdit R.format) (seen_edits R.becomes edits.now) }
     ensures { IfOk result (λ name. name ≡
-        first_multiple R.format (seen_edits R.becomes edits.now) (records_of R.format table.now)) }
+        first_multiple R.format (seen_edits R.becomes edits.now) (records_of R.format lines.now)) }
 {
-    let repeats = repeats(alloc, table)?;
-    'places: for place in 0..table.len() {
-        if let Some(name) = met_at(alloc, table, edits, &repeats, place)? {
+    let repeats = repeats::<R>(alloc, lines)?;
+    'places: for place in 0..lines.len() {
+        if let Some(name) = met_at(alloc, lines, edits, &repeats, place)? {
             return Ok(Some(name));
         }
     }
@@ -40,26 +40,26 @@ pub fn first_multiple<R: EditedRecord + Drop>(
 // The name of the record at a place, where its name has several records and the edits touch it.
 fn met_at<R: EditedRecord + Drop>(
     alloc: Global,
-    table: &Table<R>,
+    lines: &FileLines<'_>,
     edits: &[Edit<R, R::Change>],
     repeats: &HashMap<&[u8], bool>,
     place: usize,
 ) -> Result<Option<Bytes>, AllocError>
     requires edits { AllByRecursion (IsWrittenEdit R.format) (seen_edits R.becomes edits.now) }
-    requires told { TellsRepeats R.format (records_of R.format table.now) repeats.now }
+    requires told { TellsRepeats R.format (records_of R.format lines.now) repeats.now }
     ensures { IfOk result (λ name. name ≡
-        met_at R.format (seen_edits R.becomes edits.now) table.now place) }
+        met_at R.format (seen_edits R.becomes edits.now) lines.now place) }
 {
-    let Some(item) = table.at(place) else {
+    let Some(item) = lines.record_at::<R>(alloc, place)? else {
         return Ok(None);
     };
-    if !is_met(alloc, edits, repeats, item)? {
+    if !is_met(alloc, edits, repeats, &item)? {
         return Ok(None);
     }
     Ok(Some(Bytes::of(alloc, item.name())?))
 }
 
-// Whether the name of the record has several records, by what the table tells, and the edits touch
+// Whether the name of the record has several records, by what the file tells, and the edits touch
 // the record.
 fn is_met<R: EditedRecord + Drop>(
     alloc: Global,

@@ -1,10 +1,10 @@
-// Where the records of each name stand in a table, found for all names in one pass.
+// Where the records of each name stand in a file, found for all names in one pass.
 ghost use Rattle.std.specs.Prelude.{◌≡◌, ◌<◌, ◌+◌, drop, length, IfOk, OnOk};
 ghost use Rattle.table_edits.specs.NamePlaces.{IsPlaceNoted, TellsPlaces, place_in, with_place};
-ghost use Rattle.table_edits.specs.NamedLines.{AreWritten, line_names};
+ghost use Rattle.table_edits.specs.NamedLines.{line_names};
 
 use acct_lines::TableRecord;
-use acct_tables::Table;
+use acct_tables::FileLines;
 use std::alloc::{AllocError, Global};
 use std::collections::HashMap;
 
@@ -19,38 +19,36 @@ pub(crate) enum NamePlace {
     Several,
 }
 
-/// For each name that a record of the table has, where its records stand.
-pub(crate) fn name_places<R: TableRecord + Drop>(
+/// For each name that a record of the file has, where its records stand.
+pub(crate) fn name_places<'a, R: TableRecord + Drop>(
     alloc: Global,
-    table: &Table<R>,
-) -> Result<HashMap<&[u8], NamePlace>, AllocError>
-    ensures places { IfOk result (TellsPlaces 0 (line_names R.format table.now)) }
-    ensures written { IfOk result (λ _. AreWritten R.format table.now) }
+    lines: &FileLines<'a>,
+) -> Result<HashMap<&'a [u8], NamePlace>, AllocError>
+    ensures { IfOk result (TellsPlaces 0 (line_names R.format lines.now)) }
 {
     let mut places = HashMap::new(alloc);
-    let mut place = table.len();
+    let mut place = lines.len();
     'places: while place > 0 {
         place -= 1;
-        note_at(&mut places, table, place)?;
+        note_at::<R>(alloc, &mut places, lines, place)?;
     }
     Ok(places)
 }
 
 // Notes the line at a place, in front of those behind it.
 fn note_at<'a, R: TableRecord + Drop>(
+    alloc: Global,
     places: &mut HashMap<&'a [u8], NamePlace>,
-    table: &'a Table<R>,
+    lines: &FileLines<'a>,
     place: usize,
 ) -> Result<(), AllocError>
-    requires { place < length table.now }
-    ensures told { OnOk result (
-        TellsPlaces (place + 1) (line_names R.format (drop (place + 1) table.now)) places.old
-        → TellsPlaces place (line_names R.format (drop place table.now)) places.new) }
-    ensures written { OnOk result (AreWritten R.format (drop (place + 1) table.now)
-        → AreWritten R.format (drop place table.now)) }
+    requires { place < length lines.now }
+    ensures { OnOk result (
+        TellsPlaces (place + 1) (line_names R.format (drop (place + 1) lines.now)) places.old
+        → TellsPlaces place (line_names R.format (drop place lines.now)) places.new) }
 {
-    match table.at(place) {
-        Some(item) => note(places, item.name(), place),
+    match lines.name_at::<R>(alloc, place)? {
+        Some(name) => note(places, name, place),
         None => Ok(()),
     }
 }
@@ -78,7 +76,7 @@ fn with_place(place: usize, found: NamePlace) -> NamePlace
     }
 }
 
-/// Where the records of the name stand, by what the table tells.
+/// Where the records of the name stand, by what the file tells.
 pub(crate) fn place_in(places: &HashMap<&[u8], NamePlace>, name: &[u8]) -> NamePlace
     ensures { result ≡ place_in places.now name.now }
 {

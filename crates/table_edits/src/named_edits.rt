@@ -1,7 +1,7 @@
 // Edits that each may touch the records of one name only: they are carried out where these stand,
 // so that a list of them takes no pass over the table for each.
 ghost use Rattle.std.specs.Prelude.{◌≡◌, true, List, map, IfOk, IfSome, OnOk};
-ghost use Rattle.acct_text.specs.Lines.{Line};
+ghost use Rattle.acct_text.specs.Lines.{Line, lines_of};
 ghost use Rattle.account_model.specs.Edits.{as_ended, edited, with_line};
 ghost use Rattle.account_model.specs.Edits as model;
 ghost use Rattle.account_model.specs.RecordEdits.{IsWrittenEdit};
@@ -14,11 +14,11 @@ ghost use Rattle.table_edits.specs.SeenEdits.{seen_edit};
 use crate::apply::{change_at, change_each};
 use crate::name_places::{NamePlace, name_places, place_in};
 use crate::{Edit, EditedRecord};
-use acct_tables::Table;
+use acct_tables::{EditedLines, FileLines};
 use std::alloc::{AllocError, Global};
 use std::collections::HashMap;
 
-/// What is known of a table while edits by name change it.
+/// What is known of the lines while edits by name change it.
 #[derive(Drop)]
 pub(crate) struct Known<'a> {
     /// Where the records of a name stand, for the names of the edits.
@@ -27,19 +27,20 @@ pub(crate) struct Known<'a> {
     pub ended: bool,
 }
 
-/// What is known of the table before the edits.
+/// What is known of the lines of the text before the edits.
 pub(crate) fn known_before<'a, R: EditedRecord + Drop>(
     alloc: Global,
-    table: &Table<R>,
+    text: &[u8],
     edits: &'a [Edit<R, R::Change>],
 ) -> Result<Known<'a>, AllocError>
-    ensures { IfOk result (IsKnown R.format table.now) }
+    ensures { IfOk result (IsKnown R.format (lines_of text.now)) }
 {
-    let of_table = name_places(alloc, table)?;
+    let lines = &FileLines::of(alloc, text)?;
+    let of_text = name_places::<R>(alloc, lines)?;
     let mut places = HashMap::new(alloc);
     'edits: for edit in edits {
         if let Some(name) = only_name(edit) {
-            places.insert(name, place_in(&of_table, name))?;
+            places.insert(name, place_in(&of_text, name))?;
         }
     }
     Ok(Known {
@@ -74,44 +75,43 @@ pub(crate) fn place_of<R: EditedRecord + Drop>(
 /// Carries out an edit of the records that stand there.
 pub(crate) fn apply_there<'a, R: EditedRecord + Drop>(
     alloc: Global,
-    table: &mut Table<R>,
+    lines: &mut EditedLines<'_>,
     edit: &'a Edit<R, R::Change>,
     place: NamePlace,
     known: &mut Known<'a>,
 ) -> Result<(), AllocError>
-    requires known { IsKnown R.format table.old known.old }
+    requires known { IsKnown R.format lines.old known.old }
     requires placed { IsPlaced R.format (seen_edit R.becomes edit.now)
-        (line_names R.format table.old) place }
+        (line_names R.format lines.old) place }
     requires written { IsWrittenEdit R.format (seen_edit R.becomes edit.now) }
-    ensures edited { OnOk result (table.new ≡
-        edited R.format table.old (seen_edit R.becomes edit.now)) }
-    ensures known { OnOk result (IsKnown R.format table.new known.new) }
+    ensures edited { OnOk result (lines.new ≡
+        edited R.format lines.old (seen_edit R.becomes edit.now)) }
+    ensures known { OnOk result (IsKnown R.format lines.new known.new) }
 {
     match edit {
-        Edit::Become(change) => change_there(alloc, table, change, place),
-        Edit::AddMissing(item) => add_there(alloc, table, item, place, known),
+        Edit::Become(change) => change_there::<R>(alloc, lines, change, place),
+        Edit::AddMissing(item) => add_there(lines, item, place, known),
         Edit::Add(_) | Edit::Put(_) => Ok(()),
     }
 }
 
 // Adds the record where none of its name stands.
 fn add_there<'a, R: EditedRecord + Drop>(
-    alloc: Global,
-    table: &mut Table<R>,
+    lines: &mut EditedLines<'_>,
     item: &'a R,
     place: NamePlace,
     known: &mut Known<'a>,
 ) -> Result<(), AllocError>
-    requires known { IsKnown R.format table.old known.old }
+    requires known { IsKnown R.format lines.old known.old }
     requires placed { place ≡
-        place_of_name (R.format.name item.now) (line_names R.format table.old) }
+        place_of_name (R.format.name item.now) (line_names R.format lines.old) }
     requires written { IsWritten R.format item.now }
-    ensures added { OnOk result (table.new ≡
-        edited R.format table.old (model.AddMissing item.now)) }
-    ensures known { OnOk result (IsKnown R.format table.new known.new) }
+    ensures added { OnOk result (lines.new ≡
+        edited R.format lines.old (model.AddMissing item.now)) }
+    ensures known { OnOk result (IsKnown R.format lines.new known.new) }
 {
     match place {
-        NamePlace::Nowhere => append(alloc, table, item, known),
+        NamePlace::Nowhere => append(lines, item, known),
         NamePlace::Only(_) | NamePlace::Several => Ok(()),
     }
 }
@@ -119,40 +119,39 @@ fn add_there<'a, R: EditedRecord + Drop>(
 // Puts in place of the records that stand there what becomes of them.
 fn change_there<R: EditedRecord + Drop>(
     alloc: Global,
-    table: &mut Table<R>,
+    lines: &mut EditedLines<'_>,
     change: &R::Change,
     place: NamePlace,
 ) -> Result<(), AllocError>
     requires placed { IsPlaced R.format (model.Become (R.becomes change.now))
-        (line_names R.format table.old) place }
+        (line_names R.format lines.old) place }
     requires written { IsWrittenEdit R.format (model.Become (R.becomes change.now)) }
-    ensures { OnOk result (table.new ≡
-        edited R.format table.old (model.Become (R.becomes change.now))) }
+    ensures { OnOk result (lines.new ≡
+        edited R.format lines.old (model.Become (R.becomes change.now))) }
 {
     match place {
         NamePlace::Nowhere => Ok(()),
-        NamePlace::Only(place) => change_at(alloc, table, place, change),
-        NamePlace::Several => change_each(alloc, table, change),
+        NamePlace::Only(place) => change_at::<R>(alloc, lines, place, change),
+        NamePlace::Several => change_each::<R>(alloc, lines, change),
     }
 }
 
 // Adds the record of a name that no record has, which is known from then on.
 fn append<'a, R: EditedRecord + Drop>(
-    alloc: Global,
-    table: &mut Table<R>,
+    lines: &mut EditedLines<'_>,
     item: &'a R,
     known: &mut Known<'a>,
 ) -> Result<(), AllocError>
-    requires known { IsKnown R.format table.old known.old }
-    requires new { place_of_name (R.format.name item.now) (line_names R.format table.old)
+    requires known { IsKnown R.format lines.old known.old }
+    requires new { place_of_name (R.format.name item.now) (line_names R.format lines.old)
         ≡ NamePlace.Nowhere }
     requires written { IsWritten R.format item.now }
-    ensures added { OnOk result (table.new ≡
-        edited R.format table.old (model.AddMissing item.now)) }
-    ensures known { OnOk result (IsKnown R.format table.new known.new) }
+    ensures added { OnOk result (lines.new ≡
+        edited R.format lines.old (model.AddMissing item.now)) }
+    ensures known { OnOk result (IsKnown R.format lines.new known.new) }
 {
-    let place = table.len();
-    add_line(table, item.copy(alloc)?, known.ended)?;
+    let place = lines.len();
+    add_line(lines, item, known.ended)?;
     known.ended = true;
     known.places.insert(item.name(), NamePlace::Only(place))?;
     Ok(())
@@ -160,17 +159,17 @@ fn append<'a, R: EditedRecord + Drop>(
 
 // Adds a record behind the last line. Only where some line may lack an end each line gets one.
 fn add_line<R: EditedRecord + Drop>(
-    table: &mut Table<R>,
-    item: R,
+    lines: &mut EditedLines<'_>,
+    item: &R,
     ended: bool,
 ) -> Result<(), AllocError>
-    requires written { IsWritten R.format item }
-    requires ended { ended ≡ true → map as_ended table.old ≡ table.old }
-    ensures { OnOk result (table.new ≡ with_line (R.format.print item) table.old) }
+    requires written { IsWritten R.format item.now }
+    requires ended { ended ≡ true → map as_ended lines.old ≡ lines.old }
+    ensures { OnOk result (lines.new ≡ with_line (R.format.print item.now) lines.old) }
 {
     if ended {
-        table.append_ended(item)
+        lines.append_ended(item)
     } else {
-        table.append_any(item)
+        lines.append_any(item)
     }
 }

@@ -22,7 +22,7 @@ impl Script {
         ensures { OnOk result
             (HasAlso (addition_of_group name.now hash.now gid tables.now) self.old self.new) }
     {
-        let password = if tables.gshadow().is_some() {
+        let password = if tables.has_gshadow_file() {
             b"x"
         } else {
             hash

@@ -1,10 +1,12 @@
-// The first record of a table that passes a test.
-ghost use Rattle.std.specs.Prelude.{◌≡◌, Bool, find};
-ghost use Rattle.std.specs.Option.{option_copied};
-ghost use Rattle.account_model.specs.Format.{records_of};
+// The lines of a table, and the first record among them that passes a test.
+ghost use Rattle.std.specs.Prelude.{◌≡◌, Bool, find, IfOk};
+ghost use Rattle.account_model.specs.Tables.{table_records};
+ghost use Rattle.table_edits.specs.TablesOfLines.{lines_in};
 
 use acct_lines::{GroupRecord, PasswdRecord, TableRecord};
-use acct_tables::Table;
+use acct_tables::FileLines;
+use acct_text::Bytes;
+use std::alloc::{AllocError, Global};
 
 /// A test of the records R.
 pub trait RecordTest<R> {
@@ -42,19 +44,32 @@ impl RecordTest<GroupRecord> for OfGid {
     }
 }
 
-/// The first record that passes the test.
-pub fn first_passing<'a, R: TableRecord + Drop, T: RecordTest<R>>(
-    table: &'a Table<R>,
-    test: &T,
-) -> Option<&'a R>
-    ensures { option_copied result ≡ find (T.accepts test.now) (records_of R.format table.now) }
+/// The lines of a table's file; an absent one has none.
+pub fn file_lines(alloc: Global, file: &Option<Bytes>) -> Result<FileLines<'_>, AllocError>
+    ensures { IfOk result (λ lines. lines ≡ lines_in file.now) }
 {
-    for place in 0..table.len() {
-        if let Some(item) = table.at(place) {
-            if test.passes(item) {
-                return Some(item);
+    match file {
+        Some(text) => FileLines::of(alloc, text.as_slice()),
+        None => FileLines::of(alloc, b""),
+    }
+}
+
+/// The first record of the file that passes the test.
+pub fn first_passing<R: TableRecord + Drop, T: RecordTest<R>>(
+    alloc: Global,
+    file: &Option<Bytes>,
+    test: &T,
+) -> Result<Option<R>, AllocError>
+    ensures { IfOk result (λ found.
+        found ≡ find (T.accepts test.now) (table_records R.format file.now)) }
+{
+    let lines = &file_lines(alloc, file)?;
+    for place in 0..lines.len() {
+        if let Some(item) = lines.record_at::<R>(alloc, place)? {
+            if test.passes(&item) {
+                return Ok(Some(item));
             }
         }
     }
-    None
+    Ok(None)
 }

@@ -1,9 +1,9 @@
 // What the changes make of records, and the lines that are made on demand.
 use crate::{
-    Becoming, EditedRecord, GroupAct, GroupChange, GroupRecord, GshadowAct, GshadowChange,
-    GshadowRecord, HashChange, Membership, PasswdAct, PasswdChange, PasswdRecord, RangeCut, Script,
-    ShadowAct, ShadowChange, ShadowFields, ShadowRecord, SubidChange, SubidRecord, Table, Tables,
-    UserFields, UserGroups, UserIndex,
+    Becoming, EditedRecord, FileLines, GroupAct, GroupChange, GroupRecord, GshadowAct,
+    GshadowChange, GshadowRecord, HashChange, Membership, PasswdAct, PasswdChange, PasswdRecord,
+    RangeCut, Script, ShadowAct, ShadowChange, ShadowFields, ShadowRecord, SubidChange,
+    SubidRecord, Tables, UserFields, UserGroups, UserIndex,
 };
 use acct_text::{Bytes, Files, Names};
 use std::alloc::{AllocError, Global};
@@ -16,8 +16,7 @@ fn becomes<R: EditedRecord + Drop>(
     line: &[u8],
     change: &R::Change,
 ) -> Result<Bytes, Fail> {
-    let table: Table<R> = Table::load(alloc, line)?;
-    let Some(item) = table.at(0) else {
+    let Some(item) = FileLines::of(alloc, line)?.record_at::<R>(alloc, 0)? else {
         return Err("no record".into());
     };
     let mut text = Bytes::new(alloc);
@@ -163,7 +162,8 @@ fn ids_go_out_of_ranges(rt: HostRuntime) -> Result<(), Fail> {
 
 #[test]
 fn a_line_is_made_on_demand(rt: HostRuntime) -> Result<(), Fail> {
-    let tables = Tables::load(rt.alloc(), &unshadowed(rt.alloc())?)?;
+    let files = unshadowed(rt.alloc())?;
+    let tables = Tables::of(&files);
     let mut script = Script::new(rt.alloc());
     script.demand_shadow(rt.alloc(), &tables, b"ann")?;
     script.change_hash(rt.alloc(), &tables, b"ann", HashChange::Lock)?;
@@ -174,7 +174,8 @@ fn a_line_is_made_on_demand(rt: HostRuntime) -> Result<(), Fail> {
 
 #[test]
 fn a_line_is_made_on_demand_by_the_index(rt: HostRuntime) -> Result<(), Fail> {
-    let tables = Tables::load(rt.alloc(), &unshadowed(rt.alloc())?)?;
+    let files = unshadowed(rt.alloc())?;
+    let tables = Tables::of(&files);
     let users = UserIndex::of(rt.alloc(), &tables)?;
     let mut script = Script::new(rt.alloc());
     script.demand_indexed(rt.alloc(), &users, b"ann")?;

@@ -63,11 +63,11 @@ impl Script {
         ensures { OnOk result
             (HasAlso (shadow_on_demand name.now tables.now) self.old self.new) }
     {
-        if tables.shadow().is_none() || tables.shadow_named(name).is_some() {
+        if !tables.has_shadow_file() || tables.shadow_named(alloc, name)?.is_some() {
             return Ok(());
         }
-        match tables.user_named(name) {
-            Some(user) => make_shadow(alloc, self, user),
+        match tables.user_named(alloc, name)? {
+            Some(user) => make_shadow(alloc, self, &user),
             None => Ok(()),
         }
     }
@@ -82,11 +82,11 @@ impl Script {
         ensures { OnOk result
             (HasAlso (shadow_on_demand name.now users.now) self.old self.new) }
     {
-        if users.tables().shadow().is_none() || users.shadow_named(name).is_some() {
+        if !users.tables().has_shadow_file() || users.shadow_named(alloc, name)?.is_some() {
             return Ok(());
         }
-        match users.user_named(name) {
-            Some(user) => make_shadow(alloc, self, user),
+        match users.user_named(alloc, name)? {
+            Some(user) => make_shadow(alloc, self, &user),
             None => Ok(()),
         }
     }
@@ -103,7 +103,7 @@ impl Script {
         ensures { OnOk result (HasAlso
             (each_user_hash name.now (hash_by change) tables.now) self.old self.new) }
     {
-        if tables.shadow().is_some() {
+        if tables.has_shadow_file() {
             self.change_shadow(alloc, name, ShadowAct::ChangeHash(change))
         } else {
             self.change_user(alloc, name, PasswdAct::ChangePassword(change))

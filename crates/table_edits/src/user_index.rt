@@ -1,23 +1,25 @@
 // The users of passwd and shadow, looked up by name without a pass over the table for each.
-ghost use Rattle.std.specs.Prelude.{◌≡◌, ◌<◌, ◌+◌, drop, length, IfOk, OnOk};
-ghost use Rattle.std.specs.Option.{option_copied};
+ghost use Rattle.std.specs.Prelude.{◌≡◌, ◌<◌, ◌+◌, Some, drop, length, IfOk, OnOk};
 ghost use Rattle.account_model.specs.Format.{records_of};
+ghost use Rattle.account_model.specs.Tables.{table_records};
 ghost use Rattle.account_model.specs.Users.{find_shadow, find_user};
-ghost use Rattle.table_edits.specs.FirstRecords.{IsFirstNoted, TellsFirst, first_in, records_in};
+ghost use Rattle.table_edits.specs.FirstRecords.{IsFirstNoted, TellsFirst, first_in};
 
-use crate::Tables;
+use crate::{Tables, file_lines};
 use acct_lines::{PasswdRecord, ShadowRecord, TableRecord};
-use acct_tables::Table;
+use acct_tables::{FileLines, read_record};
+use acct_text::{Bytes, Files};
 use std::alloc::{AllocError, Global};
 use std::collections::HashMap;
 use std::marker::Model;
 
-/// The first record of each name in passwd(5) and shadow(5). Contracts see it as the files.
+/// The line of the first record of each name in passwd(5) and shadow(5). Contracts see it as the
+/// files.
 #[derive(Drop)]
 pub struct UserIndex<'a> {
-    tables: &'a Tables,
-    users: HashMap<&'a [u8], &'a PasswdRecord>,
-    shadow: HashMap<&'a [u8], &'a ShadowRecord>,
+    files: &'a Files,
+    users: HashMap<&'a [u8], &'a [u8]>,
+    shadow: HashMap<&'a [u8], &'a [u8]>,
 }
 
 impl<'a> Model for UserIndex<'a> {
@@ -28,111 +30,111 @@ impl<'a> Model for UserIndex<'a> {
 
     ghost Value = { Files };
 
-    ghost view = { λ index. index.tables.now };
+    ghost view = { λ index. index.files.now };
 
     ghost invariant = { λ index.
-        TellsFirst passwd_format (passwd_records index.tables.now) index.users
-        × TellsFirst shadow_format (shadow_records index.tables.now) index.shadow };
+        TellsFirst passwd_format (passwd_records index.files.now) index.users
+        × TellsFirst shadow_format (shadow_records index.files.now) index.shadow };
 }
 
 impl<'a> UserIndex<'a> {
     /// The index of the tables, in one pass over each.
-    pub fn of(alloc: Global, tables: &'a Tables) -> Result<Self, AllocError>
+    pub fn of(alloc: Global, tables: &Tables<'a>) -> Result<Self, AllocError>
         ensures { IfOk result (λ index. index ≡ tables.now) }
     {
+        let files = tables.files();
         Ok(UserIndex {
-            tables,
-            users: first_of(alloc, tables.passwd())?,
-            shadow: first_of(alloc, tables.shadow())?,
+            files,
+            users: first_lines::<PasswdRecord>(alloc, &files.passwd)?,
+            shadow: first_lines::<ShadowRecord>(alloc, &files.shadow)?,
         })
     }
 
     /// The tables.
-    pub fn tables(&self) -> &'a Tables
-        ensures { result.now ≡ self.now }
+    pub fn tables(&self) -> Tables<'a>
+        ensures { result ≡ self.now }
     {
-        self.tables
+        Tables::of(self.files)
     }
 
     /// The first record of passwd that has the name.
-    pub fn user_named(&self, name: &[u8]) -> Option<&'a PasswdRecord>
-        ensures { option_copied result ≡ find_user name.now self.now }
+    pub fn user_named(&self, alloc: Global, name: &[u8]) -> Result<Option<PasswdRecord>, AllocError>
+        ensures { IfOk result (λ found. found ≡ find_user name.now self.now) }
     {
-        first_in(&self.users, name)
+        first_in(alloc, &self.users, name)
     }
 
     /// The first record of shadow that has the name.
-    pub fn shadow_named(&self, name: &[u8]) -> Option<&'a ShadowRecord>
-        ensures { option_copied result ≡ find_shadow name.now self.now }
+    pub fn shadow_named(
+        &self,
+        alloc: Global,
+        name: &[u8],
+    ) -> Result<Option<ShadowRecord>, AllocError>
+        ensures { IfOk result (λ found. found ≡ find_shadow name.now self.now) }
     {
-        first_in(&self.shadow, name)
+        first_in(alloc, &self.shadow, name)
     }
 }
 
-// The first record of each name of a table, where there is the table.
-fn first_of<'a, R: TableRecord + Drop>(
+// The line of the first record of each name of a file. The places go down, so that the first comes
+// last.
+fn first_lines<'a, R: TableRecord + Drop>(
     alloc: Global,
-    table: Option<&'a Table<R>>,
-) -> Result<HashMap<&'a [u8], &'a R>, AllocError>
-    ensures { IfOk result
-        (TellsFirst R.format (records_in R.format (option_copied table.entry))) }
+    file: &'a Option<Bytes>,
+) -> Result<HashMap<&'a [u8], &'a [u8]>, AllocError>
+    ensures { IfOk result (TellsFirst R.format (table_records R.format file.now)) }
 {
-    match table {
-        Some(table) => first_records(alloc, table),
-        None => Ok(HashMap::new(alloc)),
-    }
-}
-
-// The first record of each name of a table. The places go down, so that the first comes last.
-fn first_records<'a, R: TableRecord + Drop>(
-    alloc: Global,
-    table: &'a Table<R>,
-) -> Result<HashMap<&'a [u8], &'a R>, AllocError>
-    ensures { IfOk result (TellsFirst R.format (records_of R.format table.now)) }
-{
+    let lines = &file_lines(alloc, file)?;
     let mut first = HashMap::new(alloc);
-    let mut place = table.len();
+    let mut place = lines.len();
     'places: while place > 0 {
         place -= 1;
-        note_at(&mut first, table, place)?;
+        note_at::<R>(alloc, &mut first, lines, place)?;
     }
     Ok(first)
 }
 
 // Notes the line at a place, in front of those behind it.
 fn note_at<'a, R: TableRecord + Drop>(
-    first: &mut HashMap<&'a [u8], &'a R>,
-    table: &'a Table<R>,
+    alloc: Global,
+    first: &mut HashMap<&'a [u8], &'a [u8]>,
+    lines: &FileLines<'a>,
     place: usize,
 ) -> Result<(), AllocError>
-    requires { place < length table.now }
+    requires { place < length lines.now }
     ensures { OnOk result (
-        TellsFirst R.format (records_of R.format (drop (place + 1) table.now)) first.old
-        → TellsFirst R.format (records_of R.format (drop place table.now)) first.new) }
+        TellsFirst R.format (records_of R.format (drop (place + 1) lines.now)) first.old
+        → TellsFirst R.format (records_of R.format (drop place lines.now)) first.new) }
 {
-    match table.at(place) {
-        Some(item) => note(first, item),
+    match lines.name_at::<R>(alloc, place)? {
+        Some(name) => note::<R>(first, name, lines.text_at(place)),
         None => Ok(()),
     }
 }
 
-// Notes the record, in place of one of its name.
+// Notes the line of a record, in place of one of its name.
 fn note<'a, R: TableRecord + Drop>(
-    first: &mut HashMap<&'a [u8], &'a R>,
-    item: &'a R,
+    first: &mut HashMap<&'a [u8], &'a [u8]>,
+    name: &'a [u8],
+    line: &'a [u8],
 ) -> Result<(), AllocError>
-    ensures { OnOk result (IsFirstNoted R.format item.now first.old first.new) }
+    ensures { OnOk result ((r : R) → R.format.read line.now ≡ Some r → name.now ≡ R.format.name r
+        → IsFirstNoted R.format r first.old first.new) }
 {
-    first.insert(item.name(), item)?;
+    first.insert(name, line)?;
     Ok(())
 }
 
-// The record that the map has for the name.
-fn first_in<'a, R>(first: &HashMap<&'a [u8], &'a R>, name: &[u8]) -> Option<&'a R>
-    ensures { option_copied result ≡ first_in first.now name.now }
+// The record of the line that the map has for the name.
+fn first_in<R: TableRecord + Drop>(
+    alloc: Global,
+    first: &HashMap<&[u8], &[u8]>,
+    name: &[u8],
+) -> Result<Option<R>, AllocError>
+    ensures { IfOk result (λ found. found ≡ first_in R.format first.now name.now) }
 {
     match first.get(name) {
-        Some(item) => Some(*item),
-        None => None,
+        Some(line) => read_record(alloc, line),
+        None => Ok(None),
     }
 }

@@ -1,76 +1,76 @@
 // Users that a command looks for in passwd(5). An absent table has none.
-ghost use Rattle.std.specs.Prelude.{◌≡◌, ◌==◌, find, IfOk};
-ghost use Rattle.std.specs.Option.{option_copied};
+ghost use Rattle.std.specs.Prelude.{◌≡◌, ◌==◌, find, not, IfOk};
+ghost use Rattle.account_model.specs.declared.refusal.Refusal.TheVariants.{NoUser};
+ghost use Rattle.account_model.specs.Format.{has_named, records_of};
 ghost use Rattle.account_model.specs.Ids.{used_uids as uids_of};
-ghost use Rattle.account_model.specs.Refusals.{missing_user, missing_users};
+ghost use Rattle.account_model.specs.Records.{passwd_format};
+ghost use Rattle.account_model.specs.Refusals.{missing_user, missing_users, refuse_if};
 ghost use Rattle.account_model.specs.Tables.{passwd_records};
-ghost use Rattle.acct_tables.specs.Refusing.{RefusesBy};
 ghost use Rattle.id_choice.specs.Used.{AreThoseOf};
-ghost use Rattle.table_edits.specs.TablesOfLines.{WithUsers};
+ghost use Rattle.table_edits.specs.Stopping.{StopsBy};
 
 use crate::search::OfGid;
-use crate::{Tables, first_passing};
+use crate::{Tables, file_lines, first_passing};
 use account_model::Refusal;
 use acct_lines::PasswdRecord;
-use acct_tables::{Table, ToolFault};
+use acct_tables::{FileLines, ToolFault};
 use acct_text::Bytes;
 use id_choice::UsedIds;
 use std::alloc::{AllocError, Global};
 
-impl Tables {
+impl Tables<'_> {
     /// The first user whose primary group has the GID.
-    pub fn user_of_gid(&self, gid: u32) -> Option<&PasswdRecord>
-        ensures { option_copied result
-            ≡ find (λ user. user.gid == gid) (passwd_records self.now) }
+    pub fn user_of_gid(&self, alloc: Global, gid: u32) -> Result<Option<PasswdRecord>, AllocError>
+        ensures { IfOk result (λ found.
+            found ≡ find (λ user. user.gid == gid) (passwd_records self.now)) }
     {
-        first_passing(self.passwd()?, &OfGid { gid })
+        first_passing(alloc, &self.files().passwd, &OfGid { gid })
     }
 
     /// The UIDs of all users.
     pub fn used_uids(&self, alloc: Global) -> Result<UsedIds, AllocError>
         ensures { IfOk result (λ used. AreThoseOf used (uids_of self.now)) }
     {
-        match self.passwd() {
-            Some(users) => used_uids(alloc, users),
-            None => Ok(UsedIds::new(alloc)),
+        let users = &file_lines(alloc, &self.files().passwd)?;
+        let mut used = UsedIds::new(alloc);
+        for place in 0..users.len() {
+            if let Some(user) = users.record_at::<PasswdRecord>(alloc, place)? {
+                used.add(user.uid)?;
+            }
         }
+        Ok(used)
     }
 
-    /// Refuses a name that no user has: `NoUser`. `Memory` comes only where there is no room for
-    /// that refusal.
+    /// Refuses a name that no user has: `NoUser`.
     pub fn check_user(&self, alloc: Global, name: &[u8]) -> Result<(), ToolFault>
-        ensures { RefusesBy (missing_user name.now self.now) result }
+        ensures { StopsBy (missing_user name.now self.now) result }
     {
-        if self.user_named(name).is_some() {
-            return Ok(());
-        }
-        Err(ToolFault::Refused(Refusal::NoUser(Bytes::of(alloc, name)?)))
+        check_in(alloc, &file_lines(alloc, &self.files().passwd)?, name)
     }
 
-    /// Refuses the first of the names that no user has: `NoUser`. `Memory` comes only where there
-    /// is no room for that refusal.
+    /// Refuses the first of the names that no user has: `NoUser`.
     pub fn check_users(&self, alloc: Global, names: &[Bytes]) -> Result<(), ToolFault>
-        ensures { RefusesBy (missing_users names.now self.now) result }
+        ensures { StopsBy (missing_users names.now self.now) result }
     {
+        let users = file_lines(alloc, &self.files().passwd)?;
         for name in names {
-            self.check_user(alloc, name.as_slice())?;
+            check_in(alloc, &users, name.as_slice())?;
         }
         Ok(())
     }
 }
 
-// The UIDs of all users.
-fn used_uids(alloc: Global, users: &Table<PasswdRecord>) -> Result<UsedIds, AllocError>
-    ensures { IfOk result (λ used.
-        WithUsers users.now (λ files. AreThoseOf used (uids_of files))) }
+// Refuses a name that no user of these lines has: `NoUser`.
+fn check_in(alloc: Global, users: &FileLines<'_>, name: &[u8]) -> Result<(), ToolFault>
+    ensures { StopsBy (refuse_if
+        (not (has_named passwd_format name.now (records_of passwd_format users.now)))
+        (NoUser name.now)) result }
 {
-    let mut used = UsedIds::new(alloc);
-    for place in 0..users.len() {
-        if let Some(user) = users.at(place) {
-            used.add(user.uid)?;
-        }
+    let user: Option<PasswdRecord> = users.find(alloc, name)?;
+    if user.is_some() {
+        return Ok(());
     }
-    Ok(used)
+    Err(ToolFault::Refused(Refusal::NoUser(Bytes::of(alloc, name)?)))
 }
 
 #[cfg(test)]
@@ -89,8 +89,8 @@ mod tests {
             subuid: None,
             subgid: None,
         };
-        let tables = Tables::load(rt.alloc(), &files)?;
-        let first = tables.user_of_gid(27).ok_or("none")?;
+        let tables = Tables::of(&files);
+        let first = tables.user_of_gid(rt.alloc(), 27)?.ok_or("none")?;
         assert_eq!(rt; first.uid, 1000);
         assert!(rt; tables.used_uids(rt.alloc())?.holds(1000));
         let names = [

@@ -14,7 +14,7 @@ apply_in_order-requires g c =
     let becomes = g.R.EditedRecord.becomes in
     subst (λ left. AllByRecursion (IsWrittenEdit format) (seen_edits becomes left))
     (sym (take_rest c.args.edits.now c.edits.index))
-    (edits-from becomes (IsWrittenEdit format) c.args.edits.now c.edits.index c.requires)
+    (edits-from becomes (IsWrittenEdit format) c.args.edits.now c.edits.index c.requires.written)
 
 pub returns-in_default : goal.returns-in_default
 returns-in_default g c =
@@ -23,7 +23,7 @@ returns-in_default g c =
     on_ok_weaker c.apply_in_order.result
     (λ applied.
     applied
-    ∙ ap (λ left. edited_by format (seen_edits becomes left) c.edits.table)
+    ∙ ap (λ left. edited_by format (seen_edits becomes left) c.edits.lines)
     (take_rest c.args.edits.now c.edits.index)
     ∙ c.edits.invariant.made)
     c.apply_in_order.ensures
@@ -31,4 +31,4 @@ returns-in_default g c =
 pub apply_there-requires-clause-written : goal.apply_there-requires-clause-written
 apply_there-requires-clause-written g c =
     edit-at g.R.EditedRecord.becomes (IsWrittenEdit g.R.TableRecord.format) c.args.edits.now
-    c.edits.index c.index-edits-index.result c.requires (omega arith) c.index-edits-index.is
+    c.edits.index c.index-edits-index.result c.requires.written (omega arith) c.index-edits-index.is

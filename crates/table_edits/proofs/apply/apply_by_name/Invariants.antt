@@ -8,8 +8,8 @@ use Rattle.table_edits.proofs.apply.apply_by_name.Given as goal
 abbrev pub invariant-edits : goal.invariant-edits
 invariant-edits g l = record {
   made : edited_by g.R.TableRecord.format
-      (seen_edits g.R.EditedRecord.becomes (drop l.index l.edits)) l.table
+      (seen_edits g.R.EditedRecord.becomes (drop l.index l.edits)) l.lines
       ≡ edited_by g.R.TableRecord.format (seen_edits g.R.EditedRecord.becomes l.edits)
-      l.initial.table;
-  known : IsKnown g.R.TableRecord.format l.table l.known;
+      l.initial.lines;
+  known : IsKnown g.R.TableRecord.format l.lines l.known;
 }

@@ -6,41 +6,43 @@ use Rattle.table_edits.proofs.apply.change_at.Goals as goal
 
 pub returns-in_default : goal.returns-in_default
 returns-in_default g c =
-    change-other g.R.TableRecord.format (g.R.EditedRecord.becomes c.args.change.now) c.args.table.now c.args.place
-    c.requires.inside (sym c.in_default.ensures.found)
+    change-other g.R.TableRecord.format (g.R.EditedRecord.becomes c.args.change.now)
+    c.args.lines.now c.args.place c.requires.inside
+    (sym c.in_ok-item.ensures.found ∙ c.in_default.is)
 
 pub returns-in-Stays : goal.returns-in-Stays
 returns-in-Stays g c =
-    change-stays g.R.TableRecord.format (g.R.EditedRecord.becomes c.args.change.now) c.args.table.now c.args.place
-    c.requires.inside c.in-Some.item.now (sym c.in-Some.ensures.found) g.met.R.TableRecord.is_line_format.same
-    (sym c.in_ok-becoming.ensures ∙ ap (records_in c.in-Some.item.now) c.in-Stays.is)
+    change-stays g.R.TableRecord.format (g.R.EditedRecord.becomes c.args.change.now)
+    c.args.lines.now c.args.place c.requires.inside c.in-Some.item
+    (sym c.in_ok-item.ensures.found ∙ c.in-Some.is) g.met.R.TableRecord.is_line_format.same
+    (sym c.in_ok-becoming.ensures ∙ ap (records_in c.in-Some.item) c.in-Stays.is)
 
 pub returns-in-Changes : goal.returns-in-Changes
 returns-in-Changes g c =
     on_ok_weaker c.set_at.result
     (λ set.
     set
-    ∙ change-sets g.R.TableRecord.format (g.R.EditedRecord.becomes c.args.change.now) c.args.table.now c.args.place
-    c.requires.inside c.in-Some.item.now (sym c.in-Some.ensures.found) c.in-Changes.new
-    (sym c.in_ok-becoming.ensures ∙ ap (records_in c.in-Some.item.now) c.in-Changes.is))
+    ∙ change-sets g.R.TableRecord.format (g.R.EditedRecord.becomes c.args.change.now)
+    c.args.lines.now c.args.place c.requires.inside c.in-Some.item
+    (sym c.in_ok-item.ensures.found ∙ c.in-Some.is) c.in-Changes.new
+    (sym c.in_ok-becoming.ensures ∙ ap (records_in c.in-Some.item) c.in-Changes.is))
     c.set_at.ensures.set
 
 pub returns-in-Goes : goal.returns-in-Goes
 returns-in-Goes g c =
-    on_ok_weaker c.remove_at.result
-    (λ removed.
-    removed
-    ∙ change-goes g.R.TableRecord.format (g.R.EditedRecord.becomes c.args.change.now) c.args.table.now c.args.place
-    c.requires.inside c.in-Some.item.now (sym c.in-Some.ensures.found)
-    (sym c.in_ok-becoming.ensures ∙ ap (records_in c.in-Some.item.now) c.in-Goes.is))
-    c.remove_at.ensures.removed
+    c.remove_at.ensures
+    ∙ change-goes g.R.TableRecord.format (g.R.EditedRecord.becomes c.args.change.now)
+    c.args.lines.now c.args.place c.requires.inside c.in-Some.item
+    (sym c.in_ok-item.ensures.found ∙ c.in-Some.is)
+    (sym c.in_ok-becoming.ensures ∙ ap (records_in c.in-Some.item) c.in-Goes.is)
 
-pub returns-in-Splits : goal.returns-in-Splits
-returns-in-Splits g c =
+pub returns : goal.returns
+returns g c =
     on_ok_weaker c.split_at.result
     (λ split.
     split
-    ∙ change-splits g.R.TableRecord.format (g.R.EditedRecord.becomes c.args.change.now) c.args.table.now c.args.place
-    c.requires.inside c.in-Some.item.now (sym c.in-Some.ensures.found) c.in-Splits.first c.in-Splits.second
-    (sym c.in_ok-becoming.ensures ∙ ap (records_in c.in-Some.item.now) c.in-Splits.is))
+    ∙ change-splits g.R.TableRecord.format (g.R.EditedRecord.becomes c.args.change.now)
+    c.args.lines.now c.args.place c.requires.inside c.in-Some.item
+    (sym c.in_ok-item.ensures.found ∙ c.in-Some.is) c.in-Splits.first c.in-Splits.second
+    (sym c.in_ok-becoming.ensures ∙ ap (records_in c.in-Some.item) c.in-Splits.is))
     c.split_at.ensures

@@ -12,5 +12,6 @@ places-preserved g c =
       inside = omega arith;
       made = c.in_ok-change_at.ensures
           ∙ ap (spliced_at change below) c.places.invariant.made
-          ∙ steps-down change c.args.table.now c.places.place below (omega arith) c.places.invariant.inside;
+          ∙ steps-down change c.args.lines.now c.places.place below (omega arith)
+          c.places.invariant.inside;
     }

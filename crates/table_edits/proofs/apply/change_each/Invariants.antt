@@ -6,9 +6,9 @@ use Rattle.table_edits.proofs.apply.change_each.Given as goal
 -- the lines before the place are as they were, and behind it stands what was made of the others
 abbrev pub invariant-places : goal.invariant-places
 invariant-places g l = record {
-  inside : l.place ≤ length l.initial.table;
-  made : l.table ≡ take l.place l.initial.table
-      ++ flat_map (becomes g.R.TableRecord.format (g.R.EditedRecord.becomes l.change)) (drop l.place l.initial.table);
+  inside : l.place ≤ length l.initial.lines;
+  made : l.lines ≡ take l.place l.initial.lines
+      ++ flat_map (becomes g.R.TableRecord.format (g.R.EditedRecord.becomes l.change)) (drop l.place l.initial.lines);
 }
 
 abbrev pub decreases-places : goal.decreases-places

@@ -7,5 +7,5 @@ use Rattle.table_edits.proofs.multiple.first_multiple.Given as goal
 -- the first among the records left is the first of all
 abbrev pub invariant-places : goal.invariant-places
 invariant-places g l =
-    first_touched g.R.TableRecord.format (seen_edits g.R.EditedRecord.becomes l.edits) (records_of g.R.TableRecord.format l.table) (records_of g.R.TableRecord.format (drop l.place l.table))
-    ≡ first_touched g.R.TableRecord.format (seen_edits g.R.EditedRecord.becomes l.edits) (records_of g.R.TableRecord.format l.table) (records_of g.R.TableRecord.format l.table)
+    first_touched g.R.TableRecord.format (seen_edits g.R.EditedRecord.becomes l.edits) (records_of g.R.TableRecord.format l.lines) (records_of g.R.TableRecord.format (drop l.place l.lines))
+    ≡ first_touched g.R.TableRecord.format (seen_edits g.R.EditedRecord.becomes l.edits) (records_of g.R.TableRecord.format l.lines) (records_of g.R.TableRecord.format l.lines)

@@ -1,35 +1,31 @@
-use Rattle.std.proofs.Common.{sym, subst}
-use Rattle.std.specs.Prelude.{None, Some}
+use Rattle.std.proofs.Common.{◌∙◌, sym, ap, subst}
+use Rattle.std.specs.Option.{option_copied}
 use Rattle.std.proofs.lemmas.Result.{on_ok_weaker}
+use Rattle.acct_tables.specs.TableLines.{record_at}
 use Rattle.table_edits.specs.NamePlaces.{IsPlaceNoted}
-use Rattle.table_edits.proofs.ToldPlaces.{noted-here, places-other, written-here}
+use Rattle.table_edits.proofs.RecordLemmas.{none-named, record-named}
+use Rattle.table_edits.proofs.ToldPlaces.{noted-here, places-other}
 use Rattle.table_edits.proofs.name_places.note_at.Goals as goal
 
-pub returns-in-Some-clause-told : goal.returns-in-Some-clause-told
-returns-in-Some-clause-told g c =
+pub returns-in-Some : goal.returns-in-Some
+returns-in-Some g c =
+    let format = g.R.TableRecord.format in
+    let lines = c.args.lines.now in
+    let place = c.args.place in
     let old = c.args.places.now in
     let new = c.note.new.places in
+    let here = record-named format (record_at format lines place) c.in-Some.name.now
+    (sym (ap option_copied c.in-Some.is) ∙ c.in_ok-name.ensures) in
     on_ok_weaker c.note.result
     (λ noted told.
-    noted-here g.R.TableRecord.format c.args.table.now c.args.place c.requires c.in-Some.item.now
-    old new (sym c.in-Some.ensures.found) told
-    (subst (λ name. IsPlaceNoted name c.args.place old new) c.name.ensures noted))
+    noted-here format lines place c.requires here.item old new here.is told
+    (subst (λ name. IsPlaceNoted name place old new) (sym here.named) noted))
     c.note.ensures
 
-pub returns-in-Some-clause-written : goal.returns-in-Some-clause-written
-returns-in-Some-clause-written g c =
-    on_ok_weaker c.note.result
-    (λ noted behind.
-    written-here g.R.TableRecord.format c.args.table.now c.args.place c.requires
-    (Some c.in-Some.item.now) (sym c.in-Some.ensures.found) c.in-Some.ensures.written behind)
-    c.note.ensures
-
-pub returns-in-None-clause-told : goal.returns-in-None-clause-told
-returns-in-None-clause-told g c = λ told.
-    places-other g.R.TableRecord.format c.args.table.now c.args.place c.requires
-    c.args.places.now (sym c.in-None.ensures.found) told
-
-pub returns-in-None-clause-written : goal.returns-in-None-clause-written
-returns-in-None-clause-written g c = λ behind.
-    written-here g.R.TableRecord.format c.args.table.now c.args.place c.requires None
-    (sym c.in-None.ensures.found) tt behind
+pub returns-in-None : goal.returns-in-None
+returns-in-None g c = λ told.
+    let format = g.R.TableRecord.format in
+    let lines = c.args.lines.now in
+    places-other format lines c.args.place c.requires c.args.places.now
+    (none-named format (record_at format lines c.args.place)
+    (sym (ap option_copied c.in-None.is) ∙ c.in_ok-name.ensures)) told

@@ -11,7 +11,7 @@ returns-in-Only g c =
       | inr several ↦ ap is_somewhere several
     ] in
     record {
-      added = adds-nothing g.R.TableRecord.format c.args.item.now c.args.table.now c.args.place
+      added = adds-nothing g.R.TableRecord.format c.args.item.now c.args.lines.now c.args.place
           c.requires.placed somewhere;
       known = c.requires.known;
     }

@@ -1,7 +1,9 @@
 use Rattle.std.proofs.Common.{◌+◌, ◌∙◌, take, sym, ap, subst, arith}
 use Rattle.std.specs.Option.{option_copied}
 use Rattle.account_model.specs.Format.{records_of}
+use Rattle.acct_tables.specs.TableLines.{record_at}
 use Rattle.table_edits.specs.Repeats.{IsNoted, TellsRepeats}
+use Rattle.table_edits.proofs.RecordLemmas.{none-named, record-named}
 use Rattle.table_edits.proofs.RepeatLemmas.{noted-more, told-other}
 use Rattle.table_edits.proofs.repeats.repeats.Goals as goal
 use Rattle.table_edits.proofs.repeats.repeats.Goals.{in-Some+in_ok-note, in_default}
@@ -9,19 +11,22 @@ use Rattle.table_edits.proofs.repeats.repeats.Goals.{in-Some+in_ok-note, in_defa
 pub places-preserved : goal.places-preserved
 places-preserved g c =
     let format = g.R.TableRecord.format in
-    let lines = c.args.table.now in
+    let lines = c.args.lines.now in
     let place = c.places.place in
     let old = c.places.repeats in
     let records = records_of format (take (place + 1) lines) in
-    elim c.match-at.branch [
+    elim c.match-branch-2.branch [
       | in-Some+in_ok-note w ↦
           let new = w.note.new.repeats in
-          let noted = subst (λ name. IsNoted name old new) w.name.ensures w.in_ok-note.ensures in
+          let here = record-named format (record_at format lines place) w.in-Some.name.now
+          (sym (ap option_copied w.in-Some.is) ∙ c.in_ok-name.ensures) in
+          let noted = subst (λ name. IsNoted name old new) (sym here.named) w.in_ok-note.ensures in
           subst (TellsRepeats format records) (sym w.repeats-is)
-          (noted-more format lines place (omega arith) w.in-Some.item.now old new
-          (sym w.in-Some.ensures.found) c.places.invariant noted)
+          (noted-more format lines place (omega arith) here.item old new here.is
+          c.places.invariant noted)
       | in_default w ↦
           subst (TellsRepeats format records) (sym w.repeats-is)
           (told-other format lines place (omega arith) old
-          (sym c.at.ensures.found ∙ ap option_copied w.in_default.is) c.places.invariant)
+          (none-named format (record_at format lines place)
+          (sym (ap option_copied w.in_default.is) ∙ c.in_ok-name.ensures)) c.places.invariant)
     ]

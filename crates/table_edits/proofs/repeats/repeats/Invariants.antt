@@ -7,4 +7,4 @@ use Rattle.table_edits.proofs.repeats.repeats.Given as goal
 abbrev pub invariant-places : goal.invariant-places
 invariant-places g l =
     let format = g.R.TableRecord.format in
-    TellsRepeats format (records_of format (take l.place l.table)) l.repeats
+    TellsRepeats format (records_of format (take l.place l.lines)) l.repeats

@@ -7,23 +7,25 @@ use Rattle.table_edits.specs.PasswdChanges.{passwd_becomes}
 use Rattle.table_edits.specs.ShadowChanges.{shadow_becomes}
 use Rattle.table_edits.specs.SubidChanges.{subid_becomes}
 use Rattle.table_edits.specs.SeenScript.{seen_script}
-use Rattle.table_edits.proofs.LoadedFiles.{edited-file}
+use Rattle.table_edits.proofs.FileLemmas.{edited-file}
 use Rattle.table_edits.proofs.tables.Tables.edited.Goals as goal
 
 pub returns : goal.returns
 returns c =
-    let of_passwd = edited-file passwd_format passwd_becomes c.deref.result.now c.args.script.now.passwd.items c.self.inside.passwd
-    c.in_ok-text_after.field-0 c.self.invariant.of_passwd c.deref.ensures.value c.in_ok-text_after.ensures in
-    let of_shadow = edited-file shadow_format shadow_becomes c.deref-2.result.now c.args.script.now.shadow.items c.self.inside.shadow
-    c.in_ok-text_after-2.field-0 c.self.invariant.of_shadow c.deref-2.ensures.value c.in_ok-text_after-2.ensures in
-    let of_group = edited-file group_format group_becomes c.deref-3.result.now c.args.script.now.group.items c.self.inside.group
-    c.in_ok-text_after-3.field-0 c.self.invariant.of_group c.deref-3.ensures.value c.in_ok-text_after-3.ensures in
-    let of_gshadow = edited-file gshadow_format gshadow_becomes c.deref-4.result.now c.args.script.now.gshadow.items c.self.inside.gshadow
-    c.in_ok-text_after-4.field-0 c.self.invariant.of_gshadow c.deref-4.ensures.value c.in_ok-text_after-4.ensures in
-    let of_subuid = edited-file subid_format subid_becomes c.deref-5.result.now c.args.script.now.subuid.items c.self.inside.subuid
-    c.in_ok-text_after-5.field-0 c.self.invariant.of_subuid c.deref-5.ensures.value c.in_ok-text_after-5.ensures in
-    let of_subgid = edited-file subid_format subid_becomes c.deref-6.result.now c.args.script.now.subgid.items c.self.inside.subgid
-    c.in_ok-text_after-6.field-0 c.self.invariant.of_subgid c.deref-6.ensures.value c.in_ok-text_after-6.ensures in
+    let script = c.args.script.now in
+    let files = c.self.inside.files.now in
+    let of_passwd = edited-file passwd_format passwd_becomes c.deref.result.now script.passwd.items
+    files.passwd c.in_ok-file_after.field-0 c.deref.ensures.value c.in_ok-file_after.ensures in
+    let of_shadow = edited-file shadow_format shadow_becomes c.deref-2.result.now script.shadow.items
+    files.shadow c.in_ok-file_after-2.field-0 c.deref-2.ensures.value c.in_ok-file_after-2.ensures in
+    let of_group = edited-file group_format group_becomes c.deref-3.result.now script.group.items
+    files.group c.in_ok-file_after-3.field-0 c.deref-3.ensures.value c.in_ok-file_after-3.ensures in
+    let of_gshadow = edited-file gshadow_format gshadow_becomes c.deref-4.result.now script.gshadow.items
+    files.gshadow c.in_ok-file_after-4.field-0 c.deref-4.ensures.value c.in_ok-file_after-4.ensures in
+    let of_subuid = edited-file subid_format subid_becomes c.deref-5.result.now script.subuid.items
+    files.subuid c.in_ok-file_after-5.field-0 c.deref-5.ensures.value c.in_ok-file_after-5.ensures in
+    let of_subgid = edited-file subid_format subid_becomes c.deref-6.result.now script.subgid.items
+    files.subgid c.in_ok-file_after-6.field-0 c.deref-6.ensures.value c.in_ok-file_after-6.ensures in
     (λ i. record {
       passwd = of_passwd i;
       shadow = of_shadow i;
@@ -32,4 +34,4 @@ returns c =
       subuid = of_subuid i;
       subgid = of_subgid i;
     })
-    ∙ ap (files_after (seen_script c.args.script.now)) c.self.view_is
+    ∙ ap (files_after (seen_script script)) c.self.view_is

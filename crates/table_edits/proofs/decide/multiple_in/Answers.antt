@@ -1,0 +1,16 @@
+use Rattle.std.proofs.Common.{◌≡◌, ◌∙◌, [], sym, ap}
+use Rattle.account_model.specs.Edits.{first_multiple}
+use Rattle.account_model.specs.Tables.{table_records}
+use Rattle.table_edits.specs.SeenEdits.{seen_edits}
+use Rattle.table_edits.proofs.EditLists.{no-edits}
+use Rattle.table_edits.proofs.TouchedRecords.{none-met}
+use Rattle.table_edits.proofs.decide.multiple_in.Goals as goal
+
+pub returns-then-is_empty : goal.returns-then-is_empty
+returns-then-is_empty g c =
+    let format = g.R.TableRecord.format in
+    let records = table_records format c.args.file.now in
+    let none : c.args.edits.now ≡ [] =
+    no-edits c.args.edits.now (sym c.is_empty.ensures ∙ c.if-is_empty.true) in
+    let seen = seen_edits g.R.EditedRecord.becomes in
+    sym (ap (λ edits. first_multiple format (seen edits) records) none ∙ none-met format records)
