@@ -7,3 +7,4 @@ pub mod UsermodRefusals
 pub mod UsermodMeetings
 pub mod UsermodGroupEdits
 pub mod GivenNames
+pub mod StoppingLemmas

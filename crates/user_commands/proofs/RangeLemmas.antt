@@ -1,26 +1,19 @@
--- Claim: a user has a range exactly where a first one is found (`has-first`); a table that is loaded
--- is one of its bytes (`uids-loaded`, `gids-loaded`). Way: range by range; by whether the file is
--- there.
-use Rattle.std.proofs.Common.{◌≡◌, ℕ, ◌<◌, ◌==◌, Bool, true, false, List, [], ◌∷◌, map, refl, sym, ap, ◌∙◌, inl, inr, arith, ne_eqb}
-use Rattle.std.specs.Prelude.{Option, Some, None, filter, is_some, not, option_map}
+-- Claim: a user has a range exactly where a first one is found (`has-first`); one who has none among
+-- the lines of a text gets one (`is-allotted`), at the gap that is found there (`start-found`). Way:
+-- range by range; test by test.
+use Rattle.std.proofs.Common.{◌≡◌, ℕ, ◌<◌, Bool, true, false, List, [], ◌∷◌, map, refl, sym, ap, ◌∙◌, inl, inr, arith, ne_eqb}
+use Rattle.std.specs.Prelude.{Option, Some, None, filter, is_some}
 use Rattle.std.specs.List.{list_any}
 use Rattle.std.specs.Option.{MatchOption}
 use Rattle.std.proofs.lemmas.Bool.{cases_Bool}
-use Rattle.acct_text.proofs.LinesLaws.{lines_of-are}
-use Rattle.acct_text.specs.Lines.{Line, lines_of, file_bytes}
+use Rattle.acct_text.specs.Lines.{Line, lines_of}
 use Rattle.acct_text.specs.declared.Tab.{Tab}
-use Rattle.acct_text.specs.declared.Tab.TheVariants.{Subuid, Subgid}
-use Rattle.acct_text.specs.declared.files.Files.{Files}
-use Rattle.account_model.specs.declared.records.SubidRecord.{SubidRecord}
-use Rattle.account_model.specs.Format.{records_of}
-use Rattle.account_model.specs.NewRanges.{is_allotted, may_have_ranges, subordinate_uids, subordinate_gids}
-use Rattle.account_model.specs.Records.{subid_format}
+use Rattle.account_model.specs.FreeRange.{free_range}
+use Rattle.account_model.specs.NewRanges.{free_start, is_allotted, may_have_ranges}
 use Rattle.account_model.specs.Request.{Request, operand}
-use Rattle.account_model.specs.Settings.{Setting}
 use Rattle.account_model.specs.SubidOwner.{is_owned}
-use Rattle.account_model.specs.Tables.{table_records}
-use Rattle.table_edits.specs.LoadedTables.{table_of_bytes}
-use Rattle.user_commands.specs.Allotments.{subordinate_of, uid_bounds_under, gid_bounds_under}
+use Rattle.subid_ranges.specs.RangeLines.{ranges_of}
+use Rattle.user_commands.specs.Allotments.{subordinate_of}
 use Rattle.user_commands.specs.declared.useradd.ranges.Bounds.{Bounds}
 
 -- ---- The ranges of a user
@@ -54,36 +47,29 @@ module _ {R X : Type 0} (f : R → X) (test : R → Bool) where
   has-first rs None rest is = sym (none-passes rs is.0)
   has-first rs (Some x) rest is = sym (one-passes rs x rest is)
 
--- ---- The table
+-- ---- The range of a new user
 
--- the bytes of a table that is loaded
-bytes-loaded : (file : Option (List ℕ)) → option_map file_bytes (table_of_bytes file) ≡ file
-bytes-loaded None = refl
-bytes-loaded (Some bytes) = ap Some (lines_of-are bytes).joined
+module _ (request : Request) (uid : Option ℕ) (tab : Tab) (text : List ℕ) (bounds : Bounds)
+    (lines : List Line) (are : lines ≡ lines_of text) where
+  -- one who has none, and may have some, gets one
+  pub is-allotted :
+      (user : List ℕ)
+      → user ≡ operand request
+      → list_any (is_owned user uid) (ranges_of lines) ≡ false
+      → may_have_ranges request ≡ true
+      → 0 < bounds.count
+      → is_allotted request uid (subordinate_of tab (Some text) bounds) ≡ true
+  is-allotted user same none may some =
+      let fresh : list_any (is_owned (operand request) uid) (ranges_of (lines_of text)) ≡ false =
+      ap (λ lines. list_any (is_owned (operand request) uid) (ranges_of lines)) (sym are)
+      ∙ ap (λ user. list_any (is_owned user uid) (ranges_of lines)) (sym same) ∙ none in
+      rw (fresh, may, ne_eqb bounds.count 0 (λ zero. omega (arith, zero))) refl
 
--- its records
-records-loaded :
-    (file : Option (List ℕ))
-    → elim (table_of_bytes file) [ None ↦ [] | Some lines ↦ records_of subid_format lines ]
-    ≡ table_records subid_format file
-records-loaded None = refl
-records-loaded (Some bytes) = refl
-
-module _ (files : Files) (settings : List Setting) where
-  -- subuid
-  pub uids-loaded :
-      subordinate_of Subuid (table_of_bytes files.subuid) (uid_bounds_under settings)
-      ≡ subordinate_uids files settings
-  uids-loaded = λ i. record (subordinate_uids files settings) {
-    bytes = bytes-loaded files.subuid i;
-    records = records-loaded files.subuid i;
-  }
-
-  -- subgid
-  pub gids-loaded :
-      subordinate_of Subgid (table_of_bytes files.subgid) (gid_bounds_under settings)
-      ≡ subordinate_gids files settings
-  gids-loaded = λ i. record (subordinate_gids files settings) {
-    bytes = bytes-loaded files.subgid i;
-    records = records-loaded files.subgid i;
-  }
+  -- it begins where a gap is found
+  pub start-found :
+      (found : Option ℕ)
+      → found ≡ free_range bounds.minimum bounds.maximum bounds.count (ranges_of lines)
+      → free_start (subordinate_of tab (Some text) bounds) ≡ found
+  start-found found is =
+      ap (λ lines. free_range bounds.minimum bounds.maximum bounds.count (ranges_of lines))
+      (sym are) ∙ sym is

@@ -1,7 +1,6 @@
 -- What a new user gets of a table of subordinate IDs (useradd(8), `-r` and `-F`; subuid(5), subgid(5); SUB_UID_MIN,
 -- SUB_UID_MAX and SUB_UID_COUNT of login.defs(5), and the same of GIDs).
-use Rattle.std.specs.Prelude.{◌≡◌, ℕ, true, false, List, [], ◌∷◌, Option, Some, None, option_map}
-use Rattle.acct_text.specs.Lines.{Line, file_bytes}
+use Rattle.std.specs.Prelude.{◌≡◌, ℕ, true, false, List, [], ◌∷◌, Option, Some, None}
 use Rattle.acct_text.specs.declared.Tab.{Tab}
 use Rattle.account_model.specs.declared.records.SubidRecord.{SubidRecord}
 use Rattle.account_model.specs.declared.refusal.Refusal.{Refusal}
@@ -9,21 +8,21 @@ use Rattle.account_model.specs.declared.refusal.Refusal.TheVariants.{NoGap}
 use Rattle.account_model.specs.declared.settings.Key.TheVariants.{SubUidMin, SubGidMin, SubUidMax, SubGidMax, SubUidCount, SubGidCount}
 use Rattle.account_model.specs.Edits.{Edit}
 use Rattle.account_model.specs.Edits.Edit.{Add}
-use Rattle.account_model.specs.Format.{records_of}
 use Rattle.account_model.specs.NewRanges.{Subordinate, free_start, id_number, is_allotted, new_range}
 use Rattle.account_model.specs.Records.{subid_format}
 use Rattle.account_model.specs.Request.{Request}
 use Rattle.account_model.specs.Settings.{Setting}
+use Rattle.account_model.specs.Tables.{table_records}
 use Rattle.user_commands.specs.declared.useradd.ranges.Allotment.{Allotment}
 use Rattle.user_commands.specs.declared.useradd.ranges.Allotment.TheVariants.{Unwanted, Full, Range}
 use Rattle.user_commands.specs.declared.useradd.ranges.Bounds.{Bounds}
 
--- a table of these lines, with the bounds and the count of a new range
-abbrev pub subordinate_of : Tab → Option (List Line) → Bounds → Subordinate
-subordinate_of tab lines bounds = record {
+-- a table with this file, with the bounds and the count of a new range
+abbrev pub subordinate_of : Tab → Option (List ℕ) → Bounds → Subordinate
+subordinate_of tab file bounds = record {
   table = tab;
-  bytes = option_map file_bytes lines;
-  records = elim lines [ None ↦ [] | Some l ↦ records_of subid_format l ];
+  bytes = file;
+  records = table_records subid_format file;
   minimum = bounds.minimum;
   maximum = bounds.maximum;
   count = bounds.count;

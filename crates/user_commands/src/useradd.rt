@@ -104,11 +104,11 @@ fn check_conflicts(
 
 // Refuses a name that a user has: `UserExists`.
 fn check_login(alloc: Global, asked: &Asked, tables: &Tables) -> Result<(), ToolFault>
-    ensures { RefusesBy (refuse_if (has_user (operand asked.now) tables.now)
+    ensures { StopsBy (refuse_if (has_user (operand asked.now) tables.now)
         (Refusal.UserExists (operand asked.now))) result }
 {
     let login = asked.operand();
-    if tables.user_named(login).is_none() {
+    if tables.user_named(alloc, login)?.is_none() {
         return Ok(());
     }
     Err(ToolFault::Refused(Refusal::UserExists(Bytes::of(alloc, login)?)))
@@ -121,11 +121,11 @@ fn check_own_group(
     tables: &Tables,
     own_group: bool,
 ) -> Result<(), ToolFault>
-    ensures { RefusesBy (refuse_if (own_group && has_group (operand asked.now) tables.now)
+    ensures { StopsBy (refuse_if (own_group && has_group (operand asked.now) tables.now)
         (Refusal.GroupExists (operand asked.now))) result }
 {
     let login = asked.operand();
-    if !own_group || tables.group_named(login).is_none() {
+    if !own_group || tables.group_named(alloc, login)?.is_none() {
         return Ok(());
     }
     Err(ToolFault::Refused(Refusal::GroupExists(Bytes::of(alloc, login)?)))
@@ -138,11 +138,14 @@ fn check_given_uid(alloc: Global, asked: &Asked, tables: &Tables) -> Result<(), 
     if asked.has(b'o') {
         return Ok(());
     }
+    let Some(uid) = asked.id(b'u') else {
+        return Ok(());
+    };
     let used = tables.used_uids(alloc)?;
-    match asked.id(b'u') {
-        Some(uid) if used.holds(uid) => Err(ToolFault::Refused(Refusal::UidInUse(uid))),
-        _ => Ok(()),
+    if used.holds(uid) {
+        return Err(ToolFault::Refused(Refusal::UidInUse(uid)));
     }
+    Ok(())
 }
 
 // Refuses where a range is wanted and there is no gap for it: `NoGap`.

@@ -1,6 +1,5 @@
 // userdel LOGIN (userdel(8)): removes a user.
 ghost use Rattle.std.specs.Prelude.{◌≡◌, ◌∷◌, [], List, IfOk, OnOk};
-ghost use Rattle.std.specs.Option.{option_copied};
 ghost use Rattle.account_model.specs.Request.{operand};
 ghost use Rattle.account_model.specs.Settings.{Setting};
 ghost use Rattle.account_model.specs.Tables.{in_order};
@@ -40,8 +39,8 @@ pub(crate) fn userdel(
         → ActsBy (userdel asked.now tables.now settings) result }
 {
     tables.check_user(alloc, asked.operand())?;
-    let group = own_group(asked, tables, defs);
-    Ok(removal(alloc, asked, tables, group)?)
+    let group = own_group(alloc, asked, tables, defs)?;
+    Ok(removal(alloc, asked, tables, &group)?)
 }
 
 /// What userdel reports: a notice where the group of the user's name is kept.
@@ -54,10 +53,11 @@ pub(crate) fn userdel_report(
     ensures { IfOk result (λ report. (settings : List Setting) → HasSettings defs.now settings
         → IsReportOf (userdel asked.now tables.now settings) report) }
 {
+    let group = own_group(alloc, asked, tables, defs)?;
     Ok(Report {
         status: 0,
         out: Bytes::new(alloc),
-        notices: kept_notices(alloc, asked, tables, own_group(asked, tables, defs))?,
+        notices: kept_notices(alloc, asked, tables, &group)?,
     })
 }
 
@@ -66,11 +66,11 @@ fn removal(
     alloc: Global,
     asked: &Asked,
     tables: &Tables,
-    group: Option<&GroupRecord>,
+    group: &Option<GroupRecord>,
 ) -> Result<Script, AllocError>
     ensures { IfOk result (λ script. seen_script script ≡ in_order
         (user_removal (operand asked.now) tables.now
-        ∷ removal_of_group asked.now tables.now (option_copied group.entry) ∷ [])) }
+        ∷ removal_of_group asked.now tables.now group.now ∷ [])) }
 {
     let mut script = Script::new(alloc);
     remove_user(alloc, &mut script, tables, asked.operand())?;
@@ -89,7 +89,7 @@ fn remove_user(
 {
     remove_lines(alloc, script, user)?;
     remove_from_lists(alloc, script, user)?;
-    remove_ranges(alloc, script, user, own_uid(tables, user))
+    remove_ranges(alloc, script, user, own_uid(alloc, tables, user)?)
 }
 
 // The user goes from passwd and shadow.
@@ -131,12 +131,14 @@ fn remove_ranges(
 }
 
 // The UID whose text owns ranges that go with the user: none where another user has it.
-fn own_uid(tables: &Tables, user: &[u8]) -> Option<u32>
-    ensures { result ≡ own_uid user.now tables.now }
+fn own_uid(alloc: Global, tables: &Tables, user: &[u8]) -> Result<Option<u32>, AllocError>
+    ensures { IfOk result (λ uid. uid ≡ own_uid user.now tables.now) }
 {
-    let uid = tables.user_named(user)?.uid;
-    if first_other(tables, user, AccountId::Uid(uid)).is_some() {
-        return None;
+    let Some(owner) = tables.user_named(alloc, user)? else {
+        return Ok(None);
+    };
+    if first_other(alloc, tables, user, AccountId::Uid(owner.uid))?.is_some() {
+        return Ok(None);
     }
-    Some(uid)
+    Ok(Some(owner.uid))
 }

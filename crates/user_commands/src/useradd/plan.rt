@@ -90,7 +90,7 @@ fn primary_gid(
     ensures { IfOk result (GivesGid settings.now asked.now tables.now uid) }
 {
     if !makes_group(asked, settings) {
-        return Ok(Some(given_gid(asked, tables)));
+        return Ok(Some(given_gid(alloc, asked, tables)?));
     }
     match uid {
         Some(uid) => own_gid(alloc, asked, tables, settings, uid),
@@ -116,12 +116,12 @@ fn own_gid(
 }
 
 // The GID of `-g`, and else the default.
-fn given_gid(asked: &Asked, tables: &Tables) -> u32
-    ensures { result ≡ unwrap_or (option_map (λ group. group.gid)
-        (given_group asked.now tables.now)) default_gid }
+fn given_gid(alloc: Global, asked: &Asked, tables: &Tables) -> Result<u32, AllocError>
+    ensures { IfOk result (λ gid. gid ≡ unwrap_or (option_map (λ group. group.gid)
+        (given_group asked.now tables.now)) default_gid) }
 {
-    match given_group(asked, tables) {
-        Some(group) => group.gid,
-        None => DEFAULT_GID,
+    match given_group(alloc, asked, tables)? {
+        Some(group) => Ok(group.gid),
+        None => Ok(DEFAULT_GID),
     }
 }

@@ -2,19 +2,17 @@
 // and SUB_UID_COUNT of login.defs(5), and the same of GIDs).
 ghost use Rattle.std.specs.Prelude.{◌≡◌, ◌<◌, ◌≤◌, true, List, Some, IfOk};
 ghost use Rattle.std.specs.List.{list_any};
-ghost use Rattle.std.specs.Option.{option_copied};
 ghost use Rattle.acct_text.specs.declared.Tab.{Tab};
 ghost use Rattle.account_model.specs.NewRanges.{id_number, may_have_ranges, subordinate_gids, subordinate_uids};
 ghost use Rattle.account_model.specs.Records.{greatest_id};
 ghost use Rattle.account_model.specs.Settings.{Setting};
 ghost use Rattle.account_model.specs.SubidOwner.{is_owned};
 ghost use Rattle.login_defs.specs.Held.{Gives, HasSettings, IsHeld};
-ghost use Rattle.subid_ranges.specs.RangeLines.{AreOfFile, ranges_of};
-ghost use Rattle.table_edits.specs.LoadedTables.{IsLoaded};
+ghost use Rattle.subid_ranges.specs.RangeLines.{ranges_of};
 ghost use Rattle.user_commands.specs.Allotments.{IsAllotment, gid_bounds_under, subordinate_of, uid_bounds_under};
 
-use account_model::{Key, SubidRecord};
-use acct_tables::Table;
+use account_model::Key;
+use acct_text::Bytes;
 use command_values::Asked;
 use login_defs::Defs;
 use std::alloc::{AllocError, Global};
@@ -52,7 +50,13 @@ pub(super) fn subuid_for(
     ensures { IfOk result (λ allotment. (under : List Setting) → HasSettings settings.now under
         → IsAllotment asked.now uid (subordinate_uids tables.now under) allotment) }
 {
-    allotment_of(alloc, asked, tables.subuid(), uid, uid_bounds(settings))
+    allotment_of(
+        alloc,
+        asked,
+        &tables.files().subuid,
+        uid,
+        uid_bounds(settings),
+    )
 }
 
 /// What a new user of the UID gets of subgid.
@@ -67,38 +71,33 @@ pub(super) fn subgid_for(
     ensures { IfOk result (λ allotment. (under : List Setting) → HasSettings settings.now under
         → IsAllotment asked.now uid (subordinate_gids tables.now under) allotment) }
 {
-    allotment_of(alloc, asked, tables.subgid(), uid, gid_bounds(settings))
+    allotment_of(
+        alloc,
+        asked,
+        &tables.files().subgid,
+        uid,
+        gid_bounds(settings),
+    )
 }
 
 // What a new user gets of a table, where there is one.
 fn allotment_of(
     alloc: Global,
     asked: &Asked,
-    table: Option<&Table<SubidRecord>>,
+    file: &Option<Bytes>,
     uid: Option<u32>,
     bounds: Bounds,
 ) -> Result<Allotment, AllocError>
-    requires loaded { IsLoaded (option_copied table) }
-    requires small { bounds.maximum ≤ greatest_id }
+    requires { bounds.maximum ≤ greatest_id }
     ensures { IfOk result (λ allotment. (tab : Tab) → IsAllotment asked.now uid
-        (subordinate_of tab (option_copied table.entry) bounds) allotment) }
+        (subordinate_of tab file.now bounds) allotment) }
 {
-    match table {
-        Some(table) if bounds.count > 0 && may_have_ranges(asked) => {
-            let ranges = load_ranges(alloc, table)?;
-            Ok(allotment_among(asked, &ranges, uid, bounds))
+    match file {
+        Some(text) if bounds.count > 0 && may_have_ranges(asked) => {
+            allotment_in(alloc, asked, text.as_slice(), uid, bounds)
         }
         _ => Ok(Allotment::Unwanted),
     }
-}
-
-// The ranges of a table.
-fn load_ranges(alloc: Global, table: &Table<SubidRecord>) -> Result<Ranges, AllocError>
-    requires { AreOfFile table.now }
-    ensures { IfOk result (λ ranges. ranges ≡ table.now) }
-{
-    let text = table.text(alloc)?;
-    Ranges::load(alloc, text.as_slice())
 }
 
 // Whether the user is no system user, or `-F` is given.
@@ -108,20 +107,27 @@ fn may_have_ranges(asked: &Asked) -> bool
     !asked.has(b'r') || asked.has(b'F')
 }
 
-// What a new user who may have ranges gets among those of a table: none where it has one already.
-fn allotment_among(asked: &Asked, ranges: &Ranges, uid: Option<u32>, bounds: Bounds) -> Allotment
+// What a new user who may have ranges gets among those of a text: none where it has one already.
+fn allotment_in(
+    alloc: Global,
+    asked: &Asked,
+    text: &[u8],
+    uid: Option<u32>,
+    bounds: Bounds,
+) -> Result<Allotment, AllocError>
     requires small { bounds.maximum ≤ greatest_id }
     requires some { 0 < bounds.count }
     requires may { may_have_ranges asked.now ≡ true }
-    ensures { (tab : Tab) → IsAllotment asked.now uid
-        (subordinate_of tab (Some ranges.now) bounds) result }
+    ensures { IfOk result (λ allotment. (tab : Tab) → IsAllotment asked.now uid
+        (subordinate_of tab (Some text.now) bounds) allotment) }
 {
-    if has_ranges(ranges, asked.operand(), uid) {
-        return Allotment::Unwanted;
+    let ranges = Ranges::load(alloc, text)?;
+    if has_ranges(&ranges, asked.operand(), uid) {
+        return Ok(Allotment::Unwanted);
     }
     match ranges.free_gap(bounds.minimum, bounds.maximum, bounds.count) {
-        Some(first) => Allotment::Range(first, bounds.count),
-        None => Allotment::Full,
+        Some(first) => Ok(Allotment::Range(first, bounds.count)),
+        None => Ok(Allotment::Full),
     }
 }
 

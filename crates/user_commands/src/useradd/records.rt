@@ -21,7 +21,7 @@ pub(super) fn new_user(
 ) -> Result<PasswdRecord, AllocError>
     ensures { IfOk result (λ user. user ≡ new_user asked.now tables.now ids.uid ids.gid) }
 {
-    let password = if tables.shadow().is_some() {
+    let password = if tables.has_shadow_file() {
         b"x"
     } else {
         asked.value_or(b'p', b"!")

@@ -128,7 +128,7 @@ fn join(
 ) -> Result<(), AllocError>
     ensures { OnOk result (HasAlso (joining tables.now user.now word.now) script.old script.new) }
 {
-    match find_group(tables, word) {
+    match find_group(alloc, tables, word)? {
         Some(group) => script.add_to_group(alloc, group.name.as_slice(), user),
         None => Ok(()),
     }

@@ -1,11 +1,11 @@
 // Users with another name that a user shares an ID with (userdel(8)).
-ghost use Rattle.std.specs.Prelude.{◌≡◌, find};
-ghost use Rattle.std.specs.Option.{option_copied};
+ghost use Rattle.std.specs.Prelude.{◌≡◌, IfOk, find};
 ghost use Rattle.account_model.specs.Users.{other_users};
 ghost use Rattle.user_commands.specs.Others.{has_id};
 
 use account_model::PasswdRecord;
 use acct_lines::TableRecord;
+use std::alloc::{AllocError, Global};
 use table_edits::{RecordTest, Tables, first_passing};
 
 /// An ID of a user.
@@ -18,14 +18,16 @@ pub(super) enum AccountId {
 }
 
 /// The first user with another name that has the ID.
-pub(super) fn first_other<'a>(
-    tables: &'a Tables,
+pub(super) fn first_other(
+    alloc: Global,
+    tables: &Tables,
     name: &[u8],
     id: AccountId,
-) -> Option<&'a PasswdRecord>
-    ensures { option_copied result ≡ find (has_id id) (other_users name.now tables.now) }
+) -> Result<Option<PasswdRecord>, AllocError>
+    ensures { IfOk result (λ found.
+        found ≡ find (has_id id) (other_users name.now tables.now)) }
 {
-    first_passing(tables.passwd()?, &OtherWith { name, id })
+    first_passing(alloc, &tables.files().passwd, &OtherWith { name, id })
 }
 
 // That a user has another name, and the ID.

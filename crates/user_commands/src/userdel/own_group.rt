@@ -2,7 +2,6 @@
 // (userdel(8); login.defs(5), USERGROUPS_ENAB).
 ghost use Rattle.std.specs.Prelude.{◌≡◌, IfOk, OnOk, option_map};
 ghost use Rattle.std.specs.List.{list_any};
-ghost use Rattle.std.specs.Option.{option_copied};
 ghost use Rattle.account_model.specs.Request.{operand};
 ghost use Rattle.account_model.specs.Userdel.{kept_text, own_group, reason_to_keep};
 ghost use Rattle.account_model.specs.Userdel.Kept.{has_members, is_primary_of};
@@ -19,17 +18,18 @@ use std::alloc::{AllocError, Global};
 use table_edits::{Script, Tables};
 
 /// The group that goes with the user, where nothing keeps it.
-pub(super) fn own_group<'a>(
+pub(super) fn own_group(
+    alloc: Global,
     asked: &Asked,
-    tables: &'a Tables,
+    tables: &Tables,
     defs: &Defs,
-) -> Option<&'a GroupRecord>
-    ensures { Gives defs.now (own_group asked.now tables.now) (option_copied result) }
+) -> Result<Option<GroupRecord>, AllocError>
+    ensures { IfOk result (Gives defs.now (own_group asked.now tables.now)) }
 {
     if !defs.flag() {
-        return None;
+        return Ok(None);
     }
-    tables.group_named(asked.operand())
+    tables.group_named(alloc, asked.operand())
 }
 
 /// Removes the group where nothing keeps it.
@@ -38,10 +38,9 @@ pub(super) fn remove_own_group(
     script: &mut Script,
     asked: &Asked,
     tables: &Tables,
-    group: Option<&GroupRecord>,
+    group: &Option<GroupRecord>,
 ) -> Result<(), AllocError>
-    ensures { OnOk result
-        (HasAlso (removal_of_group asked.now tables.now (option_copied group.entry))
+    ensures { OnOk result (HasAlso (removal_of_group asked.now tables.now group.now)
         script.old script.new) }
 {
     let Some(group) = group else {
@@ -58,10 +57,10 @@ pub(super) fn kept_notices(
     alloc: Global,
     asked: &Asked,
     tables: &Tables,
-    group: Option<&GroupRecord>,
+    group: &Option<GroupRecord>,
 ) -> Result<Names, AllocError>
-    ensures { IfOk result (λ notices. notices
-        ≡ notices_of_group asked.now tables.now (option_copied group.entry)) }
+    ensures { IfOk result (λ notices.
+        notices ≡ notices_of_group asked.now tables.now group.now) }
 {
     let mut notices = Names::new(alloc);
     if let Some(group) = group {
@@ -90,7 +89,7 @@ fn kept_notice(
     if asked.has(b'f') {
         return Ok(None);
     }
-    match first_other(tables, user, AccountId::Gid(group.gid)) {
+    match first_other(alloc, tables, user, AccountId::Gid(group.gid))? {
         Some(other) => Ok(Some(primary_notice(alloc, user, other.name.as_slice())?)),
         None => Ok(None),
     }

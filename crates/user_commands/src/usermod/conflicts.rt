@@ -1,5 +1,5 @@
 // What usermod(8) refuses by the tables: what is missing, and what is taken.
-ghost use Rattle.std.specs.Prelude.{◌≡◌, ◌||◌, None, codes};
+ghost use Rattle.std.specs.Prelude.{◌≡◌, ◌||◌, None, IfOk, codes};
 ghost use Rattle.account_model.specs.Ids.{used_uids};
 ghost use Rattle.account_model.specs.Names.{is_valid_name};
 ghost use Rattle.account_model.specs.Refusals.{bad_value};
@@ -19,7 +19,7 @@ use account_model::Refusal;
 use acct_text::Bytes;
 use command_values::{Asked, ToolFault, check_list_name};
 use id_choice::UsedIds;
-use std::alloc::Global;
+use std::alloc::{AllocError, Global};
 use table_edits::Tables;
 
 /// Refuses what is missing or taken, in this order. `Memory` may come at each step.
@@ -45,20 +45,24 @@ pub(crate) fn check_conflicts(
 
 // Refuses a name of `-l` that another user has, in passwd or in shadow: `UserExists`.
 fn check_new_name(alloc: Global, asked: &Asked, tables: &Tables) -> Result<(), ToolFault>
-    ensures { RefusesBy (taken_name asked.now tables.now) result }
+    ensures { StopsBy (taken_name asked.now tables.now) result }
 {
     let name = new_name(asked);
-    if name == asked.operand() || !is_name_taken(tables, name) {
+    if name == asked.operand() || !is_name_taken(alloc, tables, name)? {
         return Ok(());
     }
     Err(ToolFault::Refused(Refusal::UserExists(Bytes::of(alloc, name)?)))
 }
 
 // Whether a record of passwd or shadow has the name.
-fn is_name_taken(tables: &Tables, name: &[u8]) -> bool
-    ensures { result ≡ has_user name.now tables.now || has_shadow name.now tables.now }
+fn is_name_taken(alloc: Global, tables: &Tables, name: &[u8]) -> Result<bool, AllocError>
+    ensures { IfOk result (λ taken.
+        taken ≡ (has_user name.now tables.now || has_shadow name.now tables.now)) }
 {
-    tables.user_named(name).is_some() || tables.shadow_named(name).is_some()
+    if tables.user_named(alloc, name)?.is_some() {
+        return Ok(true);
+    }
+    Ok(tables.shadow_named(alloc, name)?.is_some())
 }
 
 // Refuses a UID of `-u` that is another user's where `-o` isn't given: `UidInUse`.
@@ -69,36 +73,45 @@ fn check_new_uid(alloc: Global, asked: &Asked, tables: &Tables) -> Result<(), To
         return Ok(());
     };
     let used = tables.used_uids(alloc)?;
-    if is_uid_taken(asked, tables, &used, uid) {
+    if is_uid_taken(alloc, asked, tables, &used, uid)? {
         return Err(ToolFault::Refused(Refusal::UidInUse(uid)));
     }
     Ok(())
 }
 
 // Whether the UID is used by another user, and `-o` isn't given.
-fn is_uid_taken(asked: &Asked, tables: &Tables, used: &UsedIds, uid: u32) -> bool
+fn is_uid_taken(
+    alloc: Global,
+    asked: &Asked,
+    tables: &Tables,
+    used: &UsedIds,
+    uid: u32,
+) -> Result<bool, AllocError>
     requires { AreThoseOf used.now (used_uids tables.now) }
-    ensures { result ≡ is_uid_taken asked.now tables.now uid }
+    ensures { IfOk result (λ taken. taken ≡ is_uid_taken asked.now tables.now uid) }
 {
-    used.holds(uid) && !asked.has(b'o') && !is_own_uid(asked, tables, uid)
+    if !used.holds(uid) || asked.has(b'o') {
+        return Ok(false);
+    }
+    Ok(!is_own_uid(alloc, asked, tables, uid)?)
 }
 
 // Whether it is the user's UID.
-fn is_own_uid(asked: &Asked, tables: &Tables, uid: u32) -> bool
-    ensures { result ≡ is_own_uid asked.now tables.now uid }
+fn is_own_uid(alloc: Global, asked: &Asked, tables: &Tables, uid: u32) -> Result<bool, AllocError>
+    ensures { IfOk result (λ own. own ≡ is_own_uid asked.now tables.now uid) }
 {
-    match tables.user_named(asked.operand()) {
-        Some(user) => uid == user.uid,
-        None => false,
+    match tables.user_named(alloc, asked.operand())? {
+        Some(user) => Ok(uid == user.uid),
+        None => Ok(false),
     }
 }
 
 // Refuses to unlock a hash that would be empty then: `EmptyHash`.
 fn check_hash(alloc: Global, asked: &Asked, tables: &Tables) -> Result<(), ToolFault>
-    ensures { RefusesBy (empty_hash asked.now tables.now) result }
+    ensures { StopsBy (empty_hash asked.now tables.now) result }
 {
     let user = asked.operand();
-    if !asked.has(b'U') || hash_of(tables, user) != b"!".as_slice() {
+    if !asked.has(b'U') || hash_of(alloc, tables, user)?.as_slice() != b"!".as_slice() {
         return Ok(());
     }
     Err(ToolFault::Refused(Refusal::EmptyHash(Bytes::of(alloc, user)?)))
@@ -108,7 +121,7 @@ fn check_hash(alloc: Global, asked: &Asked, tables: &Tables) -> Result<(), ToolF
 fn check_shadow(asked: &Asked, tables: &Tables) -> Result<(), ToolFault>
     ensures { RefusesBy (no_shadow asked.now tables.now) result }
 {
-    if sets_aging(asked) && tables.shadow().is_none() {
+    if sets_aging(asked) && !tables.has_shadow_file() {
         return Err(ToolFault::Refused(Refusal::NoShadow));
     }
     Ok(())

@@ -61,7 +61,7 @@ fn user_fields(alloc: Global, asked: &Asked, tables: &Tables) -> Result<UserFiel
     Ok(UserFields {
         name: Some(Bytes::of(alloc, new_name(asked))?),
         uid: asked.id(b'u'),
-        gid: given_group(asked, tables).map(|group| group.gid),
+        gid: given_group(alloc, asked, tables)?.map(|group| group.gid),
         comment: text_of(alloc, asked, b'c')?,
         home: text_of(alloc, asked, b'd')?,
         shell: text_of(alloc, asked, b's')?,

@@ -103,21 +103,21 @@ pub(crate) fn sets_aging(asked: &Asked) -> bool
 
 /// The hash of the user: that of shadow, and without a record there the password field of passwd.
 /// It is empty for a user that isn't there.
-pub(crate) fn hash_of<'a>(tables: &'a Tables, name: &[u8]) -> &'a [u8]
-    ensures { result.now ≡ hash_of name.now tables.now }
+pub(crate) fn hash_of(alloc: Global, tables: &Tables, name: &[u8]) -> Result<Bytes, AllocError>
+    ensures { IfOk result (λ hash. hash ≡ hash_of name.now tables.now) }
 {
-    match tables.shadow_named(name) {
-        Some(shadow) => shadow.hash.as_slice(),
-        None => password_of(tables, name),
+    match tables.shadow_named(alloc, name)? {
+        Some(shadow) => Ok(shadow.hash),
+        None => password_of(alloc, tables, name),
     }
 }
 
 // The password field of the user in passwd.
-fn password_of<'a>(tables: &'a Tables, name: &[u8]) -> &'a [u8]
-    ensures { result.now ≡ passwd_field name.now tables.now }
+fn password_of(alloc: Global, tables: &Tables, name: &[u8]) -> Result<Bytes, AllocError>
+    ensures { IfOk result (λ password. password ≡ passwd_field name.now tables.now) }
 {
-    match tables.user_named(name) {
-        Some(user) => user.password.as_slice(),
-        None => &[],
+    match tables.user_named(alloc, name)? {
+        Some(user) => Ok(user.password),
+        None => Ok(Bytes::new(alloc)),
     }
 }

@@ -125,7 +125,7 @@ pub(crate) fn given_groups(
     let words = group_words(alloc, asked)?;
     let mut names = Names::new(alloc);
     for word in words.as_slice() {
-        if let Some(group) = find_group(tables, word.as_slice()) {
+        if let Some(group) = find_group(alloc, tables, word.as_slice())? {
             names.push(group.name.as_slice())?;
         }
     }

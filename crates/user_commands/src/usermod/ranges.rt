@@ -95,7 +95,7 @@ impl UserRanges {
         Ok(UserRanges {
             old_name: Bytes::of(alloc, asked.operand())?,
             new_name: Bytes::of(alloc, new_name(asked))?,
-            uid: uid_after(asked, tables),
+            uid: uid_after(alloc, asked, tables)?,
             removed: asked.ranges(alloc, removing)?,
             added: asked.ranges(alloc, adding)?,
         })
@@ -175,18 +175,18 @@ impl UserRanges {
 }
 
 // The UID of `-u`, and else the user's.
-fn uid_after(asked: &Asked, tables: &Tables) -> Option<u32>
-    ensures { result ≡ uid_after asked.now tables.now }
+fn uid_after(alloc: Global, asked: &Asked, tables: &Tables) -> Result<Option<u32>, AllocError>
+    ensures { IfOk result (λ uid. uid ≡ uid_after asked.now tables.now) }
 {
     match asked.id(b'u') {
-        Some(uid) => Some(uid),
-        None => uid_of(tables, asked.operand()),
+        Some(uid) => Ok(Some(uid)),
+        None => uid_of(alloc, tables, asked.operand()),
     }
 }
 
 // The UID of the user of the name.
-fn uid_of(tables: &Tables, name: &[u8]) -> Option<u32>
-    ensures { result ≡ uid_of name.now tables.now }
+fn uid_of(alloc: Global, tables: &Tables, name: &[u8]) -> Result<Option<u32>, AllocError>
+    ensures { IfOk result (λ uid. uid ≡ uid_of name.now tables.now) }
 {
-    tables.user_named(name).map(|user| user.uid)
+    Ok(tables.user_named(alloc, name)?.map(|user| user.uid))
 }

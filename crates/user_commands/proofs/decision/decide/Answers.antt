@@ -9,12 +9,12 @@ use Rattle.acct_tables.specs.Decisions.{Decides}
 use Rattle.user_commands.specs.Decided.{ActsUnder, ReportsUnder}
 use Rattle.user_commands.proofs.decision.decide.Goals as goal
 
-pub decide_as-requires-clause-of_tool : goal.decide_as-requires-clause-of_tool
-decide_as-requires-clause-of_tool c = record {
+pub decide_as-requires : goal.decide_as-requires
+decide_as-requires c = record {
   request = c.asked-asked.result.now;
   input = [];
   day = c.args.day;
-  files = c.in_ok-tables.tables;
+  files = c.of-tables.result;
   settings = c.requires.held.settings;
   in_time = omega arith;
   acts = c.script_of-answer.ensures [] c.requires.held.settings c.requires.held.held;
@@ -27,20 +27,22 @@ returns c =
     let request = c.args.request.now in
     let files = c.args.files.now in
     let asked = c.asked-asked.ensures.same in
-    let loaded = c.in_ok-tables.ensures {u = tt} in
+    let tables = c.of-tables.result in
+    let same = c.of-tables.ensures in
     let report = c.in_ok-report.report in
     let answer = c.script_of-answer.result in
     let acts : ActsUnder defs day request files answer =
-    subst (λ (files : Files). ActsUnder defs day request files answer) loaded
-    (subst (λ (request : Request). ActsUnder defs day request c.in_ok-tables.tables answer) asked
+    subst (λ (files : Files). ActsUnder defs day request files answer) same
+    (subst (λ (request : Request). ActsUnder defs day request tables answer) asked
     c.script_of-answer.ensures) in
     let reports : ReportsUnder defs request files report =
-    subst (λ (files : Files). ReportsUnder defs request files report) loaded
-    (subst (λ (request : Request). ReportsUnder defs request c.in_ok-tables.tables report) asked
+    subst (λ (files : Files). ReportsUnder defs request files report) same
+    (subst (λ (request : Request). ReportsUnder defs request tables report) asked
     (c.in_ok-report.ensures {u = tt})) in
     IfOk-weaker c.decide_as.result _ _ (λ decision decides input settings held.
     let action = action_of request input day files settings in
     subst (λ (tool : Tool). Decides tool files (outcome_of action files) decision)
     (rw asked at c.tool.ensures)
-    (decides action (acts input settings held) (reports input day settings held)))
+    (subst (λ (files : Files). Decides c.tool.result files (outcome_of action files) decision) same
+    (decides action (acts input settings held) (reports input day settings held))))
     c.decide_as.ensures

@@ -1,11 +1,11 @@
 use Rattle.std.proofs.Common.{◌∷◌, ◌+◌, ◌<◌, drop, length, sym, ap, subst, ◌∙◌, arith}
-use Rattle.std.specs.Prelude.{find, option_map}
+use Rattle.std.specs.Prelude.{Err, find, option_map}
 use Rattle.std.proofs.lemmas.List.{drop_more}
 use Rattle.account_model.specs.declared.refusal.Refusal.TheVariants.{NoGroup}
 use Rattle.account_model.specs.GivenGroups.{is_unknown_group}
 use Rattle.account_model.specs.Refusals.{refuse_if}
-use Rattle.acct_tables.specs.Refusing.{IsFaultOf}
-use Rattle.acct_tables.proofs.FirstRefusal.{handed-on, refused-first}
+use Rattle.table_edits.specs.Stopping.{StopsBy}
+use Rattle.user_commands.proofs.StoppingLemmas.{handed-stops, stopped-first}
 use Rattle.user_commands.proofs.given_groups.check_words.Goals as goal
 
 pub returns-in_err-check_word : goal.returns-in_err-check_word
@@ -18,9 +18,9 @@ returns-in_err-check_word c =
     let test = is_unknown_group c.args.tables.now in
     let inside : place < length words = omega arith in
     let from = drop_more words place word inside ∙ ap (λ w. w ∷ rest) (sym c.word-item.is) in
-    let refused = refused-first test NoGroup word rest fault
-    (subst (λ w. IsFaultOf (refuse_if (test w) (NoGroup w)) fault) c.as_slice.ensures
-    (c.in_err-check_word.ensures {u = tt})) in
-    handed-on _ c.from_residual.result fault c.from_residual.ensures.1
-    (subst (λ found. IsFaultOf (option_map NoGroup found) fault)
-    (ap (find test) (sym from) ∙ c.loop-word.invariant) refused)
+    let stopped = stopped-first test NoGroup word rest fault
+    (subst (λ w. StopsBy {X = Unit {0}} (refuse_if (test w) (NoGroup w)) (Err fault))
+    c.as_slice.ensures (c.in_err-check_word.ensures {u = tt})) in
+    handed-stops _ c.from_residual.result fault c.from_residual.ensures.1
+    (subst (λ found. StopsBy {X = Unit {0}} (option_map NoGroup found) (Err fault))
+    (ap (find test) (sym from) ∙ c.loop-word.invariant) stopped)

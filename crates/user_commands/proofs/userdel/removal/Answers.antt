@@ -1,7 +1,6 @@
 use Rattle.std.proofs.Common.{sym, ap, ◌∙◌}
-use Rattle.std.specs.Option.{option_copied}
 use Rattle.account_model.specs.Request.{operand}
-use Rattle.account_model.specs.Tables.{followed_by, no_edits}
+use Rattle.account_model.specs.Tables.{followed_by}
 use Rattle.account_model.specs.Userdel.{remove_user}
 use Rattle.user_commands.specs.KeptGroups.{removal_of_group}
 use Rattle.user_commands.proofs.ScriptLemmas.{followed-nothing}
@@ -11,7 +10,7 @@ pub returns : goal.returns
 returns c =
     let asked = c.args.asked.now in
     let files = c.args.tables.now in
-    let group = removal_of_group asked files (option_copied c.args.group) in
+    let group = removal_of_group asked files c.args.group.now in
     c.in_ok-remove_own_group.ensures {u = tt}
     ∙ ap (λ script. followed_by script group) (c.in_ok-remove_user.ensures {u = tt})
     ∙ ap (λ script. followed_by (followed_by script (remove_user c.operand.result.now files)) group)

@@ -19,5 +19,5 @@ returns c = λ settings has.
       edits = c.in_ok-removal.ensures {u = tt}
           ∙ ap (λ group. in_order
           (remove_user (operand asked) files ∷ removal_of_group asked files group ∷ []))
-          (c.own_group-group.ensures settings has);
+          (c.in_ok-group.ensures {u = tt} settings has);
     }

@@ -1,19 +1,19 @@
-use Rattle.std.proofs.Common.{Bool, sym, ap, ◌∙◌, not}
+use Rattle.std.proofs.Common.{Bool, ap, ◌∙◌, not}
 use Rattle.std.specs.Prelude.{find, filter}
+use Rattle.std.proofs.lemmas.Result.{IfOk-weaker}
 use Rattle.account_model.specs.declared.records.PasswdRecord.{PasswdRecord}
-use Rattle.account_model.specs.Format.{is_named, records_of}
+use Rattle.account_model.specs.Format.{is_named}
 use Rattle.account_model.specs.Records.{passwd_format}
-use Rattle.table_edits.proofs.TableLemmas.{users-loaded}
+use Rattle.account_model.specs.Tables.{passwd_records}
 use Rattle.user_commands.specs.Others.{has_id}
 use Rattle.user_commands.proofs.UserdelLemmas.{others-found}
 use Rattle.user_commands.proofs.userdel.others.first_other.Goals as goal
 
 pub returns : goal.returns
 returns c =
-    let lines = c.in_ok-passwd.field-0.now in
     let test = has_id c.args.id in
     let is_other : PasswdRecord → Bool = λ user. not (is_named passwd_format c.args.name.now user) in
+    IfOk-weaker c.first_passing.result _ _ (λ found is. is
+    ∙ others-found is_other test (passwd_records c.files.result.now)
+    ∙ ap (λ files. find test (filter is_other (passwd_records files))) c.files.ensures)
     c.first_passing.ensures
-    ∙ others-found is_other test (records_of passwd_format lines)
-    ∙ ap (λ users. find test (filter is_other users))
-    (sym (users-loaded c.args.tables.now lines (sym (c.in_ok-passwd.ensures {u = tt}))))

@@ -39,10 +39,10 @@ returns-in_ok-primary_notice-in-Some c =
     ∙ ap (λ u. kept_text u (is_primary_of c.as_slice.result.now)) user
     ∙ ap (λ other. kept_text (operand asked) (is_primary_of other)) c.as_slice.ensures)
     ∙ ap (option_map (kept_text (operand asked)))
-    (kept-primary asked files group (Some c.in-Some.other.now)
+    (kept-primary asked files group (Some c.in-Some.other)
     (sym (c.has_others.ensures ∙ ap (λ u. has_others u group.members) user)
     ∙ c.if-has_others.false) (sym c.has.ensures ∙ c.if-has.false)
-    (c.in-Some.ensures {u = tt}
+    (sym c.in-Some.is ∙ c.in_ok-other.ensures {u = tt}
     ∙ ap (λ u. find (has_id (Gid group.gid)) (other_users u files)) user))
 
 pub returns-in-None : goal.returns-in-None
@@ -55,5 +55,5 @@ returns-in-None c =
     (kept-primary asked files group None
     (sym (c.has_others.ensures ∙ ap (λ u. has_others u group.members) user)
     ∙ c.if-has_others.false) (sym c.has.ensures ∙ c.if-has.false)
-    (c.in-None.ensures {u = tt}
+    (sym c.in-None.is ∙ c.in_ok-other.ensures {u = tt}
     ∙ ap (λ u. find (has_id (Gid group.gid)) (other_users u files)) user))

@@ -12,37 +12,30 @@ use Rattle.user_commands.specs.UsermodRanges.{change_of, owner_of}
 use Rattle.user_commands.proofs.UsermodMeetings.{lines-before, removals-written}
 use Rattle.user_commands.proofs.usermod.meetings.lines_before.Goals as goal
 
-pub apply_edits-requires : goal.apply_edits-requires
-apply_edits-requires c =
+pub edited_text-requires : goal.edited_text-requires
+edited_text-requires c =
     let owner = owner_of c.args.ranges.now in
     let change = change_of c.args.ranges.now in
     let before = edits_before_adding owner change in
-    let seen : seen_edits subid_becomes c.as_slice-2.result.now ≡ before =
-    ap (seen_edits subid_becomes) c.as_slice-2.ensures.value
+    let seen : seen_edits subid_becomes c.as_slice.result.now ≡ before =
+    ap (seen_edits subid_becomes) c.as_slice.ensures.value
     ∙ c.in_ok-push_removals.ensures
     ∙ ap (λ items. seen_edits subid_becomes items ++ before) c.new-edits.ensures.items in
     subst (AllByRecursion (IsWrittenEdit subid_format)) (sym seen)
-    (removals-written owner change c.requires.named)
+    (removals-written owner change c.requires)
 
 pub returns : goal.returns
 returns c =
     let owner = owner_of c.args.ranges.now in
     let change = change_of c.args.ranges.now in
     let before = edits_before_adding owner change in
-    let lines = c.args.table.now in
-    let slice = seen_edits subid_becomes c.as_slice-2.result.now in
-    let seen : slice ≡ before =
-    ap (seen_edits subid_becomes) c.as_slice-2.ensures.value
+    let text = c.args.text.now in
+    let seen : seen_edits subid_becomes c.as_slice.result.now ≡ before =
+    ap (seen_edits subid_becomes) c.as_slice.ensures.value
     ∙ c.in_ok-push_removals.ensures
     ∙ ap (λ items. seen_edits subid_becomes items ++ before) c.new-edits.ensures.items in
-    let copied : c.in_ok-table.table ≡ lines =
-    c.in_ok-table.ensures.lines ∙ ap lines_of (c.as_slice.ensures ∙ c.in_ok-text.ensures)
-    ∙ c.requires.of_file in
-    let edited : lines_of c.as_slice-3.result.now ≡ edited_by subid_format before lines =
-    ap lines_of (c.as_slice-3.ensures ∙ c.in_ok-text-2.ensures)
-    ∙ ap (λ l. lines_of (file_bytes l)) c.in_ok-apply_edits.ensures
-    ∙ ap (λ l. lines_of (file_bytes (edited_by subid_format slice l))) copied
-    ∙ ap (λ edits. lines_of (file_bytes (edited_by subid_format edits lines))) seen
-    ∙ lines-before before lines (removals-written owner change c.requires.named)
-    c.requires.of_file in
-    IfOk-weaker c.load-2.result _ _ (λ found is. is ∙ edited) c.load-2.ensures.lines
+    let edited : lines_of c.as_slice-2.result.now ≡ edited_by subid_format before (lines_of text) =
+    ap lines_of (c.as_slice-2.ensures ∙ c.in_ok-text.ensures {u = tt})
+    ∙ ap (λ edits. lines_of (file_bytes (edited_by subid_format edits (lines_of text)))) seen
+    ∙ lines-before before text (removals-written owner change c.requires) in
+    IfOk-weaker c.load.result _ _ (λ found is. is ∙ edited) c.load.ensures.lines

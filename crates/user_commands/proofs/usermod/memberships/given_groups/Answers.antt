@@ -1,5 +1,4 @@
 use Rattle.std.proofs.Common.{[], ◌∷◌, ◌++◌, ◌+◌, ◌∙◌, drop, sym, ap}
-use Rattle.std.specs.Option.{option_copied}
 use Rattle.account_model.specs.GivenGroups.{find_group}
 use Rattle.account_model.specs.Tables.{group_records}
 use Rattle.user_commands.proofs.GivenNames.{names_of, names-found, names-missing}
@@ -13,19 +12,20 @@ loop-word-preserved c =
     let names = c.loop-word.names in
     let place = c.loop-word.word-index in
     let word = c.word-item.result in
-    let named = ap (λ w. find_group w groups) (sym c.as_slice.ensures) in
+    let named = ap (λ w. find_group w groups) (sym c.as_slice.ensures)
+    ∙ sym (c.in_ok-group.ensures {u = tt}) in
     let rest = names_of groups (drop (place + 1) words) in
-    elim c.match-find_group.branch [
+    elim c.match-branch-3.branch [
       | in-Some+in_ok-push w ↦
           ap (λ names. names ++ rest)
           (w.names-is ∙ w.in_ok-push.ensures.ok
           ∙ ap (λ name. names ++ name ∷ []) w.as_slice-in-Some.ensures)
           ∙ names-found groups words names place word c.loop-word-test.true c.word-item.is
-          w.in-Some.group.now (named ∙ sym w.in-Some.ensures)
+          w.in-Some.group (named ∙ w.in-Some.is)
           ∙ c.loop-word.invariant
       | in_default w ↦
           ap (λ names. names ++ rest) w.names-is
           ∙ names-missing groups words names place word c.loop-word-test.true c.word-item.is
-          (named ∙ sym c.find_group.ensures ∙ ap option_copied w.in_default.is)
+          (named ∙ w.in_default.is)
           ∙ c.loop-word.invariant
     ]

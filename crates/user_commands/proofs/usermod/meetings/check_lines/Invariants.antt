@@ -2,7 +2,7 @@ use Rattle.std.proofs.Common.{◌≡◌, map, drop}
 use Rattle.account_model.specs.UsermodRanges.{first_meeting}
 use Rattle.command_values.specs.Ranges.{ids_named}
 use Rattle.user_commands.specs.UsermodRanges.{owner_of}
-use Rattle.user_commands.proofs.usermod.meetings.check_table.Given as goal
+use Rattle.user_commands.proofs.usermod.meetings.check_lines.Given as goal
 
 -- what meets a line first among the ranges left is that among all
 abbrev pub invariant-loop-ids : goal.invariant-loop-ids
