@@ -30,10 +30,10 @@ pub fn decide(
     ensures { IfOk result (DecidesUnder defs.now request.now files.now) }
 {
     let asked = request.asked();
-    let tables = Tables::load(alloc, files)?;
+    let tables = Tables::of(files);
     let answer = script_of(alloc, asked, &tables, defs);
     let report = Report::silent(alloc);
-    decide_as(alloc, asked.tool(), files, tables, answer, report)
+    decide_as(alloc, asked.tool(), &tables, answer, report)
 }
 
 // The script of the tool that is asked for.

@@ -1,5 +1,5 @@
 // gpasswd GROUP (gpasswd(1)): administers a group.
-ghost use Rattle.std.specs.Prelude.{◌≡◌, ◌∷◌, [], codes};
+ghost use Rattle.std.specs.Prelude.{◌≡◌, ◌∷◌, [], codes, IfOk};
 ghost use Rattle.account_model.specs.Gpasswd.{gpasswd, gpasswd_refusals, gshadow_members_of, is_member, members_of, not_member};
 ghost use Rattle.account_model.specs.Refusals.{bad_list_name, missing_user, missing_users, refuse_value};
 ghost use Rattle.account_model.specs.Request.{operand};
@@ -13,7 +13,7 @@ use account_model::Refusal;
 use acct_text::Bytes;
 use command_values::{Asked, ToolFault, check_list_name, is_listed, list_value};
 use script::script_of;
-use std::alloc::Global;
+use std::alloc::{AllocError, Global};
 use table_edits::{Script, Tables};
 
 mod script;
@@ -44,7 +44,7 @@ fn check_names(alloc: Global, asked: &Asked, tables: &Tables) -> Result<(), Tool
 
 // Refuses a user of `-a` that isn't there.
 fn check_added(alloc: Global, asked: &Asked, tables: &Tables) -> Result<(), ToolFault>
-    ensures { RefusesBy
+    ensures { StopsBy
         (refuse_value (codes "a") asked.now (λ user. missing_user user tables.now)) result }
 {
     match asked.value(b'a') {
@@ -55,7 +55,7 @@ fn check_added(alloc: Global, asked: &Asked, tables: &Tables) -> Result<(), Tool
 
 // Refuses a user of `-d` that is no member.
 fn check_removed(alloc: Global, asked: &Asked, tables: &Tables) -> Result<(), ToolFault>
-    ensures { RefusesBy
+    ensures { StopsBy
         (refuse_value (codes "d") asked.now (not_member (operand asked.now) tables.now)) result }
 {
     match asked.value(b'd') {
@@ -66,9 +66,9 @@ fn check_removed(alloc: Global, asked: &Asked, tables: &Tables) -> Result<(), To
 
 // Refuses a user who isn't a member of the group: `NotMember`.
 fn check_member(alloc: Global, tables: &Tables, user: &[u8], group: &[u8]) -> Result<(), ToolFault>
-    ensures { RefusesBy (not_member group.now tables.now user.now) result }
+    ensures { StopsBy (not_member group.now tables.now user.now) result }
 {
-    if is_member(tables, user, group) {
+    if is_member(alloc, tables, user, group)? {
         return Ok(());
     }
     let (user, group) = (Bytes::of(alloc, user)?, Bytes::of(alloc, group)?);
@@ -76,29 +76,41 @@ fn check_member(alloc: Global, tables: &Tables, user: &[u8], group: &[u8]) -> Re
 }
 
 // Whether the user is a member of the group, in group or in gshadow.
-fn is_member(tables: &Tables, user: &[u8], group: &[u8]) -> bool
-    ensures { result ≡ is_member user.now group.now tables.now }
+fn is_member(alloc: Global, tables: &Tables, user: &[u8], group: &[u8]) -> Result<bool, AllocError>
+    ensures { IfOk result (λ is. is ≡ is_member user.now group.now tables.now) }
 {
-    is_group_member(tables, user, group) || is_gshadow_member(tables, user, group)
+    let in_group = is_group_member(alloc, tables, user, group)?;
+    Ok(in_group || is_gshadow_member(alloc, tables, user, group)?)
 }
 
 // Whether the user is a member of the group in group.
-fn is_group_member(tables: &Tables, user: &[u8], group: &[u8]) -> bool
-    ensures { result ≡ stands_in user.now (members_of group.now tables.now) }
+fn is_group_member(
+    alloc: Global,
+    tables: &Tables,
+    user: &[u8],
+    group: &[u8],
+) -> Result<bool, AllocError>
+    ensures { IfOk result (λ is. is ≡ stands_in user.now (members_of group.now tables.now)) }
 {
-    match tables.group_named(group) {
-        Some(group) => is_listed(user, group.members.as_slice()),
-        None => false,
+    match tables.group_named(alloc, group)? {
+        Some(group) => Ok(is_listed(user, group.members.as_slice())),
+        None => Ok(false),
     }
 }
 
 // Whether the user is a member of the group in gshadow.
-fn is_gshadow_member(tables: &Tables, user: &[u8], group: &[u8]) -> bool
-    ensures { result ≡ stands_in user.now (gshadow_members_of group.now tables.now) }
+fn is_gshadow_member(
+    alloc: Global,
+    tables: &Tables,
+    user: &[u8],
+    group: &[u8],
+) -> Result<bool, AllocError>
+    ensures { IfOk result (λ is.
+        is ≡ stands_in user.now (gshadow_members_of group.now tables.now)) }
 {
-    match tables.gshadow_named(group) {
-        Some(group) => is_listed(user, group.members.as_slice()),
-        None => false,
+    match tables.gshadow_named(alloc, group)? {
+        Some(group) => Ok(is_listed(user, group.members.as_slice())),
+        None => Ok(false),
     }
 }
 

@@ -18,7 +18,7 @@ use acct_text::Bytes;
 use command_values::{Asked, Form, ToolFault, check_name, free_id};
 use id_choice::UsedIds;
 use login_defs::Defs;
-use std::alloc::Global;
+use std::alloc::{AllocError, Global};
 use table_edits::{Script, Tables};
 
 /// The edits that make the group of the name, with the GID of `-g` or a chosen one.
@@ -36,7 +36,7 @@ pub(crate) fn groupadd(
         → ActsBy (groupadd asked.now tables.now settings) result }
 {
     let settings = check_words(alloc, asked, defs)?;
-    if is_content(asked, tables) {
+    if is_content(alloc, asked, tables)? {
         return Ok(Script::new(alloc));
     }
     let gid = gid_without_conflict(alloc, asked, tables, &settings)?;
@@ -60,10 +60,11 @@ fn check_words(alloc: Global, asked: &Asked, defs: &Defs) -> Result<Defs, ToolFa
 }
 
 // Whether `-f` is given and the group exists.
-fn is_content(asked: &Asked, tables: &Tables) -> bool
-    ensures { result ≡ is_content (operand asked.now) asked.now tables.now }
+fn is_content(alloc: Global, asked: &Asked, tables: &Tables) -> Result<bool, AllocError>
+    ensures { IfOk result (λ content.
+        content ≡ is_content (operand asked.now) asked.now tables.now) }
 {
-    asked.has(b'f') && tables.group_named(asked.operand()).is_some()
+    Ok(asked.has(b'f') && tables.group_named(alloc, asked.operand())?.is_some())
 }
 
 // The GID of the new group, where neither its name nor its GID is taken.
@@ -76,7 +77,7 @@ fn gid_without_conflict(
     ensures { GivesGid asked.now tables.now settings.now result }
 {
     let name = asked.operand();
-    if tables.group_named(name).is_some() {
+    if tables.group_named(alloc, name)?.is_some() {
         return Err(ToolFault::Refused(Refusal::GroupExists(Bytes::of(alloc, name)?)));
     }
     let used = tables.used_gids(alloc)?;

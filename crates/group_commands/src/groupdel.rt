@@ -1,7 +1,7 @@
 // groupdel GROUP (groupdel(8)): removes a group.
 ghost use Rattle.account_model.specs.Groupdel.{groupdel, still_primary};
-ghost use Rattle.acct_tables.specs.Refusing.{RefusesBy};
 ghost use Rattle.table_edits.specs.Acting.{ActsBy};
+ghost use Rattle.table_edits.specs.Stopping.{StopsBy};
 
 use account_model::Refusal;
 use acct_text::Bytes;
@@ -28,12 +28,12 @@ pub(crate) fn groupdel(alloc: Global, asked: &Asked, tables: &Tables) -> Result<
 
 // Refuses a group that is the primary group of a user: `PrimaryGroup`, with the first such one.
 fn check_unused(alloc: Global, tables: &Tables, name: &[u8]) -> Result<(), ToolFault>
-    ensures { RefusesBy (still_primary name.now tables.now) result }
+    ensures { StopsBy (still_primary name.now tables.now) result }
 {
-    let Some(group) = tables.group_named(name) else {
+    let Some(group) = tables.group_named(alloc, name)? else {
         return Ok(());
     };
-    let Some(user) = tables.user_of_gid(group.gid) else {
+    let Some(user) = tables.user_of_gid(alloc, group.gid)? else {
         return Ok(());
     };
     let group = Bytes::of(alloc, name)?;

@@ -1,11 +1,10 @@
 // groupmod GROUP (groupmod(8)): changes a group's GID, name or password.
-ghost use Rattle.std.specs.Prelude.{◌≡◌, ◌||◌, codes, IfOk, OnOk};
+ghost use Rattle.std.specs.Prelude.{◌≡◌, ◌||◌, codes, Some, IfOk, OnOk};
 ghost use Rattle.account_model.specs.Action.{with_option};
 ghost use Rattle.account_model.specs.Hashes.{set_group_hash};
-ghost use Rattle.account_model.specs.Groupmod.{groupmod, groupmod_used_gid, groupmod_script, taken_group_name, gid_script, set_gid, rename_group};
-ghost use Rattle.account_model.specs.Refusals.{refuse_value};
-ghost use Rattle.account_model.specs.Users.{has_group, has_gshadow};
-ghost use Rattle.acct_tables.specs.Refusing.{RefusesBy};
+ghost use Rattle.account_model.specs.Groupmod.{groupmod, groupmod_used_gid, groupmod_script, taken_gid, taken_group_name, gid_script, set_gid, rename_group};
+ghost use Rattle.account_model.specs.Refusals.{missing_group, refuse_value};
+ghost use Rattle.account_model.specs.Users.{group_named as group_of_name, has_group, has_gshadow};
 ghost use Rattle.table_edits.specs.SeenScript.{seen_script};
 ghost use Rattle.table_edits.specs.Acting.{ActsBy};
 ghost use Rattle.table_edits.specs.Additions.{HasAlso};
@@ -29,10 +28,21 @@ pub(crate) fn groupmod(alloc: Global, asked: &Asked, tables: &Tables) -> Result<
     asked.check_value(alloc, b'g', Form::Id)?;
     asked.check_value(alloc, b'n', Form::Name)?;
     asked.check_value(alloc, b'p', Form::Field)?;
-    tables.check_group(alloc, group)?;
+    let old = group_to_change(alloc, tables, group)?;
     check_new_name(alloc, asked, tables, group)?;
-    check_new_gid(alloc, asked, tables, group)?;
-    Ok(changed_group(alloc, asked, tables, group)?)
+    check_new_gid(alloc, asked, tables, group, &old)?;
+    Ok(changed_group(alloc, asked, tables, group, &old)?)
+}
+
+// The group of the name, by its first record; `NoGroup` refuses one that isn't there.
+fn group_to_change(alloc: Global, tables: &Tables, group: &[u8]) -> Result<GroupRecord, ToolFault>
+    ensures refused { StopsBy (missing_group group.now tables.now) result }
+    ensures found { IfOk result (λ old. group_of_name group.now tables.now ≡ Some old) }
+{
+    match tables.group_named(alloc, group)? {
+        Some(old) => Ok(old),
+        None => Err(ToolFault::Refused(Refusal::NoGroup(Bytes::of(alloc, group)?))),
+    }
 }
 
 // Refuses a name of `-n` that differs from the group's and is taken: `GroupExists`.
@@ -42,7 +52,7 @@ fn check_new_name(
     tables: &Tables,
     group: &[u8],
 ) -> Result<(), ToolFault>
-    ensures { RefusesBy
+    ensures { StopsBy
         (refuse_value (codes "n") asked.now (taken_group_name group.now tables.now)) result }
 {
     match asked.value(b'n') {
@@ -58,19 +68,20 @@ fn check_name_free(
     group: &[u8],
     name: &[u8],
 ) -> Result<(), ToolFault>
-    ensures { RefusesBy (taken_group_name group.now tables.now name.now) result }
+    ensures { StopsBy (taken_group_name group.now tables.now name.now) result }
 {
-    if name == group || !is_taken(tables, name) {
+    if name == group || !is_taken(alloc, tables, name)? {
         return Ok(());
     }
     Err(ToolFault::Refused(Refusal::GroupExists(Bytes::of(alloc, name)?)))
 }
 
 // Whether a record of group or gshadow has the name.
-fn is_taken(tables: &Tables, name: &[u8]) -> bool
-    ensures { result ≡ has_group name.now tables.now || has_gshadow name.now tables.now }
+fn is_taken(alloc: Global, tables: &Tables, name: &[u8]) -> Result<bool, AllocError>
+    ensures { IfOk result (λ taken.
+        taken ≡ (has_group name.now tables.now || has_gshadow name.now tables.now)) }
 {
-    tables.group_named(name).is_some() || tables.gshadow_named(name).is_some()
+    Ok(tables.group_named(alloc, name)?.is_some() || tables.gshadow_named(alloc, name)?.is_some())
 }
 
 // Refuses a GID of `-g` that is another group's where `-o` isn't given: `GidInUse`.
@@ -79,19 +90,33 @@ fn check_new_gid(
     asked: &Asked,
     tables: &Tables,
     group: &[u8],
+    old: &GroupRecord,
 ) -> Result<(), ToolFault>
+    requires { group_of_name group.now tables.now ≡ Some old.now }
     ensures { StopsBy (groupmod_used_gid group.now asked.now tables.now) result }
 {
     if asked.has(b'o') {
         return Ok(());
     }
-    let used = tables.used_gids(alloc)?;
-    match (asked.id(b'g'), tables.group_named(group)) {
-        (Some(gid), Some(old)) if gid != old.gid && used.holds(gid) => {
-            Err(ToolFault::Refused(Refusal::GidInUse(gid)))
-        }
-        _ => Ok(()),
+    match asked.id(b'g') {
+        Some(gid) => check_gid_free(alloc, tables, gid, old),
+        None => Ok(()),
     }
+}
+
+// Refuses a GID that differs from the group's and is in use: `GidInUse`.
+fn check_gid_free(
+    alloc: Global,
+    tables: &Tables,
+    gid: u32,
+    old: &GroupRecord,
+) -> Result<(), ToolFault>
+    ensures { StopsBy (taken_gid tables.now gid old.now) result }
+{
+    if gid == old.gid || !tables.used_gids(alloc)?.holds(gid) {
+        return Ok(());
+    }
+    Err(ToolFault::Refused(Refusal::GidInUse(gid)))
 }
 
 // The edits of a group that can be changed so.
@@ -100,13 +125,15 @@ fn changed_group(
     asked: &Asked,
     tables: &Tables,
     group: &[u8],
+    old: &GroupRecord,
 ) -> Result<Script, AllocError>
+    requires { group_of_name group.now tables.now ≡ Some old.now }
     ensures { IfOk result (λ script.
         seen_script script ≡ groupmod_script group.now asked.now tables.now) }
 {
     let mut script = Script::new(alloc);
     write_hash(alloc, &mut script, asked, tables, group)?;
-    write_gid(alloc, &mut script, asked, tables, group)?;
+    write_gid(alloc, &mut script, asked, tables, group, old)?;
     write_name(alloc, &mut script, asked, group)?;
     Ok(script)
 }
@@ -136,13 +163,15 @@ fn write_gid(
     asked: &Asked,
     tables: &Tables,
     group: &[u8],
+    old: &GroupRecord,
 ) -> Result<(), AllocError>
+    requires { group_of_name group.now tables.now ≡ Some old.now }
     ensures { OnOk result
         (HasAlso (gid_script group.now asked.now tables.now) script.old script.new) }
 {
-    match (asked.id(b'g'), tables.group_named(group)) {
-        (Some(gid), Some(old)) => set_gid(alloc, script, group, gid, old),
-        _ => Ok(()),
+    match asked.id(b'g') {
+        Some(gid) => set_gid(alloc, script, group, gid, old),
+        None => Ok(()),
     }
 }
 
