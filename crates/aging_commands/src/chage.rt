@@ -9,6 +9,7 @@ ghost use Rattle.account_model.specs.Values.{date_value, days_value};
 ghost use Rattle.acct_tables.specs.Refusing.{RefusesBy};
 ghost use Rattle.table_edits.specs.Acting.{ActsBy, IsReportOf};
 ghost use Rattle.table_edits.specs.SeenScript.{seen_script};
+ghost use Rattle.table_edits.specs.Stopping.{StopsBy};
 ghost use Rattle.aging_commands.specs.AgingFields.{SetsAging};
 
 use crate::listing::aging_report;
@@ -52,7 +53,7 @@ pub(crate) fn chage_report(
 
 // Tests the refusals in their order.
 fn check_chage(alloc: Global, asked: &Asked, tables: &Tables) -> Result<(), ToolFault>
-    ensures { RefusesBy (first_some (chage_refusals asked.now tables.now)) result }
+    ensures { StopsBy (first_some (chage_refusals asked.now tables.now)) result }
 {
     asked.check_value(alloc, b'd', Form::Date)?;
     asked.check_value(alloc, b'E', Form::Date)?;
@@ -68,7 +69,7 @@ fn check_chage(alloc: Global, asked: &Asked, tables: &Tables) -> Result<(), Tool
 fn check_shadow(tables: &Tables) -> Result<(), ToolFault>
     ensures { RefusesBy (refuse_if (is_none tables.now.shadow) Refusal.NoShadow) result }
 {
-    if tables.shadow().is_some() {
+    if tables.has_shadow_file() {
         return Ok(());
     }
     Err(ToolFault::Refused(Refusal::NoShadow))
@@ -118,8 +119,8 @@ fn days(asked: &Asked, letter: u8) -> Option<Option<u32>>
 fn aging_of(alloc: Global, tables: &Tables, user: &[u8]) -> Result<Bytes, AllocError>
     ensures { IfOk result (λ text. text ≡ report_of (aging_of user.now tables.now)) }
 {
-    match tables.shadow_named(user) {
-        Some(record) => aging_report(alloc, record),
+    match tables.shadow_named(alloc, user)? {
+        Some(record) => aging_report(alloc, &record),
         None => {
             let record = hash_alone(alloc, Bytes::of(alloc, user)?, Bytes::new(alloc));
             aging_report(alloc, &record)

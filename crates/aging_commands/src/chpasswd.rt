@@ -62,6 +62,6 @@ fn set_hash(
 {
     let change = HashChange::Set(Bytes::of(alloc, hash.hash)?);
     script.demand_indexed(alloc, users, hash.name)?;
-    script.change_hash(alloc, users.tables(), hash.name, change)?;
+    script.change_hash(alloc, &users.tables(), hash.name, change)?;
     script.change_shadow(alloc, hash.name, ShadowAct::SetLastChange(day))
 }

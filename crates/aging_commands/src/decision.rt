@@ -42,10 +42,10 @@ fn decide_chage(alloc: Global, asked: &Asked, files: &Files) -> Result<Decision,
     ensures { IfOk result
         (Decides Tool.Chage files.now (outcome_of (chage asked.now files.now) files.now)) }
 {
-    let tables = Tables::load(alloc, files)?;
+    let tables = Tables::of(files);
     let report = chage_report(alloc, asked, &tables)?;
     let answer = chage(alloc, asked, &tables);
-    decide_as(alloc, Tool::Chage, files, tables, answer, report)
+    decide_as(alloc, Tool::Chage, &tables, answer, report)
 }
 
 // What chpasswd decides.
@@ -60,14 +60,8 @@ fn decide_chpasswd(
     ensures { IfOk result
         (Decides Tool.Chpasswd files.now (outcome_of (chpasswd input.now files.now day) files.now)) }
 {
-    let tables = Tables::load(alloc, files)?;
+    let tables = Tables::of(files);
     let answer = chpasswd(alloc, input, &tables, day);
-    decide_as(
-        alloc,
-        Tool::Chpasswd,
-        files,
-        tables,
-        answer,
-        Report::silent(alloc),
-    )
+    let report = Report::silent(alloc);
+    decide_as(alloc, Tool::Chpasswd, &tables, answer, report)
 }

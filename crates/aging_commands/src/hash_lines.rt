@@ -73,7 +73,7 @@ fn read_hash<'a>(
     if has_colon(new.hash) {
         return Err(bad_line(number, LineProblem::HashColon));
     }
-    if users.user_named(new.name).is_none() {
+    if users.user_named(alloc, new.name)?.is_none() {
         let name = Bytes::of(alloc, new.name)?;
         return Err(bad_line(number, LineProblem::UnknownUser(name)));
     }

@@ -1,4 +1,4 @@
-use Rattle.std.proofs.Common.{◌≡◌, [], subst}
+use Rattle.std.proofs.Common.{◌≡◌, ◌∙◌, [], subst, sym}
 use Rattle.std.specs.Prelude.{Option, IfOk, unwrap_or}
 use Rattle.account_model.specs.declared.records.ShadowRecord.{ShadowRecord}
 use Rattle.account_model.specs.Chage.{aging_report}
@@ -9,4 +9,4 @@ pub returns-in-Some : goal.returns-in-Some
 returns-in-Some c = subst
     (λ (found : Option ShadowRecord). IfOk c.aging_report.result
     (λ text. text ≡ aging_report (unwrap_or found (hash_alone c.args.user.now []))))
-    c.in-Some.ensures c.aging_report.ensures
+    (sym c.in-Some.is ∙ c.in_ok-record.ensures) c.aging_report.ensures

@@ -15,7 +15,7 @@ returns c =
     let files = c.args.users.now in
     let demanded = seen_script c.demand_indexed.new.self in
     let changed = c.in_ok-change_hash.ensures {u = tt}
-    ∙ ap (λ (h : List ℕ). followed_by demanded (each_user_hash name (λ old. h) c.tables.result.now))
+    ∙ ap (λ (h : List ℕ). followed_by demanded (each_user_hash name (λ old. h) c.tables.result))
     (c.in_ok-of.ensures {u = tt})
     ∙ ap (λ (f : Files). followed_by demanded (each_user_hash name (λ old. hash) f))
     c.tables.ensures in
