@@ -1,8 +1,8 @@
 -- Claim: a tool that changes nothing decides as its report says (`told-decides`), and one that sorts
 -- by the sorted files (`users-sorted`, `groups-sorted`). Way: without edits no name has multiple entries, and all six
 -- files stay; a sort touches no record (`users-untouched`, `groups-untouched`).
-use Rattle.std.proofs.Common.{◌≡◌, ◌∙◌, ℕ, ◌≢◌, Bool, false, true, List, [], ◌∷◌, refl, sym, ap}
-use Rattle.std.specs.Prelude.{codes, Option, Some, None, Ok, if◌then◌else◌}
+use Rattle.std.proofs.Common.{◌≡◌, ◌∙◌, ℕ, ◌≢◌, false, true, List, [], ◌∷◌, refl, sym, ap}
+use Rattle.std.specs.Prelude.{codes, Option, Some, None, Ok}
 use Rattle.std.specs.List.{position_or_len}
 use Rattle.acct_text.specs.declared.files.Files.{Files}
 use Rattle.account_model.specs.declared.refusal.Refusal.{Refusal}
@@ -20,11 +20,11 @@ use Rattle.account_model.specs.Settings.{Setting}
 use Rattle.account_model.specs.Change.{action_by}
 use Rattle.account_model.specs.declared.tool.Tool.TheVariants.{Pwck, Grpck, Getsubids}
 use Rattle.account_model.specs.Records.{passwd_format, shadow_format, group_format, gshadow_format}
-use Rattle.account_model.specs.Tables.{Script, no_edits, files_after, table_after, table_records, passwd_records, shadow_records, group_records, gshadow_records}
+use Rattle.account_model.specs.Tables.{no_edits, files_after, table_after, table_records, passwd_records, shadow_records, group_records, gshadow_records}
 use Rattle.account_model.specs.Text.{first_some}
 use Rattle.acct_tables.specs.Decisions.{decision_of, made_decision}
 use Rattle.acct_tables.specs.declared.decision.Decision.{Decision}
-use Rattle.acct_tables.specs.declared.decision.Decision.TheVariants.{Change, Same}
+use Rattle.acct_tables.specs.declared.decision.Decision.TheVariants.{Same}
 use Rattle.account_model.proofs.NoEdits.{files-stay}
 use Rattle.account_model.proofs.SameLaws.{bytes-self}
 use Rattle.check_reports.specs.Decided.{DecidesBy, IsCheckTool}

@@ -1,6 +1,8 @@
 pub mod DecisionLemmas
 pub mod RangeLines
+pub mod OwnedWalk
 pub mod RecordWalk
+pub mod NameWalk
 pub mod PlaceLemmas
 pub mod ReportWalk
 pub mod ReportLemmas

@@ -1,20 +1,20 @@
--- Claim: a name's first place among records grows with them (`first-more`), tells whether a record
--- has the name (`is-placed`), and is where a search of the records stops (`place-or-count`).
-use Rattle.std.proofs.Common.{◌≡◌, ◌∙◌, ℕ, ◌+◌, Bool, true, false, List, [], ◌∷◌, ◌++◌, length, length-take-le, Bor, get_or, map, take, ◌<◌, refl, sym, ap, arith}
-use Rattle.std.specs.Prelude.{Option, Some, None, bytes_eq, cond, find, is_some, not, unwrap_or, if◌then◌else◌}
+-- Claim: the places and the count of records are kept line by line (`order-more`), as a name that
+-- has no place gets the next (`noted`); and a name's place is where a search of the records stops
+-- (`place-or-count`). Way: a name's first place among records grows with them (`first-more`).
+use Rattle.std.proofs.Common.{◌≡◌, ◌∙◌, ℕ, ◌+◌, ◌<◌, Bool, true, false, List, [], ◌∷◌, ◌++◌, length, length-append, take, refl, sym, ap, subst, arith, append-nil}
+use Rattle.std.specs.Prelude.{Option, Some, None, bytes_eq, cond, is_some, not, option_map, option_to_list, unwrap_or, if◌then◌else◌}
 use Rattle.std.specs.List.{position_from, position_or_len}
 use Rattle.std.specs.Cmp.Lexicographic.{bytes_decides}
 use Rattle.std.specs.Map.{update}
-use Rattle.std.proofs.lemmas.List.{length-map, map-append, take_more}
 use Rattle.acct_text.specs.Lines.{Line}
-use Rattle.account_model.specs.Format.{Format, is_named, has_named}
-use Rattle.account_model.specs.Tables.{table_records}
-use Rattle.table_edits.specs.LoadedTables.{table_of_bytes}
-use Rattle.check_reports.specs.declared.names.NamePlaces.{NamePlaces}
-use Rattle.check_reports.specs.Names.{Places, first_places, kept_places, records_in, with_place}
+use Rattle.account_model.specs.Format.{Format, is_named, records_of}
+use Rattle.acct_tables.specs.TableLines.{record_at}
+use Rattle.check_reports.specs.declared.sorting.ByPlace.{ByPlace}
+use Rattle.check_reports.specs.Sorted.{IsOrderOf, Places, first_places, kept_places, with_place}
+use Rattle.check_reports.proofs.RecordWalk.{records-more}
 
 -- what is found at last, where nothing was found before
-abbrev pub or_at_last : Option ℕ → Bool → ℕ → Option ℕ
+abbrev or_at_last : Option ℕ → Bool → ℕ → Option ℕ
 or_at_last found test place =
     elim found [ Some first ↦ Some first | None ↦ if test then Some place else None ]
 
@@ -38,23 +38,6 @@ module _ {X : Type 0} (test : X → Bool) where
       (place + length (first ∷ xs))
       (position-more (place + 1) xs x
       ∙ ap (or_at_last (position_from test (place + 1) xs) (test x)) (omega arith))
-
-  -- by the test of the first, something is found
-  front-found :
-      (passes : Bool) (place : ℕ) (first : X) (rest : Option ℕ) (found : Option X)
-      → is_some rest ≡ is_some found
-      → is_some (cond passes (Some place) rest) ≡ is_some (cond passes (Some first) found)
-  front-found true place first rest found later = refl
-  front-found false place first rest found later = later
-
-  -- a place is found where an element is
-  position-found :
-      (place : ℕ) (xs : List X)
-      → is_some (position_from test place xs) ≡ is_some (find test xs)
-  position-found place [] = refl
-  position-found place (x ∷ xs) =
-      front-found (test x) place x (position_from test (place + 1) xs) (find test xs)
-      (position-found (place + 1) xs)
 
 -- nothing is found
 none-is : (found : Option ℕ) → is_some found ≡ false → found ≡ None
@@ -98,9 +81,19 @@ position-or test place (x ∷ xs) =
     (ap (unwrap_or (position_from test (place + 1) xs)) (omega arith)
     ∙ position-or test (place + 1) xs)
 
+-- the places with that of a name, where there is one
+abbrev places_with : Option (List ℕ) → ByPlace → Places
+places_with None kept = kept_places kept
+places_with (Some name) kept = with_place (kept_places kept) name kept.count
+
+-- the count with a name, where there is one
+abbrev count_with : Option (List ℕ) → ℕ → ℕ
+count_with None count = count
+count_with (Some name) count = count + 1
+
 module _ {R : Type 0} (format : Format R) where
   -- the first places with one more record behind
-  pub first-more :
+  first-more :
       (records : List R) (r : R) (name : List ℕ)
       → first_places format (records ++ r ∷ []) name
       ≡ with_place (first_places format records) (format.name r) (length records) name
@@ -109,77 +102,59 @@ module _ {R : Type 0} (format : Format R) where
       ∙ ap (λ (place : ℕ). with_place (first_places format records) (format.name r) place name)
       (omega arith)
 
-  -- a name has a place where a record has it
-  pub is-placed :
-      (records : List R) (name : List ℕ)
-      → is_some (first_places format records name) ≡ has_named format name records
-  is-placed records name = position-found (is_named format name) 0 records
+  -- the order of the records with one more
+  order-by :
+      (records : List R) (found : Option R) (name : Option (List ℕ)) (before after : ByPlace)
+      → name ≡ option_map format.name found
+      → IsOrderOf format records before
+      → ((other : List ℕ) → kept_places after other ≡ places_with name before other)
+      → after.count ≡ count_with name before.count
+      → IsOrderOf format (records ++ option_to_list found) after
+  order-by records None None before after is so_far placed counted = record {
+    first = λ other. placed other ∙ so_far.first other
+        ∙ ap (λ records. first_places format records other) (sym (append-nil records));
+    counted = counted ∙ so_far.counted ∙ ap length (sym (append-nil records));
+  }
+  order-by records (Some r) (Some name) before after is so_far placed counted =
+      let same : name ≡ format.name r = cc in
+      let more = length-append records (r ∷ []) in
+      record {
+        first = λ other. placed other
+            ∙ ap (λ found. or_at_last found (bytes_eq name other) before.count)
+            (so_far.first other)
+            ∙ ap (λ (name : List ℕ). or_at_last (first_places format records other)
+            (bytes_eq name other) before.count) same
+            ∙ ap (λ (count : ℕ). or_at_last (first_places format records other)
+            (bytes_eq (format.name r) other) count) so_far.counted
+            ∙ sym (first-more records r other);
+        counted = counted ∙ omega (arith, so_far.counted, more);
+      }
+  order-by records None (Some name) before after is so_far placed counted = absurd cc
+  order-by records (Some r) None before after is so_far placed counted = absurd cc
 
-  -- the places of the records up to a place, with the name there, are those up to the next
-  pub next-places :
-      (records : List (Bor R)) (place : ℕ) (r : Bor R) (before after : Places) (name : List ℕ)
-      → place < length records
-      → r ≡ get_or records place r
-      → name ≡ format.name r.now
-      → ((other : List ℕ)
-      → before other ≡ first_places format (map (λ r. r.now) (take place records)) other)
-      → ((other : List ℕ) → after other ≡ with_place before name place other)
-      → (other : List ℕ)
-      → after other ≡ first_places format (map (λ r. r.now) (take (place + 1) records)) other
-  next-places records place r before after name inside is named so_far put other =
-      let done = map (λ (r : Bor R). r.now) (take place records) in
-      let more : map (λ (r : Bor R). r.now) (take (place + 1) records) ≡ done ++ r.now ∷ [] =
-      ap (map (λ (r : Bor R). r.now)) (take_more records place r inside
-      ∙ ap (λ last. take place records ++ last ∷ []) (sym is))
-      ∙ map-append (λ (r : Bor R). r.now) (take place records) (r ∷ []) in
-      let count : length done ≡ place =
-      length-map (take place records) (λ (r : Bor R). r.now)
-      ∙ length-take-le place records (omega (arith, inside)) in
-      put other
-      ∙ ap (λ found. or_at_last found (bytes_eq name other) place) (so_far other)
-      ∙ ap (λ (named : List ℕ). or_at_last (first_places format done other) (bytes_eq named other)
-      place) named
-      ∙ ap (λ (end : ℕ). or_at_last (first_places format done other)
-      (bytes_eq (format.name r.now) other) end) (sym count)
-      ∙ sym (first-more done r.now other)
-      ∙ ap (λ records. first_places format records other) (sym more)
+  -- the order of the lines so far, with the record at a place, is that up to the next
+  pub order-more :
+      (lines : List Line) (place : ℕ) (name : Option (List ℕ)) (before after : ByPlace)
+      → place < length lines
+      → name ≡ option_map format.name (record_at format lines place)
+      → IsOrderOf format (records_of format (take place lines)) before
+      → ((other : List ℕ) → kept_places after other ≡ places_with name before other)
+      → after.count ≡ count_with name before.count
+      → IsOrderOf format (records_of format (take (place + 1) lines)) after
+  order-more lines place name before after inside named so_far placed counted =
+      subst (λ records. IsOrderOf format records after)
+      (sym (records-more format lines place (record_at format lines place) inside refl))
+      (order-by (records_of format (take place lines)) (record_at format lines place) name before
+      after named so_far placed counted)
 
-  -- the records of a table that was loaded are those of its file
-  pub records-loaded :
-      (file : Option (List ℕ))
-      → records_in format (table_of_bytes file) ≡ table_records format file
-  records-loaded None = refl
-  records-loaded (Some bytes) = refl
-
-  -- the kept names of a table are those that a record of its file has
-  pub known-names :
-      (file : Option (List ℕ)) (table : Option (List Line)) (kept : NamePlaces)
-      → table ≡ table_of_bytes file
-      → ((name : List ℕ)
-      → kept_places kept name ≡ first_places format (records_in format table) name)
-      → (name : List ℕ)
-      → is_some (kept_places kept name) ≡ has_named format name (table_records format file)
-  known-names file table kept loaded placed name =
-      ap is_some (placed name)
-      ∙ is-placed (records_in format table) name
-      ∙ ap (has_named format name)
-      (ap (records_in format) loaded ∙ records-loaded file)
-
-  -- what a name's place is, and where a search of the file's records stops
+  -- what a name's place is, and where a search of the records stops
   pub place-or-count :
-      (file : Option (List ℕ)) (table : Option (List Line)) (kept : NamePlaces) (count : ℕ)
-      (name : List ℕ)
-      → table ≡ table_of_bytes file
-      → ((name : List ℕ)
-      → kept_places kept name ≡ first_places format (records_in format table) name)
-      → count ≡ length (records_in format table)
-      → unwrap_or (kept_places kept name) count
-      ≡ position_or_len (is_named format name) (table_records format file)
-  place-or-count file table kept count name loaded placed counted =
-      let records = records_in format table in
-      ap (λ found. unwrap_or found count) (placed name)
-      ∙ ap (unwrap_or (first_places format records name)) (counted ∙ omega arith)
+      (records : List R) (kept : ByPlace) (name : List ℕ)
+      → IsOrderOf format records kept
+      → unwrap_or (kept_places kept name) kept.count
+      ≡ position_or_len (is_named format name) records
+  place-or-count records kept name is =
+      ap (λ found. unwrap_or found kept.count) (is.first name)
+      ∙ ap (unwrap_or (first_places format records name)) (is.counted ∙ omega arith)
       ∙ position-or (is_named format name) 0 records
       ∙ omega arith
-      ∙ ap (position_or_len (is_named format name))
-      (ap (records_in format) loaded ∙ records-loaded file)

@@ -1,6 +1,6 @@
 -- Claim: the records of the lines up to a place, with that of the line there, are those up to the
 -- next (`records-more`), and up to the end they are all (`records-all`). Way: line by line.
-use Rattle.std.proofs.Common.{◌≡◌, ◌∙◌, ℕ, ◌+◌, ◌<◌, ◌≤◌, List, [], ◌∷◌, ◌++◌, length, drop, take, zero, suc, refl, sym, ap, arith, add-one}
+use Rattle.std.proofs.Common.{◌≡◌, ◌∙◌, ℕ, ◌+◌, ◌<◌, ◌≤◌, List, [], ◌∷◌, ◌++◌, length, drop, take, zero, suc, refl, ap, arith, add-one}
 use Rattle.std.specs.Prelude.{Option, Some, None, option_to_list}
 use Rattle.std.specs.List.{cons_option}
 use Rattle.acct_text.specs.Lines.{Line}
@@ -65,15 +65,3 @@ module _ {R : Type 0} (format : Format R) where
       → length lines ≤ place
       → records_of format (take place lines) ≡ records_of format lines
   records-all lines place all = ap (records_of format) (take-end lines place all)
-
-  -- records that are gathered up to a line, with the one that it is, are those up to the next
-  pub gathered-more :
-      (lines : List Line) (place : ℕ) (found : Option R) (before after : List R)
-      → place < length lines
-      → record_at format lines place ≡ found
-      → before ≡ records_of format (take place lines)
-      → after ≡ before ++ option_to_list found
-      → after ≡ records_of format (take (place + 1) lines)
-  gathered-more lines place found before after inside is so_far pushed =
-      pushed ∙ ap (λ front. front ++ option_to_list found) so_far
-      ∙ sym (records-more lines place found inside is)

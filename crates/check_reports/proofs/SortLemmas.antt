@@ -1,7 +1,7 @@
 -- Claim: a stable sort by a key gives the records in the order of `sorted_placed` (`sorted-once`).
 -- Way: what is sorted by insertion ascends (`sorting-rises`) and keeps the order of each key
 -- (`sorting-keeps`), and of lists that do both there is one (`one-order`).
-use Rattle.std.proofs.Common.{◌≡◌, ◌∙◌, ℕ, ◌+◌, ◌<◌, ◌≤◌, ◌==◌, Bool, true, false, List, [], ◌∷◌, ◌++◌, length, map, inl, inr, refl, sym, ap, arith}
+use Rattle.std.proofs.Common.{◌≡◌, ◌∙◌, ℕ, ◌<◌, ◌≤◌, ◌==◌, Bool, true, false, List, [], ◌∷◌, inl, inr, refl, sym, ap, arith}
 use Rattle.std.specs.Prelude.{⊤, cond, filter, nat_le, nat_lt, if◌then◌else◌}
 use Rattle.std.specs.List.{AllByRecursion}
 use Rattle.std.proofs.lemmas.Bool.{cases_Bool, eq-eqb, eqb-true, leb-false, leb-true, ltb-false, ltb-true, ne_eqb}

@@ -1,7 +1,7 @@
 -- Claim: what std's stable sort makes of records is their order by insertion (`sorted-once`). Way:
 -- their keys ascend (`keys-rise`), and those of each key tie (`tie-is`), so they keep their order.
-use Rattle.std.proofs.Common.{◌≡◌, ◌∙◌, ℕ, ◌+◌, ◌<◌, ◌≤◌, ◌==◌, Bool, List, [], ◌∷◌, length, map, get_or, zero, suc, inl, inr, refl, sym, ap, arith}
-use Rattle.std.specs.Prelude.{◌&&◌, filter, not, nat_lt}
+use Rattle.std.proofs.Common.{◌≡◌, ◌∙◌, ℕ, ◌<◌, ◌≤◌, ◌==◌, Bool, true, false, List, [], ◌∷◌, length, map, get_or, suc, inl, inr, refl, sym, ap, arith}
+use Rattle.std.specs.Prelude.{◌&&◌, cond, filter, not, nat_lt}
 use Rattle.std.specs.List.{AllByRecursion}
 use Rattle.std.specs.List.Sorted.{IsNonDecreasingBy, IsStableByKey, ties}
 use Rattle.std.specs.Ordering.{is_lt, nat_cmp}
@@ -9,8 +9,28 @@ use Rattle.std.proofs.lemmas.Bool.{cases_Bool, eq-eqb, ltb-false, ltb-true, ne_e
 use Rattle.acct_tables.specs.Order as order
 use Rattle.check_reports.specs.declared.sorting.Placed.{Placed}
 use Rattle.check_reports.specs.Sorted.{seen_placed}
-use Rattle.check_reports.proofs.ReportWalk.{seen-filter}
 use Rattle.check_reports.proofs.SortLemmas.{Rises, has_key, one-order, sorting-keeps, sorting-rises}
+
+-- ---- What is seen
+
+module _ {X Y : Type 0} (seen : X → Y) (test : Y → Bool) where
+  -- by whether the first passes
+  front-filter :
+      (passes : Bool) (x : X) (kept : List X) (rest : List Y)
+      → map seen kept ≡ rest
+      → map seen (cond passes (x ∷ kept) kept) ≡ cond passes (seen x ∷ rest) rest
+  front-filter true x kept rest later = ap (λ rest. seen x ∷ rest) later
+  front-filter false x kept rest later = later
+
+  -- what passes a test of what is seen
+  seen-filter :
+      (xs : List X) → map seen (filter (λ x. test (seen x)) xs) ≡ filter test (map seen xs)
+  seen-filter [] = refl
+  seen-filter (x ∷ xs) =
+      front-filter (test (seen x)) x (filter (λ x. test (seen x)) xs) (filter test (map seen xs))
+      (seen-filter xs)
+
+-- ---- The order
 
 -- two keys tie where they are equal
 tie-is : (a b : ℕ) → (not (is_lt (nat_cmp a b)) && not (is_lt (nat_cmp b a))) ≡ (b == a)

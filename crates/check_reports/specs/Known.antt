@@ -1,13 +1,12 @@
 -- What a check sees beside the line that it looks at, and how that is kept (pwck(8), grpck(8)).
-use Rattle.std.specs.Prelude.{◌≡◌, ℕ, Bool, ◌==◌, List, is_some, nat_eq}
-use Rattle.std.specs.HashSet as bag
+use Rattle.std.specs.Prelude.{◌≡◌, ℕ, Bool, ◌==◌, List}
 use Rattle.std.specs.List.{list_any}
 use Rattle.acct_text.specs.declared.files.Files.{Files}
 use Rattle.account_model.specs.declared.records.GroupRecord.{GroupRecord}
 use Rattle.account_model.specs.Tables.{group_records}
 use Rattle.account_model.specs.Users.{has_user, has_shadow, has_group, has_gshadow}
-use Rattle.check_reports.specs.declared.names.NamePlaces.{NamePlaces}
-use Rattle.check_reports.specs.Names.{kept_places}
+use Rattle.check_reports.specs.declared.names.NameSet.{NameSet}
+use Rattle.check_reports.specs.Names.{has_name}
 
 -- the tables, and the day in days since 1970-01-01
 pub record Sight : Type 0 where
@@ -19,11 +18,10 @@ abbrev pub has_gid : List GroupRecord → ℕ → Bool
 has_gid groups gid = list_any (λ group. group.gid == gid) groups
 
 -- the names and the GIDs that are kept are those of the tables
-pub record AreOf (files : Files) (users hashes groups group_hashes : NamePlaces)
-    (gids : ℕ → Bool) : Type 0 where
-  pub of_users : (name : List ℕ) → is_some (kept_places users name) ≡ has_user name files
-  pub of_hashes : (name : List ℕ) → is_some (kept_places hashes name) ≡ has_shadow name files
-  pub of_groups : (name : List ℕ) → is_some (kept_places groups name) ≡ has_group name files
-  pub of_group_hashes :
-      (name : List ℕ) → is_some (kept_places group_hashes name) ≡ has_gshadow name files
+pub record AreOf (files : Files) (users hashes groups group_hashes : NameSet) (gids : ℕ → Bool)
+    : Type 0 where
+  pub of_users : (name : List ℕ) → has_name users name ≡ has_user name files
+  pub of_hashes : (name : List ℕ) → has_name hashes name ≡ has_shadow name files
+  pub of_groups : (name : List ℕ) → has_name groups name ≡ has_group name files
+  pub of_group_hashes : (name : List ℕ) → has_name group_hashes name ≡ has_gshadow name files
   pub of_gids : (gid : ℕ) → gids gid ≡ has_gid (group_records files) gid

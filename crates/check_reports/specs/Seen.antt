@@ -6,7 +6,6 @@ use Rattle.check_reports.specs.declared.problem.Listing.{Listing}
 use Rattle.check_reports.specs.declared.problem.Listing.TheVariants.{Administrator, Member}
 use Rattle.check_reports.specs.declared.problem.Problem.{Problem}
 use Rattle.check_reports.specs.declared.problem.Problem.TheVariants.{InvalidEntry, DuplicateName, InvalidUserName, NoPrimaryGroup, NoShadowEntry, PasswordNotInShadow, NoPasswdEntry, ChangeInFuture, InvalidGroupName, NoGshadowEntry, NoGroupEntry, UnknownAdministrator, UnknownMember}
-use Rattle.check_reports.specs.declared.report.Located.{Located}
 
 -- the problem
 abbrev pub seen_problem : Problem → model.Problem
@@ -23,10 +22,6 @@ seen_problem (NoGshadowEntry name) = model.NoGshadowEntry name.now
 seen_problem (NoGroupEntry name) = model.NoGroupEntry name.now
 seen_problem (UnknownAdministrator group user) = model.UnknownAdministrator group.now user.now
 seen_problem (UnknownMember group user) = model.UnknownMember group.now user.now
-
--- the problem, at its line
-abbrev pub seen_located : Located → model.Located
-seen_located located = record { line = located.line; problem = seen_problem located.problem }
 
 -- the problem of a user whom a list of the group names, and who isn't in passwd
 abbrev pub unknown_problem : Listing → List ℕ → List ℕ → model.Problem

@@ -10,13 +10,12 @@ ghost use Rattle.check_reports.specs.Decided.{DecidesBy};
 ghost use Rattle.check_reports.specs.Listed.{listed_file, range_for};
 
 use crate::decision::told;
-use account_model::{PasswdRecord, Refusal};
-use acct_tables::{Decision, Table};
+use account_model::{PasswdRecord, Refusal, SubidRecord};
+use acct_tables::{Decision, is_owned};
 use acct_text::{Bytes, Files, push_decimal};
 use command_values::Asked;
 use std::alloc::{AllocError, Global};
-use subid_ranges::Ranges;
-use table_edits::refuse;
+use table_edits::{file_lines, refuse};
 
 /// Lists the ranges of the user in subuid(5), or with `-g` in subgid(5). `NoRanges` refuses a user
 /// who has none there.
@@ -52,13 +51,9 @@ fn listed_file<'a>(asked: &Asked, files: &'a Files) -> &'a Option<Bytes>
 fn uid_of(alloc: Global, files: &Files, name: &[u8]) -> Result<Option<u32>, AllocError>
     ensures { IfOk result (λ uid. uid ≡ uid_of name.now files.now) }
 {
-    match &files.passwd {
-        Some(text) => {
-            let users: Table<PasswdRecord> = Table::load(alloc, text.as_slice())?;
-            Ok(users.find(name).map(|user| user.uid))
-        }
-        None => Ok(None),
-    }
+    let users = file_lines(alloc, &files.passwd)?;
+    let user: Option<PasswdRecord> = users.find(alloc, name)?;
+    Ok(user.map(|user| user.uid))
 }
 
 // The ranges of the file that are the user's, by the name or the UID: the first ID and the count of
@@ -72,13 +67,17 @@ fn ranges_of(
     ensures { IfOk result (λ ranges. ranges.items ≡ map first_and_count
         (filter (is_owned user.now uid) (table_records subid_format file.now))) }
 {
-    match file {
-        Some(text) => {
-            let ranges = Ranges::load(alloc, text.as_slice())?;
-            ranges.of_owner(user, uid).collect(alloc)
+    let lines = &file_lines(alloc, file)?;
+    let mut ranges = Vec::new(alloc);
+    for place in 0..lines.len() {
+        let found: Option<SubidRecord> = lines.record_at(alloc, place)?;
+        if let Some(range) = found {
+            if is_owned(&range, user, uid) {
+                ranges.push((range.first, range.count))?;
+            }
         }
-        None => Ok(Vec::new(alloc)),
     }
+    Ok(ranges)
 }
 
 // A line for each range, numbered from 0.

@@ -1,23 +1,22 @@
 // grpck (grpck(8)): reports the problems of group and gshadow (`-r`), or sorts them (`-s`).
 ghost use Rattle.std.specs.Prelude.{◌≡◌, ◌++◌, [], map, IfOk, OnOk};
 ghost use Rattle.account_model.specs.Action.{changes};
-ghost use Rattle.account_model.specs.Grpck.{group_report, grpck, grpck_report, grpck_sort, gshadow_report, unknown_users};
+ghost use Rattle.account_model.specs.Grpck.{grpck, grpck_report, grpck_sort, unknown_users};
 ghost use Rattle.check_reports.specs.Decided.{DecidesBy};
 ghost use Rattle.check_reports.specs.Seen.{unknown_problem};
 
-use crate::decision::{changed, told};
+use crate::decision::changed;
 use crate::known::Known;
 use crate::problem::{Listing, Problem};
 use crate::problems::Problems;
-use crate::report::{CheckedRecord, TableReport, report_status};
+use crate::report::{CheckedRecord, Report};
 use crate::sorting::{ById, sorted_file, sorted_like};
 use account_model::{GroupRecord, GshadowRecord};
 use acct_lines::is_valid_name;
 use acct_tables::Decision;
-use acct_text::{Bytes, Files, Names, Tab};
+use acct_text::{Files, Names, Tab};
 use command_values::Asked;
 use std::alloc::{AllocError, Global};
-use table_edits::Tables;
 
 /// Sorts group and gshadow with `-s`, and else reports their problems.
 pub(crate) fn grpck(
@@ -31,8 +30,7 @@ pub(crate) fn grpck(
     if asked.has(b's') {
         return sort_groups(alloc, asked, files);
     }
-    let tables = Tables::load(alloc, files)?;
-    let known = Known::gather(alloc, &tables, today)?;
+    let known = Known::gather(alloc, files, today)?;
     report_groups(alloc, asked, &known)
 }
 
@@ -55,27 +53,11 @@ fn report_groups(alloc: Global, asked: &Asked, known: &Known) -> Result<Decision
     ensures { IfOk result
         (DecidesBy asked.now.tool (grpck_report known.now.files) known.now.files) }
 {
-    let groups = group_report(alloc, known)?;
-    let hashes = gshadow_report(alloc, known)?;
-    let status = report_status(&groups, &hashes);
-    let mut out = Bytes::new(alloc);
-    groups.push_to(alloc, &mut out, Tab::Group)?;
-    hashes.push_to(alloc, &mut out, Tab::Gshadow)?;
-    Ok(told(alloc, status, out))
-}
-
-// The problems of group.
-fn group_report<'a>(alloc: Global, known: &Known<'a>) -> Result<TableReport<'a>, AllocError>
-    ensures { IfOk result (λ report. report ≡ group_report known.now.files) }
-{
-    TableReport::of(alloc, known.tables().group(), known)
-}
-
-// The problems of gshadow.
-fn gshadow_report<'a>(alloc: Global, known: &Known<'a>) -> Result<TableReport<'a>, AllocError>
-    ensures { IfOk result (λ report. report ≡ gshadow_report known.now.files) }
-{
-    TableReport::of(alloc, known.tables().gshadow(), known)
+    let files = known.files();
+    let mut report = Report::new(alloc, false);
+    report.push_table::<GroupRecord>(alloc, known, &files.group, Tab::Group)?;
+    report.push_table::<GshadowRecord>(alloc, known, &files.gshadow, Tab::Gshadow)?;
+    Ok(report.told(alloc))
 }
 
 impl CheckedRecord for GroupRecord {

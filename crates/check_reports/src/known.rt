@@ -1,30 +1,28 @@
 // What a check looks up in the tables, found without a search of them (pwck(8), grpck(8), `-r`).
-ghost use Rattle.std.specs.Prelude.{◌≡◌, ℕ, is_some, map, nat_eq, IfOk};
+ghost use Rattle.std.specs.Prelude.{◌≡◌, ℕ, is_some, nat_eq, IfOk};
 ghost use Rattle.std.specs.HashSet as bag;
-ghost use Rattle.std.specs.Option.{option_copied};
 ghost use Rattle.account_model.specs.Records.{group_format};
-ghost use Rattle.account_model.specs.Tables.{group_records};
+ghost use Rattle.account_model.specs.Tables.{group_records, table_records};
 ghost use Rattle.account_model.specs.Users.{has_user, has_shadow, has_group, has_gshadow};
 ghost use Rattle.check_reports.specs.Known.{has_gid};
-ghost use Rattle.check_reports.specs.Names.{records_in};
 
-use crate::names::{NamePlaces, records};
-use account_model::GroupRecord;
-use acct_tables::Table;
+use crate::names::NameSet;
+use account_model::{GroupRecord, GshadowRecord, PasswdRecord, ShadowRecord};
+use acct_text::{Bytes, Files};
 use std::alloc::{AllocError, Global};
 use std::collections::HashSet;
 use std::marker::Model;
-use table_edits::Tables;
+use table_edits::file_lines;
 
-/// The tables and the day, with the names and GIDs that the tables have. Contracts see the tables
-/// and the day.
+/// The files of the tables and the day, with the names and GIDs that the tables have. Contracts see
+/// the files and the day.
 #[derive(Drop)]
 pub(crate) struct Known<'a> {
-    tables: &'a Tables,
-    users: NamePlaces<'a>,
-    hashes: NamePlaces<'a>,
-    groups: NamePlaces<'a>,
-    group_hashes: NamePlaces<'a>,
+    files: &'a Files,
+    users: NameSet<'a>,
+    hashes: NameSet<'a>,
+    groups: NameSet<'a>,
+    group_hashes: NameSet<'a>,
     gids: HashSet<u32>,
     today: u32,
 }
@@ -36,33 +34,33 @@ impl<'a> Model for Known<'a> {
 
     ghost Value = { Sight };
 
-    ghost view = { λ k. record { files = k.tables.now; today = k.today } };
+    ghost view = { λ k. record { files = k.files.now; today = k.today } };
 
-    ghost invariant = { λ k. AreOf k.tables.now k.users k.hashes k.groups k.group_hashes
+    ghost invariant = { λ k. AreOf k.files.now k.users k.hashes k.groups k.group_hashes
         (bag.contains nat_eq k.gids) };
 }
 
 impl<'a> Known<'a> {
-    /// What is known from the tables on the day, in days since 1970-01-01.
-    pub(crate) fn gather(alloc: Global, tables: &'a Tables, today: u32) -> Result<Self, AllocError>
-        ensures { IfOk result (λ known. known ≡ record { files = tables.now; today = today }) }
+    /// What is known from the files on the day, in days since 1970-01-01.
+    pub(crate) fn gather(alloc: Global, files: &'a Files, today: u32) -> Result<Self, AllocError>
+        ensures { IfOk result (λ known. known ≡ record { files = files.now; today = today }) }
     {
         Ok(Known {
-            tables,
-            users: NamePlaces::of(alloc, tables.passwd())?,
-            hashes: NamePlaces::of(alloc, tables.shadow())?,
-            groups: NamePlaces::of(alloc, tables.group())?,
-            group_hashes: NamePlaces::of(alloc, tables.gshadow())?,
-            gids: gids_of(alloc, tables.group())?,
+            files,
+            users: NameSet::of::<PasswdRecord>(alloc, &files.passwd)?,
+            hashes: NameSet::of::<ShadowRecord>(alloc, &files.shadow)?,
+            groups: NameSet::of::<GroupRecord>(alloc, &files.group)?,
+            group_hashes: NameSet::of::<GshadowRecord>(alloc, &files.gshadow)?,
+            gids: gids_of(alloc, &files.group)?,
             today,
         })
     }
 
-    /// The tables.
-    pub(crate) fn tables(&self) -> &'a Tables
+    /// The files of the tables.
+    pub(crate) fn files(&self) -> &'a Files
         ensures { result.now ≡ self.now.files }
     {
-        self.tables
+        self.files
     }
 
     /// Today, in days since 1970-01-01.
@@ -76,14 +74,14 @@ impl<'a> Known<'a> {
     pub(crate) fn has_shadow_file(&self) -> bool
         ensures { result ≡ is_some self.now.files.shadow }
     {
-        self.tables.shadow().is_some()
+        self.files.shadow.is_some()
     }
 
     /// Whether there is a gshadow(5) file.
     pub(crate) fn has_gshadow_file(&self) -> bool
         ensures { result ≡ is_some self.now.files.gshadow }
     {
-        self.tables.gshadow().is_some()
+        self.files.gshadow.is_some()
     }
 
     /// Whether passwd has the user.
@@ -122,15 +120,18 @@ impl<'a> Known<'a> {
     }
 }
 
-// The GIDs of all groups; an absent table has none.
-fn gids_of(alloc: Global, table: Option<&Table<GroupRecord>>) -> Result<HashSet<u32>, AllocError>
+// The GIDs of all groups of a file; an absent one has none.
+fn gids_of(alloc: Global, file: &Option<Bytes>) -> Result<HashSet<u32>, AllocError>
     ensures { IfOk result (λ gids. (gid : ℕ) → bag.contains nat_eq gids gid
-        ≡ has_gid (records_in group_format (option_copied table.entry)) gid) }
+        ≡ has_gid (table_records group_format file.now) gid) }
 {
-    let groups = records(alloc, table)?;
+    let groups = &file_lines(alloc, file)?;
     let mut gids = HashSet::new(alloc);
-    for group in &groups {
-        gids.insert(group.gid)?;
+    for place in 0..groups.len() {
+        let found: Option<GroupRecord> = groups.record_at(alloc, place)?;
+        if let Some(group) = found {
+            gids.insert(group.gid)?;
+        }
     }
     Ok(gids)
 }

@@ -2,9 +2,9 @@
 //! by its request and the day.
 //!
 //! `CheckRequest` keeps what was asked for, and `decide` answers it. Each tool is a module: pwck and
-//! grpck say what the problems of their records are. `report` walks a table and gathers the
-//! problems, of which `problem` has the texts; `known` and `names` look names and GIDs up. `sorting`
-//! puts the records of a table in order.
+//! grpck say what the problems of their records are. `report` walks the lines of a table and tells
+//! the problems of each, of which `problem` has the texts; `known` and `names` look names and GIDs
+//! up. `sorting` puts the records of a table in order.
 #![tactic(auto)]
 
 mod decision;

@@ -1,87 +1,61 @@
 // The names of a table's records, found without a search of the table.
-ghost use Rattle.std.specs.Prelude.{◌≡◌, List, ℕ, map, is_some, IfOk, OnOk};
-ghost use Rattle.std.specs.Option.{option_copied};
-ghost use Rattle.check_reports.specs.Names.{first_places, kept_places, no_places, records_in, with_place};
+ghost use Rattle.std.specs.Prelude.{◌≡◌, ◌||◌, List, ℕ, bytes_eq, false, IfOk, OnOk};
+ghost use Rattle.account_model.specs.Tables.{table_records};
+ghost use Rattle.check_reports.specs.Names.{AreNamesOf, has_name};
 
 use acct_lines::TableRecord;
-use acct_tables::Table;
+use acct_text::Bytes;
 use std::alloc::{AllocError, Global};
-use std::collections::HashMap;
+use std::collections::HashSet;
+use table_edits::file_lines;
 
-/// Where each name stands first among the records of a table, counted from 0 over the records.
+/// Names of records, which stand in the bytes of their file.
 #[derive(Drop)]
-pub(crate) struct NamePlaces<'a> {
-    places: HashMap<&'a [u8], usize>,
+pub(crate) struct NameSet<'a> {
+    names: HashSet<&'a [u8]>,
 }
 
-impl<'a> NamePlaces<'a> {
-    /// No name has a place. It allocates nothing before the first `note`.
+impl<'a> NameSet<'a> {
+    /// No name. It allocates nothing before the first `add`.
     pub(crate) fn new(alloc: Global) -> Self
-        ensures { (name : List ℕ) → kept_places result name ≡ no_places name }
+        ensures { (name : List ℕ) → has_name result name ≡ false }
     {
-        NamePlaces {
-            places: HashMap::new(alloc),
+        NameSet {
+            names: HashSet::new(alloc),
         }
     }
 
-    /// The places of the names of a table's records; an absent table has none.
+    /// The names of the records of a file; an absent one has none.
     pub(crate) fn of<R: TableRecord + Drop>(
         alloc: Global,
-        table: Option<&'a Table<R>>,
+        file: &'a Option<Bytes>,
     ) -> Result<Self, AllocError>
-        ensures { IfOk result (λ places. (name : List ℕ) → kept_places places name
-            ≡ first_places R.format (records_in R.format (option_copied table.entry)) name) }
+        ensures { IfOk result (AreNamesOf R.format (table_records R.format file.now)) }
     {
-        let records = records(alloc, table)?;
-        let mut places = NamePlaces::new(alloc);
-        for (place, record) in records.iter().enumerate() {
-            places.note(record.name(), place)?;
+        let lines = &file_lines(alloc, file)?;
+        let mut names = NameSet::new(alloc);
+        for place in 0..lines.len() {
+            let found = lines.name_at::<R>(alloc, place)?;
+            if let Some(name) = found {
+                names.add(name)?;
+            }
         }
-        Ok(places)
+        Ok(names)
     }
 
-    /// Gives the name this place, where it has none.
-    pub(crate) fn note(&mut self, name: &'a [u8], place: usize) -> Result<(), AllocError>
-        ensures { OnOk result ((other : List ℕ)
-            → kept_places self.new other ≡ with_place (kept_places self.old) name.now place other) }
+    /// Adds the name.
+    pub(crate) fn add(&mut self, name: &'a [u8]) -> Result<(), AllocError>
+        ensures { OnOk result ((other : List ℕ) → has_name self.new other
+            ≡ (bytes_eq name.now other || has_name self.old other)) }
     {
-        if !self.has(name) {
-            self.places.insert(name, place)?;
-        }
+        self.names.insert(name)?;
         Ok(())
     }
 
-    /// Whether the name has a place.
+    /// Whether it is one of the names.
     pub(crate) fn has(&self, name: &[u8]) -> bool
-        ensures { result ≡ is_some (kept_places self.now name.now) }
+        ensures { result ≡ has_name self.now name.now }
     {
-        self.places.contains_key(name)
+        self.names.contains(name)
     }
-
-    /// The place of the name.
-    pub(crate) fn place_of(&self, name: &[u8]) -> Option<usize>
-        ensures { result ≡ kept_places self.now name.now }
-    {
-        self.places.get(name).copied()
-    }
-}
-
-/// The records of a table, in the order of its lines; an absent one has none.
-pub(crate) fn records<'a, R: TableRecord + Drop>(
-    alloc: Global,
-    table: Option<&'a Table<R>>,
-) -> Result<Vec<&'a R>, AllocError>
-    ensures { IfOk result (λ records.
-        map (λ r. r.now) records.items ≡ records_in R.format (option_copied table.entry)) }
-{
-    let mut records = Vec::new(alloc);
-    let Some(table) = table else {
-        return Ok(records);
-    };
-    for place in 0..table.len() {
-        if let Some(record) = table.at(place) {
-            records.push(record)?;
-        }
-    }
-    Ok(records)
 }

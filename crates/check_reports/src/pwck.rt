@@ -1,22 +1,21 @@
 // pwck (pwck(8)): reports the problems of passwd and shadow (`-r`), or sorts them (`-s`).
 ghost use Rattle.std.specs.Prelude.{◌≡◌, [], IfOk};
 ghost use Rattle.account_model.specs.Action.{changes};
-ghost use Rattle.account_model.specs.Pwck.{is_after, passwd_report, pwck, pwck_report, pwck_sort, shadow_report};
+ghost use Rattle.account_model.specs.Pwck.{is_after, pwck, pwck_report, pwck_sort};
 ghost use Rattle.check_reports.specs.Decided.{DecidesBy};
 
-use crate::decision::{changed, told};
+use crate::decision::changed;
 use crate::known::Known;
 use crate::problem::Problem;
 use crate::problems::Problems;
-use crate::report::{CheckedRecord, TableReport, report_status};
+use crate::report::{CheckedRecord, Report};
 use crate::sorting::{ById, sorted_file, sorted_like};
 use account_model::{PasswdRecord, ShadowRecord};
 use acct_lines::is_valid_name;
 use acct_tables::Decision;
-use acct_text::{Bytes, Files, Tab};
+use acct_text::{Files, Tab};
 use command_values::Asked;
 use std::alloc::{AllocError, Global};
-use table_edits::Tables;
 
 /// Sorts passwd and shadow with `-s`, and else reports their problems, on the day in days since
 /// 1970-01-01.
@@ -32,8 +31,7 @@ pub(crate) fn pwck(
     if asked.has(b's') {
         return sort_users(alloc, asked, files);
     }
-    let tables = Tables::load(alloc, files)?;
-    let known = Known::gather(alloc, &tables, today)?;
+    let known = Known::gather(alloc, files, today)?;
     report_users(alloc, asked, &known)
 }
 
@@ -57,30 +55,11 @@ fn report_users(alloc: Global, asked: &Asked, known: &Known) -> Result<Decision,
     ensures { IfOk result (DecidesBy asked.now.tool
         (pwck_report asked.now known.now.files known.now.today) known.now.files) }
 {
-    let users = passwd_report(alloc, known)?;
-    let hashes = shadow_report(alloc, known)?;
-    let status = report_status(&users, &hashes);
-    let is_quiet = asked.has(b'q');
-    let mut out = Bytes::new(alloc);
-    users.shown(is_quiet).push_to(alloc, &mut out, Tab::Passwd)?;
-    hashes
-        .shown(is_quiet)
-        .push_to(alloc, &mut out, Tab::Shadow)?;
-    Ok(told(alloc, status, out))
-}
-
-// The problems of passwd.
-fn passwd_report<'a>(alloc: Global, known: &Known<'a>) -> Result<TableReport<'a>, AllocError>
-    ensures { IfOk result (λ report. report ≡ passwd_report known.now.files) }
-{
-    TableReport::of(alloc, known.tables().passwd(), known)
-}
-
-// The problems of shadow.
-fn shadow_report<'a>(alloc: Global, known: &Known<'a>) -> Result<TableReport<'a>, AllocError>
-    ensures { IfOk result (λ report. report ≡ shadow_report known.now.files known.now.today) }
-{
-    TableReport::of(alloc, known.tables().shadow(), known)
+    let files = known.files();
+    let mut report = Report::new(alloc, asked.has(b'q'));
+    report.push_table::<PasswdRecord>(alloc, known, &files.passwd, Tab::Passwd)?;
+    report.push_table::<ShadowRecord>(alloc, known, &files.shadow, Tab::Shadow)?;
+    Ok(report.told(alloc))
 }
 
 impl CheckedRecord for PasswdRecord {

@@ -1,26 +1,27 @@
-// The report of a table: its problems, line after line (pwck(8), grpck(8), `-r`).
-ghost use Rattle.std.specs.Prelude.{◌≡◌, ◌++◌, ◌<◌, ℕ, List, length, map, is_some, IfOk, OnOk, if◌then◌else◌};
-ghost use Rattle.std.specs.Option.{option_copied};
-ghost use Rattle.acct_text.specs.Bytes.{is_empty};
+// The report of a check: the problems of its tables, line after line (pwck(8), grpck(8), `-r`).
+ghost use Rattle.std.specs.Prelude.{◌≡◌, ◌++◌, ◌∷◌, [], List, option_to_list, true, IfOk, OnOk};
+ghost use Rattle.acct_text.specs.declared.files.Files.{Files};
+ghost use Rattle.account_model.specs.declared.tool.Tool.{Tool};
+ghost use Rattle.account_model.specs.Action.{reports};
 ghost use Rattle.account_model.specs.Format.{has_named};
 ghost use Rattle.account_model.specs.Problems as model;
-ghost use Rattle.account_model.specs.Problems.{at_line, is_nis, problem_line, problem_lines, problems_of_line, report_status, without_notices};
-ghost use Rattle.acct_tables.specs.Order.{text_at};
-ghost use Rattle.acct_tables.specs.TableLines.{record_at};
+ghost use Rattle.account_model.specs.Problems.{at_line, is_nis, problem_line, problems_of_line, table_problems};
+ghost use Rattle.check_reports.specs.Decided.{DecidesBy};
 ghost use Rattle.check_reports.specs.Known.{Sight};
-ghost use Rattle.check_reports.specs.Names.{kept_places};
-ghost use Rattle.check_reports.specs.Reported.{lines_report, with_record_place};
-ghost use Rattle.check_reports.specs.Seen.{seen_located};
+ghost use Rattle.check_reports.specs.Names.{AreNamesOf};
+ghost use Rattle.check_reports.specs.Reported.{status_of, with_problems};
+ghost use Rattle.check_reports.specs.Seen.{seen_problem};
 
+use crate::decision::told;
 use crate::known::Known;
-use crate::names::NamePlaces;
+use crate::names::NameSet;
 use crate::problem::Problem;
 use crate::problems::Problems;
-use acct_lines::TableRecord;
-use acct_tables::Table;
+use acct_lines::{TableRecord, first_field};
+use acct_tables::Decision;
 use acct_text::{Bytes, Tab, push_decimal};
 use std::alloc::{AllocError, Global};
-use std::marker::Model;
+use table_edits::file_lines;
 
 // The status of a report with a problem.
 const BAD_ENTRIES: u8 = 2;
@@ -42,137 +43,144 @@ pub(crate) trait CheckedRecord: TableRecord {
             → found ≡ problems known.now earlier self.now) };
 }
 
-/// A problem at its line, counted from 1.
-#[derive(Clone, Copy)]
-pub(crate) struct Located<'a> {
-    line: usize,
-    problem: Problem<'a>,
-}
-
-impl<'a> Located<'a> {
-    // Adds the line that tells of the problem.
-    fn push_to(&self, alloc: Global, out: &mut Bytes, tab: Tab) -> Result<(), AllocError>
-        ensures { OnOk result (out.new ≡ out.old ++ problem_line tab (seen_located self.now)) }
-    {
-        let text = self.problem.text(alloc)?;
-        out.push(tab.name().as_bytes())?;
-        out.push(b":")?;
-        push_decimal(out, self.line as u64)?;
-        out.push(b": ")?;
-        out.push(text.as_slice())?;
-        out.push(b"\n")
-    }
-}
-
-/// The problems of a table, in the order of its lines.
+/// What a check tells: a line for each problem that is shown, table after table.
 #[derive(Drop)]
-pub(crate) struct TableReport<'a> {
-    located: Vec<Located<'a>>,
+pub(crate) struct Report {
+    // notices aren't shown
+    is_quiet: bool,
+    // no line has a problem, also none that isn't shown
+    is_clean: bool,
+    lines: Bytes,
 }
 
-impl<'a> Model for TableReport<'a> {
-    ghost use Rattle.std.specs.Prelude.{List, map};
-    ghost use Rattle.account_model.specs.Problems as model;
-    ghost use Rattle.check_reports.specs.Seen.{seen_located};
-
-    ghost Value = { List model.Located };
-
-    ghost view = { λ r. map seen_located r.located.items };
-}
-
-impl<'a> TableReport<'a> {
-    /// The report of a table by what is known; an absent table has no problem.
-    pub(crate) fn of<R: CheckedRecord + Drop>(
-        alloc: Global,
-        table: Option<&'a Table<R>>,
-        known: &Known,
-    ) -> Result<Self, AllocError>
-        ensures { IfOk result (λ report. report
-            ≡ lines_report R.format (R.problems known.now) (option_copied table.entry)) }
+impl Report {
+    /// The report of no table. Where it is to be quiet, it shows no notices (pwck(8), `-q`).
+    pub(crate) fn new(alloc: Global, is_quiet: bool) -> Self
+        ensures { result ≡ record { is_quiet = is_quiet; is_clean = true; lines = [] } }
     {
-        let mut report = TableReport {
-            located: Vec::new(alloc),
-        };
-        let Some(table) = table else {
-            return Ok(report);
-        };
-        let mut earlier = NamePlaces::new(alloc);
-        for place in 0..table.len() {
-            let problems = line_problems(alloc, table, place, known, &earlier)?;
-            report.locate(place + 1, &problems)?;
-            note_record(&mut earlier, table, place)?;
+        Report {
+            is_quiet,
+            is_clean: true,
+            lines: Bytes::new(alloc),
         }
-        Ok(report)
     }
 
-    // Adds the problems of a line.
-    fn locate(&mut self, line: usize, problems: &Problems<'a>) -> Result<(), AllocError>
-        ensures { OnOk result (self.new ≡ self.old ++ at_line line problems.now) }
+    /// Adds the problems of a table by what is known, line after line; an absent table has none.
+    ///
+    /// A record is kept no longer than its line is looked at.
+    pub(crate) fn push_table<R: CheckedRecord + Drop>(
+        &mut self,
+        alloc: Global,
+        known: &Known,
+        file: &Option<Bytes>,
+        tab: Tab,
+    ) -> Result<(), AllocError>
+        ensures { OnOk result (self.new ≡ with_problems tab
+            (table_problems R.format (R.problems known.now) file.now) self.old) }
+    {
+        let lines = &file_lines(alloc, file)?;
+        let mut earlier = NameSet::new(alloc);
+        for place in 0..lines.len() {
+            let text = lines.text_at(place);
+            let item: Option<R> = lines.record_at(alloc, place)?;
+            let problems = line_problems(alloc, text, &item, known, &earlier)?;
+            self.push_line(alloc, tab, place + 1, &problems)?;
+            note_record(&mut earlier, text, &item)?;
+        }
+        Ok(())
+    }
+
+    // Adds the problems of a line, counted from 1.
+    fn push_line(
+        &mut self,
+        alloc: Global,
+        tab: Tab,
+        line: usize,
+        problems: &Problems,
+    ) -> Result<(), AllocError>
+        ensures { OnOk result (self.new ≡ with_problems tab (at_line line problems.now) self.old) }
     {
         for problem in problems.as_slice() {
-            self.located.push(Located {
-                line,
-                problem: *problem,
-            })?;
+            self.push(alloc, tab, line, problem)?;
         }
         Ok(())
     }
 
-    /// Whether there is no problem.
-    pub(crate) fn is_empty(&self) -> bool
-        ensures { result ≡ is_empty self.now }
+    // Adds a problem of a line, counted from 1.
+    fn push(
+        &mut self,
+        alloc: Global,
+        tab: Tab,
+        line: usize,
+        problem: &Problem,
+    ) -> Result<(), AllocError>
+        ensures { OnOk result (self.new ≡ with_problems tab
+            (at_line line (seen_problem problem.now ∷ [])) self.old) }
     {
-        self.located.as_slice().is_empty()
-    }
-
-    /// What is shown of the report: without the notices where it is to be quiet (pwck(8), `-q`).
-    pub(crate) fn shown(mut self, is_quiet: bool) -> Self
-        ensures { result ≡ (if is_quiet then without_notices self.entry else self.entry) }
-    {
-        if is_quiet {
-            self.drop_notices();
+        self.is_clean = false;
+        if self.is_quiet && problem.is_notice() {
+            return Ok(());
         }
-        self
+        push_problem(alloc, &mut self.lines, tab, line, problem)
     }
 
-    // Leaves the notices out.
-    fn drop_notices(&mut self)
-        ensures { self.new ≡ without_notices self.old }
+    /// What the check decides: it changes nothing, and ends with 2 where a line has a problem, a
+    /// notice too, and else with 0 (pwck(8), grpck(8), "EXIT VALUES").
+    pub(crate) fn told(self, alloc: Global) -> Decision
+        ensures { (tool : Tool) (files : Files) → DecidesBy tool
+            (reports [] (status_of self) self.lines) files result }
     {
-        self.located.retain(|located| !located.problem.is_notice());
+        let status = self.status();
+        told(alloc, status, self.lines)
     }
 
-    /// Adds a line for each problem, which names the table.
-    pub(crate) fn push_to(&self, alloc: Global, out: &mut Bytes, tab: Tab) -> Result<(), AllocError>
-        ensures { OnOk result (out.new ≡ out.old ++ problem_lines tab self.now) }
+    // The status.
+    fn status(&self) -> u8
+        ensures { result ≡ status_of self.now }
     {
-        for located in &self.located {
-            located.push_to(alloc, out, tab)?;
-        }
-        Ok(())
+        if self.is_clean { 0 } else { BAD_ENTRIES }
     }
 }
 
-// The problems of the line at a place, counted from 0, behind records of which the names are kept.
+// Adds the line that tells of the problem of a line, counted from 1.
+fn push_problem(
+    alloc: Global,
+    out: &mut Bytes,
+    tab: Tab,
+    line: usize,
+    problem: &Problem,
+) -> Result<(), AllocError>
+    ensures { OnOk result (out.new ≡ out.old ++ problem_line tab
+        (record { line = line; problem = seen_problem problem.now })) }
+{
+    let text = problem.text(alloc)?;
+    out.push(tab.name().as_bytes())?;
+    out.push(b":")?;
+    push_decimal(out, line as u64)?;
+    out.push(b": ")?;
+    out.push(text.as_slice())?;
+    out.push(b"\n")
+}
+
+// The problems of a line with this text, which is the record or other text, behind records of which
+// the names are kept.
 fn line_problems<'a, R: CheckedRecord + Drop>(
     alloc: Global,
-    table: &'a Table<R>,
-    place: usize,
+    text: &[u8],
+    item: &'a Option<R>,
     known: &Known,
-    earlier: &NamePlaces,
+    earlier: &NameSet,
 ) -> Result<Problems<'a>, AllocError>
     ensures { IfOk result (λ problems. (before : List R)
-        → ((name : List ℕ)
-        → is_some (kept_places earlier.now name) ≡ has_named R.format name before)
-        → place < length table.now
-        → problems ≡ problems_of_line R.format (R.problems known.now) before
-        (text_at table.now place)) }
+        → AreNamesOf R.format before earlier.now
+        → item.now ≡ R.format.read text.now
+        → problems ≡ problems_of_line R.format (R.problems known.now) before text.now) }
 {
-    if is_nis(table.line_text(place)) {
+    if is_nis(text) {
         return Ok(Problems::none(alloc));
     }
-    match table.at(place) {
-        Some(record) => record.problems(alloc, known, earlier.has(record.name())),
+    match item {
+        Some(item) => item.problems(alloc, known, earlier.has(item.name())),
         None => Problems::invalid_entry(alloc),
     }
 }
@@ -187,30 +195,19 @@ fn is_nis(line: &[u8]) -> bool
     }
 }
 
-// Notes the name of the record at a place; other text has none.
+// Notes the name of the record that the text is; other text has none.
 fn note_record<'a, R: TableRecord + Drop>(
-    names: &mut NamePlaces<'a>,
-    table: &'a Table<R>,
-    place: usize,
+    names: &mut NameSet<'a>,
+    text: &'a [u8],
+    item: &Option<R>,
 ) -> Result<(), AllocError>
-    ensures { OnOk result ((name : List ℕ) → kept_places names.new name
-        ≡ with_record_place R.format (kept_places names.old)
-        (record_at R.format table.now place) place name) }
+    ensures { OnOk result ((before : List R)
+        → AreNamesOf R.format before names.old
+        → item.now ≡ R.format.read text.now
+        → AreNamesOf R.format (before ++ option_to_list item.now) names.new) }
 {
-    match table.at(place) {
-        Some(record) => names.note(record.name(), place),
+    match item {
+        Some(_) => names.add(first_field(text)),
         None => Ok(()),
-    }
-}
-
-/// The status of what two tables report: 2 where one has a problem, a notice too, and else 0
-/// (pwck(8), grpck(8), "EXIT VALUES").
-pub(crate) fn report_status(first: &TableReport, second: &TableReport) -> u8
-    ensures { result ≡ report_status (first.now ++ second.now) }
-{
-    if first.is_empty() && second.is_empty() {
-        0
-    } else {
-        BAD_ENTRIES
     }
 }

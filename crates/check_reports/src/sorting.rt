@@ -1,19 +1,19 @@
 // The records of a table in another order (pwck(8), grpck(8), `-s`).
-ghost use Rattle.std.specs.Prelude.{◌≡◌, ◌∷◌, [], ℕ, map, IfOk, OnOk};
+ghost use Rattle.std.specs.Prelude.{◌≡◌, ◌+◌, ◌^◌, ◌<◌, ◌∷◌, [], List, ℕ, map, IfOk, OnOk};
 ghost use Rattle.account_model.specs.Edits.{Arrange};
 ghost use Rattle.account_model.specs.Format.{is_named};
 ghost use Rattle.account_model.specs.Tables.{table_after, table_records};
 ghost use Rattle.acct_tables.specs.Order as order;
-ghost use Rattle.table_edits.specs.LoadedTables.{table_of_bytes};
-ghost use Rattle.check_reports.specs.Sorted.{seen_placed};
+ghost use Rattle.check_reports.specs.Sorted.{IsOrderOf, kept_places, seen_placed, with_place};
 ghost use Rattle.std.specs.List.{position_or_len};
 
-use crate::names::{NamePlaces, records};
 use account_model::{GroupRecord, PasswdRecord};
 use acct_lines::TableRecord;
 use acct_tables::Table;
 use acct_text::Bytes;
 use std::alloc::{AllocError, Global};
+use std::collections::HashMap;
+use table_edits::file_lines;
 
 /// What the records of a table are sorted by.
 pub(crate) trait SortKey<R> {
@@ -44,22 +44,67 @@ impl SortKey<GroupRecord> for ById {
     }
 }
 
-/// The place of the first record of the name in another table. Names that it lacks come last.
+/// The place of the first record of the name in another table, counted from 0 over its records.
+/// Names that it lacks come last.
 #[derive(Drop)]
-struct ByPlace<'a> {
-    places: NamePlaces<'a>,
+pub(crate) struct ByPlace<'a> {
+    places: HashMap<&'a [u8], usize>,
     // how many records the other table has
     count: usize,
 }
 
+impl<'a> ByPlace<'a> {
+    // The order of the records of a file; an absent one has none.
+    fn of<M: TableRecord + Drop>(alloc: Global, main: &'a Option<Bytes>) -> Result<Self, AllocError>
+        ensures { IfOk result (IsOrderOf M.format (table_records M.format main.now)) }
+    {
+        let lines = &file_lines(alloc, main)?;
+        let mut order = ByPlace {
+            places: HashMap::new(alloc),
+            count: 0,
+        };
+        for place in 0..lines.len() {
+            let found = lines.name_at::<M>(alloc, place)?;
+            if let Some(name) = found {
+                order.add(name)?;
+            }
+        }
+        Ok(order)
+    }
+
+    // Adds one more record, of the name.
+    fn add(&mut self, name: &'a [u8]) -> Result<(), AllocError>
+        requires { self.old.count + 1 < 2 ^ 64 }
+        ensures first { OnOk result ((other : List ℕ) → kept_places self.new other
+            ≡ with_place (kept_places self.old) name.now self.old.count other) }
+        ensures counted { OnOk result (self.new.count ≡ self.old.count + 1) }
+    {
+        self.note(name)?;
+        self.count += 1;
+        Ok(())
+    }
+
+    // Gives the name the place of the next record, where it has none.
+    fn note(&mut self, name: &'a [u8]) -> Result<(), AllocError>
+        ensures first { OnOk result ((other : List ℕ) → kept_places self.new other
+            ≡ with_place (kept_places self.old) name.now self.old.count other) }
+        ensures same { OnOk result (self.new.count ≡ self.old.count) }
+    {
+        if !self.places.contains_key(name) {
+            self.places.insert(name, self.count)?;
+        }
+        Ok(())
+    }
+}
+
 impl<'a, R: TableRecord> SortKey<R> for ByPlace<'a> {
     ghost use Rattle.std.specs.Prelude.{unwrap_or};
-    ghost use Rattle.check_reports.specs.Names.{kept_places};
+    ghost use Rattle.check_reports.specs.Sorted.{kept_places};
 
-    ghost key_of = { λ by r. unwrap_or (kept_places by.places (R.format.name r)) by.count };
+    ghost key_of = { λ by r. unwrap_or (kept_places by (R.format.name r)) by.count };
 
     fn key(&self, item: &R) -> usize {
-        self.places.place_of(item.name()).unwrap_or(self.count)
+        self.places.get(item.name()).copied().unwrap_or(self.count)
     }
 }
 
@@ -102,24 +147,8 @@ pub(crate) fn sorted_like<M: TableRecord + Drop, R: TableRecord + Drop>(
         (Arrange (λ r. position_or_len (is_named M.format (R.format.name r))
         (table_records M.format main.now)) ∷ []) file.now) }
 {
-    let main: Option<Table<M>> = loaded(alloc, main)?;
-    let count = records(alloc, main.as_ref())?.len();
-    let places = NamePlaces::of(alloc, main.as_ref())?;
-    let key = ByPlace { places, count };
-    sorted_file::<R, ByPlace>(alloc, file, &key)
-}
-
-// The table of a file, where there is one.
-fn loaded<R: TableRecord + Drop>(
-    alloc: Global,
-    file: &Option<Bytes>,
-) -> Result<Option<Table<R>>, AllocError>
-    ensures { IfOk result (λ table. table ≡ table_of_bytes file.now) }
-{
-    match file {
-        Some(text) => Ok(Some(Table::load(alloc, text.as_slice())?)),
-        None => Ok(None),
-    }
+    let order = ByPlace::of::<M>(alloc, main)?;
+    sorted_file::<R, ByPlace>(alloc, file, &order)
 }
 
 // The places of all records, stably in the order of their keys.

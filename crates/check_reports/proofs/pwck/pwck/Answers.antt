@@ -1,6 +1,5 @@
-use Rattle.std.proofs.Common.{◌≡◌, ◌∙◌, sym, ap, subst}
+use Rattle.std.proofs.Common.{◌∙◌, sym, subst}
 use Rattle.std.proofs.lemmas.Result.{IfOk-weaker}
-use Rattle.acct_text.specs.declared.files.Files.{Files}
 use Rattle.account_model.specs.Pwck.{pwck_report}
 use Rattle.check_reports.specs.Decided.{DecidesBy}
 use Rattle.check_reports.specs.Known.{Sight}
@@ -20,14 +19,10 @@ pub returns : goal.returns
 returns c =
     let request = c.args.asked.now in
     let files = c.args.files.now in
-    let sight : c.in_ok-known.known ≡ record { files = files; today = c.args.today } =
-    c.in_ok-known.ensures
-    ∙ ap (λ (files : Files). record { files = files; today = c.args.today }) c.in_ok-tables.ensures
-    in
     IfOk-weaker c.report_users.result _ _
     (λ decision decides. subst (λ action. DecidesBy request.tool action files decision)
     (pwck-reports request files c.args.today (sym c.has.ensures ∙ c.if-has.false))
     (subst (λ (sight : Sight). DecidesBy request.tool (pwck_report request sight.files sight.today)
     sight.files decision)
-    sight decides))
+    c.in_ok-known.ensures decides))
     c.report_users.ensures

@@ -1,10 +1,13 @@
-use Rattle.std.proofs.Common.{◌≡◌, ◌∙◌, Bool, ◌++◌, [], List, ap, refl}
-use Rattle.std.specs.Prelude.{codes, if◌then◌else◌}
+use Rattle.std.proofs.Common.{◌≡◌, ◌∙◌, Bool, true, [], ap}
+use Rattle.std.specs.Prelude.{codes}
+use Rattle.acct_text.specs.declared.files.Files.{Files}
 use Rattle.acct_text.specs.declared.Tab.TheVariants.{Passwd, Shadow}
-use Rattle.account_model.specs.Problems.{Located, problem_lines, report_status, without_notices}
-use Rattle.account_model.specs.Pwck.{passwd_report, shadow_report, shown}
+use Rattle.account_model.specs.Problems.{table_problems}
+use Rattle.account_model.specs.Pwck.{passwd_report, shadow_problems, shadow_report, user_problems}
+use Rattle.account_model.specs.Records.{passwd_format, shadow_format}
 use Rattle.account_model.specs.Request.{has_option}
-use Rattle.check_reports.proofs.ReportLemmas.{told-same}
+use Rattle.check_reports.specs.Reported.{with_problems}
+use Rattle.check_reports.proofs.ReportLemmas.{told-both}
 use Rattle.check_reports.proofs.pwck.report_users.Goals as goal
 
 pub returns : goal.returns
@@ -12,35 +15,26 @@ returns c =
     let request = c.args.asked.now in
     let files = c.args.known.now.files in
     let today = c.args.known.now.today in
-    let users = c.in_ok-users.users in
-    let hashes = c.in_ok-hashes.hashes in
-    let users_are : users ≡ passwd_report files = c.in_ok-users.ensures in
-    let hashes_are : hashes ≡ shadow_report files today = c.in_ok-hashes.ensures in
-    let kept : Bool → List Located → List Located =
-    λ is_quiet report. if is_quiet then without_notices report else report in
-    let quiet : c.has-is_quiet.result ≡ has_option (codes "q") request = c.has-is_quiet.ensures in
-    let status : c.report_status-status.result
-    ≡ report_status (passwd_report files ++ shadow_report files today) =
-    c.report_status-status.ensures
-    ∙ ap (λ users. report_status (users ++ hashes)) users_are
-    ∙ ap (λ hashes. report_status (passwd_report files ++ hashes)) hashes_are in
-    let shown_users : c.shown.result ≡ shown request (passwd_report files) =
-    c.shown.ensures ∙ ap (λ is_quiet. kept is_quiet users) quiet ∙ ap (shown request) users_are in
-    let shown_hashes : c.shown-2.result ≡ shown request (shadow_report files today) =
-    c.shown-2.ensures ∙ ap (λ is_quiet. kept is_quiet hashes) quiet
-    ∙ ap (shown request) hashes_are in
-    let first : c.push_to-2.new.out ≡ problem_lines Passwd (shown request (passwd_report files)) =
-    (c.in_ok-push_to.ensures {u = tt})
-    ∙ ap (λ front. front ++ problem_lines Passwd c.shown.result) c.new-out.ensures
-    ∙ ap (problem_lines Passwd) shown_users in
-    let out : c.push_to-4.new.out
-    ≡ problem_lines Passwd (shown request (passwd_report files))
-    ++ problem_lines Shadow (shown request (shadow_report files today)) =
-    (c.in_ok-push_to-2.ensures {u = tt})
-    ∙ ap (λ front. front ++ problem_lines Shadow c.shown-2.result) first
-    ∙ ap (λ report. problem_lines Passwd (shown request (passwd_report files))
-    ++ problem_lines Shadow report)
-    shown_hashes in
-    told-same request.tool files c.told.result _ c.report_status-status.result _ c.push_to-4.new.out
-    status out
-    (c.told.ensures request.tool [] files refl)
+    let none = c.new-report.result in
+    let one = c.push_table.new.self in
+    let both = c.push_table-2.new.self in
+    let same = c.files-files.ensures in
+    let new : none ≡ record {
+      is_quiet = has_option (codes "q") request;
+      is_clean = true;
+      lines = [];
+    } =
+    c.new-report.ensures
+    ∙ ap (λ (is_quiet : Bool). record { is_quiet = is_quiet; is_clean = true; lines = [] })
+    c.has.ensures in
+    let first : one ≡ with_problems Passwd (passwd_report files) none =
+    (c.in_ok-push_table.ensures {u = tt})
+    ∙ ap (λ (files_now : Files). with_problems Passwd
+    (table_problems passwd_format (user_problems files) files_now.passwd) none) same in
+    let second : both ≡ with_problems Shadow (shadow_report files today) one =
+    (c.in_ok-push_table-2.ensures {u = tt})
+    ∙ ap (λ (files_now : Files). with_problems Shadow
+    (table_problems shadow_format (shadow_problems files today) files_now.shadow) one) same in
+    told-both (has_option (codes "q") request) Passwd Shadow (passwd_report files)
+    (shadow_report files today) none one both new first second request.tool files c.told.result
+    (c.told.ensures request.tool files)

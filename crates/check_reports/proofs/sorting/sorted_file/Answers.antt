@@ -2,7 +2,6 @@ use Rattle.std.proofs.Common.{◌≡◌, ◌∙◌, ◌<◌, ℕ, List, [], ◌�
 use Rattle.std.specs.Prelude.{All, Some}
 use Rattle.acct_text.specs.Lines.{Line, file_bytes, lines_of}
 use Rattle.account_model.specs.Edits.{Arrange}
-use Rattle.account_model.specs.Format.{records_of}
 use Rattle.account_model.specs.Tables.{table_after}
 use Rattle.acct_tables.specs.Order.{arranged, sorted_places}
 use Rattle.acct_tables.proofs.ArrangeLemmas.{arranged-by-key}
