@@ -41,23 +41,3 @@ fn print_number(alloc: Global, number: u64) -> Result<Bytes, AllocError>
     push_decimal(&mut text, number)?;
     Ok(text)
 }
-
-#[cfg(test)]
-mod tests {
-    use super::*;
-    use std::test::Fail;
-
-    #[test]
-    fn a_day_is_printed_as_its_date(rt: HostRuntime) -> Result<(), Fail> {
-        let cases = [
-            (0, b"1970-01-01".as_slice()),
-            (19800, b"2024-03-18".as_slice()),
-            (2932896, b"9999-12-31".as_slice()),
-            (2932897, b"2932897".as_slice()),
-        ];
-        for (day, wanted) in cases {
-            assert_eq!(rt; print_day(rt.alloc(), day)?.as_slice(), wanted);
-        }
-        Ok(())
-    }
-}

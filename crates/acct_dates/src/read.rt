@@ -129,27 +129,3 @@ fn day_of(written: WrittenDate) -> Result<i64, DateFault>
     }
     Ok(i64::from(date.to_plain().to_unix_epoch_day()))
 }
-
-#[cfg(test)]
-mod tests {
-    use super::*;
-
-    #[test]
-    fn a_day_is_a_number_or_a_date_from_1970_on(rt: HostRuntime) {
-        let cases = [
-            (b"-1".as_slice(), Ok(-1)),
-            (b"19800".as_slice(), Ok(19800)),
-            (b"2147483647".as_slice(), Ok(2147483647)),
-            (b"2147483648".as_slice(), Err(DateFault::OutOfRange)),
-            (b"2024-03-18".as_slice(), Ok(19800)),
-            (b"9999-12-31".as_slice(), Ok(2932896)),
-            (b"2024-02-30".as_slice(), Err(DateFault::NoSuchDay)),
-            (b"0000-01-01".as_slice(), Err(DateFault::OutOfRange)),
-            (b"1970-1-1".as_slice(), Err(DateFault::Shape)),
-            (b"".as_slice(), Err(DateFault::Shape)),
-        ];
-        for (text, wanted) in cases {
-            assert_eq!(rt; read_day(text), wanted);
-        }
-    }
-}

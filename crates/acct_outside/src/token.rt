@@ -78,18 +78,3 @@ fn is_visible(byte: u8) -> bool
 {
     byte >= 0x21 && byte <= 0x7e
 }
-
-#[cfg(test)]
-mod tests {
-    use super::*;
-    use std::test::Fail;
-
-    #[test]
-    fn a_token_has_no_blank(rt: HostRuntime) -> Result<(), Fail> {
-        let alloc = rt.alloc();
-        assert!(rt; Token::read(alloc, b"m1")?.is_some());
-        assert!(rt; Token::read(alloc, b"")?.is_none());
-        assert!(rt; Token::read(alloc, b"two words")?.is_none());
-        Ok(())
-    }
-}

@@ -36,6 +36,3 @@ pub use refusal::refusal_text;
 pub use status::refusal_status;
 pub use table::Table;
 pub use tool_fault::ToolFault;
-
-#[cfg(test)]
-mod tests;

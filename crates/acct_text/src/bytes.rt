@@ -93,24 +93,3 @@ impl Word {
         self.bytes.as_slice()
     }
 }
-
-#[cfg(test)]
-mod tests {
-    use super::*;
-    use std::test::Fail;
-
-    #[test]
-    fn a_copy_has_what_was_pushed(rt: HostRuntime) -> Result<(), Fail> {
-        let mut text = Bytes::of(rt.alloc(), b"root")?;
-        text.push(b":x")?;
-        assert_eq!(rt; text.copy()?.as_slice(), b"root:x".as_slice());
-        Ok(())
-    }
-
-    #[test]
-    fn a_word_has_its_bytes(rt: HostRuntime) -> Result<(), Fail> {
-        let word = Word::of(rt.alloc(), b"groupadd")?;
-        assert_eq!(rt; word.as_slice(), b"groupadd".as_slice());
-        Ok(())
-    }
-}

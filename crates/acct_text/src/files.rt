@@ -62,29 +62,3 @@ fn copy_of(alloc: Global, file: &Option<Bytes>) -> Result<Option<Bytes>, AllocEr
         None => Ok(None),
     }
 }
-
-#[cfg(test)]
-mod tests {
-    use super::*;
-    use std::test::Fail;
-
-    #[test]
-    fn an_absent_table_is_absent_in_a_copy(rt: HostRuntime) -> Result<(), Fail> {
-        let alloc = rt.alloc();
-        let files = Files {
-            passwd: Some(Bytes::of(alloc, b"root:x:0:0::/root:\n")?),
-            shadow: None,
-            group: Some(Bytes::of(alloc, b"root:x:0:\n")?),
-            gshadow: None,
-            subuid: None,
-            subgid: None,
-        };
-        let copy = files.copy(alloc)?;
-        assert!(rt; copy.table(Tab::Shadow).is_none());
-        assert_eq!(rt;
-            copy.table(Tab::Group).map(Bytes::as_slice),
-            Some(b"root:x:0:\n".as_slice())
-        );
-        Ok(())
-    }
-}

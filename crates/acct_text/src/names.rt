@@ -80,20 +80,3 @@ impl Names {
         self.names.as_slice()
     }
 }
-
-#[cfg(test)]
-mod tests {
-    use super::*;
-    use std::test::Fail;
-
-    #[test]
-    fn a_copy_has_each_name_at_its_place(rt: HostRuntime) -> Result<(), Fail> {
-        let mut members = Names::new(rt.alloc());
-        members.push(b"ann")?;
-        members.push(b"bob")?;
-        let copy = members.copy()?;
-        assert_eq!(rt; copy.at(1), Some(b"bob".as_slice()));
-        assert_eq!(rt; copy.at(2), None);
-        Ok(())
-    }
-}

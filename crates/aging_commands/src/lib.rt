@@ -16,6 +16,3 @@ mod request;
 pub use acct_tables::{Decision, Output};
 pub use decision::decide;
 pub use request::AgingRequest;
-
-#[cfg(test)]
-mod tests;

@@ -22,6 +22,3 @@ mod sorting;
 pub use acct_tables::{Decision, Output};
 pub use decision::decide;
 pub use request::CheckRequest;
-
-#[cfg(test)]
-mod tests;

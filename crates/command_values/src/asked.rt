@@ -180,38 +180,3 @@ fn copy_option(option: &Given) -> Result<Given, AllocError>
         value,
     })
 }
-
-#[cfg(test)]
-mod tests {
-    use super::*;
-    use acct_text::Word;
-    use option_words::read_words;
-    use std::test::Fail;
-
-    // What the words of a text ask for, cut at blanks.
-    fn asked(alloc: Global, text: &[u8]) -> Result<Asked, Fail> {
-        let mut words = Vec::new(alloc);
-        for word in text.split(|byte| *byte == b' ') {
-            words.push(Word::of(alloc, word)?)?;
-        }
-        let parsed = read_words(alloc, words.as_slice()).map_err(|_| "a fault")?;
-        Ok(Asked::of(alloc, &parsed)?)
-    }
-
-    #[test]
-    fn the_last_value_of_an_option_counts(rt: HostRuntime) -> Result<(), Fail> {
-        let asked = asked(rt.alloc(), b"groupadd -P R -g 5 -r -K A=1 -g 007 -K B= ann")?;
-        assert_eq!(rt; asked.tool(), Tool::Groupadd);
-        assert_eq!(rt; asked.operand(), b"ann".as_slice());
-        assert_eq!(rt; asked.value(b'g'), Some(b"007".as_slice()));
-        assert_eq!(rt; asked.id(b'g'), Some(7));
-        assert_eq!(rt; asked.value_or(b'p', b"!"), b"!".as_slice());
-        assert_eq!(rt;
-            asked.values(rt.alloc(), b'K')?.at(1),
-            Some(b"B=".as_slice())
-        );
-        assert!(rt; asked.has(b'r') && !asked.has(b'f'));
-        assert!(rt; asked.kind() == Kind::System);
-        Ok(())
-    }
-}

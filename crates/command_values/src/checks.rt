@@ -69,16 +69,3 @@ pub fn check_list_name(alloc: Global, name: &[u8]) -> Result<(), ToolFault>
     }
     Err(ToolFault::Refused(Refusal::BadName(Bytes::of(alloc, name)?)))
 }
-
-#[cfg(test)]
-mod tests {
-    use super::*;
-
-    #[test]
-    fn names_are_checked(rt: HostRuntime) {
-        assert!(rt; check_name(rt.alloc(), b"ann").is_ok());
-        assert!(rt; check_name(rt.alloc(), b"-ann").is_err());
-        assert!(rt; check_list_name(rt.alloc(), b"a b").is_ok());
-        assert!(rt; check_list_name(rt.alloc(), b"a,b").is_err());
-    }
-}

@@ -47,31 +47,3 @@ fn field_number(number: i64) -> Option<u32>
 {
     u32::try_from(number).ok()
 }
-
-#[cfg(test)]
-mod tests {
-    use super::*;
-
-    // Each text, and the day that -e of useradd(8) takes it for.
-    #[test]
-    fn a_text_is_a_day(rt: HostRuntime) {
-        let cases = [
-            (b"2024-10-04".as_slice(), Some(Some(20000))),
-            (b"1970-01-01", Some(Some(0))),
-            (b"020000", Some(Some(20000))),
-            (b"2147483647", Some(Some(2147483647))),
-            (b"-1", Some(None)),
-            (b"", Some(None)),
-            (b"2147483648", None),
-            (b"2024-02-30", None),
-            (b"1969-12-31", None),
-            (b"2024-2-3", None),
-            (b"tomorrow", None),
-        ];
-        for (text, wanted) in cases {
-            assert_eq!(rt; read_expiration(text), wanted);
-        }
-        assert_eq!(rt; read_date(b""), None);
-        assert_eq!(rt; read_days(b"-1"), Some(None));
-    }
-}

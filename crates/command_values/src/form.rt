@@ -95,38 +95,3 @@ fn begins_with_slash(text: &[u8]) -> bool
         None => false,
     }
 }
-
-#[cfg(test)]
-mod tests {
-    use super::*;
-
-    #[test]
-    fn a_value_is_of_its_form(rt: HostRuntime) {
-        let cases = [
-            (Form::Field, b"".as_slice(), true),
-            (Form::Field, b"Ann,,,", true),
-            (Form::Field, b"a:b", false),
-            (Form::Field, b"a\nb", false),
-            (Form::Folder, b"/home/ann", true),
-            (Form::Folder, b"home/ann", false),
-            (Form::Folder, b"/home:x", false),
-            (Form::Shell, b"", true),
-            (Form::Shell, b"bin/sh", false),
-            (Form::Id, b"4294967294", true),
-            (Form::Id, b"4294967295", false),
-            (Form::Id, b"-1", false),
-            (Form::Id, b"", false),
-            (Form::Name, b"www-data", true),
-            (Form::Name, b"1000", false),
-            (Form::Days, b"-1", true),
-            (Form::Days, b"2147483647", true),
-            (Form::Days, b"2147483648", false),
-            (Form::Date, b"2024-02-29", true),
-            (Form::Date, b"", false),
-            (Form::Expiration, b"", true),
-        ];
-        for (form, value, wanted) in cases {
-            assert_eq!(rt; form.allows(value), wanted);
-        }
-    }
-}

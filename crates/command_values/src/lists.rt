@@ -35,19 +35,3 @@ fn distinct(alloc: Global, names: &[Bytes]) -> Result<Names, AllocError>
     }
     Ok(kept)
 }
-
-#[cfg(test)]
-mod tests {
-    use super::*;
-    use std::test::Fail;
-
-    #[test]
-    fn a_list_has_each_name_once(rt: HostRuntime) -> Result<(), Fail> {
-        let names = list_value(rt.alloc(), b"bob,,ann,bob,")?;
-        assert_eq!(rt; names.len(), 2);
-        assert_eq!(rt; names.at(0), Some(b"bob".as_slice()));
-        assert!(rt; is_listed(b"ann", names.as_slice()));
-        assert!(rt; !is_listed(b"an", names.as_slice()));
-        Ok(())
-    }
-}

@@ -66,30 +66,3 @@ fn range_at(option: &Given, letter: u8) -> Option<IdRange>
 {
     read_range(value_at(option, letter)?)
 }
-
-#[cfg(test)]
-mod tests {
-    use super::*;
-
-    #[test]
-    fn a_range_has_a_first_and_a_last_id(rt: HostRuntime) {
-        let cases = [
-            (b"165540-165549".as_slice(), Some((165540, 165549))),
-            (b"7-7", Some((7, 7))),
-            (b"0-4294967294", Some((0, 4294967294))),
-            (b"8-7", None),
-            (b"1-4294967295", None),
-            (b"1-2-3", None),
-            (b"1-2-", None),
-            (b"-1-2", None),
-            (b"1 - 2", None),
-            (b"1-", None),
-            (b"12", None),
-            (b"", None),
-        ];
-        for (text, wanted) in cases {
-            let ids = read_range(text).map(|ids| (ids.first, ids.last));
-            assert_eq!(rt; ids, wanted);
-        }
-    }
-}

@@ -75,36 +75,3 @@ pub fn free_id(sort: IdSort, kind: Kind, settings: &Defs, used: &UsedIds) -> Opt
 {
     used.choose(settings.range(sort, kind), kind, None)
 }
-
-#[cfg(test)]
-mod tests {
-    use super::*;
-
-    // Each word and whether it is a setting.
-    #[test]
-    fn a_word_sets_a_key_of_the_settings(rt: HostRuntime) {
-        let cases = [
-            (b"GID_MIN=0x10".as_slice(), true),
-            (b"USERGROUPS_ENAB=maybe", true),
-            (b"PASS_MAX_DAYS=-1", true),
-            (b"GID_MIN=-1", false),
-            (b"GID_MIN=5=", false),
-            (b"GID_MIN", false),
-            (b"UMASK=022", false),
-            (b"=5", false),
-        ];
-        for (word, wanted) in cases {
-            assert_eq!(rt; set_word(&mut Defs::absent(), word), wanted);
-        }
-    }
-
-    #[test]
-    fn an_id_is_chosen_by_the_settings(rt: HostRuntime) {
-        let settings = Defs::absent();
-        let used = UsedIds::new(rt.alloc());
-        assert_eq!(rt;
-            free_id(IdSort::Gid, Kind::System, &settings, &used),
-            Some(999)
-        );
-    }
-}

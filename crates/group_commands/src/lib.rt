@@ -15,6 +15,3 @@ mod request;
 pub use acct_tables::{Decision, Output};
 pub use decision::decide;
 pub use request::GroupRequest;
-
-#[cfg(test)]
-mod tests;

@@ -86,6 +86,3 @@ const GREATEST_LOCK: u64 = 999_999_999_999_999_999;
 
 /// The most bytes of a lock that are read.
 const LOCK_LIMIT: u64 = 256;
-
-#[cfg(test)]
-mod tests;

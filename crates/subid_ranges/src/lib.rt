@@ -13,6 +13,3 @@ mod ranges;
 pub use fault::RangeFault;
 pub use owned::OwnedRanges;
 pub use ranges::Ranges;
-
-#[cfg(test)]
-mod tests;

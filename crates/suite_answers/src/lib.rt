@@ -16,6 +16,3 @@ pub use acct_outside::{CommitStage, Name, Token};
 pub use answer::Answer;
 pub use cause::{Cause, Outcome, Which};
 pub use memory::put_memory_text;
-
-#[cfg(test)]
-mod tests;

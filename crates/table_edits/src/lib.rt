@@ -61,6 +61,3 @@ pub use subid_changes::{RangeCut, SubidChange};
 pub use tables::Tables;
 pub use user_edits::hash_alone;
 pub use user_index::UserIndex;
-
-#[cfg(test)]
-mod tests;

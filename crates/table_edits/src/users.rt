@@ -72,34 +72,3 @@ fn check_in(alloc: Global, users: &FileLines<'_>, name: &[u8]) -> Result<(), Too
     }
     Err(ToolFault::Refused(Refusal::NoUser(Bytes::of(alloc, name)?)))
 }
-
-#[cfg(test)]
-mod tests {
-    use super::*;
-    use acct_text::Files;
-    use std::test::Fail;
-
-    #[test]
-    fn users_are_found(rt: HostRuntime) -> Result<(), Fail> {
-        let files = Files {
-            passwd: Some(Bytes::of(rt.alloc(), b"root:x:0:0::/:\nann:x:1000:27:::\n")?),
-            shadow: None,
-            group: None,
-            gshadow: None,
-            subuid: None,
-            subgid: None,
-        };
-        let tables = Tables::of(&files);
-        let first = tables.user_of_gid(rt.alloc(), 27)?.ok_or("none")?;
-        assert_eq!(rt; first.uid, 1000);
-        assert!(rt; tables.used_uids(rt.alloc())?.holds(1000));
-        let names = [
-            Bytes::of(rt.alloc(), b"ann")?,
-            Bytes::of(rt.alloc(), b"bob")?,
-        ];
-        assert!(rt; tables.check_users(rt.alloc(), &names[..1]).is_ok());
-        assert!(rt; tables.check_users(rt.alloc(), &names).is_err());
-        assert!(rt; tables.check_group(rt.alloc(), b"ann").is_err());
-        Ok(())
-    }
-}

@@ -16,6 +16,3 @@ mod usermod;
 pub use acct_tables::{Decision, Output};
 pub use decision::decide;
 pub use request::UserRequest;
-
-#[cfg(test)]
-mod tests;

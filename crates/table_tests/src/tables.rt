@@ -1,0 +1,105 @@
+// Edits of group(5) files that no tool would write: no last newline, other text, names twice.
+ghost use Rattle.std.specs.Prelude.{IfOk};
+ghost use Rattle.acct_text.specs.Bytes.{newline};
+ghost use Rattle.acct_text.specs.Pieces.{Lacks};
+ghost use Rattle.account_model.specs.Records.{group_format};
+ghost use Rattle.account_model.specs.Written.{IsWritten};
+
+use acct_lines::{GroupRecord, TableRecord};
+use acct_tables::{EditedLines, FileLines, Table, TableFault};
+use std::alloc::{AllocError, Global};
+use std::test::Fail;
+
+// The group of a line that is one.
+fn group(alloc: Global, line: &[u8]) -> Result<GroupRecord, AllocError>
+    requires { Lacks newline line.now }
+    ensures { IfOk result (IsWritten group_format) }
+{
+    match GroupRecord::read(alloc, line) {
+        Ok(record) => Ok(record),
+        Err(_) => Err(AllocError),
+    }
+}
+
+// Whether the table has these bytes.
+fn has(alloc: Global, table: &Table<GroupRecord>, wanted: &[u8]) -> Result<bool, AllocError> {
+    Ok(table.text(alloc)?.as_slice() == wanted)
+}
+
+// The GID of a group, where there is one.
+fn gid(found: Option<GroupRecord>) -> Option<u32> {
+    Some(found?.gid)
+}
+
+#[test]
+fn a_line_without_an_end_gets_one_behind_which_is_added(rt: HostRuntime) -> Result<(), Fail> {
+    let alloc = rt.alloc();
+    let mut table: Table<GroupRecord> = Table::load(alloc, b"# x\na:x:1:")?;
+    assert_eq!(rt; table.append(group(alloc, b"b:x:02:,")?), Ok(()));
+    assert!(rt; has(alloc, &table, b"# x\na:x:1:\nb:x:2:\n".as_slice())?);
+    Ok(())
+}
+
+#[test]
+fn a_name_that_stands_twice_is_not_replaced(rt: HostRuntime) -> Result<(), Fail> {
+    let alloc = rt.alloc();
+    let mut table: Table<GroupRecord> = Table::load(alloc, b"a:x:1:\na:x:2:")?;
+    let replaced = table.replace(b"a", group(alloc, b"c:x:3:")?);
+    assert_eq!(rt; replaced, Err(TableFault::Multiple(2)));
+    assert_eq!(rt; table.remove(b"b"), Err(TableFault::Absent));
+    Ok(())
+}
+
+#[test]
+fn a_member_is_renamed_once(rt: HostRuntime) -> Result<(), Fail> {
+    let alloc = rt.alloc();
+    let mut table: Table<GroupRecord> = Table::load(alloc, b"a:x:1:n,o,n,o\nb:x:02:p,")?;
+    assert_eq!(rt; table.rename_in_lists(b"o", b"n"), Ok(()));
+    assert!(rt; has(alloc, &table, b"a:x:1:n\nb:x:02:p,".as_slice())?);
+    Ok(())
+}
+
+#[test]
+fn records_change_places_and_lines_keep_their_ends(rt: HostRuntime) -> Result<(), Fail> {
+    let alloc = rt.alloc();
+    let mut table: Table<GroupRecord> = Table::load(alloc, b"b:x:02:\noops\na:x:1:")?;
+    table.arrange(&[2, 0])?;
+    assert!(rt; has(alloc, &table, b"a:x:1:\noops\nb:x:02:".as_slice())?);
+    Ok(())
+}
+
+#[test]
+fn lines_are_set_and_moved_by_their_places(rt: HostRuntime) -> Result<(), Fail> {
+    let alloc = rt.alloc();
+    let mut table: Table<GroupRecord> = Table::load(alloc, b"a:x:1:")?;
+    table.insert_at(0, group(alloc, b"b:x:2:")?)?;
+    table.set_at(1, group(alloc, b"c:x:3:")?)?;
+    assert!(rt; has(alloc, &table, b"b:x:2:\nc:x:3:".as_slice())?);
+    table.append_any(group(alloc, b"b:x:4:")?)?;
+    table.remove_at(0)?;
+    assert!(rt; has(alloc, &table, b"c:x:3:\nb:x:4:\n".as_slice())?);
+    Ok(())
+}
+
+#[test]
+fn the_first_of_a_name_is_found_where_it_stands(rt: HostRuntime) -> Result<(), Fail> {
+    let alloc = rt.alloc();
+    let lines = FileLines::of(alloc, b"# x\nab:x:1:\na:x:2:\na:x:3:")?;
+    assert_eq!(rt; gid(lines.find(alloc, b"a")?), Some(2));
+    assert_eq!(rt; gid(lines.record_at(alloc, 0)?), None);
+    assert_eq!(rt; gid(lines.record_at(alloc, 3)?), Some(3));
+    Ok(())
+}
+
+#[test]
+fn edited_lines_keep_the_bytes_of_the_same_record(rt: HostRuntime) -> Result<(), Fail> {
+    let alloc = rt.alloc();
+    let mut lines = EditedLines::of(alloc, b"a:x:01:\nb:x:2:")?;
+    lines.set_at(0, &group(alloc, b"a:x:1:")?)?;
+    lines.append_any(&group(alloc, b"c:x:3:")?)?;
+    lines.remove_at(1);
+    lines.insert_at(1, &group(alloc, b"d:x:4:")?)?;
+    let wanted = b"a:x:01:\nd:x:4:\nc:x:3:\n".as_slice();
+    assert_eq!(rt; lines.text()?.as_slice(), wanted);
+    Ok(())
+}
