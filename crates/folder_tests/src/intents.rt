@@ -61,3 +61,15 @@ fn the_first_part_that_does_not_stand_is_told(rt: HostRuntime) -> Result<(), Fai
     }
     Ok(())
 }
+
+#[test]
+fn a_fault_of_an_intent_has_its_text(rt: HostRuntime) -> Result<(), Fail> {
+    let rows = [
+        (IntentFault::Part(2), "intent is damaged in part 2"),
+        (IntentFault::Memory, "out of memory"),
+    ];
+    for (fault, wanted) in rows {
+        assert_eq!(rt; fault.to_string(rt.alloc())?.as_str(), wanted);
+    }
+    Ok(())
+}

@@ -11,6 +11,8 @@ mod defs;
 #[cfg(test)]
 mod edits;
 #[cfg(test)]
+mod fault_texts;
+#[cfg(test)]
 mod ids;
 #[cfg(test)]
 mod ranges;
