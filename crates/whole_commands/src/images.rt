@@ -13,33 +13,14 @@ pub type Contents = Vec<(Name, Bytes)>;
 pub fn image(alloc: Global) -> Result<Contents, AllocError>
     ensures { IfOk result (λ files. All (λ file. IsName file.0) files.items) }
 {
-    let mut files = image_without_shadow(alloc)?;
-    put(&mut files, Name::Table(Tab::Shadow), SHADOW)?;
-    Ok(files)
-}
-
-/// The same without the table shadow.
-pub fn image_without_shadow(alloc: Global) -> Result<Contents, AllocError>
-    ensures { IfOk result (λ files. All (λ file. IsName file.0) files.items) }
-{
     let mut files = Vec::new(alloc);
     put(&mut files, Name::Table(Tab::Passwd), PASSWD)?;
+    put(&mut files, Name::Table(Tab::Shadow), SHADOW)?;
     put(&mut files, Name::Table(Tab::Group), GROUP)?;
     put(&mut files, Name::Table(Tab::Gshadow), GSHADOW)?;
     put(&mut files, Name::Table(Tab::Subuid), SUBIDS)?;
     put(&mut files, Name::Table(Tab::Subgid), SUBIDS)?;
     put(&mut files, Name::Defs, SETTINGS)?;
-    Ok(files)
-}
-
-/// The small system with this line behind its last user.
-pub fn image_with_user(alloc: Global, line: &[u8]) -> Result<Contents, AllocError>
-    ensures { IfOk result (λ files. All (λ file. IsName file.0) files.items) }
-{
-    let mut passwd = Bytes::of(alloc, PASSWD)?;
-    passwd.push(line)?;
-    let mut files = image(alloc)?;
-    put(&mut files, Name::Table(Tab::Passwd), passwd.as_slice())?;
     Ok(files)
 }
 
@@ -73,6 +54,17 @@ pub fn put(files: &mut Contents, name: Name, text: &[u8]) -> Result<(), AllocErr
     files.push((name, text))?;
     Ok(())
 }
+
+/// The files of a small system, by their names.
+pub const IMAGE: [(&[u8], &[u8]); 7] = [
+    (b"passwd", PASSWD),
+    (b"shadow", SHADOW),
+    (b"group", GROUP),
+    (b"gshadow", GSHADOW),
+    (b"subuid", SUBIDS),
+    (b"subgid", SUBIDS),
+    (b"login.defs", SETTINGS),
+];
 
 /// A folder with these files, in which no call fails.
 pub fn sound_folder(alloc: Global, files: Contents) -> Result<MemoryFolder, AllocError>

@@ -1,5 +1,5 @@
-// Commands that read an input, and streams that fail.
-use crate::{Streams, done_with, image, image_with_user, run, sound_folder, tables, told};
+// Streams that fail.
+use crate::{Streams, image, run, sound_folder, tables, told};
 use acct_outside::{CommitStage, MemoryFolder, MemorySink, MemorySource, Name};
 use acct_text::Bytes;
 use std::alloc::{AllocError, Global};
@@ -7,34 +7,6 @@ use std::test::Fail;
 use suite_core::Cause;
 
 const CHPASSWD: &[u8] = b"chpasswd -P R -e";
-
-#[test]
-fn each_line_of_the_input_sets_a_hash(rt: HostRuntime) -> Result<(), Fail> {
-    let mut folder = sound_folder(rt.alloc(), image(rt.alloc())?)?;
-    let done = done_with(rt.alloc(), &mut folder, CHPASSWD, b"root:h1\nbob:h2\n")?;
-    assert_eq!(rt;
-        done.as_slice(),
-        b"0 -shadow root:*:19700:0:99999:7:::
--shadow bob:$y$hash:19800:0:99999:7:::
-+shadow root:h1:20000:0:99999:7:::
-+shadow bob:h2:20000:0:99999:7:::
-"
-            .as_slice()
-    );
-    Ok(())
-}
-
-#[test]
-fn a_bad_line_refuses_the_whole_input(rt: HostRuntime) -> Result<(), Fail> {
-    let mut folder = sound_folder(rt.alloc(), image(rt.alloc())?)?;
-    let input = b"root:h1\nbob:h2\nnope\n";
-    let done = done_with(rt.alloc(), &mut folder, CHPASSWD, input)?;
-    assert_eq!(rt;
-        done.as_slice(),
-        b"1 chpasswd: line 3: no colon\n".as_slice()
-    );
-    Ok(())
-}
 
 #[test]
 fn an_input_that_breaks_off_changes_nothing(rt: HostRuntime) -> Result<(), Fail> {
@@ -56,11 +28,11 @@ fn an_input_that_breaks_off_changes_nothing(rt: HostRuntime) -> Result<(), Fail>
     Ok(())
 }
 
-// The small system with a user ann, and with one more whose primary group is that of ann.
+// The small system with a user ann, whose group is the primary one of another too.
 fn folder_with_ann(alloc: Global) -> Result<MemoryFolder, AllocError> {
-    let files = image_with_user(alloc, b"carl:x:1002:1001::/home/carl:\n")?;
-    let mut folder = sound_folder(alloc, files)?;
+    let mut folder = sound_folder(alloc, image(alloc)?)?;
     told(alloc, &mut folder, b"useradd -P R -u 1001 ann")?;
+    told(alloc, &mut folder, b"useradd -P R -N -u 1002 -g ann carl")?;
     Ok(folder)
 }
 

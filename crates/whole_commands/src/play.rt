@@ -8,7 +8,7 @@ use acct_outside::{
 use acct_text::{Bytes, Tab, Word, push_decimal};
 use std::alloc::{AllocError, Global};
 use std::mem;
-use std::test::Fail;
+use suite_answers::WordFault;
 use suite_core::{Outcome, Session, run_suite};
 
 // The day of each command, which is 2024-10-04.
@@ -78,26 +78,6 @@ pub fn told_with(
     Ok(told)
 }
 
-/// What a command tells, and then a line for each line of a table that went, `-passwd LINE`, and
-/// that came, `+passwd LINE`.
-pub fn done(alloc: Global, folder: &mut MemoryFolder, command: &[u8]) -> Result<Bytes, AllocError> {
-    done_with(alloc, folder, command, b"")
-}
-
-/// The same of a command with this input.
-pub fn done_with(
-    alloc: Global,
-    folder: &mut MemoryFolder,
-    command: &[u8],
-    input: &[u8],
-) -> Result<Bytes, AllocError> {
-    let before = tables(alloc, folder)?;
-    let mut done = told_with(alloc, folder, command, input)?;
-    let after = tables(alloc, folder)?;
-    push_changes(&mut done, &before, &after)?;
-    Ok(done)
-}
-
 /// The session of a command makes this many calls of the folder, and dies within the next, of which
 /// nothing happens.
 pub fn die_after(
@@ -105,21 +85,18 @@ pub fn die_after(
     folder: &mut MemoryFolder,
     command: &[u8],
     calls: usize,
-) -> Result<(), Fail> {
+) -> Result<(), WordFault> {
     // A session that dies frees nothing.
     mem::forget(turned(session_of(alloc, command)?, folder, calls));
-    die_all(alloc, folder)
+    Ok(die_all(alloc, folder)?)
 }
 
 /// The session of a command, which hasn't begun.
-pub(crate) fn session_of(alloc: Global, command: &[u8]) -> Result<Session, Fail>
+pub(crate) fn session_of(alloc: Global, command: &[u8]) -> Result<Session, WordFault>
     ensures { IfOk result IsWaiting }
 {
     let words = words_of(alloc, command)?;
-    match Session::start(alloc, words.as_slice(), Bytes::new(alloc), DAY) {
-        Ok(session) => Ok(session),
-        Err(_) => Err("words that ask for nothing".into()),
-    }
+    Session::start(alloc, words.as_slice(), Bytes::new(alloc), DAY)
 }
 
 // The session after so many calls of the folder.
@@ -133,7 +110,7 @@ fn turned(mut session: Session, folder: &mut MemoryFolder, calls: usize) -> Sess
 }
 
 // All sessions that run die.
-fn die_all(alloc: Global, folder: &mut MemoryFolder) -> Result<(), Fail> {
+fn die_all(alloc: Global, folder: &mut MemoryFolder) -> Result<(), AllocError> {
     for number in 1..10 {
         let mut text = Bytes::of(alloc, b"m")?;
         push_decimal(&mut text, number)?;
