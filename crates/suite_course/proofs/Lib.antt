@@ -16,5 +16,4 @@ mod LeavesLemmas
 mod OpenLemmas
 mod PlaceLemmas
 pub mod RanLemmas
-mod SuppliesLemmas
 mod TurnedLemmas

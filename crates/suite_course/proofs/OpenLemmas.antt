@@ -8,7 +8,7 @@
 use Rattle.std.proofs.Common.{◌≡◌, refl, sym, ap, subst, ◌∙◌, ◌∷◌, ◌++◌, [], ℕ, ◌+◌, ◌<◌, ◌≤◌, Bool, true, false, ◌||◌, nat_lt, if◌then◌else◌, length, bytes_eq, codes, List, inl, inr, Option, Some, None, is_some, true≢false, arith, lit≤}
 use Rattle.std.specs.Prelude.{IsSome}
 use Rattle.std.specs.List.{AllByRecursion}
-use Rattle.std.proofs.lemmas.Bool.Decides.{nat_tests}
+use Rattle.std.proofs.lemmas.Bool.{ltb-true}
 use Rattle.std.proofs.lemmas.List.{append_cancel_left, append_cancel_right, length-append}
 use Rattle.std.proofs.lemmas.List.Elements.{filter-append}
 use Rattle.std.proofs.lemmas.Slice.Eq.{bytes_eq-Decides}
@@ -53,7 +53,7 @@ found-whole limit bytes within = cases (nat_lt limit (length bytes)) refl
         (if large then found_too_large else found_bytes bytes) ≡ found_bytes bytes
     cases false is = refl
     cases true is =
-        let past : limit < length bytes = grind (arith, nat_tests) in
+        let past : limit < length bytes = ltb-true limit (length bytes) is in
         absurd (omega (arith, past, within))
 
 -- what stands isn't found absent

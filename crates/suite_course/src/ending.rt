@@ -4,11 +4,11 @@ ghost use Rattle.account_model.specs.declared.word_fault.WordFault.{WordFault as
 ghost use Rattle.suite_answers.specs.declared.answer.Answer.{Answer as Given};
 ghost use Rattle.suite_answers.specs.Answers.{told, told_words};
 ghost use Rattle.suite_session.specs.Answers.{memory_answer};
-ghost use Rattle.suite_course.specs.Streams.{streams};
+ghost use Rattle.suite_course.specs.Streams.{after_streams, streams};
 ghost use Rattle.suite_course.specs.Top.{Ends, EndsEarly, named_tool};
 
 use crate::streams::serve;
-use acct_outside::{CommitStage, Sink};
+use acct_outside::{CommitStage, Sink, SinkFault};
 use acct_text::Word;
 use option_words::{Tool, WordFault};
 use std::alloc::Global;
@@ -97,8 +97,20 @@ pub(crate) fn end<O: Sink, E: Sink>(
         (E.holds err.new) (E.fault_count err.new))
         result }
 {
-    match serve(tool, &answer, out, err) {
+    let put = serve(tool, &answer, out, err);
+    left_by(put, answer)
+}
+
+/// The outcome of an answer that the streams left so.
+fn left_by(put: Result<(), SinkFault>, answer: Answer) -> Outcome
+    ensures { result ≡ (after_streams put answer).outcome }
+{
+    match put {
         Ok(()) => answer.outcome,
-        Err(fault) => outcome_after(fault, answer.outcome.cause.stage()),
+        Err(fault) => {
+            let stage = answer.outcome.cause.stage();
+            drop(answer);
+            outcome_after(fault, stage)
+        }
     }
 }

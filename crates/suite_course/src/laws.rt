@@ -1,4 +1,4 @@
-// Laws of what the tools' deeds promise, which no folder's code is needed for.
+// Laws over definitions alone: the tools have deeds, and what holds of each session with an answer.
 ghost use Rattle.suite_rules.specs.Deeds.{SuiteDeeds};
 ghost use Rattle.suite_session.specs.Deeds.{AreOfTools};
 ghost use Rattle.suite_course.specs.Turned.{AnswersKeepPromises};

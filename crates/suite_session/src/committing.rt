@@ -9,9 +9,9 @@ ghost use Rattle.suite_session.specs.Left.{calls_left, turns_left};
 ghost use Rattle.suite_session.specs.Moment.{moment};
 ghost use Rattle.suite_session.specs.Stands.{StandsAs, Turns};
 
-use crate::recovering::stopped;
 use crate::runner::Runner;
 use crate::state::State;
+use crate::unlocking::given_up;
 use acct_outside::Folder;
 use commit_steps::{Backing, Installing, IntentStaged};
 use std::alloc::Global;
@@ -63,7 +63,7 @@ fn back_up_next<F: Folder>(
 {
     match backing.back_up_next(folder) {
         Ok(backing) => State::BackingUp(backing, answer),
-        Err(fault) => stopped(alloc, runner, fault),
+        Err(fault) => given_up(alloc, runner, answer, fault.stage, fault.fault),
     }
 }
 
@@ -88,7 +88,7 @@ fn stage_intent<F: Folder>(
 {
     match backing.stage_intent(folder) {
         Ok(staged) => State::Committing(staged, answer),
-        Err(fault) => stopped(alloc, runner, fault),
+        Err(fault) => given_up(alloc, runner, answer, fault.stage, fault.fault),
     }
 }
 
@@ -112,7 +112,7 @@ pub(crate) fn commit<F: Folder>(
 {
     match staged.commit(folder) {
         Ok(installing) => State::Installing(installing, answer),
-        Err(fault) => stopped(alloc, runner, fault),
+        Err(fault) => given_up(alloc, runner, answer, fault.stage, fault.fault),
     }
 }
 
@@ -162,7 +162,7 @@ fn install_next<F: Folder>(
 {
     match installing.install_next(folder) {
         Ok(installing) => State::Installing(installing, answer),
-        Err(fault) => stopped(alloc, runner, fault),
+        Err(fault) => given_up(alloc, runner, answer, fault.stage, fault.fault),
     }
 }
 
@@ -187,6 +187,6 @@ fn clear<F: Folder>(
 {
     match installing.clear(folder) {
         Ok(cleared) => State::Unlocking(cleared.release().forget(), answer),
-        Err(fault) => stopped(alloc, runner, fault),
+        Err(fault) => given_up(alloc, runner, answer, fault.stage, fault.fault),
     }
 }

@@ -2,18 +2,19 @@
 ghost use Rattle.std.specs.Prelude.{◌<◌};
 ghost use Rattle.suite_session.specs.Left.{calls_left, turns_left};
 ghost use Rattle.suite_session.specs.Moment.{moment};
-ghost use Rattle.suite_session.specs.Loading.{DecidesTo, EndsAt, LoadsTo};
+ghost use Rattle.suite_session.specs.Loading.{DecidesOn, DecidesTo, EndsAt, LoadsTo};
 ghost use Rattle.suite_session.specs.Stands.{StandsAs, Turns};
 
 use crate::recovering::stopped;
 use crate::runner::Runner;
 use crate::state::State;
 use crate::tools::{Decided, Tools};
-use crate::unlocking::{failed, leave};
+use crate::unlocking::{failed, given_up, leave};
 use acct_outside::{CommitStage, Folder, FolderFault};
+use acct_text::Files;
 use commit_steps::{LoadEnd, Loaded, Loader, Loading};
 use std::alloc::Global;
-use suite_answers::{Cause, Which};
+use suite_answers::{Answer, Cause, Which};
 
 /// Reads the next table, or login.defs. Once all are read, the tool decides.
 pub(crate) fn load<T: Tools, F: Folder>(
@@ -54,15 +55,32 @@ fn after_load<T: Tools>(alloc: Global, runner: &Runner, loading: Loading) -> Sta
 fn decided<T: Tools>(alloc: Global, runner: &Runner, loaded: Loaded) -> State
     ensures { DecidesTo runner.now loaded result }
 {
+    match T::decide(alloc, &runner.asked, loaded.files(), loaded.defs()) {
+        Ok(Decided::Change(new, answer)) => backing_up(alloc, runner, loaded, new, answer),
+        Ok(Decided::Stay(answer)) => State::Unlocking(loaded.release().forget(), answer),
+        Err(_) => {
+            drop(loaded);
+            failed(alloc, runner, CommitStage::Before, FolderFault::Memory)
+        }
+    }
+}
+
+/// The change that the tool decided is backed up next.
+fn backing_up(alloc: Global, runner: &Runner, loaded: Loaded, new: Files, answer: Answer) -> State
+    requires { DecidesOn runner.now.asked loaded.files loaded.defs (Decided.Change new answer) }
+    ensures { DecidesTo runner.now loaded result }
+{
     // The tool isn't needed: that the words ask for the request is a clause of it.
     let _ = runner.asked.tool();
-    match T::decide(alloc, &runner.asked, loaded.files(), loaded.defs()) {
-        Ok(Decided::Change(new, answer)) => match loaded.prepare(alloc, new) {
-            Ok(backing) => State::BackingUp(backing, answer),
-            Err(_) => failed(alloc, runner, CommitStage::Before, FolderFault::Memory),
-        },
-        Ok(Decided::Stay(answer)) => State::Unlocking(loaded.release().forget(), answer),
-        Err(_) => failed(alloc, runner, CommitStage::Before, FolderFault::Memory),
+    match loaded.prepare(alloc, new) {
+        Ok(backing) => State::BackingUp(backing, answer),
+        Err(_) => given_up(
+            alloc,
+            runner,
+            answer,
+            CommitStage::Before,
+            FolderFault::Memory,
+        ),
     }
 }
 

@@ -195,11 +195,13 @@ fn failed_state(fault: SinkFault, state: State) -> State
 fn failed_answer(fault: SinkFault, answer: Answer) -> Answer
     ensures { result ≡ after_fault fault answer }
 {
-    let stage = answer.outcome.cause.stage();
+    let Answer { outcome, out, err } = answer;
+    let stage = outcome.cause.stage();
+    drop(outcome);
     Answer {
         outcome: outcome_after(fault, stage),
-        out: answer.out,
-        err: answer.err,
+        out,
+        err,
     }
 }
 

@@ -1,6 +1,8 @@
 // The one turn of a session: its begin, a step, or its answer.
 ghost use Rattle.std.specs.Prelude.{◌≡◌, ◌<◌, None, Ok, IfOk, IsSome};
 ghost use Rattle.account_model.specs.Words.{request_of};
+ghost use Rattle.suite_session.specs.Answers.{IsTold};
+ghost use Rattle.suite_session.specs.Locking.{cause_of_fault};
 ghost use Rattle.suite_session.specs.Moment.{moment};
 ghost use Rattle.suite_session.specs.Counts.{CountsTo, SessionCounts};
 ghost use Rattle.suite_session.specs.Left.{turns_left};
@@ -83,11 +85,17 @@ fn begin<F: Folder>(alloc: Global, asked: Asked, folder: &mut F) -> Phase
             let state = first_state(alloc, &runner);
             Phase::Begun(runner, state)
         }
-        Err(fault) => {
-            let cause = cause_of_fault(CommitStage::Before, fault);
-            Phase::Over(asked.tell(alloc, cause))
-        }
+        Err(fault) => Phase::Over(unbegun(alloc, asked, fault)),
     }
+}
+
+/// The answer where the begin gave no token.
+fn unbegun(alloc: Global, asked: Asked, fault: FolderFault) -> Answer
+    ensures { IsTold asked.request.tool (cause_of_fault CommitStage.Before fault) result }
+{
+    let answer = asked.tell(alloc, cause_of_fault(CommitStage::Before, fault));
+    drop(asked);
+    answer
 }
 
 /// The first state of a session that has begun: it lists the locks, but without memory for that it

@@ -5,6 +5,7 @@
 //
 // A fault of the folder replaces the answer, and keeps its stage of the commit.
 ghost use Rattle.std.specs.Prelude.{◌≡◌, ◌<◌, length};
+ghost use Rattle.suite_answers.specs.Reasons.{stage_of};
 ghost use Rattle.suite_session.specs.Locking.{cause_of_fault};
 ghost use Rattle.suite_session.specs.Left.{calls_left, turns_left};
 ghost use Rattle.suite_session.specs.Moment.{moment};
@@ -64,7 +65,7 @@ fn remove_lower<F: Folder>(
 {
     match keeper.clean_next(folder) {
         Ok(keeper) => State::Unlocking(keeper, answer),
-        Err(fault) => failed(alloc, runner, answer.outcome.cause.stage(), fault),
+        Err(fault) => replaced(alloc, runner, answer, fault),
     }
 }
 
@@ -89,7 +90,7 @@ fn stage_free<F: Folder>(
 {
     match keeper.stage_free(folder) {
         Ok(freeing) => State::Freeing(freeing, answer),
-        Err(fault) => failed(alloc, runner, answer.outcome.cause.stage(), fault),
+        Err(fault) => replaced(alloc, runner, answer, fault),
     }
 }
 
@@ -113,8 +114,32 @@ pub(crate) fn free<F: Folder>(
 {
     match freeing.move_free(folder) {
         Ok(_) => State::Answering(answer),
-        Err(fault) => failed(alloc, runner, answer.outcome.cause.stage(), fault),
+        Err(fault) => replaced(alloc, runner, answer, fault),
     }
+}
+
+/// The answer after a fault of the folder, in place of the one that was to be given, whose stage of
+/// the commit it keeps.
+fn replaced(alloc: Global, runner: &Runner, answer: Answer, fault: FolderFault) -> State
+    ensures { AnswersWith runner.now.asked.request.tool
+        (cause_of_fault (stage_of answer.outcome.cause) fault) result }
+{
+    let stage = answer.outcome.cause.stage();
+    given_up(alloc, runner, answer, stage, fault)
+}
+
+/// The answer after a fault of the folder at a stage of the commit, for which another is given up.
+pub(crate) fn given_up(
+    alloc: Global,
+    runner: &Runner,
+    answer: Answer,
+    stage: CommitStage,
+    fault: FolderFault,
+) -> State
+    ensures { AnswersWith runner.now.asked.request.tool (cause_of_fault stage fault) result }
+{
+    drop(answer);
+    failed(alloc, runner, stage, fault)
 }
 
 /// A keeper frees its lock and gives the answer to this cause; without memory for its text only

@@ -58,7 +58,7 @@ returns-in-Err-clause-turns g c =
     c.args.backing shown.0 c.requires.stands.of_change shown.2) _
     (backup-quiet c.args.backing shown.0) shown.1
     c.back_up_next.ensures.lawful c.back_up_next.ensures.faults.never_falls
-    (cause_of_fault fault.stage fault.fault) c.stopped.result c.stopped.ensures
+    (cause_of_fault fault.stage fault.fault) c.given_up.result c.given_up.ensures
     (fault-plain fault.stage fault.fault)
     (fault-met now c.args.runner.now fault.stage fault.fault)
     (fault-left now c.args.runner.now fault.stage fault.fault)
@@ -76,4 +76,4 @@ returns-in-Ok-clause-counted g c =
 
 pub returns-in-Err-clause-counted : goal.returns-in-Err-clause-counted
 returns-in-Err-clause-counted g c =
-    answers-fewer _ _ c.stopped.result c.stopped.ensures _ (backing-some c.args.backing c.args.answer)
+    answers-fewer _ _ c.given_up.result c.given_up.ensures _ (backing-some c.args.backing c.args.answer)

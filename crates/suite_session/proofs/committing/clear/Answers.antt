@@ -51,7 +51,7 @@ returns-in-Err-clause-turns g c =
     tt _
     (λ result stood. refl) c.in-Err.ensures.call
     c.clear.ensures.lawful c.clear.ensures.faults.never_falls
-    (cause_of_fault fault.stage fault.fault) c.stopped.result c.stopped.ensures
+    (cause_of_fault fault.stage fault.fault) c.given_up.result c.given_up.ensures
     (fault-plain fault.stage fault.fault)
     (fault-met now c.args.runner.now fault.stage fault.fault)
     (fault-left now c.args.runner.now fault.stage fault.fault)
@@ -69,4 +69,4 @@ returns-in-Ok-clause-counted g c =
 
 pub returns-in-Err-clause-counted : goal.returns-in-Err-clause-counted
 returns-in-Err-clause-counted g c =
-    answers-fewer _ _ c.stopped.result c.stopped.ensures _ (installing-some c.args.installing c.args.answer)
+    answers-fewer _ _ c.given_up.result c.given_up.ensures _ (installing-some c.args.installing c.args.answer)

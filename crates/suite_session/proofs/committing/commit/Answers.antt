@@ -38,7 +38,7 @@ returns-in-Err-clause-turns g c =
     let fault = c.in-Err.fault in
     record {
       stands = unsure-stands before now c.args.runner.now c.args.answer c.args.staged c.requires _
-          c.in-Err.ensures.call c.commit.ensures.own fault c.stopped.result c.stopped.ensures
+          c.in-Err.ensures.call c.commit.ensures.own fault c.given_up.result c.given_up.ensures
           c.in-Err.ensures.unsure;
       grew = commit-grew before now c.args.runner.now c.args.answer c.args.staged c.requires _
           c.in-Err.ensures.call c.commit.ensures.own;
@@ -49,7 +49,7 @@ returns-in-Err-clause-turns g c =
       risen = λ told. c.commit.ensures.faults.failed (c.in-Err.is
           ∙ ap Err (commit-failed (walk_of c.args.staged) c.in-Err.ensures.call.answer fault
           c.in-Err.ensures.call.shown (answers-fault c.args.runner.now.asked.request.tool
-          (cause_of_fault fault.stage fault.fault) c.stopped.result c.stopped.ensures told)));
+          (cause_of_fault fault.stage fault.fault) c.given_up.result c.given_up.ensures told)));
     }
 
 pub returns-in-Ok-clause-counted : goal.returns-in-Ok-clause-counted
@@ -60,4 +60,4 @@ returns-in-Ok-clause-counted g c =
 
 pub returns-in-Err-clause-counted : goal.returns-in-Err-clause-counted
 returns-in-Err-clause-counted g c =
-    answers-fewer _ _ c.stopped.result c.stopped.ensures _ (committing-some c.args.staged c.args.answer)
+    answers-fewer _ _ c.given_up.result c.given_up.ensures _ (committing-some c.args.staged c.args.answer)

@@ -1,8 +1,6 @@
 use Rattle.std.proofs.Common.{refl, ap, subst, ◌∙◌, Ok, Err}
 use Rattle.acct_outside.specs.Calls.{Command}
 use Rattle.acct_outside.specs.Contract.{WhereTold, TellsBegin}
-use Rattle.suite_answers.specs.declared.cause.Cause.{Cause}
-use Rattle.suite_session.specs.Answers.{IsTold}
 use Rattle.suite_session.specs.Moment.{moment}
 use Rattle.suite_session.proofs.SessionTurns.{asked-command, begin-new, begins-counts, begins-turn, unbegun}
 use Rattle.suite_session.proofs.turning.begin.Goals as goal
@@ -48,8 +46,6 @@ returns-in-Err-clause-turns g c =
     unbegun before now c.args.asked c.in-Err.fault
     (subst (λ (command : Command). WhereTold before.told now.told
     (TellsBegin before.admits command (Err c.in-Err.fault))) same c.in-Err.ensures.told)
-    c.tell.result
-    (subst (λ (cause : Cause). IsTold c.args.asked.request.tool cause c.tell.result)
-    c.cause_of_fault-cause.ensures c.tell.ensures)
+    c.unbegun.result c.unbegun.ensures
     c.begin.ensures.narrows c.begin.ensures.faults.never_falls
     (λ is. c.begin.ensures.faults.failed (c.in-Err.is ∙ ap Err is))

@@ -33,14 +33,14 @@ returns-in-Err-clause-turns g c =
     stops before now c.args.runner.now _ (HasStagedFree c.args.freeing) c.requires.stands
     c.args.freeing.token c.requires.same (renames FreeStage (Lock c.args.freeing.number)) tt _ (λ result stood. refl)
     c.move_free.ensures.call
-    c.move_free.ensures.lawful c.move_free.ensures.faults.never_falls _ c.failed.result
-    c.failed.ensures (fault-plain _ c.in-Err.fault)
+    c.move_free.ensures.lawful c.move_free.ensures.faults.never_falls _ c.replaced.result
+    c.replaced.ensures (fault-plain _ c.in-Err.fault)
     (fault-met now c.args.runner.now _ c.in-Err.fault)
     (fault-left now c.args.runner.now _ c.in-Err.fault)
-    (ap commit_at (sym (fault-stage _ c.in-Err.fault ∙ c.stage.ensures)))
+    (ap commit_at (sym (fault-stage _ c.in-Err.fault)))
     (λ fault. c.move_free.ensures.faults.failed
     (c.in-Err.is ∙ ap Err (fault-failed _ c.in-Err.fault fault)))
 
 pub returns-in-Err-clause-counted : goal.returns-in-Err-clause-counted
 returns-in-Err-clause-counted g c =
-    answers-fewer _ _ c.failed.result c.failed.ensures _ (search (arith, rules))
+    answers-fewer _ _ c.replaced.result c.replaced.ensures _ (search (arith, rules))

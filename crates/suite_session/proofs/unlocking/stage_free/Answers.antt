@@ -36,11 +36,11 @@ returns-in-Err-clause-turns g c =
     c.requires.stands.stands c.args.keeper.token c.requires.stands.same
     (writes FreeStage free_text) tt _ (λ result stood. refl)
     c.stage_free.ensures.call
-    c.stage_free.ensures.lawful c.stage_free.ensures.faults.never_falls _ c.failed.result
-    c.failed.ensures (fault-plain _ c.in-Err.fault)
+    c.stage_free.ensures.lawful c.stage_free.ensures.faults.never_falls _ c.replaced.result
+    c.replaced.ensures (fault-plain _ c.in-Err.fault)
     (fault-met now c.args.runner.now _ c.in-Err.fault)
     (fault-left now c.args.runner.now _ c.in-Err.fault)
-    (ap commit_at (sym (fault-stage _ c.in-Err.fault ∙ c.stage.ensures)))
+    (ap commit_at (sym (fault-stage _ c.in-Err.fault)))
     (λ fault. c.stage_free.ensures.faults.failed
     (c.in-Err.is ∙ ap Err (fault-failed _ c.in-Err.fault fault)))
 
@@ -50,4 +50,4 @@ returns-in-Ok-clause-counted g c =
 
 pub returns-in-Err-clause-counted : goal.returns-in-Err-clause-counted
 returns-in-Err-clause-counted g c =
-    answers-fewer _ _ c.failed.result c.failed.ensures _ (unlocking-some c.args.keeper c.args.answer)
+    answers-fewer _ _ c.replaced.result c.replaced.ensures _ (unlocking-some c.args.keeper c.args.answer)
