@@ -30,12 +30,12 @@ use Rattle.acct_tables.specs.declared.decision.Decision.TheVariants.{Change as D
 use Rattle.acct_tables.specs.Decisions.{Decides, decision_of, made_output, refusal_output}
 use Rattle.suite_answers.specs.declared.cause.Cause.TheVariants.{BadSetting}
 use Rattle.suite_answers.specs.declared.answer.Answer.{Answer}
-use Rattle.suite_core.specs.declared.deciding.Decided.{Decided}
-use Rattle.suite_core.specs.declared.deciding.Decided.TheVariants.{Change as Changes, Stay}
-use Rattle.suite_core.specs.Runner.{Question}
-use Rattle.suite_core.specs.Answers.{answer_on, cause_of_answer, given_for, IsAnswerOn}
-use Rattle.suite_core.specs.Deeds.{is_change}
-use Rattle.suite_core.specs.Loading.{DecidesOn}
+use Rattle.suite_session.specs.declared.tools.Decided.{Decided}
+use Rattle.suite_session.specs.declared.tools.Decided.TheVariants.{Change as Changes, Stay}
+use Rattle.suite_session.specs.Runner.{Question}
+use Rattle.suite_session.specs.Answers.{answer_on, cause_of_answer, given_for, IsAnswerOn}
+use Rattle.suite_session.specs.Deeds.{is_change}
+use Rattle.suite_session.specs.Loading.{DecidesOn}
 use Rattle.suite_core.specs.Deciding.{bad_line as bad_line_of, AnswersDecision, is_large, large_table, settings_text}
 
 -- ---- The files that were loaded

@@ -9,7 +9,7 @@ use Rattle.account_model.specs.Options.{Word}
 use Rattle.account_model.specs.Request.{Request}
 use Rattle.account_model.specs.Words.{Asks, fault}
 use Rattle.account_model.proofs.AsksLaws.{one_request, asks_no_fault}
-use Rattle.suite_core.specs.Top.{named_tool}
+use Rattle.suite_course.specs.Top.{named_tool}
 
 -- the name of a tool names it
 named : (tool : Tool) (arguments : List Word) → named_tool (tool_name tool ∷ arguments) ≡ Some tool

@@ -22,10 +22,10 @@ use Rattle.suite_answers.specs.declared.cause.Which.TheVariants.{File}
 use Rattle.suite_answers.specs.declared.cause.Cause.{Cause}
 use Rattle.suite_answers.specs.declared.cause.Cause.TheVariants.{Changed, Same as IsSame, Refused, TooLarge}
 use Rattle.suite_answers.specs.declared.answer.Answer.{Answer}
-use Rattle.suite_core.specs.declared.deciding.Decided.{Decided}
-use Rattle.suite_core.specs.declared.deciding.Decided.TheVariants.{Change as Changes, Stay}
-use Rattle.suite_core.specs.Runner.{Question}
-use Rattle.suite_core.specs.Answers.{given_for}
+use Rattle.suite_session.specs.declared.tools.Decided.{Decided}
+use Rattle.suite_session.specs.declared.tools.Decided.TheVariants.{Change as Changes, Stay}
+use Rattle.suite_session.specs.Runner.{Question}
+use Rattle.suite_session.specs.Answers.{given_for}
 
 -- the bytes of login.defs; an absent one counts as empty
 abbrev pub settings_text : Option Bytes → Bytes

@@ -1,21 +1,16 @@
-// What a command answers on the files that were loaded. `decide_tool` alone knows of the tools: one
-// that is added is one arm there.
-ghost use Rattle.std.specs.Prelude.{◌≡◌, ◌≤◌, Some, IfOk, IfSome, IsSome, length};
+// What the tools of the suite answer on the files that were loaded. `decide_tool` alone knows of the
+// tools: one that is added is one arm there.
+ghost use Rattle.std.specs.Prelude.{◌≡◌, ◌≤◌, IfOk, IfSome, length};
 ghost use Rattle.std.specs.Result.{result_err};
 ghost use Rattle.std.specs.Option.{option_copied};
-ghost use Rattle.acct_text.specs.declared.Tab.{Tab as Table};
-ghost use Rattle.acct_text.specs.Bytes.{Bytes as Text};
-ghost use Rattle.acct_text.specs.Files.{table_of};
 ghost use Rattle.acct_text.specs.Limits.{table_limit};
 ghost use Rattle.account_model.specs.Settings.{settings_of};
 ghost use Rattle.aging_commands.specs.Asking.{IsAgingTool};
 ghost use Rattle.login_defs.specs.Faults.{file_fault};
 ghost use Rattle.login_defs.specs.Held.{HasSettings, IsHeld};
-ghost use Rattle.suite_core.specs.Answers.{given_for};
+ghost use Rattle.suite_session.specs.Answers.{given_for};
 ghost use Rattle.suite_core.specs.Deciding.{AnswersDecision, ToolDecides, bad_line, is_large, large_table, settings_text, with_output};
-ghost use Rattle.suite_core.specs.Loading.{DecidesOn};
 
-use crate::runner::Asked;
 use acct_outside::Name;
 use acct_tables::{Decision, Output};
 use acct_text::{Bytes, Files, Tab};
@@ -26,40 +21,30 @@ use login_defs::{Defs, DefsFault};
 use option_words::Tool;
 use std::alloc::{AllocError, Global};
 use suite_answers::{Answer, Cause, Outcome, Which};
+use suite_session::{Asked, Decided, Tools};
 use user_commands::UserRequest;
 
 /// The most bytes of a table.
 const TABLE_LIMIT: usize = 16_777_216;
 
-/// What a command does on given files.
+/// The twelve tools of the suite, as one.
 #[derive(Drop)]
-pub(crate) enum Decided {
-    /// The tables become these, with this answer.
-    Change(Files, Answer),
-    /// All tables stay as they are, with this answer.
-    Stay(Answer),
-}
+pub struct Suite;
 
-/// What the command answers on these files and this login.defs. The error says that memory ran out.
-pub(crate) fn decide(
-    alloc: Global,
-    asked: &Asked,
-    files: &Files,
-    defs: Option<&Bytes>,
-) -> Result<Decided, AllocError>
-    requires passwd { IsSome files.now.passwd }
-    requires group { IsSome files.now.group }
-    requires small { (table : Table) (bytes : Text) → table_of files.now table ≡ Some bytes
-        → length bytes ≤ table_limit }
-    requires small_defs { IfSome (option_copied defs) (λ bytes. length bytes ≤ table_limit) }
-    ensures { IfOk result (DecidesOn asked.now files.now (option_copied defs.entry)) }
-{
-    match settings_in(defs) {
-        Ok(settings) => {
-            let decision = decide_tool(alloc, asked, files, &settings)?;
-            answer_to(alloc, asked, decision)
+impl Tools for Suite {
+    fn decide(
+        alloc: Global,
+        asked: &Asked,
+        files: &Files,
+        defs: Option<&Bytes>,
+    ) -> Result<Decided, AllocError> {
+        match settings_in(defs) {
+            Ok(settings) => {
+                let decision = decide_tool(alloc, asked, files, &settings)?;
+                answer_to(alloc, asked, decision)
+            }
+            Err(fault) => bad_setting(alloc, asked, fault),
         }
-        Err(fault) => bad_setting(alloc, asked, fault),
     }
 }
 
@@ -97,15 +82,15 @@ fn decide_tool(
 {
     match asked.tool() {
         Tool::Groupadd | Tool::Groupmod | Tool::Groupdel | Tool::Gpasswd => {
-            let request = GroupRequest::from_words(alloc, &asked.parsed, asked.input())?;
+            let request = GroupRequest::from_words(alloc, asked.parsed(), asked.input())?;
             group_commands::decide(alloc, &request, files, settings, asked.day())
         }
         Tool::Useradd | Tool::Usermod | Tool::Userdel => {
-            let request = UserRequest::from_words(alloc, &asked.parsed, asked.input())?;
+            let request = UserRequest::from_words(alloc, asked.parsed(), asked.input())?;
             user_commands::decide(alloc, &request, files, settings, asked.day())
         }
         Tool::Pwck | Tool::Grpck | Tool::Getsubids => {
-            let request = CheckRequest::from_words(alloc, &asked.parsed, asked.input())?;
+            let request = CheckRequest::from_words(alloc, asked.parsed(), asked.input())?;
             check_reports::decide(alloc, &request, files, settings, asked.day())
         }
         Tool::Chage | Tool::Chpasswd => decide_aging(alloc, asked, files, settings),
@@ -122,7 +107,7 @@ fn decide_aging(
     requires { IsAgingTool asked.now.request.tool }
     ensures { IfOk result (ToolDecides asked.now settings.now files.now) }
 {
-    let request = AgingRequest::from_words(alloc, &asked.parsed, asked.input())?;
+    let request = AgingRequest::from_words(alloc, asked.parsed(), asked.input())?;
     aging_commands::decide(alloc, &request, files, settings, asked.day())
 }
 

@@ -1,31 +1,16 @@
-//! The session of a command, and the top call of the account suite.
+//! The twelve tools as one suite, and the top call.
 //!
-//! A session takes the lock, carries out an intent that another left, loads the files, lets the tool
-//! decide, commits through an intent of its own, frees the lock and answers. `State` names each step,
-//! with the one call of the folder that it makes next. `run_suite` reads the words, takes the input,
-//! asks the clock, turns a session to its end and serves the streams.
+//! `Suite` decides each command by the crate of its tool. `run_suite` reads the words and carries out
+//! what they ask for; a `Session` of these tools can also be turned call by call.
 #![tactic(auto)]
 
-mod committing;
-mod course;
 mod deciding;
-mod deeds;
-mod ending;
-mod laws;
-mod loading;
-mod locking;
-mod recovering;
-mod runner;
-mod session;
-mod state;
-mod streams;
-mod supplies;
 mod top;
-mod turning;
-mod unlocking;
 
-pub use deeds::tools_have_deeds;
-pub use laws::answers_keep_promises;
-pub use session::Session;
+pub use deciding::Suite;
 pub use suite_answers::{Answer, Cause, Outcome, Which};
+pub use suite_course::{answers_keep_promises, tools_have_deeds};
 pub use top::run_suite;
+
+/// A session of a command, which makes one call of the folder a turn.
+pub type Session = suite_session::Session<Suite>;

@@ -5,14 +5,14 @@
 use Rattle.std.proofs.Common.{ℕ, None, sym, subst}
 use Rattle.acct_outside.specs.Memory.{no_others}
 use Rattle.suite_answers.specs.declared.answer.Answer.{Answer}
-use Rattle.suite_core.specs.declared.state.State.{State}
-use Rattle.suite_core.specs.declared.state.State.TheVariants.{BackingUp, Committing, Installing, Unlocking, Freeing, Answering}
-use Rattle.suite_core.specs.declared.session.Phase.{Phase}
-use Rattle.suite_core.specs.declared.session.Phase.TheVariants.{Waiting, Begun, Over}
-use Rattle.suite_core.specs.Moment.{Moment, moment}
-use Rattle.suite_core.specs.Runner.{Runner}
-use Rattle.suite_core.specs.Session.{IsWaiting, SessionStands, SessionTurns}
-use Rattle.suite_core.specs.Stands.{Gives, StandsAs}
+use Rattle.suite_session.specs.declared.state.State.{State}
+use Rattle.suite_session.specs.declared.state.State.TheVariants.{BackingUp, Committing, Installing, Unlocking, Freeing, Answering}
+use Rattle.suite_session.specs.declared.session.Phase.{Phase}
+use Rattle.suite_session.specs.declared.session.Phase.TheVariants.{Waiting, Begun, Over}
+use Rattle.suite_session.specs.Moment.{Moment, moment}
+use Rattle.suite_session.specs.Runner.{Runner}
+use Rattle.suite_session.specs.Session.{IsWaiting, SessionStands, SessionTurns}
+use Rattle.suite_session.specs.Stands.{Gives, StandsAs}
 use Rattle.whole_commands.specs.Untold.{StandsUntold}
 
 pub waiting-stands : (now : Moment) (phase : Phase) → IsWaiting phase → SessionStands now phase

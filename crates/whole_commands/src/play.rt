@@ -1,6 +1,6 @@
 // Commands that are run over a folder in memory, and what they tell and do, as text.
 ghost use Rattle.std.specs.Prelude.{IfOk};
-ghost use Rattle.suite_core.specs.Session.{IsWaiting};
+ghost use Rattle.suite_session.specs.Session.{IsWaiting};
 
 use acct_outside::{
     Call, Effect, MemoryClock, MemoryFolder, MemorySink, MemorySource, Name, Token,

@@ -4,7 +4,7 @@ use Rattle.account_model.specs.Action.{outcome_of}
 use Rattle.account_model.specs.Change.{action_of}
 use Rattle.acct_tables.specs.Decisions.{Decides}
 use Rattle.aging_commands.specs.Asking.{Asking}
-use Rattle.suite_core.specs.Runner.{Question}
+use Rattle.suite_session.specs.Runner.{Question}
 use Rattle.suite_core.proofs.deciding.decide_aging.Goals as goal
 
 -- the request is that of the command, with its whole input, and the day is its day

@@ -7,13 +7,13 @@ use Rattle.account_model.specs.Request.{Request}
 use Rattle.option_words.specs.Parsed.{request_in}
 use Rattle.suite_answers.specs.declared.cause.Cause.TheVariants.{Memory}
 use Rattle.suite_answers.specs.Answers.{told, told_words}
-use Rattle.suite_core.specs.Moment.{moment}
-use Rattle.suite_core.specs.Runner.{question}
-use Rattle.suite_core.specs.Streams.{streams}
-use Rattle.suite_core.specs.Supplies.{AreSupplied, reads_input, supplies}
-use Rattle.suite_core.specs.Top.{EndsEarly, EndsUnsupplied, Ran}
-use Rattle.suite_core.proofs.CompleteLemmas.{ends-unsupplied}
-use Rattle.suite_core.proofs.RanLemmas.{finished-ran}
+use Rattle.suite_session.specs.Moment.{moment}
+use Rattle.suite_session.specs.Runner.{question}
+use Rattle.suite_course.specs.Streams.{streams}
+use Rattle.suite_course.specs.Supplies.{AreSupplied, reads_input, supplies}
+use Rattle.suite_course.specs.Top.{EndsEarly, EndsUnsupplied, Ran}
+use Rattle.suite_course.proofs.CompleteLemmas.{ends-unsupplied}
+use Rattle.suite_course.proofs.RanLemmas.{finished-ran}
 use Rattle.suite_core.proofs.TopLemmas.{named-asked, no-fault, one-request}
 use Rattle.suite_core.proofs.top.run_suite.Goals as goal
 

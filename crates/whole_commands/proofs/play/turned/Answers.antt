@@ -1,6 +1,6 @@
 use Rattle.std.proofs.Common.{Some}
 use Rattle.acct_outside.specs.Memory.{faults_of, no_others, past_of}
-use Rattle.suite_core.specs.Moment.{moment}
+use Rattle.suite_session.specs.Moment.{moment}
 use Rattle.whole_commands.proofs.TurnedSessions.{turned-stands, waiting-stands}
 use Rattle.whole_commands.proofs.play.turned.Goals as goal
 

@@ -1,7 +1,7 @@
 use Rattle.std.proofs.Common.{Some}
 use Rattle.acct_outside.specs.Memory.{faults_of, no_others, past_of}
-use Rattle.suite_core.specs.Moment.{moment}
-use Rattle.suite_core.specs.Session.{SessionStands}
+use Rattle.suite_session.specs.Moment.{moment}
+use Rattle.suite_session.specs.Session.{SessionStands}
 use Rattle.whole_commands.proofs.play.turned.Given as goal
 
 -- the session stands in the folder

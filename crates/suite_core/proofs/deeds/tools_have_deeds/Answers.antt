@@ -1,5 +1,0 @@
-use Rattle.suite_core.proofs.DeedLemmas.{tools-have-deeds}
-use Rattle.suite_core.proofs.deeds.tools_have_deeds.Goals as goal
-
-pub returns : goal.returns
-returns c = tools-have-deeds c.deeds_are_changes.ensures

@@ -1,5 +1,0 @@
-use Rattle.suite_core.proofs.turning.asks_once.Goals as goal
-
-pub returns : goal.returns
-returns c = (c.words_have_one_reading.ensures.read c.args.asked.now.command.words
-    c.args.asked.now.request).0 c.tool.ensures.asks

@@ -1,0 +1,276 @@
+-- Claims: a session that was alone, in whose way nothing stood, gives the tool's answer on the files of
+-- its entry, or finds no memory (`ran-complete`); and a command that got no input or no day, though
+-- nothing lacked, found no memory (`ends-unsupplied`).
+-- Way: cause by cause (`answers-as`): what a tool answers on is the files of the entry (AloneLemmas); what
+-- others leave it doesn't meet (OpenLemmas); and each fault is counted.
+use Rattle.std.proofs.Common.{◌≡◌, refl, sym, ap, subst, ◌∙◌, ◌∷◌, ◌++◌, [], ◌+◌, ◌≤◌, length, inl, inr, Option, Some, None, Result, Ok, Err, arith}
+use Rattle.std.specs.List.{AllByRecursion}
+use Rattle.std.proofs.lemmas.List.{length-append}
+use Rattle.acct_text.specs.Bytes.{Bytes}
+use Rattle.acct_text.specs.Limits.{table_limit}
+use Rattle.acct_outside.specs.declared.Name.TheVariants.{Table, Intent, Defs}
+use Rattle.acct_outside.specs.declared.CommitStage.TheVariants.{Before}
+use Rattle.acct_outside.specs.declared.streams.SinkFault.{SinkFault}
+use Rattle.acct_outside.specs.declared.streams.SinkFault.TheVariants.{Failed, Memory as NoMemory}
+use Rattle.acct_outside.specs.Faults.{HasRisen}
+use Rattle.acct_outside.specs.Streams.{WhereBytesTold}
+use Rattle.acct_outside.specs.Tokens.{Token}
+use Rattle.acct_outside.specs.Folder.{Folder}
+use Rattle.acct_outside.specs.Calls.{answers, done}
+use Rattle.acct_outside.specs.History.{Event, History, after, own_events}
+use Rattle.acct_outside.specs.Others.{Admission}
+use Rattle.acct_outside.specs.Contract.{Past, WhereTold}
+use Rattle.account_model.specs.declared.tool.Tool.{Tool}
+use Rattle.suite_rules.specs.Deeds.{SuiteDeeds}
+use Rattle.suite_rules.specs.Standing.{standing}
+use Rattle.suite_rules.specs.Lawful.{Lawful}
+use Rattle.suite_rules.specs.Steps.{LawfulOthers}
+use Rattle.suite_answers.specs.declared.cause.Which.TheVariants.{Input, File}
+use Rattle.suite_answers.specs.declared.cause.Cause.{Cause}
+use Rattle.suite_answers.specs.declared.cause.Cause.TheVariants.{Changed, Same, Refused, Syntax, Held, Gone, Raced, Outrun, LockDamaged, Exhausted, IntentDamaged, TooLarge, NoTable, BadSetting, DiskFault, InputFault, OutputFault, ClockFault, Memory}
+use Rattle.suite_answers.specs.declared.cause.Outcome.{Outcome}
+use Rattle.suite_answers.specs.declared.answer.Answer.{Answer}
+use Rattle.suite_answers.specs.Answers.{told}
+use Rattle.suite_answers.specs.Reasons.{stage_of}
+use Rattle.suite_session.specs.Runner.{Question}
+use Rattle.suite_session.specs.Moment.{Moment, commit_at}
+use Rattle.suite_session.specs.Answers.{Says}
+use Rattle.suite_session.specs.Deeds.{AreOfTools}
+use Rattle.suite_session.specs.Stands.{IsOutside}
+use Rattle.suite_course.specs.Open.{StandsOpen}
+use Rattle.suite_course.specs.Streams.{Streams, Serves, after_streams}
+use Rattle.suite_course.specs.Supplies.{Supplies, IsTooMuch, IsUnsupplied, LacksNothing}
+use Rattle.suite_course.specs.Top.{Answered, AnswersOnOld, BegunOrNone, EndsEarly, EndsUnsupplied, ExtendsLawfully, HasNoToken, IsAlone, IsShownAt, StreamsServe, WhereLawful}
+use Rattle.suite_course.proofs.OpenLemmas.{some-event, never-last, never-gone, never-damaged, never-held, never-raced, never-outrun, never-unread, never-large}
+
+-- ---- A session that was alone
+
+module _ (deeds : SuiteDeeds) (asked : Question) (first : Folder) (old new : History) (token : Token)
+    (lawful : Lawful deeds first new) (alone : IsAlone token old new)
+    (opened : StandsOpen (after first old) token new) (given : Answer) where
+  -- it gives the tool's answer, by the cause of its own
+  pub answers-as : (cause : Cause) → given.outcome.cause ≡ cause →
+      (standing token new).commit ≡ commit_at (stage_of cause) → Says asked given cause →
+      (IsOutside cause → ⊥) → IsShownAt deeds asked first new token given cause →
+      AnswersOnOld deeds asked first old new token given
+  answers-as Changed is commits says inside shown = inr (shown.alone old alone)
+  answers-as Same is commits says inside shown = inr (shown.alone old alone)
+  answers-as (Refused refusal) is commits says inside shown = inr (shown.alone old alone)
+  answers-as (NoTable table) is commits says inside shown = inr (shown.alone old alone)
+  answers-as (BadSetting line) is commits says inside shown = inr (shown.alone old alone)
+  answers-as (TooLarge (File (Table table))) is commits says inside shown =
+      inr (shown.alone old alone)
+  answers-as (TooLarge (File Defs)) is commits says inside shown = inr (shown.alone old alone)
+  answers-as (TooLarge (File Intent)) is commits says inside shown =
+      absurd (never-large deeds first old new token lawful alone opened commits shown)
+  answers-as (TooLarge which) is commits says inside shown = absurd shown
+  answers-as (Memory stage) is commits says inside shown = inl (stage, is)
+  answers-as (Held holder) is commits says inside shown =
+      absurd (never-held deeds first old new token lawful alone opened holder shown)
+  answers-as (Gone number) is commits says inside shown =
+      absurd (never-gone deeds first old new token lawful alone opened number shown)
+  answers-as (Raced number) is commits says inside shown =
+      absurd (never-raced deeds first old new token lawful alone opened number shown)
+  answers-as (Outrun number other) is commits says inside shown =
+      absurd (never-outrun deeds first old new token lawful alone opened number other shown)
+  answers-as (LockDamaged number) is commits says inside shown =
+      absurd (never-damaged deeds first old new token lawful alone opened number shown)
+  answers-as Exhausted is commits says inside shown =
+      absurd (never-last deeds first old new token lawful alone opened shown)
+  answers-as (IntentDamaged part) is commits says inside shown =
+      absurd (never-unread deeds first old new token lawful alone opened commits part shown)
+  answers-as (Syntax fault) is commits says inside shown = absurd says
+  answers-as (DiskFault stage) is commits says inside shown = absurd (inside tt)
+  answers-as InputFault is commits says inside shown = absurd (inside tt)
+  answers-as (OutputFault stage) is commits says inside shown = absurd (inside tt)
+  answers-as ClockFault is commits says inside shown = absurd (inside tt)
+
+-- who answered with the last event, and began since a moment, is who was alone since then
+one-alone : (asked : Question) (outcome : Outcome) (token other : Token) (old new : History) →
+    IsAlone token old new → Answered asked outcome other new → own_events other old ≡ [] →
+    other ≡ token
+one-alone asked outcome token other old new alone answered fresh =
+    by-newer alone.newer alone.own (sym answered.last ∙ alone.parts)
+  where
+    event : Event
+    event = record { token = other; call = answers outcome.status; result = done tt }
+
+    by-newer : (newer : History) → AllByRecursion (λ one. one.token ≡ token) newer →
+        event ∷ answered.older ≡ newer ++ old → other ≡ token
+    by-newer [] own is = absurd (some-event other event answered.older refl
+        (ap (λ (one : History). own_events other one) is ∙ fresh))
+    by-newer (head ∷ newer) own is =
+        let same : event ≡ head = cc is in ap (λ (one : Event). one.token) same ∙ own.0
+
+module _ (tool : Option Tool) (was holds : Streams) (serve : StreamsServe was holds) where
+  -- where no fault of a stream was counted, none failed
+  none-failed : (given : Answer) → Serves tool given was holds (Err Failed) → ⊥
+  none-failed given served = elim (served.failed refl) [
+    | inl rose ↦ serve.out rose
+    | inr rose ↦ serve.err rose
+  ]
+
+module _ (asked : Question) (before now : Moment) (was holds : Streams) (outcome : Outcome)
+    (given : Answer) (says : Says asked given given.outcome.cause)
+    (outside : IsOutside given.outcome.cause → HasRisen before.faults now.faults)
+    (none : HasRisen before.faults now.faults → ⊥) (serve : StreamsServe was holds) where
+  -- by what became of the streams
+  answers-put : (put : Result (Unit {0}) SinkFault) →
+      Serves (Some asked.request.tool) given was holds put →
+      outcome ≡ (after_streams put given).outcome →
+      (deeds : SuiteDeeds) (first : Folder) (old new : History) → Lawful deeds first new →
+      (token : Token) → Answered asked outcome token new → IsAlone token old new →
+      StandsOpen (after first old) token new →
+      IsShownAt deeds asked first new token (after_streams put given) outcome.cause →
+      AnswersOnOld deeds asked first old new token (after_streams put given)
+  answers-put (Ok unit) served ends deeds first old new lawful token answered alone opened shown =
+      answers-as deeds asked first old new token lawful alone opened given given.outcome.cause refl
+      (answered.commits ∙ ap (λ (one : Outcome). commit_at (stage_of one.cause)) ends) says
+      (λ fault. none (outside fault))
+      (subst (λ (one : Outcome). IsShownAt deeds asked first new token given one.cause) ends shown)
+  answers-put (Err Failed) served ends deeds first old new lawful token answered alone opened shown =
+      absurd (none-failed (Some asked.request.tool) was holds serve given served)
+  answers-put (Err NoMemory) served ends deeds first old new lawful token answered alone opened shown =
+      inl (stage_of given.outcome.cause, refl)
+
+  -- by what became of a begin that gave no token
+  unbegun-put : (put : Result (Unit {0}) SinkFault) →
+      Serves (Some asked.request.tool) given was holds put → HasNoToken given →
+      (deeds : SuiteDeeds) (first : Folder) (old new : History) (token : Token) →
+      AnswersOnOld deeds asked first old new token (after_streams put given)
+  unbegun-put (Ok unit) served (inl fault) deeds first old new token =
+      absurd (none (outside (subst IsOutside (sym fault) tt)))
+  unbegun-put (Ok unit) served (inr memory) deeds first old new token = inl (Before, memory)
+  unbegun-put (Err Failed) served told deeds first old new token =
+      absurd (none-failed (Some asked.request.tool) was holds serve given served)
+  unbegun-put (Err NoMemory) served told deeds first old new token =
+      inl (stage_of given.outcome.cause, refl)
+
+  -- by the session that answered, or that there was none
+  answers-told : (put : Result (Unit {0}) SinkFault) →
+      Serves (Some asked.request.tool) given was holds put →
+      outcome ≡ (after_streams put given).outcome →
+      (deeds : SuiteDeeds) (first : Folder) (old new : History) → Lawful deeds first new →
+      BegunOrNone asked outcome given first old new →
+      ((token : Token) → Answered asked outcome token new →
+      IsShownAt deeds asked first new token (after_streams put given) outcome.cause) →
+      (token : Token) → IsAlone token old new → StandsOpen (after first old) token new →
+      AnswersOnOld deeds asked first old new token (after_streams put given)
+  answers-told put served ends deeds first old new lawful (inl begun) shown token alone opened =
+      let same = one-alone asked outcome token begun.0 old new alone begun.1 begun.2 in
+      answers-put put served ends deeds first old new lawful token
+      (subst (λ (one : Token). Answered asked outcome one new) same begun.1) alone opened
+      (subst (λ (one : Token).
+      IsShownAt deeds asked first new one (after_streams put given) outcome.cause) same
+      (shown begun.0 begun.1))
+  answers-told put served ends deeds first old new lawful (inr none_begun) shown token alone opened =
+      unbegun-put put served none_begun deeds first old new token
+
+-- this holds of two moments of a history, where it was lawful at the first
+abbrev WhereWas : Admission → Option Past → Option Past →
+    (SuiteDeeds → Folder → History → History → Type 0) → Type 0
+WhereWas admits was told P = WhereTold was told (λ first old new.
+    (deeds : SuiteDeeds) → AreOfTools deeds → LawfulOthers deeds admits first →
+    Lawful deeds first old → P deeds first old new)
+
+-- what follows of things that hold there
+where-all : (admits : Admission) (T : Folder → History → History → Type 0)
+    (P Q R : SuiteDeeds → Folder → History → History → Type 0) →
+    ((deeds : SuiteDeeds) (first : Folder) (old new : History) → T first old new →
+    P deeds first old new → Q deeds first old new → R deeds first old new) →
+    (was told : Option Past) → WhereTold was told T → WhereWas admits was told P →
+    WhereWas admits was told Q → WhereWas admits was told R
+where-all admits T P Q R follows None None told one other = tt
+where-all admits T P Q R follows (Some was) (Some past) told one other = (
+  one.0,
+  λ deeds ours others lawful. follows deeds was.first was.history past.history told.1
+      (one.1 deeds ours others lawful) (other.1 deeds ours others lawful),
+)
+where-all admits T P Q R follows None (Some past) told one other = absurd one
+where-all admits T P Q R follows (Some was) None told one other = absurd one
+
+-- the first claim
+pub ran-complete : (asked : Question) (before now : Moment) (was holds : Streams) (outcome : Outcome)
+    (given : Answer) → Says asked given given.outcome.cause →
+    (IsOutside given.outcome.cause → HasRisen before.faults now.faults) →
+    (put : Result (Unit {0}) SinkFault) → Serves (Some asked.request.tool) given was holds put →
+    outcome ≡ (after_streams put given).outcome → WhereLawful before now ExtendsLawfully →
+    WhereTold before.told now.told (BegunOrNone asked outcome given) →
+    WhereLawful before now (λ deeds first old new. (token : Token) →
+    Answered asked outcome token new →
+    IsShownAt deeds asked first new token (after_streams put given) outcome.cause) →
+    (HasRisen before.faults now.faults → ⊥) → StreamsServe was holds →
+    WhereLawful before now (λ deeds first old new. (token : Token) → IsAlone token old new →
+    StandsOpen (after first old) token new →
+    AnswersOnOld deeds asked first old new token (after_streams put given))
+ran-complete asked before now was holds outcome given says outside put served ends lawful begun shown
+    none serve =
+    where-all before.admits (BegunOrNone asked outcome given) ExtendsLawfully
+    (λ deeds first old new. (token : Token) → Answered asked outcome token new →
+    IsShownAt deeds asked first new token (after_streams put given) outcome.cause)
+    (λ deeds first old new. (token : Token) → IsAlone token old new →
+    StandsOpen (after first old) token new →
+    AnswersOnOld deeds asked first old new token (after_streams put given))
+    (λ deeds first old new told extends shows.
+    answers-told asked before now was holds outcome given says outside none serve put served ends
+    deeds first old new extends.lawful told shows)
+    before.told now.told begun lawful shown
+
+-- ---- A command without input or day
+
+-- the input wasn't too large
+never-too-much : (was left : Option Bytes) (bytes : Bytes) → was ≡ Some bytes →
+    length bytes ≤ table_limit → WhereBytesTold was left IsTooMuch → ⊥
+never-too-much None left bytes is within much = absurd (cc is)
+never-too-much (Some all) None bytes is within much = much
+never-too-much (Some all) (Some rest) bytes is within much =
+    let same : all ≡ bytes = cc is in
+    let whole : length bytes ≡ length much.came + length rest =
+    ap length (sym same ∙ much.parts) ∙ length-append much.came rest in
+    let past = much.passes in
+    absurd (omega (arith, whole, past, within))
+
+-- it lacks memory
+unsupplied-memory : (tool : Tool) (before now : Supplies) (cause : Cause) →
+    IsUnsupplied tool before now cause → LacksNothing tool before now → cause ≡ Memory Before
+unsupplied-memory tool before now InputFault due lacks = absurd (lacks.source due.1)
+unsupplied-memory tool before now (TooLarge Input) due lacks =
+    let all = lacks.within due.0 in
+    absurd (never-too-much before.left now.left all.0 all.1 all.2 due.1)
+unsupplied-memory tool before now ClockFault due lacks = absurd (lacks.clock due)
+unsupplied-memory tool before now (Memory Before) due lacks = refl
+unsupplied-memory tool before now cause due lacks = absurd due
+
+-- so the outcome says, where the streams serve
+unsupplied-complete : (tool : Tool) (before now : Supplies) (was holds : Streams)
+    (outcome : Outcome) (cause : Cause) → IsUnsupplied tool before now cause →
+    EndsEarly (Some tool) (told tool cause) was holds outcome →
+    LacksNothing tool before now → StreamsServe was holds → outcome.cause ≡ Memory Before
+unsupplied-complete tool before now was holds outcome cause due early lacks serve =
+    ap (λ (one : Outcome). one.cause) early.ends.left ∙ by-put early.ends.put early.ends.served
+  where
+    told_is : early.given.outcome.cause ≡ Memory Before
+    told_is = elim early.is [
+      | inl is ↦ ap (λ (one : Answer). one.outcome.cause) is
+          ∙ unsupplied-memory tool before now cause due lacks
+      | inr is ↦ ap (λ (one : Answer). one.outcome.cause) is
+    ]
+
+    by-put : (put : Result (Unit {0}) SinkFault) → Serves (Some tool) early.given was holds put →
+        (after_streams put early.given).outcome.cause ≡ Memory Before
+    by-put (Ok unit) served = told_is
+    by-put (Err Failed) served =
+        absurd (none-failed (Some tool) was holds serve early.given served)
+    by-put (Err NoMemory) served = ap (λ (one : Cause). Memory (stage_of one)) told_is
+
+-- the second claim
+pub ends-unsupplied : (tool : Tool) (before now : Supplies) (was holds : Streams)
+    (outcome : Outcome) (cause : Cause) → IsUnsupplied tool before now cause →
+    EndsEarly (Some tool) (told tool cause) was holds outcome →
+    EndsUnsupplied tool before now was holds outcome
+ends-unsupplied tool before now was holds outcome cause due early = record {
+  cause = cause;
+  due = due;
+  ends = early;
+  complete = unsupplied-complete tool before now was holds outcome cause due early;
+}

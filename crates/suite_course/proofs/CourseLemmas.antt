@@ -1,0 +1,211 @@
+-- Claim: turn by turn a session comes from its entry to its answer (`comes-turn`), and what holds from
+-- the entry to a moment and from there on holds from the entry on (`turns-then`).
+-- Way: histories grow and stay lawful one after another, as a folder never admits more than before.
+use Rattle.std.proofs.Common.{◌≡◌, refl, sym, ap, subst, ◌∙◌, ◌<◌, ◌≤◌, ◌+◌, [], ℕ, inl, inr, Option, Some, None, IfSome, true, is_none, arith}
+use Rattle.std.proofs.lemmas.List.Elements.{filter-append}
+use Rattle.acct_outside.specs.Faults.{HasRisen}
+use Rattle.acct_outside.specs.Folder.{Folder}
+use Rattle.acct_outside.specs.Tokens.{Token}
+use Rattle.acct_outside.specs.History.{History, is_of, own_events}
+use Rattle.acct_outside.specs.Others.{Admission}
+use Rattle.acct_outside.specs.Contract.{Past, Narrows}
+use Rattle.suite_rules.specs.Deeds.{SuiteDeeds}
+use Rattle.suite_rules.specs.Lawful.{Lawful}
+use Rattle.suite_rules.specs.Steps.{LawfulOthers, StaysLawful}
+use Rattle.suite_session.specs.declared.session.Phase.{Phase}
+use Rattle.suite_session.specs.declared.session.Phase.TheVariants.{Waiting, Begun, Over}
+use Rattle.suite_session.specs.Runner.{Question, Runner}
+use Rattle.suite_session.specs.Moment.{Moment}
+use Rattle.suite_session.specs.Session.{IsNew, IsWaiting, SessionStands, SessionTurns, IsUnbegun, answer_of, given_in, phase_left}
+use Rattle.suite_session.specs.Stands.{Extends, StandsAs, TellsOutside, TurnsTo}
+use Rattle.suite_session.specs.Counts.{SessionCounts}
+use Rattle.suite_session.proofs.OthersLemmas.{state-own}
+use Rattle.suite_session.proofs.GrowsLemmas.{grew-extends, grew-none, grew-nothing, grew-then, second-empty}
+use Rattle.suite_course.specs.Bound.{PhaseCalled}
+use Rattle.suite_course.specs.Course.{Comes, Reached}
+use Rattle.suite_course.proofs.BoundLemmas.{called-first, called-then}
+
+-- ---- One after another
+
+-- others that are lawful for more are lawful for fewer
+others-narrow : (deeds : SuiteDeeds) (more fewer : Admission) (first : Folder) →
+    Narrows more fewer → LawfulOthers deeds more first → LawfulOthers deeds fewer first
+others-narrow deeds more fewer first narrows others history event lawful admitted =
+    others history event lawful (narrows history event admitted)
+
+-- a history that twice stayed lawful stays so
+lawful-then : (deeds : SuiteDeeds) (more fewer : Admission) → Narrows more fewer →
+    (entry between now : Option Past) → StaysLawful deeds more entry between →
+    StaysLawful deeds fewer between now → StaysLawful deeds more entry now
+lawful-then deeds more fewer narrows None None None first second = tt
+lawful-then deeds more fewer narrows (Some entry) (Some between) (Some now) first second = (
+  second.0 ∙ first.0,
+  λ others lawful.
+      subst (λ (one : Folder). Lawful deeds one now.history) first.0
+      (second.1
+      (subst (λ (one : Folder). LawfulOthers deeds fewer one) (sym first.0)
+      (others-narrow deeds more fewer entry.first narrows others))
+      (subst (λ (one : Folder). Lawful deeds one between.history) (sym first.0)
+      (first.1 others lawful))),
+)
+lawful-then deeds more fewer narrows None None (Some now) first second = absurd second
+lawful-then deeds more fewer narrows None (Some between) now first second = absurd first
+lawful-then deeds more fewer narrows (Some entry) None now first second = absurd first
+lawful-then deeds more fewer narrows (Some entry) (Some between) None first second = absurd second
+
+-- a count that rose later rose from the beginning
+risen-then : (entry between now : ℕ) → entry ≤ between → HasRisen between now → HasRisen entry now
+risen-then entry between now low (inl rose) = inl (omega (arith, low, rose))
+risen-then entry between now low (inr last) = inr last
+
+-- turns one after another
+pub turns-then : (entry between now : Moment) (token : Token) (made most : ℕ)
+    {S T Stands TellsFault : Type 0} → TurnsTo entry between token made S T →
+    TurnsTo between now token most Stands TellsFault →
+    TurnsTo entry now token (made + most) Stands TellsFault
+turns-then entry between now token made most first second = record {
+  stands = second.stands;
+  grew = grew-then entry.admits between.admits token made most entry.told between.told now.told
+      first.narrows first.grew second.grew;
+  lawful = λ deeds ours. lawful-then deeds entry.admits between.admits first.narrows
+      entry.told between.told now.told (first.lawful deeds ours) (second.lawful deeds ours);
+  narrows = λ history event admitted.
+      first.narrows history event (second.narrows history event admitted);
+  never_falls = omega (arith, first.never_falls, second.never_falls);
+  risen = λ told. risen-then entry.faults between.faults now.faults first.never_falls
+      (second.risen told);
+}
+
+-- the same turns to what follows from their end
+pub turns-as : (entry now : Moment) (token : Token) (most : ℕ) {S T Stands TellsFault : Type 0} →
+    (S → Stands) → (TellsFault → HasRisen entry.faults now.faults) →
+    TurnsTo entry now token most S T → TurnsTo entry now token most Stands TellsFault
+turns-as entry now token most stands risen turns = record {
+  stands = stands turns.stands;
+  grew = turns.grew;
+  lawful = turns.lawful;
+  narrows = turns.narrows;
+  never_falls = turns.never_falls;
+  risen = risen;
+}
+
+-- turns without an event of one session have none of another
+pub turns-none : (entry now : Moment) (token other : Token) {S T : Type 0} →
+    TurnsTo entry now token 0 S T → TurnsTo entry now other 0 S T
+turns-none entry now token other turns = record {
+  stands = turns.stands;
+  grew = grew-none entry.admits token other entry.told now.told turns.grew;
+  lawful = turns.lawful;
+  narrows = turns.narrows;
+  never_falls = turns.never_falls;
+  risen = turns.risen;
+}
+
+-- ---- A session on its way
+
+-- a token that is new was so before
+pub new-from : (token : Token) (was told : Option Past) → Extends was told → IsNew told token →
+    IsNew was token
+new-from token None told extends new = tt
+new-from token (Some was) (Some past) extends new =
+    second-empty (own_events token extends.1.0) (own_events token was.history)
+    (sym (filter-append (is_of token) extends.1.0 was.history)
+    ∙ (ap (λ (one : History). own_events token one) (sym extends.1.1) ∙ new))
+new-from token (Some was) None extends new = absurd extends
+
+-- nothing holds of a told history
+told-any : (told : Option Past) → IfSome told (λ past. Unit {0})
+told-any None = tt
+told-any (Some past) = tt
+
+-- a turn of a session that has no answer yet
+pub comes-turn : (asked : Question) (entry between now : Moment) (old new : Phase) →
+    Comes asked entry between old → answer_of old ≡ None → SessionTurns between now old new →
+    phase_left new < phase_left old → SessionCounts now.told old new → Comes asked entry now new
+comes-turn asked entry between now (Waiting question) (Begun runner state) comes none turns nearer counts =
+    let first = turns-none entry between [] runner.token comes.turns in
+    let both = turns-then entry between now runner.token 0 1 first turns.1 in
+    record {
+      made = 1;
+      turns = turns-as entry now runner.token 1
+          (λ stands. (
+            turns.0 ∙ comes.turns.stands,
+            stands,
+            new-from runner.token entry.told between.told
+                (grew-extends entry.admits runner.token 0 entry.told between.told first.grew) turns.2,
+          )) both.risen both;
+      called = called-first runner state now.told counts;
+    }
+comes-turn asked entry between now (Waiting question) (Over answer) comes none turns nearer counts =
+    let both = turns-then entry between now [] 0 1 comes.turns turns in
+    record {
+      made = 1;
+      turns = turns-as entry now [] 1
+          (subst (λ (one : Question). IsUnbegun one answer) comes.turns.stands) both.risen both;
+      called = told-any now.told;
+    }
+comes-turn asked entry between now (Begun runner state) (Begun same next) comes none turns nearer counts =
+    let both = turns-then entry between now runner.token comes.made 1 comes.turns turns.1 in
+    record {
+      made = comes.made + 1;
+      turns = subst (λ (one : Runner). TurnsTo entry now one.token (comes.made + 1)
+          (Reached asked entry now (Begun same next)) (TellsOutside next)) (sym turns.0)
+          (turns-as entry now runner.token (comes.made + 1)
+          (λ stands. (
+            ap (λ (one : Runner). one.asked) turns.0 ∙ comes.turns.stands.0,
+            subst (λ (one : Runner). StandsAs now one next) (sym turns.0) stands,
+            subst (λ (one : Runner). IsNew entry.told one.token) (sym turns.0) comes.turns.stands.2,
+          )) both.risen both);
+      called = subst (λ (one : Runner). IfSome now.told (PhaseCalled (Begun one next)))
+          (sym turns.0)
+          (called-then between.admits runner next state between.told now.told nearer counts
+          turns.1.grew (state-own between runner state comes.turns.stands.1) comes.called);
+    }
+comes-turn asked entry between now (Begun runner state) (Over answer) comes none turns nearer counts =
+    let has : given_in state ≡ Some answer = ap given_in turns.0 in
+    let wrong : None ≡ Some answer = sym none ∙ has in absurd (cc)
+comes-turn asked entry between now (Over answer) new comes none turns nearer counts = absurd (cc)
+comes-turn asked entry between now (Waiting question) (Waiting other) comes none turns nearer counts =
+    absurd turns
+comes-turn asked entry between now (Begun runner state) (Waiting other) comes none turns nearer counts =
+    absurd turns
+
+-- a session that hasn't begun was asked something
+pub waiting-is : (phase : Phase) → IsWaiting phase → (asked : Question) × (phase ≡ Waiting asked)
+waiting-is (Waiting asked) waits = (asked, refl)
+waiting-is (Begun runner state) waits = absurd waits
+waiting-is (Over answer) waits = absurd waits
+
+-- a session on its way stands so
+pub comes-stands : (asked : Question) (entry now : Moment) (phase : Phase) →
+    Comes asked entry now phase → SessionStands now phase
+comes-stands asked entry now (Waiting question) comes = tt
+comes-stands asked entry now (Begun runner state) comes = comes.turns.stands.1
+comes-stands asked entry now (Over answer) comes = tt
+
+-- at its entry it has come to where it is
+pub comes-first : (asked : Question) (entry : Moment) (phase : Phase) → phase ≡ Waiting asked →
+    Comes asked entry entry phase
+comes-first asked entry phase is =
+    subst (λ (one : Phase). Comes asked entry entry one) (sym is) (record {
+      made = 0;
+      turns = record {
+        stands = refl;
+        grew = grew-nothing entry.admits [] entry.told;
+        lawful = λ deeds ours. still-lawful deeds entry.admits entry.told;
+        narrows = λ history event admitted. admitted;
+        never_falls = omega arith;
+        risen = λ fault. absurd fault;
+      };
+      called = told-any entry.told;
+    })
+  where
+    still-lawful : (deeds : SuiteDeeds) (admits : Admission) (was : Option Past) →
+        StaysLawful deeds admits was was
+    still-lawful deeds admits None = tt
+    still-lawful deeds admits (Some was) = (refl, λ others lawful. lawful)
+
+-- what isn't there is none
+pub none-of : {T : Type 0} (held : Option T) → is_none held ≡ true → held ≡ None
+none-of None is = refl
+none-of (Some held) is = absurd (cc is)

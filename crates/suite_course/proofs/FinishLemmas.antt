@@ -1,0 +1,229 @@
+-- Claim: a session that came to its answer, whose streams were served, and that then made its last
+-- call, finished (`finishes`).
+-- Way: a fault of a stream leaves the stage, so the session still stands with its answer
+-- (`streams-stand`); its last call leads to its end alone (`ends-begun`).
+use Rattle.std.proofs.Common.{◌≡◌, ℕ, ◌+◌, ◌≤◌, [], inl, inr, refl, sym, ap, subst, ◌∙◌, Option, Some, None, IfSome, IsSome, Result, Ok, Err, arith}
+use Rattle.std.proofs.lemmas.Bool.{cases_lt}
+use Rattle.acct_outside.specs.declared.CommitStage.{CommitStage}
+use Rattle.acct_outside.specs.declared.streams.SinkFault.{SinkFault}
+use Rattle.acct_outside.specs.declared.streams.SinkFault.TheVariants.{Failed, Memory as NoMemory}
+use Rattle.acct_outside.specs.Faults.{HasRisen, last_count}
+use Rattle.acct_outside.specs.Contract.{Past}
+use Rattle.account_model.specs.declared.tool.Tool.{Tool}
+use Rattle.suite_answers.specs.declared.cause.Outcome.{Outcome}
+use Rattle.suite_answers.specs.declared.answer.Answer.{Answer}
+use Rattle.suite_answers.specs.Reasons.{stage_of}
+use Rattle.suite_session.specs.declared.state.State.{State}
+use Rattle.suite_session.specs.declared.state.State.TheVariants.{Answering}
+use Rattle.suite_session.specs.declared.session.Phase.{Phase}
+use Rattle.suite_session.specs.declared.session.Phase.TheVariants.{Waiting, Begun, Over}
+use Rattle.suite_session.specs.Runner.{Question, Runner}
+use Rattle.suite_session.specs.Moment.{Moment}
+use Rattle.suite_session.specs.Due.{IsDue}
+use Rattle.suite_session.specs.Session.{HasAnswered, SessionStands, SessionTurns, answer_of, given_in, outcome_of, state_failed}
+use Rattle.suite_session.specs.Stands.{IsStopped, MayGive, StandsAs}
+use Rattle.suite_session.specs.Answers.{Says, after_fault, left_by}
+use Rattle.suite_session.proofs.MetLemmas.{told-as}
+use Rattle.suite_session.proofs.OthersLemmas.{state-own}
+use Rattle.suite_course.specs.Streams.{Streams, Serves, after_streams}
+use Rattle.suite_course.specs.Course.{Comes, Concludes, Finished, phase_after}
+use Rattle.suite_course.proofs.BoundLemmas.{called-last}
+use Rattle.suite_course.proofs.CourseLemmas.{turns-then, turns-as}
+use Rattle.suite_course.proofs.RanLemmas.{stays-turns}
+
+-- ---- A fault of a stream
+
+-- it leaves the stage
+left-stage : (fault : SinkFault) (stage : CommitStage) → stage_of (left_by fault stage) ≡ stage
+left-stage Failed stage = refl
+left-stage NoMemory stage = refl
+
+-- and an answer that is due
+fault-due : (runner : Runner) (fault : SinkFault) (answer : Answer) (told : Option Past) →
+    IfSome told (IsDue runner answer) → IfSome told (IsDue runner (after_fault fault answer))
+fault-due runner fault answer None due = tt
+fault-due runner Failed answer (Some past) due =
+    record { asked = due.asked; commits = due.commits; shown = tt }
+fault-due runner NoMemory answer (Some past) due =
+    record { asked = due.asked; commits = due.commits; shown = tt }
+
+-- it says what its cause says
+fault-says : (asked : Question) (fault : SinkFault) (answer : Answer) →
+    Says asked (after_fault fault answer) (left_by fault (stage_of answer.outcome.cause))
+fault-says asked Failed answer = refl
+fault-says asked NoMemory answer = refl
+
+-- it stopped the command
+left-stopped : (fault : SinkFault) (stage : CommitStage) → IsStopped (left_by fault stage)
+left-stopped Failed stage = tt
+left-stopped NoMemory stage = tt
+
+-- so the session may give it
+fault-gives : (now : Moment) (runner : Runner) (fault : SinkFault) (answer : Answer) →
+    MayGive now runner answer → MayGive now runner (after_fault fault answer)
+fault-gives now runner fault answer may = record {
+  may_answer = may.may_answer;
+  gives = record {
+    says = fault-says runner.asked fault answer;
+    due = fault-due runner fault answer now.told may.gives.due;
+  };
+  left = λ goes_on. absurd (goes_on (left-stopped fault (stage_of answer.outcome.cause)));
+}
+
+-- the state of an answer still stands
+state-stands : (now : Moment) (runner : Runner) (fault : SinkFault) (state : State) →
+    IsSome (given_in state) → StandsAs now runner state → StandsAs now runner (state_failed fault state)
+state-stands now runner fault (Answering answer) some stands =
+    fault-gives now runner fault answer stands
+state-stands now runner fault state some stands = absurd (cc some)
+
+-- the session still stands as the streams left it
+pub streams-stand : (now : Moment) (put : Result (Unit {0}) SinkFault) (phase : Phase) →
+    IsSome (answer_of phase) → SessionStands now phase → SessionStands now (phase_after put phase)
+streams-stand now (Ok unit) phase some stands = stands
+streams-stand now (Err fault) (Waiting asked) some stands = absurd (cc some)
+streams-stand now (Err fault) (Begun runner state) some stands =
+    state-stands now runner fault state some stands
+streams-stand now (Err fault) (Over answer) some stands = tt
+
+-- and has an answer
+state-answers : (fault : SinkFault) (state : State) → IsSome (given_in state) →
+    IsSome (given_in (state_failed fault state))
+state-answers fault (Answering answer) some = refl
+state-answers fault state some = absurd (cc some)
+
+pub streams-answer : (put : Result (Unit {0}) SinkFault) (phase : Phase) →
+    IsSome (answer_of phase) → IsSome (answer_of (phase_after put phase))
+streams-answer (Ok unit) phase some = some
+streams-answer (Err fault) (Waiting asked) some = absurd (cc some)
+streams-answer (Err fault) (Begun runner state) some = state-answers fault state some
+streams-answer (Err fault) (Over answer) some = refl
+
+-- the streams leave a session that answers as one that answers so
+answers-after : (put : Result (Unit {0}) SinkFault) (runner : Runner) (given : Answer) →
+    phase_after put (Begun runner (Answering given))
+    ≡ Begun runner (Answering (after_streams put given))
+answers-after (Ok unit) runner given = refl
+answers-after (Err fault) runner given = refl
+
+over-after : (put : Result (Unit {0}) SinkFault) (given : Answer) →
+    phase_after put (Over given) ≡ Over (after_streams put given)
+over-after (Ok unit) given = refl
+over-after (Err fault) given = refl
+
+-- ---- The end
+
+-- a count that rose stays risen
+risen-later : (before between now : ℕ) → before ≤ between → HasRisen before between → between ≤ now →
+    HasRisen before now
+risen-later before between now below (inl less) later = inl (omega (arith, less, later))
+risen-later before between now below (inr last) later = elim (cases_lt last_count now) [
+  | inl past ↦ inl (omega (arith, below, last, past))
+  | inr within ↦ inr (omega (arith, last, within, later))
+]
+
+module _ (asked : Question) (entry between now : Moment) (was holds : Streams) (outcome : Outcome)
+    (put : Result (Unit {0}) SinkFault) where
+  -- a session that has begun and answers
+  ends-begun : (runner : Runner) (given : Answer) →
+      Comes asked entry between (Begun runner (Answering given)) →
+      Serves (Some asked.request.tool) given was holds put →
+      Concludes between now (Begun runner (Answering (after_streams put given))) outcome →
+      Finished asked entry now was holds outcome
+  ends-begun runner given comes served concludes =
+      by-last concludes.last concludes.turns concludes.ends
+    where
+      by-last : (last : Phase) →
+          SessionTurns between now (Begun runner (Answering (after_streams put given))) last →
+          outcome_of last ≡ Some outcome → Finished asked entry now was holds outcome
+      by-last (Over final) turns ends =
+          let same : after_streams put given ≡ final = cc turns.0 in
+          let is : outcome ≡ (after_streams put given).outcome =
+          (let one : final.outcome ≡ outcome = cc ends in sym one)
+          ∙ ap (λ (one : Answer). one.outcome) (sym same) in
+          let called = called-last between.admits runner given between.told now.told turns.1.grew
+          (state-own between runner (Answering given) comes.turns.stands.1) comes.called in
+          record {
+            given = given;
+            says = subst (λ (one : Question). Says one given given.outcome.cause)
+                comes.turns.stands.0 comes.turns.stands.1.gives.says;
+            put = put;
+            served = served;
+            ends = is;
+            token = runner.token;
+            made = comes.made + 1;
+            turns = turns-as entry now runner.token (comes.made + 1)
+                (λ gave. inl (record {
+                  runner = runner;
+                  same = comes.turns.stands.0;
+                  same_token = refl;
+                  fresh = comes.turns.stands.2;
+                  answered = subst (λ (one : Answer). IfSome now.told (HasAnswered runner one))
+                      (sym same) gave.answered;
+                  within = told-as now.told (λ past both. both.0) called;
+                  backed = told-as now.told (λ past both. both.1) called;
+                }))
+                (λ outside. risen-later entry.faults between.faults now.faults
+                comes.turns.never_falls (comes.turns.risen outside) turns.1.never_falls)
+                (turns-then entry between now runner.token comes.made 1 comes.turns turns.1);
+          }
+      by-last (Waiting question) turns ends = absurd turns
+      by-last (Begun same next) turns ends = absurd (cc ends)
+
+  -- one whose begin gave no token
+  ends-over : (given : Answer) → Comes asked entry between (Over given) →
+      Serves (Some asked.request.tool) given was holds put →
+      Concludes between now (Over (after_streams put given)) outcome →
+      Finished asked entry now was holds outcome
+  ends-over given comes served concludes =
+      by-last concludes.last concludes.turns concludes.ends
+    where
+      by-last : (last : Phase) → SessionTurns between now (Over (after_streams put given)) last →
+          outcome_of last ≡ Some outcome → Finished asked entry now was holds outcome
+      by-last (Over final) turns ends =
+          let is : outcome ≡ (after_streams put given).outcome =
+          (let one : final.outcome ≡ outcome = cc ends in sym one)
+          ∙ ap (λ (one : Answer). one.outcome) turns.0 in
+          record {
+            given = given;
+            says = comes.turns.stands.says;
+            put = put;
+            served = served;
+            ends = is;
+            token = [];
+            made = comes.made + 0;
+            turns = turns-as entry now [] (comes.made + 0) (λ unit. inr comes.turns.stands)
+                (λ outside. risen-later entry.faults between.faults now.faults
+                comes.turns.never_falls (comes.turns.risen outside)
+                (omega (arith, turns.1.faults)))
+                (turns-then entry between now [] comes.made 0 comes.turns
+                (stays-turns between now [] {S = Unit {0}} {T = ⊥} turns.1.told turns.1.narrows
+                (omega (arith, turns.1.faults)) tt (λ none. none)));
+          }
+      by-last (Waiting question) turns ends = absurd turns
+      by-last (Begun same next) turns ends = absurd turns
+
+  -- by the session's phase
+  finishes-as : (phase : Phase) → Comes asked entry between phase → IsSome (answer_of phase) →
+      IfSome (answer_of phase) (λ given. Serves (Some asked.request.tool) given was holds put) →
+      Concludes between now (phase_after put phase) outcome →
+      Finished asked entry now was holds outcome
+  finishes-as (Waiting question) comes some served concludes = absurd (cc some)
+  finishes-as (Begun runner (Answering given)) comes some served concludes =
+      ends-begun runner given comes served
+      (subst (λ (one : Phase). Concludes between now one outcome) (answers-after put runner given)
+      concludes)
+  finishes-as (Begun runner state) comes some served concludes = absurd (cc some)
+  finishes-as (Over given) comes some served concludes = ends-over given comes served
+      (subst (λ (one : Phase). Concludes between now one outcome) (over-after put given) concludes)
+
+  -- the claim, by the tool that the streams were served for
+  pub finishes : (tool : Tool) (phase left : Phase) → tool ≡ asked.request.tool →
+      Comes asked entry between phase → IsSome (answer_of phase) →
+      IfSome (answer_of phase) (λ given. Serves (Some tool) given was holds put) →
+      left ≡ phase_after put phase → Concludes between now left outcome →
+      Finished asked entry now was holds outcome
+  finishes tool phase left same comes some served is concludes = finishes-as phase comes some
+      (subst (λ (one : Tool). IfSome (answer_of phase)
+      (λ given. Serves (Some one) given was holds put)) same served)
+      (subst (λ (one : Phase). Concludes between now one outcome) is concludes)

@@ -1,0 +1,111 @@
+-- Claim: a session that answered, and was alone since a moment, leaves its lock alone and free, no intent
+-- where its tool decided, and backups of what it changed (`leaves-alone`); one that a fault or want of
+-- memory stopped owes nothing (`stopped-leaves`).
+-- Way: what it has left by its own events (`HasLeft`, `BackedUpChanges`) is so in the folder, as nobody
+-- else touched that (AloneLocks, AloneBackups).
+use Rattle.std.proofs.Common.{◌≡◌, refl, sym, ap, subst, ◌∙◌, [], ◌∷◌, ℕ, inl, inr, Option, Some, None, Result, Ok, Err}
+use Rattle.acct_outside.specs.declared.Name.TheVariants.{Table, Defs}
+use Rattle.acct_outside.specs.declared.streams.SinkFault.{SinkFault}
+use Rattle.acct_outside.specs.declared.streams.SinkFault.TheVariants.{Failed, Memory as NoMemory}
+use Rattle.acct_outside.specs.Tokens.{Token}
+use Rattle.acct_outside.specs.Folder.{Folder}
+use Rattle.acct_outside.specs.History.{History}
+use Rattle.acct_outside.specs.Contract.{Past}
+use Rattle.suite_rules.specs.Deeds.{SuiteDeeds}
+use Rattle.suite_rules.specs.OwnLock.{kept_number}
+use Rattle.suite_rules.specs.Standing.{standing}
+use Rattle.suite_rules.specs.Committed.{Commitment, commitment_of}
+use Rattle.suite_rules.specs.Lawful.{Lawful}
+use Rattle.suite_rules.proofs.Once.{committed-once}
+use Rattle.suite_answers.specs.declared.cause.Which.TheVariants.{File}
+use Rattle.suite_answers.specs.declared.cause.Cause.{Cause}
+use Rattle.suite_answers.specs.declared.cause.Cause.TheVariants.{Changed, Same, Refused, NoTable, BadSetting, TooLarge}
+use Rattle.suite_answers.specs.declared.answer.Answer.{Answer}
+use Rattle.suite_answers.specs.Reasons.{stage_of}
+use Rattle.suite_session.specs.Runner.{Question}
+use Rattle.suite_session.specs.Backing.{BackedUpChanges}
+use Rattle.suite_session.specs.Deeds.{AreOfTools}
+use Rattle.suite_session.specs.Moment.{commit_at}
+use Rattle.suite_session.specs.Stands.{HasLeft, IsDecided, IsStopped}
+use Rattle.suite_course.specs.Streams.{after_streams}
+use Rattle.suite_course.specs.Top.{HasNoToken, IsAlone, IsShownAt, Leaves}
+use Rattle.suite_course.proofs.AloneLocks.{alone-lock, alone-intent-none}
+use Rattle.suite_course.proofs.AloneBackups.{alone-backups}
+
+-- a tool's answer isn't stopped
+decided-quiet : (cause : Cause) → IsDecided cause → IsStopped cause → ⊥
+decided-quiet Changed decided stopped = stopped
+decided-quiet Same decided stopped = stopped
+decided-quiet (Refused refusal) decided stopped = stopped
+decided-quiet (NoTable table) decided stopped = stopped
+decided-quiet (BadSetting line) decided stopped = stopped
+decided-quiet (TooLarge (File (Table table))) decided stopped = stopped
+decided-quiet (TooLarge (File Defs)) decided stopped = stopped
+decided-quiet cause decided stopped = absurd decided
+
+module _ (deeds : SuiteDeeds) (asked : Question) (first : Folder) (past : Past) (token : Token)
+    (given : Answer) (lawful : Lawful deeds first past.history) where
+  -- a session with an answer of its tool kept a lock
+  was-keeper : (cause : Cause) → IsDecided cause →
+      (standing token past.history).commit ≡ commit_at (stage_of cause) →
+      IsShownAt deeds asked first past.history token given cause →
+      (number : ℕ) × (kept_number (standing token past.history).own ≡ Some number)
+  was-keeper Changed decided commits shown =
+      cases (kept_number (standing token past.history).own) refl
+    where
+      cases : (kept : Option ℕ) → kept_number (standing token past.history).own ≡ kept →
+          (number : ℕ) × (kept_number (standing token past.history).own ≡ Some number)
+      cases (Some number) is = (number, is)
+      cases None none =
+          let one : Commitment = record {
+            token = token;
+            number = shown.number;
+            command = asked.command;
+          } in
+          let wrong : one ∷ [] ≡ [] = sym shown.once
+          ∙ (committed-once.one deeds first past.history lawful token commits
+          ∙ ap (λ (kept : Option ℕ).
+          commitment_of token kept (standing token past.history).command) none) in
+          absurd (cc wrong)
+  was-keeper Same decided commits shown = (shown.number, shown.kept)
+  was-keeper (Refused refusal) decided commits shown = (shown.number, shown.kept)
+  was-keeper (NoTable table) decided commits shown = (shown.number, shown.kept)
+  was-keeper (BadSetting line) decided commits shown = (shown.number, shown.kept)
+  was-keeper (TooLarge (File (Table table))) decided commits shown = (shown.number, shown.kept)
+  was-keeper (TooLarge (File Defs)) decided commits shown = (shown.number, shown.kept)
+  was-keeper cause decided commits shown = absurd decided
+
+  -- the first claim
+  pub leaves-alone : AreOfTools deeds → (old : History) → IsAlone token old past.history →
+      (cause : Cause) → (standing token past.history).commit ≡ commit_at (stage_of cause) →
+      IsShownAt deeds asked first past.history token given cause →
+      ((IsStopped cause → ⊥) → HasLeft token cause past) → BackedUpChanges token past.history →
+      Leaves first old past.history token cause
+  leaves-alone ours old alone cause commits shown left backed = record {
+    lock = λ quiet number kept. alone-lock deeds first token old past.history alone lawful number
+        ((left quiet).freed number kept);
+    intent = λ decided.
+        let kept = was-keeper cause decided commits shown in
+        let leaves = left (decided-quiet cause decided) in
+        alone-intent-none deeds first token old past.history alone lawful kept.0
+        (leaves.freed kept.0 kept.1) (leaves.clean decided);
+    backups = λ is. alone-backups deeds ours first past.history lawful token old alone
+        (commits ∙ ap (λ (one : Cause). commit_at (stage_of one)) is) backed;
+  }
+
+-- the second
+pub stopped-leaves : (first : Folder) (old new : History) (token : Token) (cause : Cause) →
+    IsStopped cause → Leaves first old new token cause
+stopped-leaves first old new token cause stopped = record {
+  lock = λ quiet. absurd (quiet stopped);
+  intent = λ decided. absurd (decided-quiet cause decided stopped);
+  backups = λ is. absurd (subst IsStopped is stopped);
+}
+
+-- a session whose begin gave no token was stopped, whatever the streams did
+pub unbegun-stopped : (put : Result (Unit {0}) SinkFault) (given : Answer) → HasNoToken given →
+    IsStopped (after_streams put given).outcome.cause
+unbegun-stopped (Ok unit) given (inl is) = subst IsStopped (sym is) tt
+unbegun-stopped (Ok unit) given (inr is) = subst IsStopped (sym is) tt
+unbegun-stopped (Err Failed) given none = tt
+unbegun-stopped (Err NoMemory) given none = tt

@@ -1,0 +1,19 @@
+mod AloneBackups
+mod AloneFreed
+mod AloneLemmas
+mod AloneLocks
+mod AloneStays
+mod AloneSteps
+mod BackupLemmas
+mod BoundLemmas
+pub mod CompleteLemmas
+mod CourseLemmas
+mod DeedLemmas
+mod FinishLemmas
+mod IntentLimits
+mod LargeLemmas
+mod LeavesLemmas
+mod OpenLemmas
+mod PlaceLemmas
+pub mod RanLemmas
+mod TurnedLemmas

@@ -1,0 +1,223 @@
+-- Claim: what the own events of a session show of its answer, a lawful history shows of its place: the
+-- answer is that on the fold of the commands that were committed under lower numbers (`shown-at`).
+-- Way: what a session has seen is the fold of its place and the first login.defs (`places-stay`); the
+-- place stays whatever was committed since; and a session commits at most once (`committed-once`).
+use Rattle.std.proofs.Common.{◌≡◌, refl, sym, ap, subst, ap₂, ◌∙◌, ◌∷◌, ℕ, inl, inr, List, Option, Some, arith}
+use Rattle.acct_text.specs.declared.Tab.{Tab}
+use Rattle.acct_text.specs.declared.Tab.TheVariants.{Passwd, Shadow, Group, Gshadow, Subuid, Subgid}
+use Rattle.acct_outside.specs.declared.Name.{Name}
+use Rattle.acct_text.specs.declared.files.Files.{Files}
+use Rattle.acct_text.specs.Bytes.{Bytes}
+use Rattle.acct_text.specs.Contents.{Contents}
+use Rattle.acct_text.specs.Files.{table_of}
+use Rattle.acct_outside.specs.declared.Name.TheVariants.{Table, Defs}
+use Rattle.acct_outside.specs.Tokens.{Token}
+use Rattle.acct_outside.specs.Folder.{Folder, greatest, settings_file, top}
+use Rattle.acct_outside.specs.Calls.{Command, lists, done}
+use Rattle.acct_outside.specs.History.{Event, History, after}
+use Rattle.suite_rules.specs.Deeds.{SuiteDeeds}
+use Rattle.suite_rules.specs.OwnLock.{kept_number, made_number}
+use Rattle.suite_rules.specs.Knowledge.{Seen}
+use Rattle.suite_rules.specs.Standing.{standing, commit_uncalled, commit_done}
+use Rattle.suite_rules.specs.Lawful.{Lawful}
+use Rattle.suite_rules.specs.Committed.{Commitment, commitment_of, committed, place, folded}
+use Rattle.suite_rules.specs.Laws.{HasLooked, IsCleanKeeper}
+use Rattle.suite_rules.proofs.Places.{places-stay}
+use Rattle.suite_rules.proofs.Once.{committed-once, kept-stays}
+use Rattle.suite_rules.proofs.Cut.{lawful-prefix}
+use Rattle.suite_rules.proofs.Keepers.{lock-facts}
+use Rattle.suite_rules.proofs.Whole.{invariant}
+use Rattle.suite_answers.specs.declared.cause.Which.TheVariants.{File}
+use Rattle.suite_answers.specs.declared.cause.Cause.{Cause}
+use Rattle.suite_answers.specs.declared.cause.Cause.TheVariants.{Changed, Same, Refused, Outrun, TooLarge, NoTable, BadSetting}
+use Rattle.suite_answers.specs.declared.answer.Answer.{Answer}
+use Rattle.suite_answers.specs.Reasons.{stage_of}
+use Rattle.suite_session.specs.Runner.{Question, Runner}
+use Rattle.suite_session.specs.Moment.{commit_at}
+use Rattle.suite_session.specs.Answers.{IsAnswerOn}
+use Rattle.suite_session.specs.Causes.{MetLoss}
+use Rattle.suite_session.specs.Deeds.{files_of}
+use Rattle.suite_session.specs.Due.{AnswersAll, AnswersSome, AnsweredAll, WasKeeper, ShowsLarge, IsShown}
+use Rattle.suite_course.proofs.AloneLemmas.{answers-alone}
+use Rattle.suite_course.proofs.DeedLemmas.{files-have}
+use Rattle.suite_course.proofs.LargeLemmas.{large-stayed, last-next}
+use Rattle.suite_course.specs.Top.{HasChanged, HasStayed, IsAnswerAt, IsShownAt}
+
+-- files are those of their contents
+files-same : (files : Files) (contents : Contents) →
+    ((table : Tab) → table_of files table ≡ contents table) → files ≡ files_of contents
+files-same files contents same = λ i. record {
+  passwd = same Passwd i;
+  shadow = same Shadow i;
+  group = same Group i;
+  gshadow = same Gshadow i;
+  subuid = same Subuid i;
+  subgid = same Subgid i;
+}
+
+module _ (deeds : SuiteDeeds) (first : Folder) (history : History)
+    (lawful : Lawful deeds first history) (asked : Question) (token : Token) where
+  -- the files at the place of a number
+  abbrev at_place : ℕ → Contents
+  at_place number = folded deeds first (place number (committed history))
+
+  module _ (number : ℕ) (seen : Seen) (looked : HasLooked history token number seen) where
+    -- what was seen of all files is the place
+    pub seen-all : (files : Files) (defs : Option Bytes) (answer : Answer) →
+        ((table : Tab) → seen.file (Table table) ≡ Some (table_of files table)) →
+        seen.file Defs ≡ Some defs → IsAnswerOn asked files defs answer →
+        IsAnswerAt deeds asked first history number answer
+    seen-all files defs answer tables settings is =
+        let same = files-same files (at_place number) (λ table. places-stay.has_seen deeds first
+        history lawful token number seen looked table (table_of files table) (tables table)) in
+        let stands = places-stay.settings deeds first history lawful token number seen looked
+        defs settings in
+        subst (λ (one : Files). IsAnswerOn asked one (settings_file first) answer) same
+        (subst (λ (one : Option Bytes). IsAnswerOn asked files one answer) stands is)
+
+  -- a session that stayed, and has seen all
+  all-stayed : (runner : Runner) (answer : Answer) → runner.token ≡ token → runner.asked ≡ asked →
+      (standing token history).commit ≡ commit_uncalled →
+      AnswersAll runner answer (standing token history) → WasKeeper token history →
+      HasStayed deeds asked first history token answer
+  all-stayed runner answer same question uncalled all was =
+      let there = seen-all all.number all.seen
+      (record { kept = all.kept; uncommitted = uncalled; clean = all.clean })
+      all.files all.defs answer all.all.each_table all.all.settings
+      (subst (λ (one : Question). IsAnswerOn one all.files all.defs answer) question
+      all.is_answer) in
+      record {
+        number = all.number;
+        kept = all.kept;
+        none = committed-once.none deeds first history lawful token uncalled;
+        at_place = there;
+        alone = answers-alone deeds first history lawful asked token answer all.number all.kept was
+            there;
+      }
+
+  -- one that stayed, and has seen some
+  some-stayed : (runner : Runner) (answer : Answer) → runner.token ≡ token → runner.asked ≡ asked →
+      (standing token history).commit ≡ commit_uncalled →
+      AnswersSome runner answer (standing token history) → WasKeeper token history →
+      HasStayed deeds asked first history token answer
+  some-stayed runner answer same question uncalled some was =
+      let looked : HasLooked history token some.number some.seen =
+      record { kept = some.kept; uncommitted = uncalled; clean = some.clean } in
+      let there : IsAnswerAt deeds asked first history some.number answer = subst (λ (one : Question).
+      IsAnswerOn one (files_of (at_place some.number)) (settings_file first) answer) question
+      (some.is_answer (files_of (at_place some.number)) (settings_file first) (record {
+        each_table = λ table content is. places-stay.has_seen deeds first history lawful token
+            some.number some.seen looked table content is
+            ∙ sym (files-have (at_place some.number) table);
+        settings = places-stay.settings deeds first history lawful token some.number some.seen
+            looked;
+      })) in
+      record {
+        number = some.number;
+        kept = some.kept;
+        none = committed-once.none deeds first history lawful token uncalled;
+        at_place = there;
+        alone = answers-alone deeds first history lawful asked token answer some.number some.kept was
+            there;
+      }
+
+-- one that has changed its files
+changed-at : (deeds : SuiteDeeds) (first : Folder) (history : History) →
+    Lawful deeds first history → (asked : Question) (token : Token) (runner : Runner)
+    (answer : Answer) → runner.token ≡ token → runner.asked ≡ asked →
+    (standing token history).command ≡ Some asked.command →
+    (standing token history).commit ≡ commit_done → AnsweredAll runner answer history →
+    HasChanged deeds asked first history token answer
+changed-at deeds first history lawful asked token runner answer same question began is all =
+    let whole = subst (Lawful deeds first) all.parts lawful in
+    let before = lawful-prefix deeds first all.newer all.older whole in
+    let owner = subst (λ (one : Token). IsCleanKeeper all.older one all.number all.seen) same
+    all.clean in
+    let kept_then = ap kept_number owner.active.keeps in
+    let kept_now = subst (λ (one : History). kept_number (standing token one).own ≡ Some all.number)
+    (sym all.parts)
+    (kept-stays deeds first all.newer all.older whole token all.number kept_then) in
+    let top_is = (invariant deeds first all.older before).keeper_view token all.number owner.active in
+    let there : IsAnswerAt deeds asked first history all.number answer = subst (λ (one : List Commitment). IsAnswerOn asked
+    (files_of (folded deeds first one)) (settings_file first) answer)
+    (sym (ap (λ (one : History). place all.number (committed one)) all.parts
+    ∙ places-stay.stays deeds first all.newer all.older whole all.number
+    (omega (arith, top_is.0))))
+    (seen-all deeds first all.older before asked token all.number all.seen
+    (record { kept = kept_then; uncommitted = owner.uncommitted; clean = owner.clean })
+    all.files all.defs answer all.all.each_table all.all.settings
+    (subst (λ (one : Question). IsAnswerOn one all.files all.defs answer) question
+    all.is_answer)) in
+    record {
+      number = all.number;
+      once = committed-once.one deeds first history lawful token is
+          ∙ ap₂ (λ (number : Option ℕ) (command : Option Command).
+          commitment_of token number command) kept_now began;
+      at_place = there;
+      alone = answers-alone deeds first history lawful asked token answer all.number kept_now
+          (record {
+            newer = all.newer;
+            older = all.older;
+            parts = all.parts;
+            number = all.number;
+            active = owner.active;
+            uncommitted = owner.uncommitted;
+          }) there;
+    }
+
+-- one that found a file too large
+large-at : (deeds : SuiteDeeds) (first : Folder) (history : History) → Lawful deeds first history →
+    (asked : Question) (runner : Runner) (answer : Answer) (name : Name) → runner.asked ≡ asked →
+    (standing runner.token history).commit ≡ commit_uncalled →
+    ShowsLarge runner answer history name →
+    HasStayed deeds asked first history runner.token answer
+large-at deeds first history lawful asked runner answer name question is (inl all) =
+    all-stayed deeds first history lawful asked runner.token runner answer refl question is all.0 all.1
+large-at deeds first history lawful asked runner answer name question is (inr large) =
+    large-stayed deeds first history lawful asked runner answer name question is large
+
+-- a session's own lock is listed, or a greater one
+never-lost : (deeds : SuiteDeeds) (first : Folder) (history : History) →
+    Lawful deeds first history → (token : Token) (number other : ℕ) →
+    MetLoss token number other history → ⊥
+never-lost deeds first history lawful token number other lost =
+    let met = lost.3 in
+    let event : Event = record { token = token; call = lists; result = done lost.0 } in
+    let step = last-next deeds first event met.older (lawful-prefix deeds first met.newer
+    (event ∷ met.older) (subst (Lawful deeds first) met.parts lawful)) in
+    let most = ((lock-facts deeds first met.older step.0).made_most token number
+    (ap made_number met.stood)).1 in
+    let top_is : top (after first met.older) ≡ other = sym (ap greatest step.1.gives) ∙ lost.1 in
+    absurd (omega (arith, most, top_is, lost.2))
+
+-- what own events show of an answer the history shows of its place
+pub shown-at : (deeds : SuiteDeeds) (first : Folder) (history : History) →
+    Lawful deeds first history → (asked : Question) (runner : Runner) (answer : Answer) →
+    runner.asked ≡ asked → (standing runner.token history).command ≡ Some asked.command →
+    (cause : Cause) → (standing runner.token history).commit ≡ commit_at (stage_of cause) →
+    IsShown runner answer history cause →
+    IsShownAt deeds asked first history runner.token answer cause
+shown-at deeds first history lawful asked runner answer question began Changed is shown =
+    changed-at deeds first history lawful asked runner.token runner answer refl question began is
+    shown
+shown-at deeds first history lawful asked runner answer question began Same is shown =
+    all-stayed deeds first history lawful asked runner.token runner answer refl question is shown.0 shown.1
+shown-at deeds first history lawful asked runner answer question began (Refused refusal) is shown =
+    all-stayed deeds first history lawful asked runner.token runner answer refl question is shown.0 shown.1
+shown-at deeds first history lawful asked runner answer question began (BadSetting line) is shown =
+    all-stayed deeds first history lawful asked runner.token runner answer refl question is shown.0 shown.1
+shown-at deeds first history lawful asked runner answer question began (NoTable table) is shown =
+    some-stayed deeds first history lawful asked runner.token runner answer refl question is shown.0 shown.1
+shown-at deeds first history lawful asked runner answer question began
+    (TooLarge (File (Table table))) is shown =
+    large-at deeds first history lawful asked runner answer (Table table) question is shown
+shown-at deeds first history lawful asked runner answer question began
+    (TooLarge (File Defs)) is shown =
+    large-at deeds first history lawful asked runner answer Defs question is shown
+shown-at deeds first history lawful asked runner answer question began
+    (Outrun number other) is (inl met) =
+    met
+shown-at deeds first history lawful asked runner answer question began
+    (Outrun number other) is (inr lost) =
+    absurd (never-lost deeds first history lawful runner.token number other lost)
+shown-at deeds first history lawful asked runner answer question began cause is shown = shown

@@ -1,0 +1,16 @@
+use Rattle.std.proofs.Common.{◌≤◌, ◌+◌, ◌-◌, length}
+use Rattle.acct_text.specs.Limits.{table_limit}
+use Rattle.acct_outside.specs.Streams.{WhereBytesTold}
+use Rattle.suite_course.specs.Supplies.{Came}
+use Rattle.suite_course.proofs.supplies.take_all.Given as goal
+
+-- what came so far is what the source had before, at most one byte more than an input may have
+abbrev pub invariant-pieces : goal.invariant-pieces
+invariant-pieces g l =
+    WhereBytesTold (g.S.Source.left l.initial.source) (g.S.Source.left l.source) (Came l.input)
+    × (length l.input ≤ table_limit + 1)
+    × (g.S.Source.fault_count l.initial.source ≤ g.S.Source.fault_count l.source)
+
+-- there is less room after each piece
+abbrev pub decreases-pieces : goal.decreases-pieces
+decreases-pieces g l = table_limit + 1 - length l.input

@@ -1,0 +1,79 @@
+-- The course of a session from its entry: its turns one after another, and its end.
+use Rattle.std.specs.Prelude.{◌≡◌, ◌⊎◌, ℕ, Some, IfSome, Result, Ok, Err}
+use Rattle.acct_outside.specs.Tokens.{Token}
+use Rattle.acct_outside.specs.declared.streams.SinkFault.{SinkFault}
+use Rattle.suite_answers.specs.declared.cause.Outcome.{Outcome}
+use Rattle.suite_answers.specs.declared.answer.Answer.{Answer}
+use Rattle.suite_session.specs.declared.session.Phase.{Phase}
+use Rattle.suite_session.specs.declared.session.Phase.TheVariants.{Waiting, Begun, Over}
+use Rattle.suite_session.specs.Runner.{Question, Runner}
+use Rattle.suite_session.specs.Backing.{BackedUpChanges}
+use Rattle.suite_session.specs.Moment.{Moment}
+use Rattle.suite_session.specs.Answers.{Says}
+use Rattle.suite_session.specs.Session.{HasAnswered, IsNew, IsUnbegun, SessionTurns, outcome_of, output_failed, phase_token}
+use Rattle.suite_session.specs.Stands.{IsOutside, StandsAs, TellsOutside, TurnsTo}
+use Rattle.suite_course.specs.Bound.{IsWithin, PhaseCalled}
+use Rattle.suite_course.specs.Streams.{Streams, Serves, after_streams}
+
+-- the session, which was asked this, stands so before its last call; its token is new since its entry
+abbrev pub Reached : Question → Moment → Moment → Phase → Type 0
+Reached asked entry now (Waiting question) = question ≡ asked
+Reached asked entry now (Begun runner state) =
+    (runner.asked ≡ asked) × StandsAs now runner state × IsNew entry.told runner.token
+Reached asked entry now (Over answer) = IsUnbegun asked answer
+
+-- the session tells of a fault of what lies outside it
+abbrev pub PhaseTells : Phase → Type 0
+PhaseTells (Waiting question) = ⊥
+PhaseTells (Begun runner state) = TellsOutside state
+PhaseTells (Over answer) = IsOutside answer.outcome.cause
+
+-- the events of a session that has made at most so many; none before its begin
+abbrev pub made_in : Phase → ℕ → ℕ
+made_in (Waiting question) made = 0
+made_in phase made = made
+
+-- from an entry the session has come so far
+pub record Comes (asked : Question) (entry now : Moment) (phase : Phase) : Type 0 where
+  pub made : ℕ
+  pub turns : TurnsTo entry now (phase_token phase) (made_in phase made)
+      (Reached asked entry now phase) (PhaseTells phase)
+  pub called : IfSome now.told (PhaseCalled phase)
+
+-- the session as the streams left it
+abbrev pub phase_after : Result (Unit {0}) SinkFault → Phase → Phase
+phase_after (Ok unit) phase = phase
+phase_after (Err fault) phase = output_failed fault phase
+
+-- the session made its last call, and ended with this outcome
+pub record Concludes (before now : Moment) (phase : Phase) (outcome : Outcome) : Type 0 where
+  pub last : Phase
+  pub turns : SessionTurns before now phase last
+  pub ends : outcome_of last ≡ Some outcome
+
+-- The session of the token, which is new since its entry, was asked this, and answered so with its
+-- last event. Its events are within the bound, and it has backed up tables that it was to change alone.
+pub record AnsweredAs (asked : Question) (entry now : Moment) (token : Token) (final : Answer)
+    : Type 0 where
+  pub runner : Runner
+  pub same : runner.asked ≡ asked
+  pub same_token : runner.token ≡ token
+  pub fresh : IsNew entry.told runner.token
+  pub answered : IfSome now.told (HasAnswered runner final)
+  pub within : IfSome now.told (λ past. IsWithin runner.token past.history)
+  pub backed : IfSome now.told (λ past. BackedUpChanges runner.token past.history)
+
+-- The session came to an answer, which the streams left so, and the outcome is that. It answered with
+-- its last event, or its begin gave no token.
+pub record Finished (asked : Question) (entry now : Moment) (was holds : Streams)
+    (outcome : Outcome) : Type 0 where
+  pub given : Answer
+  pub says : Says asked given given.outcome.cause
+  pub put : Result (Unit {0}) SinkFault
+  pub served : Serves (Some asked.request.tool) given was holds put
+  pub ends : outcome ≡ (after_streams put given).outcome
+  pub token : Token
+  pub made : ℕ
+  pub turns : TurnsTo entry now token made
+      (AnsweredAs asked entry now token (after_streams put given) ⊎ IsUnbegun asked given)
+      (IsOutside given.outcome.cause)

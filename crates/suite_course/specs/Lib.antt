@@ -1,0 +1,7 @@
+pub mod Open
+pub mod Bound
+pub mod Streams
+pub mod Supplies
+pub mod Course
+pub mod Top
+pub mod Turned

@@ -1,0 +1,52 @@
+-- What the streams hold after an answer, and how an answer is left by a stream that failed.
+use Rattle.std.specs.Prelude.{◌≡◌, ◌⊎◌, ℕ, Option, Some, None, Result, Ok, Err}
+use Rattle.acct_text.specs.Bytes.{Bytes}
+use Rattle.acct_outside.specs.declared.CommitStage.{CommitStage}
+use Rattle.acct_outside.specs.declared.streams.SinkFault.{SinkFault}
+use Rattle.acct_outside.specs.declared.streams.SinkFault.TheVariants.{Failed}
+use Rattle.acct_outside.specs.Faults.{HasRisen}
+use Rattle.acct_outside.specs.Streams.{WhereBytesTold}
+use Rattle.account_model.specs.declared.tool.Tool.{Tool}
+use Rattle.suite_answers.specs.declared.cause.Cause.{Cause}
+use Rattle.suite_answers.specs.declared.cause.Cause.TheVariants.{Memory}
+use Rattle.suite_answers.specs.declared.answer.Answer.{Answer}
+use Rattle.suite_answers.specs.Reasons.{memory_message}
+use Rattle.suite_answers.specs.Fronts.{PutsFront}
+use Rattle.suite_session.specs.Answers.{after_fault}
+
+-- what both streams hold where they tell it, and how often they have failed
+pub record Streams : Type 0 where
+  pub out : Option Bytes
+  pub out_faults : ℕ
+  pub err : Option Bytes
+  pub err_faults : ℕ
+
+-- the streams that hold these
+abbrev pub streams : Option Bytes → ℕ → Option Bytes → ℕ → Streams
+streams out out_faults err err_faults =
+    record { out = out; out_faults = out_faults; err = err; err_faults = err_faults }
+
+-- the stage of a cause that there is no memory, none of any other
+abbrev pub memory_stage : Cause → Option CommitStage
+memory_stage (Memory stage) = Some stage
+memory_stage cause = None
+
+-- the message of an answer: that there is no memory tells itself
+abbrev pub text_of : Option Tool → Answer → Bytes
+text_of tool answer = elim (memory_stage answer.outcome.cause) [
+  | Some stage ↦ memory_message tool stage
+  | None ↦ answer.err
+]
+
+-- Output and message came whole; or where a stream failed or found no memory, a front of each.
+pub record Serves (tool : Option Tool) (answer : Answer) (before now : Streams)
+    (result : Result (Unit {0}) SinkFault) : Type 0 where
+  pub output : WhereBytesTold before.out now.out (PutsFront answer.out result)
+  pub message : WhereBytesTold before.err now.err (PutsFront (text_of tool answer) result)
+  pub failed : result ≡ Err Failed → HasRisen before.out_faults now.out_faults
+      ⊎ HasRisen before.err_faults now.err_faults
+
+-- the answer as the streams left it
+abbrev pub after_streams : Result (Unit {0}) SinkFault → Answer → Answer
+after_streams (Ok unit) answer = answer
+after_streams (Err fault) answer = after_fault fault answer

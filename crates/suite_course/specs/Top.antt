@@ -1,0 +1,244 @@
+-- What the top call answers: how a command ends that asks for nothing, and what the history of a
+-- folder shows of one that ran.
+use Rattle.std.specs.Prelude.{◌≡◌, ◌≢◌, ◌⊎◌, ◌∷◌, ◌++◌, [], ℕ, Some, None, Option, List, slice_get, Result}
+use Rattle.std.specs.List.{AllByRecursion}
+use Rattle.acct_text.specs.declared.Tab.{Tab}
+use Rattle.acct_outside.specs.declared.Name.TheVariants.{Table, Backup, Intent, Lock, Defs}
+use Rattle.acct_outside.specs.declared.CommitStage.{CommitStage}
+use Rattle.acct_outside.specs.declared.CommitStage.TheVariants.{Before}
+use Rattle.acct_outside.specs.declared.streams.SinkFault.{SinkFault}
+use Rattle.acct_outside.specs.Tokens.{Token, free_text}
+use Rattle.acct_outside.specs.Faults.{HasRisen}
+use Rattle.acct_outside.specs.Folder.{Folder, settings_file}
+use Rattle.acct_outside.specs.Calls.{answers, done}
+use Rattle.acct_outside.specs.History.{History, after, own_events}
+use Rattle.acct_outside.specs.Contract.{WhereTold}
+use Rattle.account_model.specs.declared.tool.Tool.{Tool}
+use Rattle.account_model.specs.Options.{Word}
+use Rattle.account_model.specs.Words.{tool_named}
+use Rattle.suite_rules.specs.Deeds.{SuiteDeeds}
+use Rattle.suite_rules.specs.Standing.{standing}
+use Rattle.suite_rules.specs.OwnLock.{kept_number}
+use Rattle.suite_rules.specs.Lawful.{Lawful}
+use Rattle.suite_rules.specs.Settled.{settled}
+use Rattle.suite_rules.specs.Committed.{committed, commitments_of, place, fold_deeds, folded}
+use Rattle.suite_rules.specs.Steps.{LawfulOthers}
+use Rattle.suite_answers.specs.declared.cause.Outcome.{Outcome}
+use Rattle.suite_answers.specs.declared.cause.Which.TheVariants.{File}
+use Rattle.suite_answers.specs.declared.cause.Cause.{Cause}
+use Rattle.suite_answers.specs.declared.cause.Cause.TheVariants.{Changed, Same, Refused, Outrun, TooLarge, NoTable, BadSetting, DiskFault, Memory}
+use Rattle.suite_answers.specs.declared.answer.Answer.{Answer}
+use Rattle.suite_answers.specs.Reasons.{stage_of}
+use Rattle.suite_answers.specs.Answers.{told}
+use Rattle.suite_session.specs.Runner.{Question}
+use Rattle.suite_session.specs.Moment.{Moment, commit_at}
+use Rattle.suite_session.specs.Answers.{IsAnswerOn, memory_answer, Says}
+use Rattle.suite_session.specs.Causes.{HasMet, MetGreater}
+use Rattle.suite_session.specs.Deeds.{AreOfTools, files_of}
+use Rattle.suite_session.specs.Stands.{IsDecided, IsDiskFault, IsOutside, IsStopped}
+use Rattle.suite_course.specs.Bound.{IsBounded}
+use Rattle.suite_course.specs.Open.{StandsOpen}
+use Rattle.suite_course.specs.Streams.{Streams, Serves, after_streams}
+use Rattle.suite_course.specs.Supplies.{Supplies, IsUnsupplied, LacksNothing}
+
+-- ---- What the history shows
+
+-- for the deeds of the tools, and where all that the folder admits is lawful, a history that was
+-- lawful before has this now
+abbrev pub WhereLawful : Moment → Moment →
+    (SuiteDeeds → (first : Folder) → (old new : History) → Type 0) → Type 0
+WhereLawful before now P = WhereTold before.told now.told (λ first old new.
+    (deeds : SuiteDeeds) → AreOfTools deeds → LawfulOthers deeds before.admits first →
+    Lawful deeds first old → P deeds first old new)
+
+-- the history is a longer one, and lawful
+pub record ExtendsLawfully (deeds : SuiteDeeds) (first : Folder) (old new : History) : Type 0 where
+  pub newer : History
+  pub parts : new ≡ newer ++ old
+  pub lawful : Lawful deeds first new
+
+-- after each part of the history the settled files are the fold of what was committed by then
+abbrev pub IsAlwaysSettled : SuiteDeeds → Folder → History → Type 0
+IsAlwaysSettled deeds first new = (newer older : History) → new ≡ newer ++ older → (table : Tab) →
+    settled (after first older) table ≡ folded deeds first (committed older) table
+
+-- the answer is that on the fold of the place of a number, under the first login.defs
+abbrev pub IsAnswerAt : SuiteDeeds → Question → Folder → History → ℕ → Answer → Type 0
+IsAnswerAt deeds asked first history number given = IsAnswerOn asked
+    (files_of (folded deeds first (place number (committed history)))) (settings_file first) given
+
+-- the session of this token, which was asked this, answered with its last event; its own commit came
+-- as far as the outcome's cause says
+pub record Answered (asked : Question) (outcome : Outcome) (token : Token) (history : History)
+    : Type 0 where
+  pub older : History
+  pub last : history
+      ≡ record { token = token; call = answers outcome.status; result = done tt } ∷ older
+  pub began : (standing token history).command ≡ Some asked.command
+  pub commits : (standing token history).commit ≡ commit_at (stage_of outcome.cause)
+
+-- since an earlier moment all events are the session's own, and before it there is none of its
+pub record IsAlone (token : Token) (old new : History) : Type 0 where
+  pub newer : History
+  pub parts : new ≡ newer ++ old
+  pub own : AllByRecursion (λ event. event.token ≡ token) newer
+  pub fresh : own_events token old ≡ []
+
+-- The answer is that on the settled files as they stood at the earlier moment. They are now what the
+-- session's own commitments made of them: one deed, or none.
+pub record IsAnswerOnOld (deeds : SuiteDeeds) (asked : Question) (first : Folder) (old new : History)
+    (token : Token) (given : Answer) : Type 0 where
+  pub is_answer :
+      IsAnswerOn asked (files_of (settled (after first old))) (settings_file (after first old)) given
+  pub settles : (table : Tab) → settled (after first new) table
+      ≡ fold_deeds deeds (settings_file (after first old)) (settled (after first old))
+      (commitments_of token (committed new)) table
+
+-- so it is where the session was alone since whichever moment
+abbrev pub AnswersAlone : SuiteDeeds → Question → Folder → History → Token → Answer → Type 0
+AnswersAlone deeds asked first history token given = (old : History) → IsAlone token old history →
+    IsAnswerOnOld deeds asked first old history token given
+
+-- the session has committed once, and its answer is that at its place
+pub record HasChanged (deeds : SuiteDeeds) (asked : Question) (first : Folder) (history : History)
+    (token : Token) (given : Answer) : Type 0 where
+  pub number : ℕ
+  pub once : commitments_of token (committed history)
+      ≡ record { token = token; number = number; command = asked.command } ∷ []
+  pub at_place : IsAnswerAt deeds asked first history number given
+  pub alone : AnswersAlone deeds asked first history token given
+
+-- the session has committed nothing, and its answer is that at the place of its number
+pub record HasStayed (deeds : SuiteDeeds) (asked : Question) (first : Folder) (history : History)
+    (token : Token) (given : Answer) : Type 0 where
+  pub number : ℕ
+  pub kept : kept_number (standing token history).own ≡ Some number
+  pub none : commitments_of token (committed history) ≡ []
+  pub at_place : IsAnswerAt deeds asked first history number given
+  pub alone : AnswersAlone deeds asked first history token given
+
+-- what a lawful history shows of an answer with this cause: a tool's answer is that at its place, and
+-- of every other cause what the session met
+abbrev pub IsShownAt : SuiteDeeds → Question → Folder → History → Token → Answer → Cause → Type 0
+IsShownAt deeds asked first history token given Changed =
+    HasChanged deeds asked first history token given
+IsShownAt deeds asked first history token given Same =
+    HasStayed deeds asked first history token given
+IsShownAt deeds asked first history token given (Refused refusal) =
+    HasStayed deeds asked first history token given
+IsShownAt deeds asked first history token given (NoTable table) =
+    HasStayed deeds asked first history token given
+IsShownAt deeds asked first history token given (BadSetting line) =
+    HasStayed deeds asked first history token given
+IsShownAt deeds asked first history token given (TooLarge (File (Table table))) =
+    HasStayed deeds asked first history token given
+IsShownAt deeds asked first history token given (TooLarge (File Defs)) =
+    HasStayed deeds asked first history token given
+IsShownAt deeds asked first history token given (Outrun number other) =
+    MetGreater token number other history
+IsShownAt deeds asked first history token given cause = HasMet token history cause
+
+-- one lock stands, of this number, and it is free
+pub record IsOnlyLock (folder : Folder) (number : ℕ) : Type 0 where
+  pub only : folder.locks ≡ number ∷ []
+  pub free : folder.file (Lock number) ≡ Some free_text
+
+-- a table that changed has its bytes of before as backup, and any other the backup of before
+pub record IsBackedUp (before now : Folder) (table : Tab) : Type 0 where
+  pub changed : settled now table ≢ settled before table →
+      now.file (Backup table) ≡ settled before table
+  pub unchanged : settled now table ≡ settled before table →
+      now.file (Backup table) ≡ before.file (Backup table)
+
+-- What a session that answered with this cause leaves, where it was alone since an earlier moment: its
+-- own lock, which is free, where it kept one; no intent, where its tool decided; and backups of what it
+-- changed. A fault or want of memory may leave more.
+pub record Leaves (first : Folder) (old new : History) (token : Token) (cause : Cause) : Type 0 where
+  pub lock : (IsStopped cause → ⊥) → (number : ℕ) →
+      kept_number (standing token new).own ≡ Some number → IsOnlyLock (after first new) number
+  pub intent : IsDecided cause → (after first new).file Intent ≡ None
+  pub backups : cause ≡ Changed → (table : Tab) →
+      IsBackedUp (after first old) (after first new) table
+
+-- there was no memory, or the answer is the tool's on the settled files of the earlier moment
+abbrev pub AnswersOnOld : SuiteDeeds → Question → Folder → History → History → Token → Answer → Type 0
+AnswersOnOld deeds asked first old new token given =
+    ((stage : CommitStage) × (given.outcome.cause ≡ Memory stage))
+    ⊎ IsAnswerOnOld deeds asked first old new token given
+
+-- the begin gave no token: the folder failed, or there was no memory, before any commit
+abbrev pub HasNoToken : Answer → Type 0
+HasNoToken given =
+    (given.outcome.cause ≡ DiskFault Before) ⊎ (given.outcome.cause ≡ Memory Before)
+
+-- a session that began in this call, between the two moments, answered so; or its begin gave no token
+abbrev pub BegunOrNone : Question → Outcome → Answer → Folder → History → History → Type 0
+BegunOrNone asked outcome given first old new =
+    ((token : Token) × Answered asked outcome token new × (own_events token old ≡ []))
+    ⊎ HasNoToken given
+
+-- the tool that the first word names
+abbrev pub named_tool : List Word → Option Tool
+named_tool words = elim (slice_get words 0) [ None ↦ None | Some word ↦ tool_named word ]
+
+-- the streams got this answer, and the outcome is what they left of it
+pub record Ends (tool : Option Tool) (given : Answer) (was holds : Streams) (outcome : Outcome)
+    : Type 0 where
+  pub put : Result (Unit {0}) SinkFault
+  pub served : Serves tool given was holds put
+  pub left : outcome ≡ (after_streams put given).outcome
+
+-- The command asked for nothing that runs. The streams got this answer, or that there was no memory
+-- for it, and the outcome is that.
+pub record EndsEarly (tool : Option Tool) (answer : Answer) (was holds : Streams)
+    (outcome : Outcome) : Type 0 where
+  pub given : Answer
+  pub is : (given ≡ answer) ⊎ (given ≡ memory_answer Before)
+  pub ends : Ends tool given was holds outcome
+
+-- no fault of a stream was counted
+pub record StreamsServe (was holds : Streams) : Type 0 where
+  pub out : HasRisen was.out_faults holds.out_faults → ⊥
+  pub err : HasRisen was.err_faults holds.err_faults → ⊥
+
+-- The command has no input or no day. It tells the cause of that, or that there was no memory. Where
+-- nothing lacks, that is so.
+pub record EndsUnsupplied (tool : Tool) (before now : Supplies) (was holds : Streams)
+    (outcome : Outcome) : Type 0 where
+  pub cause : Cause
+  pub due : IsUnsupplied tool before now cause
+  pub ends : EndsEarly (Some tool) (told tool cause) was holds outcome
+  pub complete : LacksNothing tool before now → StreamsServe was holds →
+      outcome.cause ≡ Memory Before
+
+-- The command ran. Its session gave an answer, which the streams left so, and the outcome is that. A
+-- fault of the folder is told only where its count rose. A lawful history stays lawful, and always
+-- settles to the fold of its commitments. The session began in this call, its last event is its
+-- answer, and the history shows what the cause of that says. New events are of others, or the
+-- session's own within the bound. A session that was alone leaves the locks, the intent and the backups
+-- as it must; and where nothing stood in its way it gives the tool's answer, or finds no memory.
+pub record Ran (asked : Question) (before now : Moment) (was holds : Streams) (outcome : Outcome)
+    : Type 0 where
+  pub given : Answer
+  pub says : Says asked given given.outcome.cause
+  pub put : Result (Unit {0}) SinkFault
+  pub served : Serves (Some asked.request.tool) given was holds put
+  pub ends : outcome ≡ (after_streams put given).outcome
+  pub outside : IsOutside given.outcome.cause → HasRisen before.faults now.faults
+  pub failed : IsDiskFault outcome.cause → HasRisen before.faults now.faults
+  pub lawful : WhereLawful before now ExtendsLawfully
+  pub settles : WhereLawful before now (λ deeds first old new. IsAlwaysSettled deeds first new)
+  pub answered : WhereTold before.told now.told (BegunOrNone asked outcome given)
+  pub shown : WhereLawful before now (λ deeds first old new.
+      (token : Token) → Answered asked outcome token new →
+      IsShownAt deeds asked first new token (after_streams put given) outcome.cause)
+  pub leaves : WhereLawful before now (λ deeds first old new.
+      (token : Token) → Answered asked outcome token new → IsAlone token old new →
+      Leaves first old new token outcome.cause)
+  pub bounded : WhereTold before.told now.told (λ first old new. ((token : Token)
+      × Answered asked outcome token new × IsBounded before.admits token old new)
+      ⊎ HasNoToken given)
+  pub complete : (HasRisen before.faults now.faults → ⊥) → StreamsServe was holds →
+      WhereLawful before now (λ deeds first old new. (token : Token) → IsAlone token old new →
+      StandsOpen (after first old) token new →
+      AnswersOnOld deeds asked first old new token (after_streams put given))

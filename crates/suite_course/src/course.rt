@@ -1,0 +1,94 @@
+// The course of a session: it is turned to its answer, the streams are served, and it answers.
+ghost use Rattle.std.specs.Prelude.{◌≡◌, Some, IfSome, IsSome};
+ghost use Rattle.suite_session.specs.declared.session.Phase.TheVariants.{Waiting};
+ghost use Rattle.suite_session.specs.Moment.{moment};
+ghost use Rattle.suite_session.specs.Runner.{Question};
+ghost use Rattle.suite_session.specs.Session.{IsWaiting, SessionStands, answer_of};
+ghost use Rattle.suite_course.specs.Course.{Comes, Concludes, Finished, phase_after};
+ghost use Rattle.suite_course.specs.Streams.{Serves, streams};
+
+use crate::streams::serve;
+use acct_outside::{Folder, Sink, SinkFault};
+use option_words::Tool;
+use suite_answers::Outcome;
+use suite_session::{Session, Tools};
+
+/// Turns the session to its answer, serves the streams, and lets it answer.
+pub(crate) fn finish<T: Tools, F: Folder, O: Sink, E: Sink>(
+    tool: Tool,
+    session: Session<T>,
+    folder: &mut F,
+    out: &mut O,
+    err: &mut E,
+) -> Outcome
+    requires { IsWaiting session }
+    ensures { (asked : Question) → session ≡ Waiting asked → tool ≡ asked.request.tool → Finished asked
+        (moment (F.admits folder.old) (F.told folder.old) (F.fault_count folder.old))
+        (moment (F.admits folder.new) (F.told folder.new) (F.fault_count folder.new))
+        (streams (O.holds out.old) (O.fault_count out.old)
+        (E.holds err.old) (E.fault_count err.old))
+        (streams (O.holds out.new) (O.fault_count out.new)
+        (E.holds err.new) (E.fault_count err.new))
+        result }
+{
+    let session = to_answer(session, folder);
+    let put = put_answer(tool, &session, out, err);
+    conclude(after_streams(session, put), folder)
+}
+
+/// Serves the streams with the session's answer.
+fn put_answer<T: Tools, O: Sink, E: Sink>(
+    tool: Tool,
+    session: &Session<T>,
+    out: &mut O,
+    err: &mut E,
+) -> Result<(), SinkFault>
+    ensures { IfSome (answer_of session.now) (λ given. Serves (Some tool) given
+        (streams (O.holds out.old) (O.fault_count out.old)
+        (E.holds err.old) (E.fault_count err.old))
+        (streams (O.holds out.new) (O.fault_count out.new)
+        (E.holds err.new) (E.fault_count err.new))
+        result) }
+{
+    match session.answer() {
+        Some(answer) => serve(Some(tool), answer, out, err),
+        None => Ok(()),
+    }
+}
+
+/// The session as the streams left it.
+fn after_streams<T: Tools>(mut session: Session<T>, put: Result<(), SinkFault>) -> Session<T>
+    ensures { result ≡ phase_after put session }
+{
+    if let Err(fault) = put {
+        session.output_failed(fault);
+    }
+    session
+}
+
+/// Lets the session answer, and gives its outcome.
+fn conclude<T: Tools, F: Folder>(mut session: Session<T>, folder: &mut F) -> Outcome
+    requires stands { SessionStands
+        (moment (F.admits folder.old) (F.told folder.old) (F.fault_count folder.old)) session }
+    requires answers { IsSome (answer_of session) }
+    ensures { Concludes
+        (moment (F.admits folder.old) (F.told folder.old) (F.fault_count folder.old))
+        (moment (F.admits folder.new) (F.told folder.new) (F.fault_count folder.new)) session result }
+{
+    session.turn(folder);
+    session.into_outcome()
+}
+
+/// Turns the session until it has its answer.
+fn to_answer<T: Tools, F: Folder>(mut session: Session<T>, folder: &mut F) -> Session<T>
+    requires { IsWaiting session }
+    ensures comes { (asked : Question) → session ≡ Waiting asked → Comes asked
+        (moment (F.admits folder.old) (F.told folder.old) (F.fault_count folder.old))
+        (moment (F.admits folder.new) (F.told folder.new) (F.fault_count folder.new)) result }
+    ensures answers { IsSome (answer_of result) }
+{
+    while session.is_going() {
+        session.turn(folder);
+    }
+    session
+}

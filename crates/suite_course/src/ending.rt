@@ -1,0 +1,116 @@
+// How a command ends that doesn't run: the streams are served with the reason, and no session begins.
+ghost use Rattle.std.specs.Prelude.{◌≡◌, ◌⊎◌, Some};
+ghost use Rattle.account_model.specs.declared.word_fault.WordFault.{WordFault as Fault};
+ghost use Rattle.suite_answers.specs.declared.answer.Answer.{Answer as Given};
+ghost use Rattle.suite_answers.specs.Answers.{told, told_words};
+ghost use Rattle.suite_session.specs.Answers.{memory_answer};
+ghost use Rattle.suite_course.specs.Streams.{after_streams, streams};
+ghost use Rattle.suite_course.specs.Top.{Ends, EndsEarly, named_tool};
+
+use crate::streams::serve;
+use acct_outside::{CommitStage, Sink, SinkFault};
+use acct_text::Word;
+use option_words::{Tool, WordFault};
+use std::alloc::Global;
+use suite_answers::{Answer, Cause, Outcome};
+use suite_session::{memory_answer, outcome_after};
+
+/// Tells the first fault of the words, and calls nothing but the streams. `Memory` is told where it
+/// was the fault, and where there is none for the text.
+pub fn refuse_words<O: Sink, E: Sink>(
+    alloc: Global,
+    words: &[Word],
+    fault: WordFault,
+    out: &mut O,
+    err: &mut E,
+) -> Outcome
+    ensures { (answer : Given) → (fault ≡ Fault.Memory) ⊎ (answer ≡ told_words words.now fault) →
+        EndsEarly (named_tool words.now) answer
+        (streams (O.holds out.old) (O.fault_count out.old)
+        (E.holds err.old) (E.fault_count err.old))
+        (streams (O.holds out.new) (O.fault_count out.new)
+        (E.holds err.new) (E.fault_count err.new))
+        result }
+{
+    end(
+        named_tool(words),
+        answer_to_words(alloc, words, fault),
+        out,
+        err,
+    )
+}
+
+/// The answer to the first fault of the words, or that there is no memory.
+fn answer_to_words(alloc: Global, words: &[Word], fault: WordFault) -> Answer
+    ensures { (result ≡ memory_answer CommitStage.Before)
+        ⊎ ((fault ≡ Fault.Memory → ⊥) × (result ≡ told_words words.now fault)) }
+{
+    if matches!(&fault, WordFault::Memory) {
+        return memory_answer(alloc, CommitStage::Before);
+    }
+    match Answer::of_words(alloc, words, fault) {
+        Ok(answer) => answer,
+        Err(_) => memory_answer(alloc, CommitStage::Before),
+    }
+}
+
+/// The tool that the first word names.
+fn named_tool(words: &[Word]) -> Option<Tool>
+    ensures { result ≡ named_tool words.now }
+{
+    Tool::named(words.first()?.as_slice())
+}
+
+/// Tells why the command doesn't run.
+pub(crate) fn tell<O: Sink, E: Sink>(
+    alloc: Global,
+    tool: Tool,
+    cause: Cause,
+    out: &mut O,
+    err: &mut E,
+) -> Outcome
+    ensures { EndsEarly (Some tool) (told tool cause)
+        (streams (O.holds out.old) (O.fault_count out.old)
+        (E.holds err.old) (E.fault_count err.old))
+        (streams (O.holds out.new) (O.fault_count out.new)
+        (E.holds err.new) (E.fault_count err.new))
+        result }
+{
+    let answer = match Answer::of_cause(alloc, tool, cause) {
+        Ok(answer) => answer,
+        Err(_) => memory_answer(alloc, CommitStage::Before),
+    };
+    end(Some(tool), answer, out, err)
+}
+
+/// Serves the streams with an answer, and gives the outcome that they leave.
+pub(crate) fn end<O: Sink, E: Sink>(
+    tool: Option<Tool>,
+    answer: Answer,
+    out: &mut O,
+    err: &mut E,
+) -> Outcome
+    ensures { Ends tool answer
+        (streams (O.holds out.old) (O.fault_count out.old)
+        (E.holds err.old) (E.fault_count err.old))
+        (streams (O.holds out.new) (O.fault_count out.new)
+        (E.holds err.new) (E.fault_count err.new))
+        result }
+{
+    let put = serve(tool, &answer, out, err);
+    left_by(put, answer)
+}
+
+/// The outcome of an answer that the streams left so.
+fn left_by(put: Result<(), SinkFault>, answer: Answer) -> Outcome
+    ensures { result ≡ (after_streams put answer).outcome }
+{
+    match put {
+        Ok(()) => answer.outcome,
+        Err(fault) => {
+            let stage = answer.outcome.cause.stage();
+            drop(answer);
+            outcome_after(fault, stage)
+        }
+    }
+}

@@ -1,0 +1,124 @@
+// A command that asks for something: it is supplied, enters the folder, and its session runs there.
+ghost use Rattle.std.specs.Prelude.{◌≡◌, ◌⊎◌, ◌≤◌, ℕ, false, Some, IfOk};
+ghost use Rattle.acct_text.specs.Bytes.{Bytes as Text};
+ghost use Rattle.acct_outside.specs.Contract.{Narrows};
+ghost use Rattle.account_model.specs.Words.{Asks};
+ghost use Rattle.option_words.specs.Parsed.{request_in};
+ghost use Rattle.suite_session.specs.declared.session.Phase.TheVariants.{Waiting};
+ghost use Rattle.suite_session.specs.Moment.{moment};
+ghost use Rattle.suite_session.specs.Runner.{question};
+ghost use Rattle.suite_course.specs.Course.{Finished};
+ghost use Rattle.suite_course.specs.Streams.{streams};
+ghost use Rattle.suite_course.specs.Supplies.{AreSupplied, reads_input, supplies};
+ghost use Rattle.suite_course.specs.Top.{EndsUnsupplied};
+
+use crate::course::finish;
+use crate::ending::{end, tell};
+use crate::supplies::{Supplied, supply};
+use acct_outside::{Clock, CommitStage, Folder, Sink, Source};
+use acct_text::Word;
+use option_words::Parsed;
+use std::alloc::{AllocError, Global};
+use suite_answers::Outcome;
+use suite_session::{Session, Tools, memory_answer};
+
+/// Carries out what the words ask for, by these tools: it takes the input, asks the clock, enters the
+/// folder, turns a session to its answer and serves the streams.
+///
+/// The outcome's cause tells each error. Without its input or its day the folder isn't called.
+pub fn run_request<T: Tools, F: Folder, S: Source, O: Sink, E: Sink, C: Clock>(
+    alloc: Global,
+    words: &[Word],
+    parsed: Parsed,
+    folder: &mut F,
+    input: &mut S,
+    out: &mut O,
+    err: &mut E,
+    clock: &mut C,
+) -> Outcome
+    requires { Asks words.now (request_in parsed) }
+    ensures ran { ((folder.new ≡ folder.old) × EndsUnsupplied parsed.tool
+        (supplies (S.left input.old) (S.fault_count input.old)
+        (C.gave clock.old) (C.fault_count clock.old))
+        (supplies (S.left input.new) (S.fault_count input.new)
+        (C.gave clock.new) (C.fault_count clock.new))
+        (streams (O.holds out.old) (O.fault_count out.old)
+        (E.holds err.old) (E.fault_count err.old))
+        (streams (O.holds out.new) (O.fault_count out.new)
+        (E.holds err.new) (E.fault_count err.new))
+        result)
+        ⊎ ((text : Text) × (day : ℕ) × AreSupplied parsed.tool
+        (supplies (S.left input.old) (S.fault_count input.old)
+        (C.gave clock.old) (C.fault_count clock.old))
+        (supplies (S.left input.new) (S.fault_count input.new)
+        (C.gave clock.new) (C.fault_count clock.new))
+        text day
+        × Finished (question words.now (request_in parsed) text day)
+        (moment (F.admits folder.old) (F.told folder.old) (F.fault_count folder.old))
+        (moment (F.admits folder.new) (F.told folder.new) (F.fault_count folder.new))
+        (streams (O.holds out.old) (O.fault_count out.old)
+        (E.holds err.old) (E.fault_count err.old))
+        (streams (O.holds out.new) (O.fault_count out.new)
+        (E.holds err.new) (E.fault_count err.new))
+        result) }
+    ensures no_input { reads_input parsed.tool ≡ false → input.new ≡ input.old }
+{
+    let tool = parsed.tool;
+    match supply(alloc, tool, input, clock) {
+        Ok(supplied) => run::<T, F, O, E>(alloc, words, parsed, supplied, folder, out, err),
+        Err(cause) => tell(alloc, tool, cause, out, err),
+    }
+}
+
+/// Runs a session in the folder, with its input and on its day.
+fn run<T: Tools, F: Folder, O: Sink, E: Sink>(
+    alloc: Global,
+    words: &[Word],
+    parsed: Parsed,
+    supplied: Supplied,
+    folder: &mut F,
+    out: &mut O,
+    err: &mut E,
+) -> Outcome
+    requires { Asks words.now (request_in parsed) }
+    ensures { Finished (question words.now (request_in parsed) supplied.input supplied.day)
+        (moment (F.admits folder.old) (F.told folder.old) (F.fault_count folder.old))
+        (moment (F.admits folder.new) (F.told folder.new) (F.fault_count folder.new))
+        (streams (O.holds out.old) (O.fault_count out.old)
+        (E.holds err.old) (E.fault_count err.old))
+        (streams (O.holds out.new) (O.fault_count out.new)
+        (E.holds err.new) (E.fault_count err.new))
+        result }
+{
+    let tool = parsed.tool;
+    match enter::<T, F>(alloc, words, parsed, supplied, folder) {
+        Ok(session) => finish(tool, session, folder, out, err),
+        Err(_) => end(
+            Some(tool),
+            memory_answer(alloc, CommitStage::Before),
+            out,
+            err,
+        ),
+    }
+}
+
+/// Enters the folder, and makes the session that is to run there. The error says that memory ran out.
+fn enter<T: Tools, F: Folder>(
+    alloc: Global,
+    words: &[Word],
+    parsed: Parsed,
+    supplied: Supplied,
+    folder: &mut F,
+) -> Result<Session<T>, AllocError>
+    requires { Asks words.now (request_in parsed) }
+    ensures session { IfOk result (λ session. session
+        ≡ Waiting (question words.now (request_in parsed) supplied.input supplied.day)) }
+    ensures told { F.told folder.new ≡ F.told folder.old }
+    ensures narrows { Narrows (F.admits folder.old) (F.admits folder.new) }
+    ensures never_falls { F.fault_count folder.old ≤ F.fault_count folder.new }
+{
+    if folder.enter(&parsed.prefix).is_err() {
+        return Err(AllocError);
+    }
+    Session::of(alloc, words, parsed, supplied.input, supplied.day)
+}

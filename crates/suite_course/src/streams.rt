@@ -1,0 +1,63 @@
+// What an answer puts on the streams: the whole output, then the whole message.
+ghost use Rattle.std.specs.Prelude.{◌≡◌};
+ghost use Rattle.acct_outside.specs.Faults.{CountsFailure};
+ghost use Rattle.acct_outside.specs.Streams.{WhereBytesTold};
+ghost use Rattle.suite_answers.specs.Fronts.{PutsFront};
+ghost use Rattle.suite_course.specs.Streams.{Serves, memory_stage, streams, text_of};
+
+use acct_outside::{CommitStage, Sink, SinkFault};
+use option_words::Tool;
+use suite_answers::{Answer, Cause, put_memory_text};
+
+/// Puts the output of an answer on `out` and then its message on `err`. `Memory` tells itself in
+/// pieces that take no memory, by the tool, or by `accounts` where there is none.
+///
+/// After a fault nothing further is put.
+pub(crate) fn serve<O: Sink, E: Sink>(
+    tool: Option<Tool>,
+    answer: &Answer,
+    out: &mut O,
+    err: &mut E,
+) -> Result<(), SinkFault>
+    ensures { Serves tool answer.now (streams (O.holds out.old) (O.fault_count out.old)
+        (E.holds err.old) (E.fault_count err.old)) (streams (O.holds out.new) (O.fault_count out.new)
+        (E.holds err.new) (E.fault_count err.new)) result }
+{
+    put_text(out, answer.out.as_slice())?;
+    put_message(tool, answer, err)
+}
+
+/// Puts the message of an answer.
+fn put_message<E: Sink>(tool: Option<Tool>, answer: &Answer, err: &mut E) -> Result<(), SinkFault>
+    ensures holds { WhereBytesTold (E.holds err.old) (E.holds err.new)
+        (PutsFront (text_of tool answer.now) result) }
+    ensures faults { CountsFailure SinkFault.Failed (E.fault_count err.old) (E.fault_count err.new)
+        result }
+{
+    match memory_stage(answer) {
+        Some(stage) => put_memory_text(err, tool, stage),
+        None => put_text(err, answer.err.as_slice()),
+    }
+}
+
+/// The stage of an answer that there is no memory, none of any other.
+fn memory_stage(answer: &Answer) -> Option<CommitStage>
+    ensures { result ≡ memory_stage answer.now.outcome.cause }
+{
+    match answer.outcome.cause {
+        Cause::Memory(stage) => Some(stage),
+        _ => None,
+    }
+}
+
+/// Puts the text in one piece, and none where it is empty.
+fn put_text<S: Sink>(sink: &mut S, text: &[u8]) -> Result<(), SinkFault>
+    ensures holds { WhereBytesTold (S.holds sink.old) (S.holds sink.new) (PutsFront text.now result) }
+    ensures faults { CountsFailure SinkFault.Failed (S.fault_count sink.old) (S.fault_count sink.new)
+        result }
+{
+    if text.is_empty() {
+        return Ok(());
+    }
+    sink.put(text)
+}

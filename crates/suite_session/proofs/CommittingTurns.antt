@@ -1,0 +1,495 @@
+-- Claims: each step on the way to a commit leads to the next state of the change (`backs-on`,
+-- `stages-intent`), the commit to the installation with its answer (`commits`), and each step after
+-- it to the next with the answer still due (`installs-on`, `clears`).
+-- Way: the typed step gives the standing. Just before the commit the session is a clean keeper that
+-- has seen the inputs, and this stays an earlier moment of each longer history.
+use Rattle.std.proofs.Common.{◌≡◌, [], refl, sym, ap, subst, ◌∙◌, ◌≤◌, ◌<◌, ◌+◌, ◌-◌, ◌*◌, ◌∷◌, ℕ, Bool, true, false, List, length, slice_get, if◌then◌else◌, Option, Some, None, IfSome, Result, Ok, Err, arith, rules}
+use Rattle.std.proofs.lemmas.Option.{slice_get-get_or}
+use Rattle.acct_text.specs.declared.Tab.{Tab}
+use Rattle.acct_text.specs.declared.Tab.TheVariants.{Passwd}
+use Rattle.acct_text.specs.Bytes.{Bytes}
+use Rattle.acct_text.specs.Contents.{Contents, same_content}
+use Rattle.acct_text.specs.Tables.{all_tables}
+use Rattle.acct_text.specs.Files.{table_of}
+use Rattle.acct_outside.specs.declared.FolderFault.{FolderFault}
+use Rattle.acct_outside.specs.declared.FolderFault.TheVariants.{Failed, Memory as NoMemory}
+use Rattle.acct_outside.specs.declared.StageFault.{StageFault}
+use Rattle.acct_outside.specs.declared.CommitStage.{CommitStage}
+use Rattle.acct_outside.specs.declared.CommitStage.TheVariants.{Before, Unsure, Committed}
+use Rattle.acct_outside.specs.declared.Name.TheVariants.{Intent, IntentStage}
+use Rattle.acct_outside.specs.Tokens.{Token}
+use Rattle.acct_outside.specs.Calls.{Command, Call, Answer, CallResult, renames}
+use Rattle.acct_outside.specs.Contract.{Past, MayAnswer}
+use Rattle.intent_file.specs.Intent.{NewTable}
+use Rattle.intent_file.specs.ChangedTables.{with_new_table, changed_among}
+use Rattle.suite_rules.specs.Deeds.{SuiteDeeds}
+use Rattle.suite_rules.specs.Knowledge.{nothing_seen}
+use Rattle.suite_rules.specs.Standing.{Commit, Standing, standing_step, commit_uncalled, commit_done}
+use Rattle.suite_rules.specs.Steps.{StandsIn, Leaves, MakesCall, own_command, asked as asked_of}
+use Rattle.suite_rules.specs.Outcomes.{LeadsTo, at_commit, before_commit}
+use Rattle.suite_rules.proofs.StepLemmas.{stands-left, stands-weaker}
+use Rattle.lock_steps.specs.States.{Kept}
+use Rattle.lock_steps.specs.Stands.{Keeps, KnowsAnything}
+use Rattle.commit_steps.specs.States.{Change, Walker, old_files, new_files, changed, step_on, steps_left, walk_of}
+use Rattle.commit_steps.specs.Stands.{BacksUp, HasStagedIntent, HasCleared, Installs, IsDeed, StandsUnsure}
+use Rattle.commit_steps.specs.Outcomes.{backup_call, install_call}
+use Rattle.commit_steps.specs.Walks.{token_of}
+use Rattle.commit_steps.specs.Stands.{commit_at as commit_for}
+use Rattle.commit_steps.proofs.TablesLemmas.{place-within}
+use Rattle.suite_answers.specs.declared.cause.Cause.{Cause}
+use Rattle.suite_answers.specs.declared.cause.Cause.TheVariants.{Changed}
+use Rattle.suite_answers.specs.declared.answer.Answer.{Answer as FinalAnswer}
+use Rattle.suite_answers.specs.Reasons.{stage_of}
+use Rattle.suite_session.specs.declared.state.State.{State}
+use Rattle.suite_session.specs.declared.state.State.TheVariants.{Answering}
+use Rattle.suite_session.specs.Runner.{Runner}
+use Rattle.suite_session.specs.Moment.{Moment, commit_at, Runs, At}
+use Rattle.suite_session.specs.Answers.{cause_of_answer, IsTold, Says}
+use Rattle.suite_session.specs.Deeds.{AreOfTools}
+use Rattle.suite_session.specs.Due.{AnsweredAll, IsShown, IsDue}
+use Rattle.suite_session.specs.Grows.{Grew}
+use Rattle.suite_session.specs.Left.{most_steps, ranked}
+use Rattle.suite_session.specs.Locking.{cause_of_fault}
+use Rattle.suite_session.specs.Stands.{AnswersWith, IsOutside, IsOfChange, Gives, Extends, StandsAs, StandsChanging, StandsInstalling, StandsUnlocking}
+use Rattle.suite_session.proofs.BackingLemmas.{IsTurnCall, is-to-change, made-deed}
+use Rattle.suite_session.proofs.LeavingLemmas.{clean-known}
+use Rattle.suite_session.proofs.TurnLemmas.{goes-on, extended, told-left, told-met, told-stage, told-plain, told-says, plain-shown}
+use Rattle.suite_session.proofs.MetLemmas.{fault-shows}
+use Rattle.suite_session.proofs.UnlockingTurns.{fault-left, fault-stage, fault-plain}
+use Rattle.suite_session.proofs.LeadsLemmas.{leads-on, leads-fault}
+use Rattle.suite_session.proofs.DueLemmas.{earlier-stays}
+use Rattle.suite_session.proofs.GrowsLemmas.{grew-extends, tells-grow}
+use Rattle.suite_session.proofs.LeftLemmas.{steps-drop}
+
+-- ---- A fault of the commit
+
+-- it is told as a fault of the folder only where that failed
+commit-cause : (came : FolderFault) →
+    IsOutside (cause_of_fault (at_commit came).stage (at_commit came).fault) →
+    at_commit came ≡ at_commit Failed
+commit-cause Failed told = refl
+commit-cause NoMemory told = absurd told
+
+pub commit-failed : {A State : Type 0} (next : State) (answer : Result A FolderFault)
+    (fault : StageFault) → LeadsTo next at_commit answer (Err fault) →
+    IsOutside (cause_of_fault fault.stage fault.fault) → fault ≡ at_commit Failed
+commit-failed next answer fault shown told =
+    let came = leads-fault next at_commit answer fault shown in
+    came.1 ∙ commit-cause came.0 (subst (λ (one : StageFault).
+    IsOutside (cause_of_fault one.stage one.fault)) came.1 told)
+
+-- ---- Calls for a table at the place
+
+-- a backup is of a table that differs, so the session is to change it
+pub backup-calls : (runner : Runner) (answer : FinalAnswer) (walker : Walker) (next : NewTable) →
+    IsOfChange runner walker.change answer →
+    slice_get (changed walker.change) walker.place ≡ Some next →
+    IsTurnCall (Runs runner commit_uncalled (BacksUp walker)) (backup_call walker next)
+backup-calls runner answer walker next of_change is = cases walker.is_staged
+  where
+    cases : (staged : Bool) → IsTurnCall (Runs runner commit_uncalled (BacksUp walker))
+        (backup_call (record walker { is_staged = staged }) next)
+    cases true = λ stood runs. is-to-change runner answer walker.change of_change walker.place next
+        is stood (record {
+          holds = runs.holds.keeps.knows.inputs;
+          asked = runs.asked;
+          commits = runs.commits;
+        })
+    cases false = tt
+
+-- neither a write nor a rename of a backup commits
+pub backup-quiet : (walker : Walker) (next : NewTable)
+    (result : CallResult (Answer (backup_call walker next))) (stood : Standing) →
+    own_command (standing_step (backup_call walker next) result stood) ≡ own_command stood
+backup-quiet walker next = cases walker.is_staged
+  where
+    cases : (staged : Bool)
+        (result : CallResult (Answer (backup_call (record walker { is_staged = staged }) next)))
+        (stood : Standing) →
+        own_command (standing_step (backup_call (record walker { is_staged = staged }) next)
+        result stood) ≡ own_command stood
+    cases true result stood = refl
+    cases false result stood = refl
+
+-- nor does one of an installation, which backs up nothing
+pub install-calls : (Stood : Standing → Type 0) (walker : Walker) (next : NewTable) →
+    IsTurnCall Stood (install_call walker next)
+install-calls Stood walker next = cases walker.is_staged
+  where
+    cases : (staged : Bool) →
+        IsTurnCall Stood (install_call (record walker { is_staged = staged }) next)
+    cases true = tt
+    cases false = tt
+
+pub install-quiet : (walker : Walker) (next : NewTable)
+    (result : CallResult (Answer (install_call walker next))) (stood : Standing) →
+    own_command (standing_step (install_call walker next) result stood) ≡ own_command stood
+install-quiet walker next = cases walker.is_staged
+  where
+    cases : (staged : Bool)
+        (result : CallResult (Answer (install_call (record walker { is_staged = staged }) next)))
+        (stood : Standing) →
+        own_command (standing_step (install_call (record walker { is_staged = staged }) next)
+        result stood) ≡ own_command stood
+    cases true result stood = refl
+    cases false result stood = refl
+
+-- where a step is left, there is a table at the place
+next-there : (walker : Walker) → 0 < steps_left walker →
+    slice_get (changed walker.change) walker.place ≡ None → ⊥
+next-there walker some is = absurd (cc (sym is
+    ∙ slice_get-get_or (changed walker.change) walker.place (record { table = Passwd; bytes = [] })
+    (place-within (length (changed walker.change)) walker.place walker.is_staged some)))
+
+-- so what holds of the one there holds of a table
+pub at-place : {P : NewTable → Type 0} (walker : Walker) → 0 < steps_left walker →
+    IfSome (slice_get (changed walker.change) walker.place) P →
+    (next : NewTable) × P next × (slice_get (changed walker.change) walker.place ≡ Some next)
+at-place {P} walker some holds = cases (slice_get (changed walker.change) walker.place) refl holds
+  where
+    cases : (found : Option NewTable) →
+        slice_get (changed walker.change) walker.place ≡ found → IfSome found P →
+        (next : NewTable) × P next × (slice_get (changed walker.change) walker.place ≡ Some next)
+    cases (Some next) is holds = (next, holds, is)
+    cases None is holds = absurd (next-there walker some is)
+
+-- ---- Each step leaves fewer
+
+-- at most six tables differ
+one-more : (most : ℕ) (news : List NewTable) → length news ≤ most →
+    (same : Bool) (table : Tab) (content : Option Bytes) →
+    length (if same then news else with_new_table table content news) ≤ most + 1
+one-more most news few true table content = omega (arith, few)
+one-more most news few false table None = omega (arith, few)
+one-more most news few false table (Some bytes) = omega (arith, few)
+
+pub changed-most : (tables : List Tab) (old new : Contents) →
+    length (changed_among tables old new) ≤ length tables
+changed-most [] old new = search (arith, rules)
+changed-most (table ∷ tables) old new =
+    let more = one-more (length tables) (changed_among tables old new)
+    (changed-most tables old new) (same_content (old table) (new table)) table (new table) in
+    omega (arith, more)
+
+-- so the steps count within one rank
+few-steps : (count place : ℕ) (staged : Bool) → count ≤ 6 →
+    2 * (count - place) - (if staged then 1 else 0) ≤ most_steps
+few-steps count place true few = omega (arith, few)
+few-steps count place false few = omega (arith, few)
+
+-- a step on leaves fewer
+pub fewer-steps : (change : Change) (place : ℕ) (staged : Bool) →
+    0 < steps_left (record { change = change; place = place; is_staged = staged }) →
+    steps_left (step_on (record { change = change; place = place; is_staged = staged }))
+    < steps_left (record { change = change; place = place; is_staged = staged })
+fewer-steps change place true some = omega (arith, some)
+fewer-steps change place false some = omega (arith, some)
+
+pub walks-nearer : (rank : ℕ) (walker next : Walker) → next ≡ step_on walker →
+    0 < steps_left walker → ranked rank (steps_left next) < ranked rank (steps_left walker)
+walks-nearer rank walker next is some =
+    steps-drop rank (steps_left walker) (steps_left next)
+    (subst (λ (one : Walker). steps_left one < steps_left walker) (sym is)
+    (fewer-steps walker.change walker.place walker.is_staged some))
+    (few-steps (length (changed walker.change)) walker.place walker.is_staged
+    (changed-most all_tables (old_files walker.change) (new_files walker.change)))
+
+-- a step on keeps the change
+pub step-change : (walker : Walker) → (step_on walker).change ≡ walker.change
+step-change walker = cases walker.is_staged
+  where
+    cases : (staged : Bool) →
+        (step_on (record walker { is_staged = staged })).change ≡ walker.change
+    cases true = refl
+    cases false = refl
+
+-- ---- The turns
+
+-- both name the same commit of a stage
+same-commit : (stage : CommitStage) → commit_for stage ≡ commit_at stage
+same-commit Before = refl
+same-commit Unsure = refl
+same-commit Committed = refl
+
+module _ (before now : Moment) (runner : Runner) (answer : FinalAnswer) where
+  module _ (walker : Walker)
+      (stood : StandsChanging before runner walker.change (BacksUp walker) answer) where
+    -- a step of the backups
+    pub backs-on : (next : NewTable) →
+        slice_get (changed walker.change) walker.place ≡ Some next → (walked : Walker) →
+        MakesCall before.admits now.admits before.told now.told (token_of walker)
+        (backup_call walker next)
+        (λ result. LeadsTo (step_on walker) before_commit result (Ok walked)) →
+        StandsIn now.admits now.told (token_of walker) (BacksUp walked) →
+        StandsChanging now runner walked.change (BacksUp walked) answer
+    backs-on next place_is walked made stands =
+        let is = leads-on (step_on walker) before_commit made.answer walked made.shown in
+        let change = ap (λ (one : Walker). one.change) is ∙ step-change walker in
+        record {
+          same = ap (λ (one : Change). one.inputs.keeper.token) change ∙ stood.same;
+          stands = goes-on before now runner commit_uncalled (BacksUp walker) stood.stands
+              (token_of walker) stood.same (backup_call walker next)
+              (backup-calls runner answer walker next stood.of_change place_is) _
+              (backup-quiet walker next) made (BacksUp walked) stands;
+          of_change = subst (λ (one : Change). IsOfChange runner one answer) (sym change)
+              stood.of_change;
+        }
+
+    -- the write of the intent
+    pub stages-intent : (call : Call)
+        (of_turn : IsTurnCall (Runs runner commit_uncalled (BacksUp walker)) call)
+        (quiet : (result : CallResult (Answer call)) (one : Standing) →
+        own_command (standing_step call result one) ≡ own_command one) (staged : Change) →
+        MakesCall before.admits now.admits before.told now.told (token_of walker) call
+        (λ result. LeadsTo walker.change before_commit result (Ok staged)) →
+        StandsIn now.admits now.told (token_of walker) (HasStagedIntent staged) →
+        StandsChanging now runner staged (HasStagedIntent staged) answer
+    stages-intent call of_turn quiet staged made stands =
+        let change = leads-on walker.change before_commit made.answer staged made.shown in
+        record {
+          same = ap (λ (one : Change). one.inputs.keeper.token) change ∙ stood.same;
+          stands = goes-on before now runner commit_uncalled (BacksUp walker) stood.stands
+              (token_of walker) stood.same call of_turn _ quiet made (HasStagedIntent staged)
+              stands;
+          of_change = subst (λ (one : Change). IsOfChange runner one answer) (sym change)
+              stood.of_change;
+        }
+
+  module _ (change : Change)
+      (stood : StandsChanging before runner change (HasStagedIntent change) answer) where
+    -- the answer is that of a change
+    is-changed : answer.outcome.cause ≡ Changed
+    is-changed = stood.of_change.is_answer.has_cause
+        ∙ ap cause_of_answer stood.of_change.is_change
+
+    -- just before its commit it was a clean keeper that had seen all
+    answered-all : (was : Past) →
+        StandsIn before.admits (Some was) runner.token
+        (Runs runner commit_uncalled (HasStagedIntent change)) →
+        AnsweredAll runner answer was.history
+    answered-all was stands =
+        let held = stands.holds.holds in
+        record {
+          newer = [];
+          older = was.history;
+          parts = refl;
+          number = change.inputs.keeper.number;
+          seen = held.keeps.knows.inputs.seen;
+          clean = record {
+            active = record { runs = stands.runs; keeps = held.keeps.locks.owns };
+            uncommitted = held.uncommitted;
+            clean = held.keeps.knows.inputs.clean;
+          };
+          files = change.inputs.files;
+          defs = change.inputs.defs;
+          all = record {
+            each_table = held.keeps.knows.inputs.each_table;
+            settings = held.keeps.knows.inputs.settings;
+          };
+          is_answer = stood.of_change.is_answer;
+        }
+
+    -- the new files are the deed of what it was asked
+    pub is-deed : (deeds : SuiteDeeds) → AreOfTools deeds →
+        StandsIn before.admits before.told change.inputs.keeper.token (IsDeed deeds change)
+    is-deed deeds ours =
+        stands-weaker before.admits change.inputs.keeper.token
+        (Runs runner commit_uncalled (HasStagedIntent change)) (IsDeed deeds change)
+        (λ one runs. record {
+          command = runner.asked.command;
+          is_asked = runs.asked;
+          is_deed = ap (λ (deed : Command → Contents → Option Bytes → Option Contents).
+              deed runner.asked.command (table_of change.inputs.files) change.inputs.defs)
+              ours.is_deed ∙ made-deed runner answer change stood.of_change;
+        })
+        before.told
+        (subst (λ (token : Token). StandsIn before.admits before.told token
+        (Runs runner commit_uncalled (HasStagedIntent change))) (sym stood.same) stood.stands)
+
+    module _ (Shows : Result (Unit {0}) FolderFault → Type 0)
+        (made : MakesCall before.admits now.admits before.told now.told
+        change.inputs.keeper.token (renames IntentStage Intent) Shows)
+        (left : Leaves asked_of change.inputs.keeper.token before.told now.told) where
+      -- the history got an event of the runner, or none, after those of others
+      pub commit-grew : Grew before.admits runner.token 1 before.told now.told
+      commit-grew = subst (λ (token : Token). Grew before.admits token 1 before.told now.told)
+          stood.same
+          (tells-grow before.admits change.inputs.keeper.token (renames IntentStage Intent) made.answer
+          before.told now.told (λ past is between others. tt) made.told)
+
+      -- so it is extended
+      commit-extends : Extends before.told now.told
+      commit-extends = grew-extends before.admits runner.token 1 before.told now.told commit-grew
+
+      left-asked : Leaves asked_of runner.token before.told now.told
+      left-asked = subst (λ (token : Token). Leaves asked_of token before.told now.told) stood.same
+          left
+
+      -- once its commit was done, the answer is due
+      committed-due : (Holds : Standing → Type 0) (was told : Option Past) →
+          StandsIn before.admits was runner.token
+          (Runs runner commit_uncalled (HasStagedIntent change)) →
+          StandsIn now.admits told runner.token (Runs runner commit_done Holds) →
+          Extends was told → IfSome told (IsDue runner answer)
+      committed-due Holds None None held stands extends = tt
+      committed-due Holds (Some was) (Some past) held stands extends = record {
+        asked = stands.holds.asked;
+        commits = stands.holds.commits
+            ∙ ap (λ (cause : Cause). commit_at (stage_of cause)) (sym is-changed);
+        shown = subst (IsShown runner answer past.history) (sym is-changed)
+            (earlier-stays runner answer was.history past.history extends.1.0 extends.1.1
+            (answered-all was held));
+      }
+      committed-due Holds None (Some past) held stands extends = absurd extends
+      committed-due Holds (Some was) None held stands extends = absurd extends
+
+      -- so the runner installs, and has its answer to give
+      pub commits-stands : (walked : Walker) → walked ≡ walk_of change →
+          StandsIn now.admits now.told change.inputs.keeper.token (Installs walked) →
+          StandsInstalling now runner walked answer
+      commits-stands walked is next =
+          let stands : At now runner commit_done (Installs walked) =
+          stands-weaker now.admits runner.token
+          (λ one. Installs walked one × (asked_of one ≡ Some runner.asked.command))
+          (Runs runner commit_done (Installs walked))
+          (λ one both. record {
+            holds = both.0;
+            asked = both.1;
+            commits = both.0.committed;
+          })
+          now.told
+          (stands-left asked_of (Some runner.asked.command)
+          (Runs runner commit_uncalled (HasStagedIntent change)) (Installs walked)
+          (λ one runs. runs.asked) before.admits now.admits runner.token before.told now.told
+          stood.stands left-asked
+          (subst (λ (token : Token). StandsIn now.admits now.told token (Installs walked))
+          stood.same next)) in
+          record {
+            same = ap token_of is ∙ stood.same;
+            stands = stands;
+            changed = is-changed;
+            gives = record {
+              says = subst (Says runner.asked answer) (sym is-changed) (record {
+                files = change.inputs.files;
+                defs = change.inputs.defs;
+                is_answer = stood.of_change.is_answer;
+              });
+              due = committed-due (Installs walked) before.told now.told stood.stands stands
+                  commit-extends;
+            };
+          }
+
+      -- after a fault of the commit an answer that tells it is due
+      unsure-due : (fault : StageFault) (given : FinalAnswer) →
+          IsTold runner.asked.request.tool (cause_of_fault fault.stage fault.fault) given →
+          (was told : Option Past) →
+          StandsIn before.admits was runner.token
+          (Runs runner commit_uncalled (HasStagedIntent change)) →
+          StandsUnsure told runner.token fault → Leaves asked_of runner.token was told →
+          IfSome told (IsDue runner given)
+      unsure-due fault given says None None held unsure kept = tt
+      unsure-due fault given says (Some was) (Some past) held unsure kept = record {
+        asked = kept.1 ∙ held.holds.asked;
+        commits = unsure ∙ (same-commit fault.stage ∙ ap commit_at (sym (told-stage
+            runner.asked.request.tool (cause_of_fault fault.stage fault.fault) given says
+            ∙ fault-stage fault.stage fault.fault)));
+        shown = plain-shown runner given past.history given.outcome.cause
+            (told-plain runner.asked (cause_of_fault fault.stage fault.fault) given
+            (fault-plain fault.stage fault.fault) says)
+            (told-met runner.asked (cause_of_fault fault.stage fault.fault) given runner.token
+            past.history says (fault-shows fault.stage fault.fault runner.token past.history));
+      }
+      unsure-due fault given says None (Some past) held unsure kept = absurd kept
+      unsure-due fault given says (Some was) None held unsure kept = absurd kept
+
+      pub unsure-stands : (fault : StageFault) (state : State) →
+          AnswersWith runner.asked.request.tool (cause_of_fault fault.stage fault.fault) state →
+          StandsUnsure now.told change.inputs.keeper.token fault → StandsAs now runner state
+      unsure-stands fault (Answering given) says unsure = record {
+        may_answer = subst (λ (token : Token). MayAnswer now.admits now.told token) stood.same
+            made.may_answer;
+        gives = record {
+          says = told-says runner.asked (cause_of_fault fault.stage fault.fault) given
+              (fault-plain fault.stage fault.fault) says;
+          due = unsure-due fault given says before.told now.told stood.stands
+              (subst (λ (token : Token). StandsUnsure now.told token fault) stood.same unsure)
+              left-asked;
+        };
+        left = told-left now runner (cause_of_fault fault.stage fault.fault) given says
+            (fault-left now runner fault.stage fault.fault);
+      }
+      unsure-stands fault state says unsure = absurd says
+
+  module _ (walker : Walker) (stood : StandsInstalling before runner walker answer) where
+    -- after the commit the answer stays due
+    changed-due : (Holds : Standing → Type 0) (was told : Option Past) →
+        IfSome was (IsDue runner answer) →
+        StandsIn now.admits told runner.token (Runs runner commit_done Holds) →
+        Extends was told → IfSome told (IsDue runner answer)
+    changed-due Holds None None due stands extends = tt
+    changed-due Holds (Some was) (Some past) due stands extends = record {
+      asked = stands.holds.asked;
+      commits = stands.holds.commits
+          ∙ ap (λ (cause : Cause). commit_at (stage_of cause)) (sym stood.changed);
+      shown = subst (IsShown runner answer past.history) (sym stood.changed)
+          (earlier-stays runner answer was.history past.history extends.1.0 extends.1.1
+          (subst (IsShown runner answer was.history) stood.changed due.shown));
+    }
+    changed-due Holds None (Some past) due stands extends = absurd extends
+    changed-due Holds (Some was) None due stands extends = absurd extends
+
+    module _ (call : Call)
+        (of_turn : IsTurnCall (Runs runner commit_done (Installs walker)) call)
+        (Shows : Result (Answer call) FolderFault → Type 0)
+        (quiet : (result : CallResult (Answer call)) (one : Standing) →
+        own_command (standing_step call result one) ≡ own_command one)
+        (made : MakesCall before.admits now.admits before.told now.told (token_of walker) call
+        Shows) where
+      -- so it has its answer to give
+      gives-still : (Holds : Standing → Type 0) → At now runner commit_done Holds →
+          Gives now runner answer
+      gives-still Holds stands = record {
+        says = stood.gives.says;
+        due = changed-due Holds before.told now.told stood.gives.due stands
+            (extended before now runner commit_done (Installs walker) stood.stands
+            (token_of walker) stood.same call of_turn Shows quiet made);
+      }
+
+      -- a step of the installation
+      pub installs-on : (walked : Walker) → walked ≡ step_on walker →
+          StandsIn now.admits now.told (token_of walker) (Installs walked) →
+          StandsInstalling now runner walked answer
+      installs-on walked is next =
+          let stands = goes-on before now runner commit_done (Installs walker) stood.stands
+          (token_of walker) stood.same call of_turn Shows quiet made (Installs walked) next in
+          record {
+            same = ap token_of is
+                ∙ (ap (λ (one : Change). one.inputs.keeper.token) (step-change walker)
+                ∙ stood.same);
+            stands = stands;
+            changed = stood.changed;
+            gives = gives-still (Installs walked) stands;
+          }
+
+      -- the removal of the intent
+      pub clears : (cleared : Kept) → cleared ≡ walker.change.inputs.keeper →
+          StandsIn now.admits now.told (token_of walker) (HasCleared cleared) →
+          StandsUnlocking now runner cleared answer
+      clears cleared is next =
+          let stands = goes-on before now runner commit_done (Installs walker) stood.stands
+          (token_of walker) stood.same call of_turn Shows quiet made
+          (Keeps cleared KnowsAnything)
+          (stands-weaker now.admits (token_of walker) (HasCleared cleared)
+          (Keeps cleared KnowsAnything)
+          (λ one held. record { locks = held.keeps.locks; knows = tt }) now.told next) in
+          record {
+            same = ap (λ (one : Kept). one.token) is ∙ stood.same;
+            stands = subst (λ (one : Commit). At now runner one (Keeps cleared KnowsAnything))
+                (ap (λ (cause : Cause). commit_at (stage_of cause)) (sym stood.changed)) stands;
+            clean = clean-known runner.token answer.outcome.cause now.admits (HasCleared cleared)
+                (λ one held. (nothing_seen, held.keeps.knows)) now.told
+                (subst (λ (token : Token). StandsIn now.admits now.told token (HasCleared cleared))
+                stood.same next);
+            quiet = λ fault. subst IsOutside stood.changed fault;
+            gives = gives-still (Keeps cleared KnowsAnything) stands;
+          }

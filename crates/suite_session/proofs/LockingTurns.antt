@@ -1,0 +1,121 @@
+-- Claim: after the read of the greatest lock, and after the second listing, the session stands in
+-- the state that these lead to (`read-stands`, `confirm-stands`).
+use Rattle.std.proofs.Common.{◌≡◌, refl, ◌∙◌, ◌==◌, Bool, true, false, if◌then◌else◌, Ok, rules, arith}
+use Rattle.acct_outside.specs.Tokens.{Token}
+use Rattle.acct_outside.specs.declared.Name.TheVariants.{Lock}
+use Rattle.acct_outside.specs.Calls.{lists, reads}
+use Rattle.suite_rules.specs.Standing.{Standing, commit_uncalled}
+use Rattle.suite_rules.specs.Steps.{StandsIn, MakesCall}
+use Rattle.suite_rules.proofs.StepLemmas.{stands-weaker}
+use Rattle.lock_steps.specs.States.{Lister, Maker}
+use Rattle.lock_steps.specs.declared.judging.Told.{Told}
+use Rattle.lock_steps.specs.declared.judging.Told.TheVariants.{Judged, Ask}
+use Rattle.lock_steps.specs.declared.claiming.Confirmed.{Confirmed}
+use Rattle.lock_steps.specs.declared.claiming.Confirmed.TheVariants.{Keeper, Loser}
+use Rattle.lock_steps.specs.Outcomes.{Looks, Reads, Confirms}
+use Rattle.lock_steps.specs.Stands.{HasNoLock, HasLooked, HasReadHeld, HasJudged, HasMade, WasOvertaken, Keeps, KnowsAnything, StandsTold, StandsConfirmed}
+use Rattle.suite_session.specs.declared.state.State.TheVariants.{Claiming, Reading}
+use Rattle.suite_session.specs.Runner.{Runner}
+use Rattle.suite_session.specs.Moment.{Moment, At}
+use Rattle.suite_session.specs.Locking.{after_look, after_read, after_listing}
+use Rattle.suite_session.specs.Stands.{StandsAs, TellsOutside}
+use Rattle.suite_session.proofs.TurnLemmas.{goes-on}
+use Rattle.suite_session.proofs.LockingLemmas.{looks-token, reads-judged, reads-asking, confirms-keeper, confirms-less, confirms-loser}
+
+-- a session that looked and found no lock may make one
+none-judged : (seen : Lister) → seen.greatest ≡ 0 → (stood : Standing) → HasLooked seen stood →
+    HasJudged seen stood
+none-judged seen none stood looked = record {
+  owns = looked.owns;
+  listing = looked.listing;
+  listed = looked.listed;
+  is_greatest = looked.is_greatest;
+  is_such = looked.is_such none;
+}
+
+module _ (before now : Moment) (runner : Runner) where
+  module _ (looking : Token) (stands : At before runner commit_uncalled HasNoLock)
+      (same : looking ≡ runner.token) where
+    -- after the first listing, by whether there is a lock
+    looked : (seen : Lister) (is_none : Bool) → (seen.greatest == 0) ≡ is_none →
+        MakesCall before.admits now.admits before.told now.told looking lists
+        (λ answer. Looks looking answer (Ok seen)) →
+        StandsIn now.admits now.told looking (HasLooked seen) →
+        StandsAs now runner (if is_none then Claiming seen else Reading seen)
+    looked seen true is made next = (
+      looks-token _ _ _ made.shown ∙ same,
+      goes-on before now runner commit_uncalled HasNoLock stands looking same
+          lists tt _ (λ result stood. refl) made (HasJudged seen)
+          (stands-weaker now.admits looking (HasLooked seen) (HasJudged seen)
+          (none-judged seen (search (rules, is))) now.told next),
+    )
+    looked seen false is made next = (
+      looks-token _ _ _ made.shown ∙ same,
+      (search (rules, is, arith)),
+      goes-on before now runner commit_uncalled HasNoLock stands looking same
+          lists tt _ (λ result stood. refl) made (HasLooked seen) next,
+    )
+
+    pub look-stands : (seen : Lister) →
+        MakesCall before.admits now.admits before.told now.told looking lists
+        (λ answer. Looks looking answer (Ok seen)) →
+        StandsIn now.admits now.told looking (HasLooked seen) →
+        StandsAs now runner (after_look seen)
+    look-stands seen made next = looked seen _ refl made next
+
+  module _ (seen : Lister) (stands : At before runner commit_uncalled (HasLooked seen))
+      (same : seen.token ≡ runner.token) where
+    -- after the read
+    pub read-stands : (told : Told) →
+        MakesCall before.admits now.admits before.told now.told seen.token
+        (reads (Lock seen.greatest)) (λ answer. Reads seen answer (Ok told)) →
+        StandsTold now.admits now.told seen.token told → StandsAs now runner (after_read told)
+    read-stands (Judged judged) made next = (
+      reads-judged _ _ _ made.shown ∙ same,
+      goes-on before now runner commit_uncalled (HasLooked seen) stands seen.token same
+          (reads (Lock seen.greatest)) tt _ (λ result stood. refl) made (HasJudged judged) next,
+    )
+    read-stands (Ask asking) made next = (
+      reads-asking _ _ _ made.shown ∙ same,
+      goes-on before now runner commit_uncalled (HasLooked seen) stands seen.token same
+          (reads (Lock seen.greatest)) tt _ (λ result stood. refl) made (HasReadHeld asking) next,
+    )
+
+  module _ (claimed : Maker) (stands : At before runner commit_uncalled (HasMade claimed))
+      (same : claimed.token ≡ runner.token) where
+    -- after the second listing
+    pub confirm-stands : (confirmed : Confirmed) →
+        MakesCall before.admits now.admits before.told now.told claimed.token lists
+        (λ answer. Confirms claimed answer (Ok confirmed)) →
+        StandsConfirmed now.admits now.told claimed.token confirmed →
+        StandsAs now runner (after_listing confirmed)
+    confirm-stands (Keeper keeper) made next = (
+      confirms-keeper _ _ _ made.shown ∙ same,
+      goes-on before now runner commit_uncalled (HasMade claimed) stands claimed.token same
+          lists tt _ (λ result stood. refl) made (Keeps keeper KnowsAnything) next,
+    )
+    confirm-stands (Loser loser) made next = (
+      confirms-loser _ _ _ made.shown ∙ same,
+      confirms-less _ _ _ made.shown,
+      goes-on before now runner commit_uncalled (HasMade claimed) stands claimed.token same
+          lists tt _ (λ result stood. refl) made (WasOvertaken loser) next,
+    )
+
+-- the state after the read tells of no fault
+pub read-quiet : (told : Told) → TellsOutside (after_read told) → ⊥
+read-quiet (Judged judged) fault = fault
+read-quiet (Ask asking) fault = fault
+
+-- nor does that after the second listing
+pub confirm-quiet : (confirmed : Confirmed) → TellsOutside (after_listing confirmed) → ⊥
+confirm-quiet (Keeper keeper) fault = fault
+confirm-quiet (Loser loser) fault = fault
+
+-- nor does that after the first
+looked-quiet : (seen : Lister) (is_none : Bool) →
+    TellsOutside (if is_none then Claiming seen else Reading seen) → ⊥
+looked-quiet seen true fault = fault
+looked-quiet seen false fault = fault
+
+pub look-quiet : (seen : Lister) → TellsOutside (after_look seen) → ⊥
+look-quiet seen fault = looked-quiet seen _ fault

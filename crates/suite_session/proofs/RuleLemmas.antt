@@ -1,0 +1,172 @@
+-- Claim: the answer of a session is one that the rules permit (`rule-of`), for the deeds of the
+-- tools.
+-- Way: a cause that is no tool's answer has a status of its own (`lock-some` and the others); a
+-- change comes after the own commit; and what else has status 0 is an answer on files that the
+-- session saw.
+use Rattle.std.proofs.Common.{◌≡◌, refl, sym, ap, ◌∙◌, ◌==◌, ◌&&◌, not, Bool, true, false, Some, Ok, rules}
+use Rattle.acct_text.specs.Files.{table_of}
+use Rattle.acct_outside.specs.History.{History}
+use Rattle.account_model.specs.declared.tool.Tool.{Tool}
+use Rattle.account_model.specs.declared.tool.Tool.TheVariants.{Useradd, Usermod, Userdel, Groupadd, Groupmod, Groupdel, Gpasswd, Chage, Chpasswd, Pwck, Grpck, Getsubids}
+use Rattle.account_model.specs.Answer.{AnswerCause, Unusable, Refused as ModelRefused, Same as ModelSame, Changed as ModelChanged}
+use Rattle.account_model.specs.Failures.{lock_status, update_status}
+use Rattle.account_model.specs.Statuses.{file_status}
+use Rattle.account_model.specs.Words.{request_of}
+use Rattle.suite_rules.specs.Deeds.{SuiteDeeds}
+use Rattle.suite_rules.specs.Standing.{Standing, standing}
+use Rattle.suite_rules.specs.Rules.{AnswerRule, answers_refusal, answers_changed, answers_same}
+use Rattle.suite_answers.specs.declared.cause.Cause.{Cause}
+use Rattle.suite_answers.specs.declared.cause.Cause.TheVariants.{Changed, Same, Refused, Syntax, Held, Gone, Raced, Outrun, LockDamaged, Exhausted, IntentDamaged, TooLarge, NoTable, BadSetting, DiskFault, InputFault, OutputFault, ClockFault, Memory}
+use Rattle.suite_answers.specs.declared.answer.Answer.{Answer}
+use Rattle.suite_answers.specs.Reasons.{stage_of}
+use Rattle.suite_session.specs.Runner.{Runner}
+use Rattle.suite_session.specs.Moment.{commit_at}
+use Rattle.suite_session.specs.Answers.{answer_on, cause_of_answer, given_for, Says}
+use Rattle.suite_session.specs.Deeds.{AreOfTools, is_change, tools_answer_same}
+use Rattle.suite_session.specs.Due.{AnswersAll, IsShown}
+
+-- ---- The statuses
+
+-- that of a lock
+lock-some : (tool : Tool) → (lock_status tool == 0) ≡ false
+lock-some Useradd = refl
+lock-some Usermod = refl
+lock-some Userdel = refl
+lock-some Groupadd = refl
+lock-some Groupmod = refl
+lock-some Groupdel = refl
+lock-some Gpasswd = refl
+lock-some Chage = refl
+lock-some Chpasswd = refl
+lock-some Pwck = refl
+lock-some Grpck = refl
+lock-some Getsubids = refl
+
+-- of a folder that can't be changed
+update-some : (tool : Tool) → (update_status tool == 0) ≡ false
+update-some Useradd = refl
+update-some Usermod = refl
+update-some Userdel = refl
+update-some Groupadd = refl
+update-some Groupmod = refl
+update-some Groupdel = refl
+update-some Gpasswd = refl
+update-some Chage = refl
+update-some Chpasswd = refl
+update-some Pwck = refl
+update-some Grpck = refl
+update-some Getsubids = refl
+
+-- of a file that can't be used
+file-some : (tool : Tool) → (file_status tool == 0) ≡ false
+file-some Useradd = refl
+file-some Usermod = refl
+file-some Userdel = refl
+file-some Groupadd = refl
+file-some Groupmod = refl
+file-some Groupdel = refl
+file-some Gpasswd = refl
+file-some Chage = refl
+file-some Chpasswd = refl
+file-some Pwck = refl
+file-some Grpck = refl
+file-some Getsubids = refl
+
+-- ---- An answer of status 0 that changes nothing
+
+-- the cause of an answer that tells no change is no change
+not-change : (cause : AnswerCause) (told : Cause) → cause_of_answer cause ≡ told →
+    (told ≡ Changed → ⊥) → is_change cause ≡ false
+not-change (Unusable problem) told is quiet = refl
+not-change (ModelRefused refusal) told is quiet = refl
+not-change ModelSame told is quiet = refl
+not-change (ModelChanged files) told is quiet = absurd (quiet (sym is))
+
+-- both tests hold
+both-hold : (zero changes : Bool) → zero ≡ true → changes ≡ false → (zero && not changes) ≡ true
+both-hold true false is none = refl
+both-hold true true is none = absurd (search rules)
+both-hold false changes is none = absurd (search rules)
+
+module _ (deeds : SuiteDeeds) (ours : AreOfTools deeds) (runner : Runner) (answer : Answer)
+    (history : History) (read : request_of runner.asked.command.words ≡ Ok runner.asked.request)
+    (asked : (standing runner.token history).command ≡ Some runner.asked.command) where
+  abbrev stood : Standing
+  stood = standing runner.token history
+
+  -- the rules permit it, by its being so
+  abbrev Permitted : Type 0
+  Permitted = AnswerRule deeds stood answer.outcome.status
+
+  -- one with another status may come
+  other-rule : (answer.outcome.status == 0) ≡ false → Permitted
+  other-rule is = answers_refusal (λ none. search (rules, is, none))
+
+  -- the answer on what it has seen has status 0 and changes nothing
+  same-here : (all : AnswersAll runner answer stood) → (answer.outcome.status == 0) ≡ true →
+      is_change (answer_on runner.asked all.files all.defs).cause ≡ false →
+      tools_answer_same runner.asked.command (table_of all.files) all.defs ≡ true
+  same-here all zero none = rw (read, tools_answer_same)
+      (both-hold _ _ (ap (λ status. status == 0) (sym all.is_answer.has_status) ∙ zero) none)
+
+  -- so it may come
+  all-rule : (cause : Cause) → answer.outcome.cause ≡ cause → (cause ≡ Changed → ⊥) →
+      AnswersAll runner answer stood → (zero : Bool) → (answer.outcome.status == 0) ≡ zero →
+      Permitted
+  all-rule cause is quiet all false zero = other-rule zero
+  all-rule cause is quiet all true zero = answers_same (record {
+    seen = all.seen;
+    knows = all.clean;
+    has_seen = record {
+      command = runner.asked.command;
+      files = table_of all.files;
+      defs = all.defs;
+      is_asked = asked;
+      each_table = all.all.each_table;
+      settings = all.all.settings;
+    };
+    same = (λ i. ours.is_same i runner.asked.command (table_of all.files) all.defs)
+        ∙ same-here all zero
+        (not-change _ cause (sym all.is_answer.has_cause ∙ is) quiet);
+  })
+
+  -- one that tells a cause may come, where the cause has a status of its own
+  told-rule : (cause : Cause) → answer ≡ given_for runner.asked.request.tool cause →
+      ((given_for runner.asked.request.tool cause).outcome.status == 0) ≡ false → Permitted
+  told-rule cause is some =
+      other-rule (ap (λ (given : Answer). given.outcome.status == 0) is ∙ some)
+
+  -- by the cause
+  by-cause : (cause : Cause) → answer.outcome.cause ≡ cause → Says runner.asked answer cause →
+      IsShown runner answer history cause → stood.commit ≡ commit_at (stage_of cause) → Permitted
+  by-cause Changed is says shown commits = answers_changed commits
+  by-cause Same is says shown commits = all-rule Same is (λ bad. cc) shown.0 _ refl
+  by-cause (Refused refusal) is says shown commits =
+      all-rule (Refused refusal) is (λ bad. cc) shown.0 _ refl
+  by-cause (Syntax fault) is says shown commits = absurd says
+  by-cause (Held token) is says shown commits = told-rule (Held token) says (lock-some _)
+  by-cause (Gone number) is says shown commits = told-rule (Gone number) says (lock-some _)
+  by-cause (Raced number) is says shown commits = told-rule (Raced number) says (lock-some _)
+  by-cause (Outrun number greater) is says shown commits =
+      told-rule (Outrun number greater) says (lock-some _)
+  by-cause (LockDamaged number) is says shown commits =
+      told-rule (LockDamaged number) says (lock-some _)
+  by-cause Exhausted is says shown commits = told-rule Exhausted says (lock-some _)
+  by-cause (IntentDamaged part) is says shown commits =
+      told-rule (IntentDamaged part) says (update-some _)
+  by-cause (TooLarge which) is says shown commits = told-rule (TooLarge which) says (file-some _)
+  by-cause (NoTable table) is says shown commits = told-rule (NoTable table) says (file-some _)
+  by-cause (BadSetting line) is says shown commits =
+      told-rule (BadSetting line) says (file-some _)
+  by-cause (DiskFault stage) is says shown commits =
+      told-rule (DiskFault stage) says (update-some _)
+  by-cause InputFault is says shown commits = told-rule InputFault says refl
+  by-cause (OutputFault stage) is says shown commits = other-rule (ap (λ status. status == 0) says)
+  by-cause ClockFault is says shown commits = told-rule ClockFault says refl
+  by-cause (Memory stage) is says shown commits = other-rule (ap (λ status. status == 0) says)
+
+  -- whatever its cause
+  pub rule-of : Says runner.asked answer answer.outcome.cause →
+      IsShown runner answer history answer.outcome.cause →
+      stood.commit ≡ commit_at (stage_of answer.outcome.cause) → Permitted
+  rule-of says shown commits = by-cause answer.outcome.cause refl says shown commits

@@ -1,0 +1,197 @@
+-- Claim: each step of a keeper on its way out leads to the next state of it with the same answer, or
+-- to the answer of a fault (`lowers`, `stages`, `frees`, `fails`).
+-- Way: the typed step gives the standing, and what it leaves of the standing keeps the answer due.
+use Rattle.std.proofs.Common.{◌≡◌, refl, ap, subst, ◌∙◌, ◌≤◌, ℕ, Option, Some, None, IfSome, Result, Ok, Err}
+use Rattle.acct_outside.specs.declared.CommitStage.{CommitStage}
+use Rattle.acct_outside.specs.declared.FolderFault.{FolderFault}
+use Rattle.acct_outside.specs.declared.FolderFault.TheVariants.{Failed, Memory as NoMemory}
+use Rattle.acct_outside.specs.declared.Name.TheVariants.{FreeStage, Lock}
+use Rattle.acct_outside.specs.Tokens.{Token, free_text}
+use Rattle.acct_outside.specs.Calls.{writes, renames, removes}
+use Rattle.acct_outside.specs.Contract.{Past}
+use Rattle.suite_rules.specs.OwnLock.{kept_number}
+use Rattle.suite_rules.specs.Standing.{Commit, Standing}
+use Rattle.suite_rules.specs.Steps.{StandsIn, AlwaysStaysLawful, Leaves, MakesCall, work}
+use Rattle.lock_steps.specs.States.{Maker, Kept}
+use Rattle.lock_steps.specs.declared.keeping.Ended.{Ended}
+use Rattle.lock_steps.specs.Outcomes.{LeadsTo, cleaned_once, freeing_of, the_end}
+use Rattle.lock_steps.specs.Stands.{Keeps, KnowsAnything, HasStagedFree, HasFreed}
+use Rattle.suite_answers.specs.declared.answer.Answer.{Answer as FinalAnswer}
+use Rattle.suite_answers.specs.Reasons.{stage_of}
+use Rattle.suite_session.specs.declared.state.State.TheVariants.{Unlocking, Freeing, Answering}
+use Rattle.suite_session.specs.Runner.{Runner}
+use Rattle.suite_session.specs.Moment.{Moment, commit_at, Runs}
+use Rattle.suite_session.specs.Locking.{cause_of_fault}
+use Rattle.suite_session.specs.Stands.{IsOutside, StandsUnlocking, StandsFreeing, Turns}
+use Rattle.suite_session.specs.Causes.{HasMet}
+use Rattle.suite_session.proofs.MetLemmas.{fault-shows}
+use Rattle.suite_session.proofs.TurnLemmas.{HasMetNow, HasLeftNow, IsPlain, goes-on, extended, turns}
+use Rattle.suite_session.proofs.LeavingLemmas.{fault-stopped, clean-stays, freed-left}
+use Rattle.suite_rules.proofs.StepLemmas.{may-answer-now}
+use Rattle.suite_session.proofs.DueLemmas.{gives-stay}
+
+-- a step that leads to a next state has it
+pub leads : {A State : Type 0} (next : State) (answer : Result A FolderFault) (state : State) →
+    LeadsTo next answer (Ok state) → state ≡ next
+leads next (Ok answer) state shown = shown
+leads next (Err fault) state shown = absurd shown
+
+-- ---- A fault of the folder
+
+-- it is told with its stage
+pub fault-stage : (stage : CommitStage) (fault : FolderFault) →
+    stage_of (cause_of_fault stage fault) ≡ stage
+fault-stage stage Failed = refl
+fault-stage stage NoMemory = refl
+
+-- it is no tool's answer
+pub fault-plain : (stage : CommitStage) (fault : FolderFault) → IsPlain (cause_of_fault stage fault)
+fault-plain stage Failed = tt
+fault-plain stage NoMemory = tt
+
+-- and nothing more is met
+pub fault-met : (now : Moment) (runner : Runner) (stage : CommitStage) (fault : FolderFault) →
+    HasMetNow now runner (cause_of_fault stage fault)
+fault-met now runner stage fault = by-told now.told
+  where
+    by-told : (told : Option Past) →
+        IfSome told (λ past. HasMet runner.token past.history (cause_of_fault stage fault))
+    by-told None = tt
+    by-told (Some past) = fault-shows stage fault runner.token past.history
+
+-- and nothing more need be left
+pub fault-left : (now : Moment) (runner : Runner) (stage : CommitStage) (fault : FolderFault) →
+    HasLeftNow now runner (cause_of_fault stage fault)
+fault-left now runner stage fault goes_on = absurd (goes_on (fault-stopped stage fault))
+
+-- it is told as a fault of the folder only where that failed
+pub fault-failed : (stage : CommitStage) (fault : FolderFault) →
+    IsOutside (cause_of_fault stage fault) → fault ≡ Failed
+fault-failed stage Failed told = refl
+fault-failed stage NoMemory told = absurd told
+
+-- a keeper's number is kept
+kept-number : (keeper : Kept) (stood : Standing) → Keeps keeper KnowsAnything stood →
+    kept_number stood.own ≡ Some keeper.number
+kept-number keeper stood keeps = ap kept_number keeps.locks.owns
+
+-- that of one that has staged the free text too
+staged-number : (freeing : Maker) (stood : Standing) → HasStagedFree freeing stood →
+    kept_number stood.own ≡ Some freeing.number
+staged-number freeing stood staged = ap kept_number staged.locks.owns
+
+-- and that of one that has freed its lock
+freed-number : (number : ℕ) (stood : Standing) → HasFreed number stood →
+    kept_number stood.own ≡ Some number
+freed-number number stood freed = ap kept_number freed.owns
+
+module _ (before now : Moment) (runner : Runner) (answer : FinalAnswer) where
+  abbrev commit : Commit
+  commit = commit_at (stage_of answer.outcome.cause)
+
+  module _ (keeper : Kept) (stood : StandsUnlocking before runner keeper answer) where
+    -- it removes a lower lock
+    pub lowers : (number : ℕ) (kept : Kept) →
+        MakesCall before.admits now.admits before.told now.told keeper.token (removes (Lock number))
+        (λ result. LeadsTo (cleaned_once keeper) result (Ok kept)) →
+        StandsIn now.admits now.told keeper.token (Keeps kept KnowsAnything) →
+        Leaves work keeper.token before.told now.told →
+        AlwaysStaysLawful before.admits before.told now.told → before.faults ≤ now.faults →
+        Turns before now runner (Unlocking kept answer)
+    lowers number kept made next left lawful never_falls =
+        let is = leads (cleaned_once keeper) made.answer kept made.shown in
+        let call = removes (Lock number) in
+        let stands = goes-on before now runner commit (Keeps keeper KnowsAnything) stood.stands
+        keeper.token stood.same call tt _ (λ result stood. refl) made (Keeps kept KnowsAnything)
+        next in
+        let kept_work = subst (λ (token : Token). Leaves work token before.told now.told) stood.same
+        left in
+        turns before now runner commit (Keeps keeper KnowsAnything) stood.stands keeper.token
+        stood.same call tt _ (λ result stood. refl) made lawful never_falls (Unlocking kept answer)
+        (record {
+          same = ap (λ (one : Kept). one.token) is ∙ stood.same;
+          stands = stands;
+          clean = clean-stays runner.token answer.outcome.cause before.told now.told kept_work
+              stood.clean;
+          quiet = stood.quiet;
+          gives = gives-stay runner answer commit keeper.number (Keeps keeper KnowsAnything)
+              (Keeps kept KnowsAnything) (kept-number keeper)
+              (λ one keeps. kept-number kept one keeps
+              ∙ ap (λ (other : Kept). Some other.number) is)
+              before now stood.stands stands
+              kept_work
+              (extended before now runner commit (Keeps keeper KnowsAnything) stood.stands
+              keeper.token stood.same call tt _ (λ result stood. refl) made)
+              stood.gives;
+        })
+        (λ fault. fault)
+
+    -- it stages the free text
+    pub stages : (freeing : Maker) →
+        MakesCall before.admits now.admits before.told now.told keeper.token
+        (writes FreeStage free_text) (λ result. LeadsTo (freeing_of keeper) result (Ok freeing)) →
+        StandsIn now.admits now.told keeper.token (HasStagedFree freeing) →
+        Leaves work keeper.token before.told now.told →
+        AlwaysStaysLawful before.admits before.told now.told → before.faults ≤ now.faults →
+        Turns before now runner (Freeing freeing answer)
+    stages freeing made next left lawful never_falls =
+        let is = leads (freeing_of keeper) made.answer freeing made.shown in
+        let call = writes FreeStage free_text in
+        let stands = goes-on before now runner commit (Keeps keeper KnowsAnything) stood.stands
+        keeper.token stood.same call tt _ (λ result stood. refl) made (HasStagedFree freeing) next in
+        let kept_work = subst (λ (token : Token). Leaves work token before.told now.told) stood.same
+        left in
+        turns before now runner commit (Keeps keeper KnowsAnything) stood.stands keeper.token
+        stood.same call tt _ (λ result stood. refl) made lawful never_falls (Freeing freeing answer)
+        (record {
+          same = ap (λ (one : Maker). one.token) is ∙ stood.same;
+          stands = stands;
+          clean = clean-stays runner.token answer.outcome.cause before.told now.told kept_work
+              stood.clean;
+          quiet = stood.quiet;
+          gives = gives-stay runner answer commit keeper.number (Keeps keeper KnowsAnything)
+              (HasStagedFree freeing) (kept-number keeper)
+              (λ one staged. staged-number freeing one staged
+              ∙ ap (λ (other : Maker). Some other.number) is)
+              before now stood.stands stands
+              kept_work
+              (extended before now runner commit (Keeps keeper KnowsAnything) stood.stands
+              keeper.token stood.same call tt _ (λ result stood. refl) made)
+              stood.gives;
+        })
+        (λ fault. fault)
+
+  module _ (freeing : Maker) (stood : StandsFreeing before runner freeing answer) where
+    -- it moves the free text to its lock
+    pub frees : (ended : Ended) →
+        MakesCall before.admits now.admits before.told now.told freeing.token
+        (renames FreeStage (Lock freeing.number)) (λ result. LeadsTo the_end result (Ok ended)) →
+        StandsIn now.admits now.told freeing.token (HasFreed freeing.number) →
+        Leaves work freeing.token before.told now.told →
+        AlwaysStaysLawful before.admits before.told now.told → before.faults ≤ now.faults →
+        Turns before now runner (Answering answer)
+    frees ended made next left lawful never_falls =
+        let call = renames FreeStage (Lock freeing.number) in
+        let stands = goes-on before now runner commit (HasStagedFree freeing) stood.stands
+        freeing.token stood.same call tt _ (λ result stood. refl) made (HasFreed freeing.number)
+        next in
+        let kept_work = subst (λ (token : Token). Leaves work token before.told now.told) stood.same
+        left in
+        turns before now runner commit (HasStagedFree freeing) stood.stands freeing.token
+        stood.same call tt _ (λ result stood. refl) made lawful never_falls (Answering answer)
+        (record {
+          may_answer = may-answer-now now.admits runner.token _ now.told stands;
+          gives = gives-stay runner answer commit freeing.number (HasStagedFree freeing)
+              (HasFreed freeing.number) (staged-number freeing) (freed-number freeing.number)
+              before now stood.stands stands
+              kept_work
+              (extended before now runner commit (HasStagedFree freeing) stood.stands
+              freeing.token stood.same call tt _ (λ result stood. refl) made)
+              stood.gives;
+          left = λ goes_on. freed-left runner.token answer.outcome.cause now.admits
+              (Runs runner commit (HasFreed freeing.number)) freeing.number
+              (λ one runs. runs.holds) now.told stands
+              (clean-stays runner.token answer.outcome.cause before.told now.told kept_work
+              stood.clean);
+        })
+        stood.quiet

@@ -1,0 +1,79 @@
+use Rattle.std.proofs.Common.{sym, ap, ◌∙◌, Err}
+use Rattle.acct_outside.specs.declared.CommitStage.TheVariants.{Before}
+use Rattle.suite_rules.specs.Standing.{commit_uncalled}
+use Rattle.commit_steps.specs.States.{step_on}
+use Rattle.commit_steps.specs.Walks.{token_of}
+use Rattle.commit_steps.specs.Stands.{BacksUp}
+use Rattle.commit_steps.specs.Outcomes.{backup_call}
+use Rattle.suite_rules.specs.Outcomes.{before_commit}
+use Rattle.suite_session.specs.declared.state.State.TheVariants.{BackingUp}
+use Rattle.suite_session.specs.Moment.{moment, commit_at}
+use Rattle.suite_session.specs.Locking.{cause_of_fault}
+use Rattle.suite_session.proofs.TurnLemmas.{turns, stops}
+use Rattle.suite_session.proofs.UnlockingTurns.{fault-stage, fault-met, fault-left, fault-plain}
+use Rattle.suite_session.proofs.LeadsLemmas.{leads-on, leads-stage, leads-failed}
+use Rattle.suite_session.proofs.CommittingTurns.{at-place, backs-on, backup-calls, backup-quiet, walks-nearer}
+use Rattle.suite_session.proofs.CallsLemmas.{answers-fewer, backed-calls, backing-some}
+use Rattle.suite_session.proofs.committing.back_up_next.Goals as goal
+
+pub returns-in-Ok-clause-turns : goal.returns-in-Ok-clause-turns
+returns-in-Ok-clause-turns g c =
+    let before = moment (g.F.Folder.admits c.args.folder.now) (g.F.Folder.told c.args.folder.now)
+    (g.F.Folder.fault_count c.args.folder.now) in
+    let now = moment (g.F.Folder.admits c.back_up_next.new.folder)
+    (g.F.Folder.told c.back_up_next.new.folder)
+    (g.F.Folder.fault_count c.back_up_next.new.folder) in
+    let shown = at-place c.args.backing c.requires.left c.in-Ok.ensures.call in
+    turns before now c.args.runner.now commit_uncalled (BacksUp c.args.backing)
+    c.requires.stands.stands (token_of c.args.backing) c.requires.stands.same
+    (backup_call c.args.backing shown.0) (backup-calls c.args.runner.now c.args.answer
+    c.args.backing shown.0 c.requires.stands.of_change shown.2) _
+    (backup-quiet c.args.backing shown.0) shown.1
+    c.back_up_next.ensures.lawful c.back_up_next.ensures.faults.never_falls
+    (BackingUp c.in-Ok.backing c.args.answer)
+    (backs-on before now c.args.runner.now c.args.answer c.args.backing c.requires.stands shown.0
+    shown.2 c.in-Ok.backing shown.1 c.in-Ok.ensures.next)
+    (λ fault. fault)
+
+pub returns-in-Ok-clause-nearer : goal.returns-in-Ok-clause-nearer
+returns-in-Ok-clause-nearer g c =
+    let shown = at-place c.args.backing c.requires.left c.in-Ok.ensures.call in
+    walks-nearer 5 c.args.backing c.in-Ok.backing
+    (leads-on (step_on c.args.backing) before_commit shown.1.answer c.in-Ok.backing shown.1.shown)
+    c.requires.left
+
+pub returns-in-Err-clause-turns : goal.returns-in-Err-clause-turns
+returns-in-Err-clause-turns g c =
+    let before = moment (g.F.Folder.admits c.args.folder.now) (g.F.Folder.told c.args.folder.now)
+    (g.F.Folder.fault_count c.args.folder.now) in
+    let now = moment (g.F.Folder.admits c.back_up_next.new.folder)
+    (g.F.Folder.told c.back_up_next.new.folder)
+    (g.F.Folder.fault_count c.back_up_next.new.folder) in
+    let shown = at-place c.args.backing c.requires.left c.in-Err.ensures.call in
+    let fault = c.in-Err.fault in
+    let stage = leads-stage (step_on c.args.backing) Before shown.1.answer fault shown.1.shown in
+    stops before now c.args.runner.now commit_uncalled (BacksUp c.args.backing)
+    c.requires.stands.stands (token_of c.args.backing) c.requires.stands.same
+    (backup_call c.args.backing shown.0) (backup-calls c.args.runner.now c.args.answer
+    c.args.backing shown.0 c.requires.stands.of_change shown.2) _
+    (backup-quiet c.args.backing shown.0) shown.1
+    c.back_up_next.ensures.lawful c.back_up_next.ensures.faults.never_falls
+    (cause_of_fault fault.stage fault.fault) c.given_up.result c.given_up.ensures
+    (fault-plain fault.stage fault.fault)
+    (fault-met now c.args.runner.now fault.stage fault.fault)
+    (fault-left now c.args.runner.now fault.stage fault.fault)
+    (ap commit_at (sym (fault-stage fault.stage fault.fault ∙ stage)))
+    (λ told. c.back_up_next.ensures.faults.failed (c.in-Err.is
+    ∙ ap Err (leads-failed (step_on c.args.backing) Before shown.1.answer fault shown.1.shown
+    told)))
+
+pub returns-in-Ok-clause-counted : goal.returns-in-Ok-clause-counted
+returns-in-Ok-clause-counted g c =
+    let shown = at-place c.args.backing c.requires.left c.in-Ok.ensures.call in
+    backed-calls c.args.backing c.in-Ok.backing c.args.answer
+    (leads-on (step_on c.args.backing) before_commit shown.1.answer c.in-Ok.backing shown.1.shown)
+    c.requires.left
+
+pub returns-in-Err-clause-counted : goal.returns-in-Err-clause-counted
+returns-in-Err-clause-counted g c =
+    answers-fewer _ _ c.given_up.result c.given_up.ensures _ (backing-some c.args.backing c.args.answer)

@@ -1,0 +1,72 @@
+use Rattle.std.proofs.Common.{refl, sym, ap, subst, ◌∙◌, Err}
+use Rattle.acct_outside.specs.declared.CommitStage.TheVariants.{Committed}
+use Rattle.acct_outside.specs.declared.Name.TheVariants.{Intent}
+use Rattle.acct_outside.specs.Calls.{removes}
+use Rattle.suite_rules.specs.Standing.{commit_done}
+use Rattle.suite_rules.specs.Outcomes.{after_commit}
+use Rattle.lock_steps.specs.States.{Kept}
+use Rattle.commit_steps.specs.Walks.{token_of}
+use Rattle.commit_steps.specs.Stands.{Installs}
+use Rattle.suite_session.specs.declared.state.State.TheVariants.{Unlocking}
+use Rattle.suite_session.specs.Stands.{Turns}
+use Rattle.suite_session.specs.Moment.{moment, commit_at}
+use Rattle.suite_session.specs.Locking.{cause_of_fault}
+use Rattle.suite_session.proofs.TurnLemmas.{turns, stops}
+use Rattle.suite_session.proofs.UnlockingTurns.{fault-stage, fault-met, fault-left, fault-plain}
+use Rattle.suite_session.proofs.LeadsLemmas.{leads-on, leads-stage, leads-failed}
+use Rattle.suite_session.proofs.CommittingTurns.{clears}
+use Rattle.suite_session.proofs.CallsLemmas.{answers-fewer, cleared-calls, installing-some}
+use Rattle.suite_session.proofs.committing.clear.Goals as goal
+
+pub returns-in-Ok-clause-turns : goal.returns-in-Ok-clause-turns
+returns-in-Ok-clause-turns g c =
+    let before = moment (g.F.Folder.admits c.args.folder.now) (g.F.Folder.told c.args.folder.now)
+    (g.F.Folder.fault_count c.args.folder.now) in
+    let now = moment (g.F.Folder.admits c.clear.new.folder) (g.F.Folder.told c.clear.new.folder)
+    (g.F.Folder.fault_count c.clear.new.folder) in
+    subst (λ (kept : Kept). Turns before now c.args.runner.now (Unlocking kept c.args.answer))
+    (sym (c.forget.ensures ∙ c.release.ensures))
+    (turns before now c.args.runner.now commit_done (Installs c.args.installing)
+    c.requires.stands.stands (token_of c.args.installing) c.requires.stands.same
+    (removes Intent) tt _ (λ result stood. refl) c.in-Ok.ensures.call
+    c.clear.ensures.lawful c.clear.ensures.faults.never_falls
+    (Unlocking c.in-Ok.cleared c.args.answer)
+    (clears before now c.args.runner.now c.args.answer c.args.installing c.requires.stands
+    (removes Intent) tt _ (λ result stood. refl) c.in-Ok.ensures.call c.in-Ok.cleared
+    (leads-on c.args.installing.change.inputs.keeper after_commit c.in-Ok.ensures.call.answer
+    c.in-Ok.cleared c.in-Ok.ensures.call.shown) c.in-Ok.ensures.next)
+    (λ fault. fault))
+
+pub returns-in-Err-clause-turns : goal.returns-in-Err-clause-turns
+returns-in-Err-clause-turns g c =
+    let before = moment (g.F.Folder.admits c.args.folder.now) (g.F.Folder.told c.args.folder.now)
+    (g.F.Folder.fault_count c.args.folder.now) in
+    let now = moment (g.F.Folder.admits c.clear.new.folder) (g.F.Folder.told c.clear.new.folder)
+    (g.F.Folder.fault_count c.clear.new.folder) in
+    let fault = c.in-Err.fault in
+    let stage = leads-stage (c.args.installing.change.inputs.keeper) Committed
+    c.in-Err.ensures.call.answer fault c.in-Err.ensures.call.shown in
+    stops before now c.args.runner.now commit_done (Installs c.args.installing)
+    c.requires.stands.stands (token_of c.args.installing) c.requires.stands.same (removes Intent)
+    tt _
+    (λ result stood. refl) c.in-Err.ensures.call
+    c.clear.ensures.lawful c.clear.ensures.faults.never_falls
+    (cause_of_fault fault.stage fault.fault) c.given_up.result c.given_up.ensures
+    (fault-plain fault.stage fault.fault)
+    (fault-met now c.args.runner.now fault.stage fault.fault)
+    (fault-left now c.args.runner.now fault.stage fault.fault)
+    (ap commit_at (sym (fault-stage fault.stage fault.fault ∙ stage)))
+    (λ told. c.clear.ensures.faults.failed (c.in-Err.is
+    ∙ ap Err (leads-failed (c.args.installing.change.inputs.keeper) Committed
+    c.in-Err.ensures.call.answer fault c.in-Err.ensures.call.shown told)))
+
+pub returns-in-Ok-clause-counted : goal.returns-in-Ok-clause-counted
+returns-in-Ok-clause-counted g c =
+    cleared-calls c.args.installing c.forget.result c.args.answer
+    (c.forget.ensures ∙ (c.release.ensures
+    ∙ leads-on c.args.installing.change.inputs.keeper after_commit c.in-Ok.ensures.call.answer
+    c.in-Ok.cleared c.in-Ok.ensures.call.shown))
+
+pub returns-in-Err-clause-counted : goal.returns-in-Err-clause-counted
+returns-in-Err-clause-counted g c =
+    answers-fewer _ _ c.given_up.result c.given_up.ensures _ (installing-some c.args.installing c.args.answer)

@@ -1,0 +1,63 @@
+use Rattle.std.proofs.Common.{ap, ◌∙◌, Err}
+use Rattle.suite_rules.specs.Outcomes.{at_commit}
+use Rattle.commit_steps.specs.States.{walk_of}
+use Rattle.suite_session.specs.Moment.{moment}
+use Rattle.suite_session.specs.Locking.{cause_of_fault}
+use Rattle.suite_session.proofs.TurnLemmas.{answers-fault}
+use Rattle.suite_session.proofs.LeadsLemmas.{leads-on}
+use Rattle.suite_session.proofs.CommittingTurns.{is-deed, commit-grew, commits-stands, unsure-stands, commit-failed}
+use Rattle.suite_session.proofs.CallsLemmas.{answers-fewer, committed-calls, committing-some}
+use Rattle.suite_session.proofs.committing.commit.Goals as goal
+
+pub returns-in-Ok-clause-turns : goal.returns-in-Ok-clause-turns
+returns-in-Ok-clause-turns g c =
+    let before = moment (g.F.Folder.admits c.args.folder.now) (g.F.Folder.told c.args.folder.now)
+    (g.F.Folder.fault_count c.args.folder.now) in
+    let now = moment (g.F.Folder.admits c.commit.new.folder) (g.F.Folder.told c.commit.new.folder)
+    (g.F.Folder.fault_count c.commit.new.folder) in
+    record {
+      stands = commits-stands before now c.args.runner.now c.args.answer c.args.staged c.requires _
+          c.in-Ok.ensures.call c.commit.ensures.own c.in-Ok.installing
+          (leads-on (walk_of c.args.staged) at_commit c.in-Ok.ensures.call.answer
+          c.in-Ok.installing c.in-Ok.ensures.call.shown) c.in-Ok.ensures.next;
+      grew = commit-grew before now c.args.runner.now c.args.answer c.args.staged c.requires _
+          c.in-Ok.ensures.call c.commit.ensures.own;
+      lawful = λ deeds ours. c.commit.ensures.lawful deeds
+          (is-deed before now c.args.runner.now c.args.answer c.args.staged c.requires deeds ours);
+      narrows = c.in-Ok.ensures.call.narrows;
+      never_falls = c.commit.ensures.faults.never_falls;
+      risen = λ fault. absurd fault;
+    }
+
+pub returns-in-Err-clause-turns : goal.returns-in-Err-clause-turns
+returns-in-Err-clause-turns g c =
+    let before = moment (g.F.Folder.admits c.args.folder.now) (g.F.Folder.told c.args.folder.now)
+    (g.F.Folder.fault_count c.args.folder.now) in
+    let now = moment (g.F.Folder.admits c.commit.new.folder) (g.F.Folder.told c.commit.new.folder)
+    (g.F.Folder.fault_count c.commit.new.folder) in
+    let fault = c.in-Err.fault in
+    record {
+      stands = unsure-stands before now c.args.runner.now c.args.answer c.args.staged c.requires _
+          c.in-Err.ensures.call c.commit.ensures.own fault c.given_up.result c.given_up.ensures
+          c.in-Err.ensures.unsure;
+      grew = commit-grew before now c.args.runner.now c.args.answer c.args.staged c.requires _
+          c.in-Err.ensures.call c.commit.ensures.own;
+      lawful = λ deeds ours. c.commit.ensures.lawful deeds
+          (is-deed before now c.args.runner.now c.args.answer c.args.staged c.requires deeds ours);
+      narrows = c.in-Err.ensures.call.narrows;
+      never_falls = c.commit.ensures.faults.never_falls;
+      risen = λ told. c.commit.ensures.faults.failed (c.in-Err.is
+          ∙ ap Err (commit-failed (walk_of c.args.staged) c.in-Err.ensures.call.answer fault
+          c.in-Err.ensures.call.shown (answers-fault c.args.runner.now.asked.request.tool
+          (cause_of_fault fault.stage fault.fault) c.given_up.result c.given_up.ensures told)));
+    }
+
+pub returns-in-Ok-clause-counted : goal.returns-in-Ok-clause-counted
+returns-in-Ok-clause-counted g c =
+    committed-calls c.args.staged c.in-Ok.installing c.args.answer
+    (leads-on (walk_of c.args.staged) at_commit c.in-Ok.ensures.call.answer
+    c.in-Ok.installing c.in-Ok.ensures.call.shown)
+
+pub returns-in-Err-clause-counted : goal.returns-in-Err-clause-counted
+returns-in-Err-clause-counted g c =
+    answers-fewer _ _ c.given_up.result c.given_up.ensures _ (committing-some c.args.staged c.args.answer)

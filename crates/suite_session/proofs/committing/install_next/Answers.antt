@@ -1,0 +1,83 @@
+use Rattle.std.proofs.Common.{sym, ap, ◌∙◌, Err}
+use Rattle.acct_outside.specs.declared.CommitStage.TheVariants.{Committed}
+use Rattle.suite_rules.specs.Standing.{commit_done}
+use Rattle.commit_steps.specs.States.{step_on}
+use Rattle.commit_steps.specs.Walks.{token_of}
+use Rattle.commit_steps.specs.Stands.{Installs}
+use Rattle.commit_steps.specs.Outcomes.{install_call}
+use Rattle.suite_rules.specs.Outcomes.{after_commit}
+use Rattle.suite_session.specs.declared.state.State.TheVariants.{Installing}
+use Rattle.suite_session.specs.Moment.{moment, commit_at}
+use Rattle.suite_session.specs.Locking.{cause_of_fault}
+use Rattle.suite_session.proofs.TurnLemmas.{turns, stops}
+use Rattle.suite_session.proofs.UnlockingTurns.{fault-stage, fault-met, fault-left, fault-plain}
+use Rattle.suite_session.proofs.LeadsLemmas.{leads-on, leads-stage, leads-failed}
+use Rattle.suite_session.proofs.CommittingTurns.{at-place, installs-on, install-calls, install-quiet, walks-nearer}
+use Rattle.suite_session.proofs.CallsLemmas.{answers-fewer, installed-calls, installing-some}
+use Rattle.suite_session.proofs.committing.install_next.Goals as goal
+
+pub returns-in-Ok-clause-turns : goal.returns-in-Ok-clause-turns
+returns-in-Ok-clause-turns g c =
+    let before = moment (g.F.Folder.admits c.args.folder.now) (g.F.Folder.told c.args.folder.now)
+    (g.F.Folder.fault_count c.args.folder.now) in
+    let now = moment (g.F.Folder.admits c.install_next.new.folder)
+    (g.F.Folder.told c.install_next.new.folder)
+    (g.F.Folder.fault_count c.install_next.new.folder) in
+    let shown = at-place c.args.installing c.requires.left c.in-Ok.ensures.call in
+    turns before now c.args.runner.now commit_done (Installs c.args.installing)
+    c.requires.stands.stands (token_of c.args.installing) c.requires.stands.same
+    (install_call c.args.installing shown.0) (install-calls _ c.args.installing shown.0) _
+    (install-quiet c.args.installing shown.0) shown.1
+    c.install_next.ensures.lawful c.install_next.ensures.faults.never_falls
+    (Installing c.in-Ok.installing c.args.answer)
+    (installs-on before now c.args.runner.now c.args.answer c.args.installing c.requires.stands
+    (install_call c.args.installing shown.0) (install-calls _ c.args.installing shown.0) _
+    (install-quiet c.args.installing shown.0) shown.1 c.in-Ok.installing
+    (leads-on (step_on c.args.installing) after_commit shown.1.answer c.in-Ok.installing
+    shown.1.shown) c.in-Ok.ensures.next)
+    (λ fault. fault)
+
+pub returns-in-Ok-clause-nearer : goal.returns-in-Ok-clause-nearer
+returns-in-Ok-clause-nearer g c =
+    let shown = at-place c.args.installing c.requires.left c.in-Ok.ensures.call in
+    walks-nearer 3 c.args.installing c.in-Ok.installing
+    (leads-on (step_on c.args.installing) after_commit shown.1.answer c.in-Ok.installing
+    shown.1.shown)
+    c.requires.left
+
+pub returns-in-Err-clause-turns : goal.returns-in-Err-clause-turns
+returns-in-Err-clause-turns g c =
+    let before = moment (g.F.Folder.admits c.args.folder.now) (g.F.Folder.told c.args.folder.now)
+    (g.F.Folder.fault_count c.args.folder.now) in
+    let now = moment (g.F.Folder.admits c.install_next.new.folder)
+    (g.F.Folder.told c.install_next.new.folder)
+    (g.F.Folder.fault_count c.install_next.new.folder) in
+    let shown = at-place c.args.installing c.requires.left c.in-Err.ensures.call in
+    let fault = c.in-Err.fault in
+    let stage = leads-stage (step_on c.args.installing) Committed shown.1.answer fault
+    shown.1.shown in
+    stops before now c.args.runner.now commit_done (Installs c.args.installing)
+    c.requires.stands.stands (token_of c.args.installing) c.requires.stands.same
+    (install_call c.args.installing shown.0) (install-calls _ c.args.installing shown.0) _
+    (install-quiet c.args.installing shown.0) shown.1
+    c.install_next.ensures.lawful c.install_next.ensures.faults.never_falls
+    (cause_of_fault fault.stage fault.fault) c.given_up.result c.given_up.ensures
+    (fault-plain fault.stage fault.fault)
+    (fault-met now c.args.runner.now fault.stage fault.fault)
+    (fault-left now c.args.runner.now fault.stage fault.fault)
+    (ap commit_at (sym (fault-stage fault.stage fault.fault ∙ stage)))
+    (λ told. c.install_next.ensures.faults.failed (c.in-Err.is
+    ∙ ap Err (leads-failed (step_on c.args.installing) Committed shown.1.answer fault shown.1.shown
+    told)))
+
+pub returns-in-Ok-clause-counted : goal.returns-in-Ok-clause-counted
+returns-in-Ok-clause-counted g c =
+    let shown = at-place c.args.installing c.requires.left c.in-Ok.ensures.call in
+    installed-calls c.args.installing c.in-Ok.installing c.args.answer
+    (leads-on (step_on c.args.installing) after_commit shown.1.answer c.in-Ok.installing
+    shown.1.shown)
+    c.requires.left
+
+pub returns-in-Err-clause-counted : goal.returns-in-Err-clause-counted
+returns-in-Err-clause-counted g c =
+    answers-fewer _ _ c.given_up.result c.given_up.ensures _ (installing-some c.args.installing c.args.answer)

@@ -1,0 +1,70 @@
+use Rattle.std.proofs.Common.{refl, sym, ap, ◌∙◌, Err}
+use Rattle.acct_outside.specs.declared.CommitStage.TheVariants.{Before}
+use Rattle.acct_outside.specs.declared.Name.TheVariants.{IntentStage}
+use Rattle.acct_outside.specs.Calls.{writes}
+use Rattle.intent_file.specs.Intent.{intent_text}
+use Rattle.suite_rules.specs.Standing.{commit_uncalled}
+use Rattle.suite_rules.specs.Outcomes.{before_commit}
+use Rattle.commit_steps.specs.States.{intended}
+use Rattle.commit_steps.specs.Walks.{token_of}
+use Rattle.commit_steps.specs.Stands.{BacksUp}
+use Rattle.suite_session.specs.declared.state.State.TheVariants.{Committing}
+use Rattle.suite_session.specs.Moment.{moment, commit_at}
+use Rattle.suite_session.specs.Locking.{cause_of_fault}
+use Rattle.suite_session.proofs.TurnLemmas.{turns, stops}
+use Rattle.suite_session.proofs.UnlockingTurns.{fault-stage, fault-met, fault-left, fault-plain}
+use Rattle.suite_session.proofs.LeadsLemmas.{leads-on, leads-stage, leads-failed}
+use Rattle.suite_session.proofs.CommittingTurns.{stages-intent}
+use Rattle.suite_session.proofs.CallsLemmas.{answers-fewer, backing-some, intended-calls}
+use Rattle.suite_session.proofs.committing.stage_intent.Goals as goal
+
+pub returns-in-Ok-clause-turns : goal.returns-in-Ok-clause-turns
+returns-in-Ok-clause-turns g c =
+    let before = moment (g.F.Folder.admits c.args.folder.now) (g.F.Folder.told c.args.folder.now)
+    (g.F.Folder.fault_count c.args.folder.now) in
+    let now = moment (g.F.Folder.admits c.stage_intent.new.folder)
+    (g.F.Folder.told c.stage_intent.new.folder)
+    (g.F.Folder.fault_count c.stage_intent.new.folder) in
+    turns before now c.args.runner.now commit_uncalled (BacksUp c.args.backing)
+    c.requires.stands.stands (token_of c.args.backing) c.requires.stands.same
+    (writes IntentStage (intent_text (intended c.args.backing.change))) tt _ (λ result stood. refl)
+    c.in-Ok.ensures.call
+    c.stage_intent.ensures.lawful c.stage_intent.ensures.faults.never_falls
+    (Committing c.in-Ok.staged c.args.answer)
+    (stages-intent before now c.args.runner.now c.args.answer c.args.backing c.requires.stands
+    (writes IntentStage (intent_text (intended c.args.backing.change))) tt (λ result stood. refl)
+    c.in-Ok.staged c.in-Ok.ensures.call c.in-Ok.ensures.next)
+    (λ fault. fault)
+
+pub returns-in-Err-clause-turns : goal.returns-in-Err-clause-turns
+returns-in-Err-clause-turns g c =
+    let before = moment (g.F.Folder.admits c.args.folder.now) (g.F.Folder.told c.args.folder.now)
+    (g.F.Folder.fault_count c.args.folder.now) in
+    let now = moment (g.F.Folder.admits c.stage_intent.new.folder)
+    (g.F.Folder.told c.stage_intent.new.folder)
+    (g.F.Folder.fault_count c.stage_intent.new.folder) in
+    let fault = c.in-Err.fault in
+    let stage = leads-stage (c.args.backing.change) Before c.in-Err.ensures.call.answer fault
+    c.in-Err.ensures.call.shown in
+    stops before now c.args.runner.now commit_uncalled (BacksUp c.args.backing)
+    c.requires.stands.stands (token_of c.args.backing) c.requires.stands.same
+    (writes IntentStage (intent_text (intended c.args.backing.change))) tt _
+    (λ result stood. refl) c.in-Err.ensures.call
+    c.stage_intent.ensures.lawful c.stage_intent.ensures.faults.never_falls
+    (cause_of_fault fault.stage fault.fault) c.given_up.result c.given_up.ensures
+    (fault-plain fault.stage fault.fault)
+    (fault-met now c.args.runner.now fault.stage fault.fault)
+    (fault-left now c.args.runner.now fault.stage fault.fault)
+    (ap commit_at (sym (fault-stage fault.stage fault.fault ∙ stage)))
+    (λ told. c.stage_intent.ensures.faults.failed (c.in-Err.is
+    ∙ ap Err (leads-failed (c.args.backing.change) Before c.in-Err.ensures.call.answer fault
+    c.in-Err.ensures.call.shown told)))
+
+pub returns-in-Ok-clause-counted : goal.returns-in-Ok-clause-counted
+returns-in-Ok-clause-counted g c =
+    intended-calls c.args.backing c.in-Ok.staged c.args.answer
+    (leads-on c.args.backing.change before_commit _ c.in-Ok.staged c.in-Ok.ensures.call.shown)
+
+pub returns-in-Err-clause-counted : goal.returns-in-Err-clause-counted
+returns-in-Err-clause-counted g c =
+    answers-fewer _ _ c.given_up.result c.given_up.ensures _ (backing-some c.args.backing c.args.answer)

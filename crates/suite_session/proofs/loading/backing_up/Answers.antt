@@ -1,0 +1,17 @@
+use Rattle.std.proofs.Common.{◌≡◌, ap, subst}
+use Rattle.account_model.specs.Words.{Asks}
+use Rattle.suite_session.specs.Runner.{Question, Runner}
+use Rattle.suite_session.proofs.LoadingTurns.{change-is, of-change}
+use Rattle.suite_session.proofs.loading.backing_up.Goals as goal
+
+pub prepare-requires : goal.prepare-requires
+prepare-requires c = change-is c.args.runner.now.asked c.args.loaded.files c.args.loaded.defs
+    c.args.new c.requires.1
+
+pub returns-in-Ok : goal.returns-in-Ok
+returns-in-Ok c =
+    let asked : c.runner.inside.asked ≡ c.args.runner.now.asked =
+    ap (λ (one : Runner). one.asked) c.runner.view_is in
+    of-change c.args.runner.now c.args.loaded c.args.new c.args.answer
+    (subst (λ (one : Question). Asks one.command.words one.request) asked c.tool.ensures.asks)
+    c.requires c.in-Ok.backing c.in-Ok.ensures

@@ -1,0 +1,59 @@
+use Rattle.std.proofs.Common.{refl, sym, ap, ◌∙◌, ◌+◌, Err, arith, rules}
+use Rattle.suite_session.specs.declared.state.State.TheVariants.{Confirming}
+use Rattle.acct_outside.specs.Calls.{creates}
+use Rattle.suite_rules.specs.Standing.{commit_uncalled}
+use Rattle.lock_steps.specs.Stands.{HasMade, HasJudged}
+use Rattle.suite_session.specs.Moment.{moment, commit_at}
+use Rattle.suite_session.proofs.MetLemmas.{claim-met}
+use Rattle.suite_session.proofs.TurnLemmas.{got, unkept-left, goes-on, turns, stops}
+use Rattle.suite_session.proofs.LeavingLemmas.{claim-unkept}
+use Rattle.suite_session.proofs.LockingLemmas.{end-plain, end-stage, end-failed, claims-token}
+use Rattle.suite_session.proofs.CallsLemmas.{answers-fewer}
+use Rattle.suite_session.proofs.locking.claim.Goals as goal
+
+pub returns-in-Ok-clause-turns : goal.returns-in-Ok-clause-turns
+returns-in-Ok-clause-turns g c =
+    let before = moment (g.F.Folder.admits c.args.folder.now) (g.F.Folder.told c.args.folder.now)
+    (g.F.Folder.fault_count c.args.folder.now) in
+    let now = moment (g.F.Folder.admits c.claim.new.folder) (g.F.Folder.told c.claim.new.folder)
+    (g.F.Folder.fault_count c.claim.new.folder) in
+    turns before now c.args.runner.now commit_uncalled (HasJudged c.args.judged) c.requires.1
+    c.args.judged.token c.requires.0 (creates (c.args.judged.greatest + 1)) tt _ (λ result stood. refl)
+    c.claim.ensures.call
+    c.claim.ensures.lawful c.claim.ensures.faults.never_falls (Confirming c.in-Ok.claimed) (
+      claims-token _ _ _ c.in-Ok.ensures.call.shown ∙ c.requires.0,
+      goes-on before now c.args.runner.now commit_uncalled (HasJudged c.args.judged) c.requires.1
+          c.args.judged.token c.requires.0 (creates (c.args.judged.greatest + 1)) tt _ (λ result stood. refl)
+          c.claim.ensures.call
+          (HasMade c.in-Ok.claimed) c.in-Ok.ensures.next,
+    )
+    (λ fault. fault)
+
+pub returns-in-Err-clause-turns : goal.returns-in-Err-clause-turns
+returns-in-Err-clause-turns g c =
+    let before = moment (g.F.Folder.admits c.args.folder.now) (g.F.Folder.told c.args.folder.now)
+    (g.F.Folder.fault_count c.args.folder.now) in
+    let now = moment (g.F.Folder.admits c.claim.new.folder) (g.F.Folder.told c.claim.new.folder)
+    (g.F.Folder.fault_count c.claim.new.folder) in
+    stops before now c.args.runner.now commit_uncalled (HasJudged c.args.judged) c.requires.1
+    c.args.judged.token c.requires.0 (creates (c.args.judged.greatest + 1)) tt _ (λ result stood. refl)
+    c.claim.ensures.call
+    c.claim.ensures.lawful c.claim.ensures.faults.never_falls _ c.stopped.result
+    c.stopped.ensures (end-plain c.in-Err.end)
+    (claim-met c.args.runner.now.token now.told c.args.judged c.in-Err.ensures.call.answer c.in-Err.end
+    c.in-Err.ensures.call.shown
+    (got before now c.args.runner.now commit_uncalled (HasJudged c.args.judged) c.requires.1
+    c.args.judged.token c.requires.0 (creates (c.args.judged.greatest + 1)) tt _ (λ result stood. refl)
+    c.in-Err.ensures.call))
+    (unkept-left before now c.args.runner.now commit_uncalled (HasJudged c.args.judged) c.requires.1
+    c.args.judged.token c.requires.0 (creates (c.args.judged.greatest + 1)) tt _
+    (λ result stood. refl) c.in-Err.ensures.call _ (end-plain c.in-Err.end)
+    (claim-unkept c.args.judged c.in-Err.ensures.call.answer c.in-Err.end
+    c.in-Err.ensures.call.shown))
+    (ap commit_at (sym (end-stage c.in-Err.end)))
+    (λ fault. c.claim.ensures.faults.failed
+    (c.in-Err.is ∙ ap Err (end-failed c.in-Err.end fault)))
+
+pub returns-in-Err-clause-counted : goal.returns-in-Err-clause-counted
+returns-in-Err-clause-counted g c =
+    answers-fewer _ _ c.stopped.result c.stopped.ensures _ (search (arith, rules))

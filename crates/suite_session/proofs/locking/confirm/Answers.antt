@@ -1,0 +1,70 @@
+use Rattle.std.proofs.Common.{refl, sym, ap, ◌∙◌, Err}
+use Rattle.acct_outside.specs.Calls.{lists}
+use Rattle.suite_rules.specs.Standing.{commit_uncalled}
+use Rattle.lock_steps.specs.Stands.{HasMade}
+use Rattle.suite_session.specs.Moment.{moment, commit_at}
+use Rattle.suite_session.proofs.MetLemmas.{confirm-met}
+use Rattle.suite_session.proofs.TurnLemmas.{got, unkept-left, turns, stops}
+use Rattle.suite_session.proofs.LeavingLemmas.{confirm-unkept}
+use Rattle.suite_session.proofs.LockingLemmas.{end-plain, end-stage, end-failed}
+use Rattle.suite_session.proofs.LockingTurns.{confirm-stands, confirm-quiet}
+use Rattle.suite_session.proofs.CallsLemmas.{answers-listed, listing-calls}
+use Rattle.suite_session.proofs.locking.confirm.Goals as goal
+
+pub returns-in-Ok-clause-turns : goal.returns-in-Ok-clause-turns
+returns-in-Ok-clause-turns g c =
+    let before = moment (g.F.Folder.admits c.args.folder.now) (g.F.Folder.told c.args.folder.now)
+    (g.F.Folder.fault_count c.args.folder.now) in
+    let now = moment (g.F.Folder.admits c.confirm.new.folder) (g.F.Folder.told c.confirm.new.folder)
+    (g.F.Folder.fault_count c.confirm.new.folder) in
+    rw c.after_listing.ensures
+    (turns before now c.args.runner.now commit_uncalled (HasMade c.args.claimed) c.requires.1
+    c.args.claimed.token c.requires.0 (lists) tt _ (λ result stood. refl)
+    c.confirm.ensures.call
+    c.confirm.ensures.lawful c.confirm.ensures.faults.never_falls _
+    (confirm-stands before now c.args.runner.now c.args.claimed c.requires.1 c.requires.0
+    c.in-Ok.confirmed c.in-Ok.ensures.call c.in-Ok.ensures.next)
+    (confirm-quiet c.in-Ok.confirmed))
+
+pub returns-in-Err-clause-turns : goal.returns-in-Err-clause-turns
+returns-in-Err-clause-turns g c =
+    let before = moment (g.F.Folder.admits c.args.folder.now) (g.F.Folder.told c.args.folder.now)
+    (g.F.Folder.fault_count c.args.folder.now) in
+    let now = moment (g.F.Folder.admits c.confirm.new.folder) (g.F.Folder.told c.confirm.new.folder)
+    (g.F.Folder.fault_count c.confirm.new.folder) in
+    stops before now c.args.runner.now commit_uncalled (HasMade c.args.claimed) c.requires.1
+    c.args.claimed.token c.requires.0 (lists) tt _ (λ result stood. refl)
+    c.confirm.ensures.call
+    c.confirm.ensures.lawful c.confirm.ensures.faults.never_falls _ c.stopped.result
+    c.stopped.ensures (end-plain c.in-Err.end)
+    (confirm-met c.args.runner.now.token now.told c.args.claimed c.in-Err.ensures.call.answer c.in-Err.end
+    c.in-Err.ensures.call.shown
+    (got before now c.args.runner.now commit_uncalled (HasMade c.args.claimed) c.requires.1
+    c.args.claimed.token c.requires.0 (lists) tt _ (λ result stood. refl)
+    c.in-Err.ensures.call))
+    (unkept-left before now c.args.runner.now commit_uncalled (HasMade c.args.claimed) c.requires.1
+    c.args.claimed.token c.requires.0 (lists) tt _ (λ result stood. refl)
+    c.in-Err.ensures.call _ (end-plain c.in-Err.end)
+    (confirm-unkept c.args.claimed c.in-Err.ensures.call.answer c.in-Err.end
+    c.in-Err.ensures.call.shown))
+    (ap commit_at (sym (end-stage c.in-Err.end)))
+    (λ fault. c.confirm.ensures.faults.failed
+    (c.in-Err.is ∙ ap Err (end-failed c.in-Err.end fault)))
+
+pub returns-in-Ok-clause-counted : goal.returns-in-Ok-clause-counted
+returns-in-Ok-clause-counted g c =
+    let before = moment (g.F.Folder.admits c.args.folder.now) (g.F.Folder.told c.args.folder.now)
+    (g.F.Folder.fault_count c.args.folder.now) in
+    let now = moment (g.F.Folder.admits c.confirm.new.folder) (g.F.Folder.told c.confirm.new.folder)
+    (g.F.Folder.fault_count c.confirm.new.folder) in
+    rw c.after_listing.ensures
+    (listing-calls now.told c.args.runner.now c.args.claimed c.in-Ok.ensures.call.answer
+    c.in-Ok.confirmed c.in-Ok.ensures.call.shown
+    (got before now c.args.runner.now commit_uncalled (HasMade c.args.claimed) c.requires.1
+    c.args.claimed.token c.requires.0 (lists) tt _ (λ result stood. refl)
+    c.in-Ok.ensures.call))
+
+pub returns-in-Err-clause-counted : goal.returns-in-Err-clause-counted
+returns-in-Err-clause-counted g c =
+    answers-listed (g.F.Folder.told c.confirm.new.folder) c.args.runner.now c.args.claimed _ _
+    c.stopped.result c.stopped.ensures

@@ -1,0 +1,60 @@
+use Rattle.std.proofs.Common.{refl, sym, ap, ◌∙◌, Err, arith, rules}
+use Rattle.acct_outside.specs.Calls.{lists}
+use Rattle.suite_rules.specs.Standing.{commit_uncalled}
+use Rattle.lock_steps.specs.Stands.{HasNoLock}
+use Rattle.suite_session.specs.Moment.{moment, commit_at}
+use Rattle.suite_session.proofs.MetLemmas.{look-met}
+use Rattle.suite_session.proofs.TurnLemmas.{got, unkept-left, turns, stops}
+use Rattle.suite_session.proofs.LeavingLemmas.{look-unkept}
+use Rattle.suite_session.proofs.LockingLemmas.{end-plain, end-stage, end-failed}
+use Rattle.suite_session.proofs.LockingTurns.{look-stands, look-quiet}
+use Rattle.suite_session.proofs.CallsLemmas.{answers-fewer, look-calls}
+use Rattle.suite_session.proofs.locking.look.Goals as goal
+
+pub returns-in-Ok-clause-turns : goal.returns-in-Ok-clause-turns
+returns-in-Ok-clause-turns g c =
+    let before = moment (g.F.Folder.admits c.args.folder.now) (g.F.Folder.told c.args.folder.now)
+    (g.F.Folder.fault_count c.args.folder.now) in
+    let now = moment (g.F.Folder.admits c.look.new.folder) (g.F.Folder.told c.look.new.folder)
+    (g.F.Folder.fault_count c.look.new.folder) in
+    rw c.after_look.ensures
+    (turns before now c.args.runner.now commit_uncalled (HasNoLock) c.requires.1
+    c.args.looking c.requires.0 (lists) tt _ (λ result stood. refl)
+    c.look.ensures.call
+    c.look.ensures.lawful c.look.ensures.faults.never_falls _
+    (look-stands before now c.args.runner.now c.args.looking c.requires.1 c.requires.0
+    c.in-Ok.seen c.in-Ok.ensures.call c.in-Ok.ensures.next)
+    (look-quiet c.in-Ok.seen))
+
+pub returns-in-Err-clause-turns : goal.returns-in-Err-clause-turns
+returns-in-Err-clause-turns g c =
+    let before = moment (g.F.Folder.admits c.args.folder.now) (g.F.Folder.told c.args.folder.now)
+    (g.F.Folder.fault_count c.args.folder.now) in
+    let now = moment (g.F.Folder.admits c.look.new.folder) (g.F.Folder.told c.look.new.folder)
+    (g.F.Folder.fault_count c.look.new.folder) in
+    stops before now c.args.runner.now commit_uncalled (HasNoLock) c.requires.1
+    c.args.looking c.requires.0 (lists) tt _ (λ result stood. refl)
+    c.look.ensures.call
+    c.look.ensures.lawful c.look.ensures.faults.never_falls _ c.stopped.result
+    c.stopped.ensures (end-plain c.in-Err.end)
+    (look-met c.args.runner.now.token now.told c.args.looking c.in-Err.ensures.call.answer c.in-Err.end
+    c.in-Err.ensures.call.shown
+    (got before now c.args.runner.now commit_uncalled (HasNoLock) c.requires.1
+    c.args.looking c.requires.0 (lists) tt _ (λ result stood. refl)
+    c.in-Err.ensures.call))
+    (unkept-left before now c.args.runner.now commit_uncalled (HasNoLock) c.requires.1
+    c.args.looking c.requires.0 (lists) tt _ (λ result stood. refl)
+    c.in-Err.ensures.call _ (end-plain c.in-Err.end)
+    (look-unkept c.args.looking c.in-Err.ensures.call.answer c.in-Err.end
+    c.in-Err.ensures.call.shown))
+    (ap commit_at (sym (end-stage c.in-Err.end)))
+    (λ fault. c.look.ensures.faults.failed
+    (c.in-Err.is ∙ ap Err (end-failed c.in-Err.end fault)))
+
+pub returns-in-Ok-clause-counted : goal.returns-in-Ok-clause-counted
+returns-in-Ok-clause-counted g c =
+    rw c.after_look.ensures (look-calls c.in-Ok.seen)
+
+pub returns-in-Err-clause-counted : goal.returns-in-Err-clause-counted
+returns-in-Err-clause-counted g c =
+    answers-fewer _ _ c.stopped.result c.stopped.ensures _ (search (arith, rules))

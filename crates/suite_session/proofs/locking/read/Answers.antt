@@ -1,0 +1,60 @@
+use Rattle.std.proofs.Common.{refl, sym, ap, ◌∙◌, Err, arith, rules}
+use Rattle.acct_outside.specs.declared.Name.TheVariants.{Lock}
+use Rattle.acct_outside.specs.Calls.{reads}
+use Rattle.suite_rules.specs.Standing.{commit_uncalled}
+use Rattle.lock_steps.specs.Stands.{HasLooked}
+use Rattle.suite_session.specs.Moment.{moment, commit_at}
+use Rattle.suite_session.proofs.MetLemmas.{read-met}
+use Rattle.suite_session.proofs.TurnLemmas.{got, unkept-left, turns, stops}
+use Rattle.suite_session.proofs.LeavingLemmas.{read-unkept}
+use Rattle.suite_session.proofs.LockingLemmas.{end-plain, end-stage, end-failed}
+use Rattle.suite_session.proofs.LockingTurns.{read-stands, read-quiet}
+use Rattle.suite_session.proofs.CallsLemmas.{answers-fewer, read-calls}
+use Rattle.suite_session.proofs.locking.read.Goals as goal
+
+pub returns-in-Ok-clause-turns : goal.returns-in-Ok-clause-turns
+returns-in-Ok-clause-turns g c =
+    let before = moment (g.F.Folder.admits c.args.folder.now) (g.F.Folder.told c.args.folder.now)
+    (g.F.Folder.fault_count c.args.folder.now) in
+    let now = moment (g.F.Folder.admits c.read.new.folder) (g.F.Folder.told c.read.new.folder)
+    (g.F.Folder.fault_count c.read.new.folder) in
+    rw c.after_read.ensures
+    (turns before now c.args.runner.now commit_uncalled (HasLooked c.args.seen) c.requires.2
+    c.args.seen.token c.requires.0 (reads (Lock c.args.seen.greatest)) tt _ (λ result stood. refl)
+    c.read.ensures.call
+    c.read.ensures.lawful c.read.ensures.faults.never_falls _
+    (read-stands before now c.args.runner.now c.args.seen c.requires.2 c.requires.0 c.in-Ok.told
+    c.in-Ok.ensures.call c.in-Ok.ensures.next) (read-quiet c.in-Ok.told))
+
+pub returns-in-Err-clause-turns : goal.returns-in-Err-clause-turns
+returns-in-Err-clause-turns g c =
+    let before = moment (g.F.Folder.admits c.args.folder.now) (g.F.Folder.told c.args.folder.now)
+    (g.F.Folder.fault_count c.args.folder.now) in
+    let now = moment (g.F.Folder.admits c.read.new.folder) (g.F.Folder.told c.read.new.folder)
+    (g.F.Folder.fault_count c.read.new.folder) in
+    stops before now c.args.runner.now commit_uncalled (HasLooked c.args.seen) c.requires.2
+    c.args.seen.token c.requires.0 (reads (Lock c.args.seen.greatest)) tt _ (λ result stood. refl)
+    c.read.ensures.call
+    c.read.ensures.lawful c.read.ensures.faults.never_falls _ c.stopped.result
+    c.stopped.ensures (end-plain c.in-Err.end)
+    (read-met c.args.runner.now.token now.told c.args.seen c.in-Err.ensures.call.answer c.in-Err.end
+    c.requires.1 c.in-Err.ensures.call.shown
+    (got before now c.args.runner.now commit_uncalled (HasLooked c.args.seen) c.requires.2
+    c.args.seen.token c.requires.0 (reads (Lock c.args.seen.greatest)) tt _ (λ result stood. refl)
+    c.in-Err.ensures.call))
+    (unkept-left before now c.args.runner.now commit_uncalled (HasLooked c.args.seen) c.requires.2
+    c.args.seen.token c.requires.0 (reads (Lock c.args.seen.greatest)) tt _ (λ result stood. refl)
+    c.in-Err.ensures.call _ (end-plain c.in-Err.end)
+    (read-unkept c.args.seen c.in-Err.ensures.call.answer c.in-Err.end
+    c.in-Err.ensures.call.shown))
+    (ap commit_at (sym (end-stage c.in-Err.end)))
+    (λ fault. c.read.ensures.faults.failed
+    (c.in-Err.is ∙ ap Err (end-failed c.in-Err.end fault)))
+
+pub returns-in-Ok-clause-counted : goal.returns-in-Ok-clause-counted
+returns-in-Ok-clause-counted g c =
+    rw c.after_read.ensures (read-calls c.in-Ok.told)
+
+pub returns-in-Err-clause-counted : goal.returns-in-Err-clause-counted
+returns-in-Err-clause-counted g c =
+    answers-fewer _ _ c.stopped.result c.stopped.ensures _ (search (arith, rules))

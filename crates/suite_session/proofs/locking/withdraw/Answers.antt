@@ -1,0 +1,40 @@
+use Rattle.std.proofs.Common.{refl, sym, ap, Err, arith, rules}
+use Rattle.acct_outside.specs.declared.Name.TheVariants.{Lock}
+use Rattle.acct_outside.specs.Calls.{removes}
+use Rattle.suite_rules.specs.Standing.{commit_uncalled}
+use Rattle.lock_steps.specs.Stands.{WasOvertaken}
+use Rattle.suite_session.specs.Moment.{moment, commit_at}
+use Rattle.suite_session.proofs.MetLemmas.{withdraw-met}
+use Rattle.suite_session.proofs.TurnLemmas.{got, unkept-left, stops}
+use Rattle.suite_session.proofs.LeavingLemmas.{withdraw-unkept}
+use Rattle.suite_session.proofs.LockingLemmas.{end-plain, end-stage, end-failed}
+use Rattle.suite_session.proofs.CallsLemmas.{answers-fewer}
+use Rattle.suite_session.proofs.locking.withdraw.Goals as goal
+
+pub returns-clause-turns : goal.returns-clause-turns
+returns-clause-turns g c =
+    let before = moment (g.F.Folder.admits c.args.folder.now) (g.F.Folder.told c.args.folder.now)
+    (g.F.Folder.fault_count c.args.folder.now) in
+    let now = moment (g.F.Folder.admits c.withdraw.new.folder) (g.F.Folder.told c.withdraw.new.folder)
+    (g.F.Folder.fault_count c.withdraw.new.folder) in
+    stops before now c.args.runner.now commit_uncalled (WasOvertaken c.args.loser) c.requires.2
+    c.args.loser.token c.requires.0 (removes (Lock c.args.loser.number)) tt _ (λ result stood. refl)
+    c.withdraw.ensures.call
+    c.withdraw.ensures.lawful c.withdraw.ensures.faults.never_falls _ c.stopped.result
+    c.stopped.ensures (end-plain c.withdraw.result)
+    (withdraw-met c.args.runner.now.token now.told c.args.loser c.withdraw.ensures.call.answer
+    c.withdraw.result c.requires.1 c.withdraw.ensures.call.shown
+    (got before now c.args.runner.now commit_uncalled (WasOvertaken c.args.loser) c.requires.2
+    c.args.loser.token c.requires.0 (removes (Lock c.args.loser.number)) tt _ (λ result stood. refl)
+    c.withdraw.ensures.call))
+    (unkept-left before now c.args.runner.now commit_uncalled (WasOvertaken c.args.loser)
+    c.requires.2 c.args.loser.token c.requires.0 (removes (Lock c.args.loser.number)) tt _
+    (λ result stood. refl) c.withdraw.ensures.call _ (end-plain c.withdraw.result)
+    (withdraw-unkept c.args.loser c.withdraw.ensures.call.answer c.withdraw.result
+    c.withdraw.ensures.call.shown))
+    (ap commit_at (sym (end-stage c.withdraw.result)))
+    (λ fault. c.withdraw.ensures.faults.failed (ap Err (end-failed c.withdraw.result fault)))
+
+pub returns-clause-counted : goal.returns-clause-counted
+returns-clause-counted g c =
+    answers-fewer _ _ c.stopped.result c.stopped.ensures _ (search (arith, rules))

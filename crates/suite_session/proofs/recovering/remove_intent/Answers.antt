@@ -1,0 +1,83 @@
+use Rattle.std.proofs.Common.{refl, sym, ap, ◌∙◌, Err}
+use Rattle.acct_outside.specs.declared.Name.TheVariants.{Intent}
+use Rattle.acct_outside.specs.Calls.{removes}
+use Rattle.suite_rules.specs.Standing.{commit_uncalled}
+use Rattle.recovery.specs.Stands.{Recovers}
+use Rattle.lock_steps.specs.States.{Kept}
+use Rattle.lock_steps.specs.Stands.{Keeps, KnowsNoneYet}
+use Rattle.suite_session.specs.declared.state.State.TheVariants.{Loading}
+use Rattle.commit_steps.specs.States.{start_of}
+use Rattle.suite_session.specs.Moment.{moment, commit_at}
+use Rattle.suite_session.proofs.TurnLemmas.{may-step, goes-on, turns, stops}
+use Rattle.suite_session.proofs.UnlockingTurns.{fault-stage, fault-met, fault-left, fault-plain}
+use Rattle.suite_session.proofs.RecoveringTurns.{starts-loading}
+use Rattle.suite_session.proofs.LeadsLemmas.{leads-on, leads-stage, leads-failed}
+use Rattle.suite_rules.specs.Outcomes.{before_commit}
+use Rattle.acct_outside.specs.declared.CommitStage.TheVariants.{Before}
+use Rattle.suite_session.proofs.CallsLemmas.{answers-fewer, recovering-some, removed-calls}
+use Rattle.suite_session.proofs.recovering.remove_intent.Goals as goal
+
+pub remove_intent-requires-clause-stands : goal.remove_intent-requires-clause-stands
+remove_intent-requires-clause-stands g c =
+    let before = moment (g.F.Folder.admits c.args.folder.now) (g.F.Folder.told c.args.folder.now)
+    (g.F.Folder.fault_count c.args.folder.now) in
+    may-step before c.args.runner.now commit_uncalled (Recovers c.args.recovering)
+    (c.args.recovering.keeper.token) (c.requires.stands.0) (c.requires.stands.1)
+
+pub returns-in-Ok-clause-turns : goal.returns-in-Ok-clause-turns
+returns-in-Ok-clause-turns g c =
+    let before = moment (g.F.Folder.admits c.args.folder.now) (g.F.Folder.told c.args.folder.now)
+    (g.F.Folder.fault_count c.args.folder.now) in
+    let now = moment (g.F.Folder.admits c.remove_intent.new.folder)
+    (g.F.Folder.told c.remove_intent.new.folder)
+    (g.F.Folder.fault_count c.remove_intent.new.folder) in
+    let is = leads-on c.args.recovering.keeper before_commit _ c.in-Ok.keeper
+    c.in-Ok.ensures.call.shown in
+    rw c.start.ensures
+    (turns before now c.args.runner.now commit_uncalled (Recovers c.args.recovering)
+    c.requires.stands.1
+    c.args.recovering.keeper.token c.requires.stands.0 (removes Intent) tt _ (λ result stood. refl)
+    c.in-Ok.ensures.call
+    c.remove_intent.ensures.lawful c.remove_intent.ensures.faults.never_falls
+    (Loading (start_of c.in-Ok.keeper)) (
+      ap (λ (one : Kept). one.token) is ∙ c.requires.stands.0,
+      starts-loading now c.args.runner.now c.in-Ok.keeper
+          (goes-on before now c.args.runner.now commit_uncalled (Recovers c.args.recovering)
+          c.requires.stands.1
+          c.args.recovering.keeper.token c.requires.stands.0 (removes Intent) tt _ (λ result stood. refl)
+          c.in-Ok.ensures.call
+          (Keeps c.in-Ok.keeper KnowsNoneYet) c.in-Ok.ensures.next),
+    )
+    (λ fault. fault))
+
+pub returns-in-Err-clause-turns : goal.returns-in-Err-clause-turns
+returns-in-Err-clause-turns g c =
+    let before = moment (g.F.Folder.admits c.args.folder.now) (g.F.Folder.told c.args.folder.now)
+    (g.F.Folder.fault_count c.args.folder.now) in
+    let now = moment (g.F.Folder.admits c.remove_intent.new.folder)
+    (g.F.Folder.told c.remove_intent.new.folder)
+    (g.F.Folder.fault_count c.remove_intent.new.folder) in
+    let fault = c.in-Err.fault in
+    stops before now c.args.runner.now commit_uncalled (Recovers c.args.recovering)
+    c.requires.stands.1
+    c.args.recovering.keeper.token c.requires.stands.0 (removes Intent) tt _ (λ result stood. refl)
+    c.in-Err.ensures.call
+    c.remove_intent.ensures.lawful c.remove_intent.ensures.faults.never_falls _ c.stopped.result
+    c.stopped.ensures (fault-plain fault.stage fault.fault)
+    (fault-met now c.args.runner.now fault.stage fault.fault)
+    (fault-left now c.args.runner.now fault.stage fault.fault)
+    (ap commit_at (sym (fault-stage fault.stage fault.fault
+    ∙ leads-stage c.args.recovering.keeper Before _ fault c.in-Err.ensures.call.shown)))
+    (λ told. c.remove_intent.ensures.faults.failed
+    (c.in-Err.is ∙ ap Err (leads-failed c.args.recovering.keeper Before _ fault
+    c.in-Err.ensures.call.shown told)))
+
+pub returns-in-Ok-clause-counted : goal.returns-in-Ok-clause-counted
+returns-in-Ok-clause-counted g c =
+    rw c.start.ensures (removed-calls c.args.recovering c.in-Ok.keeper
+    (leads-on c.args.recovering.keeper before_commit _ c.in-Ok.keeper
+    c.in-Ok.ensures.call.shown))
+
+pub returns-in-Err-clause-counted : goal.returns-in-Err-clause-counted
+returns-in-Err-clause-counted g c =
+    answers-fewer _ _ c.stopped.result c.stopped.ensures _ (recovering-some c.args.recovering)

@@ -1,0 +1,78 @@
+use Rattle.std.proofs.Common.{refl, sym, ap, subst, ◌∙◌, ◌<◌, length, Err}
+use Rattle.suite_rules.specs.Standing.{commit_uncalled}
+use Rattle.suite_rules.specs.Outcomes.{stages}
+use Rattle.recovery.specs.States.{Recoverer}
+use Rattle.recovery.specs.Stands.{Recovers, HasStagedNext}
+use Rattle.suite_session.specs.declared.state.State.TheVariants.{Moving}
+use Rattle.suite_session.specs.Moment.{moment, commit_at}
+use Rattle.suite_session.proofs.TurnLemmas.{may-step, goes-on, turns, stops}
+use Rattle.suite_session.proofs.UnlockingTurns.{fault-stage, fault-met, fault-left, fault-plain}
+use Rattle.suite_session.proofs.RecoveringTurns.{some-next}
+use Rattle.suite_session.proofs.LeadsLemmas.{leads-on, leads-stage, leads-failed}
+use Rattle.suite_rules.specs.Outcomes.{before_commit}
+use Rattle.acct_outside.specs.declared.CommitStage.TheVariants.{Before}
+use Rattle.suite_session.proofs.CallsLemmas.{answers-fewer, recovering-some, staged-calls}
+use Rattle.suite_session.proofs.recovering.stage_table.Goals as goal
+
+pub stage_next-requires-clause-stands : goal.stage_next-requires-clause-stands
+stage_next-requires-clause-stands g c =
+    let before = moment (g.F.Folder.admits c.args.folder.now) (g.F.Folder.told c.args.folder.now)
+    (g.F.Folder.fault_count c.args.folder.now) in
+    may-step before c.args.runner.now commit_uncalled (Recovers c.args.recovering)
+    (c.args.recovering.keeper.token) (c.requires.stands.0) (c.requires.stands.1)
+
+pub returns-in-Ok-clause-turns : goal.returns-in-Ok-clause-turns
+returns-in-Ok-clause-turns g c =
+    let before = moment (g.F.Folder.admits c.args.folder.now) (g.F.Folder.told c.args.folder.now)
+    (g.F.Folder.fault_count c.args.folder.now) in
+    let now = moment (g.F.Folder.admits c.stage_next.new.folder)
+    (g.F.Folder.told c.stage_next.new.folder)
+    (g.F.Folder.fault_count c.stage_next.new.folder) in
+    let shown = some-next c.args.recovering.left c.requires.left c.in-Ok.ensures.call in
+    let is = leads-on c.args.recovering before_commit _ c.in-Ok.moving shown.1.shown in
+    turns before now c.args.runner.now commit_uncalled (Recovers c.args.recovering)
+    c.requires.stands.1
+    c.args.recovering.keeper.token c.requires.stands.0 (stages shown.0) tt _ (λ result stood. refl)
+    shown.1
+    c.stage_next.ensures.lawful c.stage_next.ensures.faults.never_falls (Moving c.in-Ok.moving) (
+      ap (λ (one : Recoverer). one.keeper.token) is ∙ c.requires.stands.0,
+      subst (λ (one : Recoverer). 0 < length one.left) (sym is) c.requires.left,
+      goes-on before now c.args.runner.now commit_uncalled (Recovers c.args.recovering)
+          c.requires.stands.1
+          c.args.recovering.keeper.token c.requires.stands.0 (stages shown.0) tt _ (λ result stood. refl)
+          shown.1
+          (HasStagedNext c.in-Ok.moving) c.in-Ok.ensures.next,
+    )
+    (λ fault. fault)
+
+pub returns-in-Err-clause-turns : goal.returns-in-Err-clause-turns
+returns-in-Err-clause-turns g c =
+    let before = moment (g.F.Folder.admits c.args.folder.now) (g.F.Folder.told c.args.folder.now)
+    (g.F.Folder.fault_count c.args.folder.now) in
+    let now = moment (g.F.Folder.admits c.stage_next.new.folder)
+    (g.F.Folder.told c.stage_next.new.folder)
+    (g.F.Folder.fault_count c.stage_next.new.folder) in
+    let shown = some-next c.args.recovering.left c.requires.left c.in-Err.ensures.call in
+    let fault = c.in-Err.fault in
+    stops before now c.args.runner.now commit_uncalled (Recovers c.args.recovering)
+    c.requires.stands.1
+    c.args.recovering.keeper.token c.requires.stands.0 (stages shown.0) tt _ (λ result stood. refl)
+    shown.1
+    c.stage_next.ensures.lawful c.stage_next.ensures.faults.never_falls _ c.stopped.result
+    c.stopped.ensures (fault-plain fault.stage fault.fault)
+    (fault-met now c.args.runner.now fault.stage fault.fault)
+    (fault-left now c.args.runner.now fault.stage fault.fault)
+    (ap commit_at (sym (fault-stage fault.stage fault.fault
+    ∙ leads-stage c.args.recovering Before _ fault shown.1.shown)))
+    (λ told. c.stage_next.ensures.faults.failed
+    (c.in-Err.is ∙ ap Err (leads-failed c.args.recovering Before _ fault shown.1.shown told)))
+
+pub returns-in-Ok-clause-counted : goal.returns-in-Ok-clause-counted
+returns-in-Ok-clause-counted g c =
+    let shown = some-next c.args.recovering.left c.requires.left c.in-Ok.ensures.call in
+    staged-calls c.args.recovering c.in-Ok.moving
+    (leads-on c.args.recovering before_commit _ c.in-Ok.moving shown.1.shown)
+
+pub returns-in-Err-clause-counted : goal.returns-in-Err-clause-counted
+returns-in-Err-clause-counted g c =
+    answers-fewer _ _ c.stopped.result c.stopped.ensures _ (recovering-some c.args.recovering)

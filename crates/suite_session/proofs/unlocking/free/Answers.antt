@@ -1,0 +1,46 @@
+use Rattle.std.proofs.Common.{refl, sym, ap, ◌∙◌, Err, arith, rules}
+use Rattle.acct_outside.specs.declared.Name.TheVariants.{FreeStage, Lock}
+use Rattle.acct_outside.specs.Calls.{renames}
+use Rattle.lock_steps.specs.Stands.{HasStagedFree}
+use Rattle.suite_session.specs.Moment.{moment, commit_at}
+use Rattle.suite_session.proofs.TurnLemmas.{may-step, stops}
+use Rattle.suite_session.proofs.UnlockingTurns.{frees, fault-stage, fault-met, fault-left, fault-plain, fault-failed}
+use Rattle.suite_session.proofs.CallsLemmas.{answers-fewer}
+use Rattle.suite_session.proofs.unlocking.free.Goals as goal
+
+pub move_free-requires : goal.move_free-requires
+move_free-requires g c =
+    let before = moment (g.F.Folder.admits c.args.folder.now) (g.F.Folder.told c.args.folder.now)
+    (g.F.Folder.fault_count c.args.folder.now) in
+    may-step before c.args.runner.now _ (HasStagedFree c.args.freeing) c.args.freeing.token c.requires.same c.requires.stands
+
+pub returns-in-Ok-clause-turns : goal.returns-in-Ok-clause-turns
+returns-in-Ok-clause-turns g c =
+    let before = moment (g.F.Folder.admits c.args.folder.now) (g.F.Folder.told c.args.folder.now)
+    (g.F.Folder.fault_count c.args.folder.now) in
+    let now = moment (g.F.Folder.admits c.move_free.new.folder) (g.F.Folder.told c.move_free.new.folder)
+    (g.F.Folder.fault_count c.move_free.new.folder) in
+    frees before now c.args.runner.now c.args.answer c.args.freeing c.requires
+    _ c.in-Ok.ensures.call c.in-Ok.ensures.next
+    c.move_free.ensures.work c.move_free.ensures.lawful c.move_free.ensures.faults.never_falls
+
+pub returns-in-Err-clause-turns : goal.returns-in-Err-clause-turns
+returns-in-Err-clause-turns g c =
+    let before = moment (g.F.Folder.admits c.args.folder.now) (g.F.Folder.told c.args.folder.now)
+    (g.F.Folder.fault_count c.args.folder.now) in
+    let now = moment (g.F.Folder.admits c.move_free.new.folder) (g.F.Folder.told c.move_free.new.folder)
+    (g.F.Folder.fault_count c.move_free.new.folder) in
+    stops before now c.args.runner.now _ (HasStagedFree c.args.freeing) c.requires.stands
+    c.args.freeing.token c.requires.same (renames FreeStage (Lock c.args.freeing.number)) tt _ (λ result stood. refl)
+    c.move_free.ensures.call
+    c.move_free.ensures.lawful c.move_free.ensures.faults.never_falls _ c.replaced.result
+    c.replaced.ensures (fault-plain _ c.in-Err.fault)
+    (fault-met now c.args.runner.now _ c.in-Err.fault)
+    (fault-left now c.args.runner.now _ c.in-Err.fault)
+    (ap commit_at (sym (fault-stage _ c.in-Err.fault)))
+    (λ fault. c.move_free.ensures.faults.failed
+    (c.in-Err.is ∙ ap Err (fault-failed _ c.in-Err.fault fault)))
+
+pub returns-in-Err-clause-counted : goal.returns-in-Err-clause-counted
+returns-in-Err-clause-counted g c =
+    answers-fewer _ _ c.replaced.result c.replaced.ensures _ (search (arith, rules))

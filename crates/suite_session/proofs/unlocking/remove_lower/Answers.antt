@@ -1,0 +1,53 @@
+use Rattle.std.proofs.Common.{refl, sym, ap, ◌∙◌, Err, slice_index}
+use Rattle.acct_outside.specs.declared.Name.TheVariants.{Lock}
+use Rattle.acct_outside.specs.Calls.{removes}
+use Rattle.lock_steps.specs.Outcomes.{cleaned_once}
+use Rattle.lock_steps.specs.Stands.{Keeps, KnowsAnything}
+use Rattle.suite_session.specs.Moment.{moment, commit_at}
+use Rattle.suite_session.proofs.TurnLemmas.{may-step, stops}
+use Rattle.suite_session.proofs.UnlockingTurns.{leads, lowers, fault-stage, fault-met, fault-left, fault-plain, fault-failed}
+use Rattle.suite_session.proofs.CallsLemmas.{answers-fewer, cleaned-calls, unlocking-some}
+use Rattle.suite_session.proofs.unlocking.remove_lower.Goals as goal
+
+pub clean_next-requires-clause-stands : goal.clean_next-requires-clause-stands
+clean_next-requires-clause-stands g c =
+    let before = moment (g.F.Folder.admits c.args.folder.now) (g.F.Folder.told c.args.folder.now)
+    (g.F.Folder.fault_count c.args.folder.now) in
+    may-step before c.args.runner.now _ (Keeps c.args.keeper KnowsAnything) c.args.keeper.token c.requires.stands.same c.requires.stands.stands
+
+pub returns-in-Ok-clause-turns : goal.returns-in-Ok-clause-turns
+returns-in-Ok-clause-turns g c =
+    let before = moment (g.F.Folder.admits c.args.folder.now) (g.F.Folder.told c.args.folder.now)
+    (g.F.Folder.fault_count c.args.folder.now) in
+    let now = moment (g.F.Folder.admits c.clean_next.new.folder) (g.F.Folder.told c.clean_next.new.folder)
+    (g.F.Folder.fault_count c.clean_next.new.folder) in
+    lowers before now c.args.runner.now c.args.answer c.args.keeper c.requires.stands
+    _ c.in-Ok.keeper c.in-Ok.ensures.call c.in-Ok.ensures.next
+    c.clean_next.ensures.work c.clean_next.ensures.lawful c.clean_next.ensures.faults.never_falls
+
+pub returns-in-Err-clause-turns : goal.returns-in-Err-clause-turns
+returns-in-Err-clause-turns g c =
+    let before = moment (g.F.Folder.admits c.args.folder.now) (g.F.Folder.told c.args.folder.now)
+    (g.F.Folder.fault_count c.args.folder.now) in
+    let now = moment (g.F.Folder.admits c.clean_next.new.folder) (g.F.Folder.told c.clean_next.new.folder)
+    (g.F.Folder.fault_count c.clean_next.new.folder) in
+    stops before now c.args.runner.now _ (Keeps c.args.keeper KnowsAnything) c.requires.stands.stands
+    c.args.keeper.token c.requires.stands.same (removes (Lock (slice_index c.args.keeper.lower 0))) tt _ (λ result stood. refl)
+    c.clean_next.ensures.call
+    c.clean_next.ensures.lawful c.clean_next.ensures.faults.never_falls _ c.replaced.result
+    c.replaced.ensures (fault-plain _ c.in-Err.fault)
+    (fault-met now c.args.runner.now _ c.in-Err.fault)
+    (fault-left now c.args.runner.now _ c.in-Err.fault)
+    (ap commit_at (sym (fault-stage _ c.in-Err.fault)))
+    (λ fault. c.clean_next.ensures.faults.failed
+    (c.in-Err.is ∙ ap Err (fault-failed _ c.in-Err.fault fault)))
+
+pub returns-in-Ok-clause-counted : goal.returns-in-Ok-clause-counted
+returns-in-Ok-clause-counted g c =
+    cleaned-calls c.args.keeper c.in-Ok.keeper c.args.answer
+    (leads (cleaned_once c.args.keeper) c.in-Ok.ensures.call.answer c.in-Ok.keeper
+    c.in-Ok.ensures.call.shown) c.requires.left
+
+pub returns-in-Err-clause-counted : goal.returns-in-Err-clause-counted
+returns-in-Err-clause-counted g c =
+    answers-fewer _ _ c.replaced.result c.replaced.ensures _ (unlocking-some c.args.keeper c.args.answer)

@@ -1,0 +1,53 @@
+use Rattle.std.proofs.Common.{refl, sym, ap, ◌∙◌, Err}
+use Rattle.acct_outside.specs.declared.Name.TheVariants.{FreeStage}
+use Rattle.acct_outside.specs.Tokens.{free_text}
+use Rattle.acct_outside.specs.Calls.{writes}
+use Rattle.lock_steps.specs.Stands.{Keeps, KnowsAnything}
+use Rattle.suite_session.specs.Moment.{moment, commit_at}
+use Rattle.suite_session.proofs.TurnLemmas.{may-step, stops}
+use Rattle.suite_session.proofs.UnlockingTurns.{stages, fault-stage, fault-met, fault-left, fault-plain, fault-failed}
+use Rattle.suite_session.proofs.CallsLemmas.{answers-fewer, unlocking-more, unlocking-some}
+use Rattle.suite_session.proofs.unlocking.stage_free.Goals as goal
+
+pub stage_free-requires-clause-stands : goal.stage_free-requires-clause-stands
+stage_free-requires-clause-stands g c =
+    let before = moment (g.F.Folder.admits c.args.folder.now) (g.F.Folder.told c.args.folder.now)
+    (g.F.Folder.fault_count c.args.folder.now) in
+    may-step before c.args.runner.now _ (Keeps c.args.keeper KnowsAnything) c.args.keeper.token
+    c.requires.stands.same c.requires.stands.stands
+
+pub returns-in-Ok-clause-turns : goal.returns-in-Ok-clause-turns
+returns-in-Ok-clause-turns g c =
+    let before = moment (g.F.Folder.admits c.args.folder.now) (g.F.Folder.told c.args.folder.now)
+    (g.F.Folder.fault_count c.args.folder.now) in
+    let now = moment (g.F.Folder.admits c.stage_free.new.folder) (g.F.Folder.told c.stage_free.new.folder)
+    (g.F.Folder.fault_count c.stage_free.new.folder) in
+    stages before now c.args.runner.now c.args.answer c.args.keeper c.requires.stands
+    c.in-Ok.freeing c.in-Ok.ensures.call c.in-Ok.ensures.next
+    c.stage_free.ensures.work c.stage_free.ensures.lawful c.stage_free.ensures.faults.never_falls
+
+pub returns-in-Err-clause-turns : goal.returns-in-Err-clause-turns
+returns-in-Err-clause-turns g c =
+    let before = moment (g.F.Folder.admits c.args.folder.now) (g.F.Folder.told c.args.folder.now)
+    (g.F.Folder.fault_count c.args.folder.now) in
+    let now = moment (g.F.Folder.admits c.stage_free.new.folder) (g.F.Folder.told c.stage_free.new.folder)
+    (g.F.Folder.fault_count c.stage_free.new.folder) in
+    stops before now c.args.runner.now _ (Keeps c.args.keeper KnowsAnything)
+    c.requires.stands.stands c.args.keeper.token c.requires.stands.same
+    (writes FreeStage free_text) tt _ (λ result stood. refl)
+    c.stage_free.ensures.call
+    c.stage_free.ensures.lawful c.stage_free.ensures.faults.never_falls _ c.replaced.result
+    c.replaced.ensures (fault-plain _ c.in-Err.fault)
+    (fault-met now c.args.runner.now _ c.in-Err.fault)
+    (fault-left now c.args.runner.now _ c.in-Err.fault)
+    (ap commit_at (sym (fault-stage _ c.in-Err.fault)))
+    (λ fault. c.stage_free.ensures.faults.failed
+    (c.in-Err.is ∙ ap Err (fault-failed _ c.in-Err.fault fault)))
+
+pub returns-in-Ok-clause-counted : goal.returns-in-Ok-clause-counted
+returns-in-Ok-clause-counted g c =
+    unlocking-more c.args.keeper c.args.answer
+
+pub returns-in-Err-clause-counted : goal.returns-in-Err-clause-counted
+returns-in-Err-clause-counted g c =
+    answers-fewer _ _ c.replaced.result c.replaced.ensures _ (unlocking-some c.args.keeper c.args.answer)

@@ -1,0 +1,15 @@
+pub mod Runner
+pub mod Moment
+pub mod Locking
+pub mod Answers
+pub mod Deeds
+pub mod Causes
+pub mod Due
+pub mod Backing
+pub mod Grows
+pub mod Stands
+pub mod Recovering
+pub mod Loading
+pub mod Left
+pub mod Counts
+pub mod Session

@@ -1,0 +1,192 @@
+// The turns in which a keeper commits a change, with the answer that it gives then:
+//
+// 1. It backs up the tables that differ, and stages the intent (`back_up`).
+// 2. It moves the intent to its name: this is the commit (`commit`).
+// 3. It puts the tables in place, and removes the intent (`install`).
+ghost use Rattle.std.specs.Prelude.{◌≡◌, ◌<◌};
+ghost use Rattle.commit_steps.specs.States.{steps_left};
+ghost use Rattle.suite_session.specs.Left.{calls_left, turns_left};
+ghost use Rattle.suite_session.specs.Moment.{moment};
+ghost use Rattle.suite_session.specs.Stands.{StandsAs, Turns};
+
+use crate::runner::Runner;
+use crate::state::State;
+use crate::unlocking::given_up;
+use acct_outside::Folder;
+use commit_steps::{Backing, Installing, IntentStaged};
+use std::alloc::Global;
+use suite_answers::Answer;
+
+/// Stages or moves the next backup, or stages the intent once no table is left.
+pub(crate) fn back_up<F: Folder>(
+    alloc: Global,
+    runner: &Runner,
+    backing: Backing,
+    answer: Answer,
+    folder: &mut F,
+) -> State
+    requires { StandsAs
+        (moment (F.admits folder.old) (F.told folder.old) (F.fault_count folder.old))
+        runner.now (State.BackingUp backing answer) }
+    ensures turns { Turns
+        (moment (F.admits folder.old) (F.told folder.old) (F.fault_count folder.old))
+        (moment (F.admits folder.new) (F.told folder.new) (F.fault_count folder.new))
+        runner.now result }
+    ensures nearer { turns_left result < turns_left (State.BackingUp backing answer) }
+    ensures counted { calls_left result < calls_left (State.BackingUp backing answer) }
+{
+    if backing.left() > 0 {
+        back_up_next(alloc, runner, backing, answer, folder)
+    } else {
+        stage_intent(alloc, runner, backing, answer, folder)
+    }
+}
+
+/// Stages or moves the next backup.
+fn back_up_next<F: Folder>(
+    alloc: Global,
+    runner: &Runner,
+    backing: Backing,
+    answer: Answer,
+    folder: &mut F,
+) -> State
+    requires left { 0 < steps_left backing }
+    requires stands { StandsAs
+        (moment (F.admits folder.old) (F.told folder.old) (F.fault_count folder.old))
+        runner.now (State.BackingUp backing answer) }
+    ensures turns { Turns
+        (moment (F.admits folder.old) (F.told folder.old) (F.fault_count folder.old))
+        (moment (F.admits folder.new) (F.told folder.new) (F.fault_count folder.new))
+        runner.now result }
+    ensures nearer { turns_left result < turns_left (State.BackingUp backing answer) }
+    ensures counted { calls_left result < calls_left (State.BackingUp backing answer) }
+{
+    match backing.back_up_next(folder) {
+        Ok(backing) => State::BackingUp(backing, answer),
+        Err(fault) => given_up(alloc, runner, answer, fault.stage, fault.fault),
+    }
+}
+
+/// Stages the intent.
+fn stage_intent<F: Folder>(
+    alloc: Global,
+    runner: &Runner,
+    backing: Backing,
+    answer: Answer,
+    folder: &mut F,
+) -> State
+    requires left { steps_left backing ≡ 0 }
+    requires stands { StandsAs
+        (moment (F.admits folder.old) (F.told folder.old) (F.fault_count folder.old))
+        runner.now (State.BackingUp backing answer) }
+    ensures turns { Turns
+        (moment (F.admits folder.old) (F.told folder.old) (F.fault_count folder.old))
+        (moment (F.admits folder.new) (F.told folder.new) (F.fault_count folder.new))
+        runner.now result }
+    ensures nearer { turns_left result < turns_left (State.BackingUp backing answer) }
+    ensures counted { calls_left result < calls_left (State.BackingUp backing answer) }
+{
+    match backing.stage_intent(folder) {
+        Ok(staged) => State::Committing(staged, answer),
+        Err(fault) => given_up(alloc, runner, answer, fault.stage, fault.fault),
+    }
+}
+
+/// Moves the intent to its name: done, the change stands.
+pub(crate) fn commit<F: Folder>(
+    alloc: Global,
+    runner: &Runner,
+    staged: IntentStaged,
+    answer: Answer,
+    folder: &mut F,
+) -> State
+    requires { StandsAs
+        (moment (F.admits folder.old) (F.told folder.old) (F.fault_count folder.old))
+        runner.now (State.Committing staged answer) }
+    ensures turns { Turns
+        (moment (F.admits folder.old) (F.told folder.old) (F.fault_count folder.old))
+        (moment (F.admits folder.new) (F.told folder.new) (F.fault_count folder.new))
+        runner.now result }
+    ensures nearer { turns_left result < turns_left (State.Committing staged answer) }
+    ensures counted { calls_left result < calls_left (State.Committing staged answer) }
+{
+    match staged.commit(folder) {
+        Ok(installing) => State::Installing(installing, answer),
+        Err(fault) => given_up(alloc, runner, answer, fault.stage, fault.fault),
+    }
+}
+
+/// Stages or moves the next table, or removes the intent once no table is left.
+pub(crate) fn install<F: Folder>(
+    alloc: Global,
+    runner: &Runner,
+    installing: Installing,
+    answer: Answer,
+    folder: &mut F,
+) -> State
+    requires { StandsAs
+        (moment (F.admits folder.old) (F.told folder.old) (F.fault_count folder.old))
+        runner.now (State.Installing installing answer) }
+    ensures turns { Turns
+        (moment (F.admits folder.old) (F.told folder.old) (F.fault_count folder.old))
+        (moment (F.admits folder.new) (F.told folder.new) (F.fault_count folder.new))
+        runner.now result }
+    ensures nearer { turns_left result < turns_left (State.Installing installing answer) }
+    ensures counted { calls_left result < calls_left (State.Installing installing answer) }
+{
+    if installing.left() > 0 {
+        install_next(alloc, runner, installing, answer, folder)
+    } else {
+        clear(alloc, runner, installing, answer, folder)
+    }
+}
+
+/// Stages or moves the next table.
+fn install_next<F: Folder>(
+    alloc: Global,
+    runner: &Runner,
+    installing: Installing,
+    answer: Answer,
+    folder: &mut F,
+) -> State
+    requires left { 0 < steps_left installing }
+    requires stands { StandsAs
+        (moment (F.admits folder.old) (F.told folder.old) (F.fault_count folder.old))
+        runner.now (State.Installing installing answer) }
+    ensures turns { Turns
+        (moment (F.admits folder.old) (F.told folder.old) (F.fault_count folder.old))
+        (moment (F.admits folder.new) (F.told folder.new) (F.fault_count folder.new))
+        runner.now result }
+    ensures nearer { turns_left result < turns_left (State.Installing installing answer) }
+    ensures counted { calls_left result < calls_left (State.Installing installing answer) }
+{
+    match installing.install_next(folder) {
+        Ok(installing) => State::Installing(installing, answer),
+        Err(fault) => given_up(alloc, runner, answer, fault.stage, fault.fault),
+    }
+}
+
+/// Removes the intent.
+fn clear<F: Folder>(
+    alloc: Global,
+    runner: &Runner,
+    installing: Installing,
+    answer: Answer,
+    folder: &mut F,
+) -> State
+    requires left { steps_left installing ≡ 0 }
+    requires stands { StandsAs
+        (moment (F.admits folder.old) (F.told folder.old) (F.fault_count folder.old))
+        runner.now (State.Installing installing answer) }
+    ensures turns { Turns
+        (moment (F.admits folder.old) (F.told folder.old) (F.fault_count folder.old))
+        (moment (F.admits folder.new) (F.told folder.new) (F.fault_count folder.new))
+        runner.now result }
+    ensures nearer { turns_left result < turns_left (State.Installing installing answer) }
+    ensures counted { calls_left result < calls_left (State.Installing installing answer) }
+{
+    match installing.clear(folder) {
+        Ok(cleared) => State::Unlocking(cleared.release().forget(), answer),
+        Err(fault) => given_up(alloc, runner, answer, fault.stage, fault.fault),
+    }
+}

@@ -1,0 +1,105 @@
+// The turns in which a keeper loads the files. After the last read the tool decides.
+ghost use Rattle.std.specs.Prelude.{◌<◌};
+ghost use Rattle.suite_session.specs.Left.{calls_left, turns_left};
+ghost use Rattle.suite_session.specs.Moment.{moment};
+ghost use Rattle.suite_session.specs.Loading.{DecidesOn, DecidesTo, EndsAt, LoadsTo};
+ghost use Rattle.suite_session.specs.Stands.{StandsAs, Turns};
+
+use crate::recovering::stopped;
+use crate::runner::Runner;
+use crate::state::State;
+use crate::tools::{Decided, Tools};
+use crate::unlocking::{failed, given_up, leave};
+use acct_outside::{CommitStage, Folder, FolderFault};
+use acct_text::Files;
+use commit_steps::{LoadEnd, Loaded, Loader, Loading};
+use std::alloc::Global;
+use suite_answers::{Answer, Cause, Which};
+
+/// Reads the next table, or login.defs. Once all are read, the tool decides.
+pub(crate) fn load<T: Tools, F: Folder>(
+    alloc: Global,
+    runner: &Runner,
+    loader: Loader,
+    folder: &mut F,
+) -> State
+    requires { StandsAs
+        (moment (F.admits folder.old) (F.told folder.old) (F.fault_count folder.old))
+        runner.now (State.Loading loader) }
+    ensures turns { Turns
+        (moment (F.admits folder.old) (F.told folder.old) (F.fault_count folder.old))
+        (moment (F.admits folder.new) (F.told folder.new) (F.fault_count folder.new))
+        runner.now result }
+    ensures nearer { turns_left result < turns_left (State.Loading loader) }
+    ensures counted { calls_left result < calls_left (State.Loading loader) }
+{
+    loader.is_sound();
+    match loader.load_next(folder) {
+        Ok(loading) => after_load::<T>(alloc, runner, loading),
+        Err(end) => ended(alloc, runner, end),
+    }
+}
+
+/// More is to be read, or the tool decides.
+fn after_load<T: Tools>(alloc: Global, runner: &Runner, loading: Loading) -> State
+    ensures { LoadsTo runner.now loading result }
+{
+    match loading {
+        Loading::More(loader) => State::Loading(loader),
+        Loading::Done(loaded) => decided::<T>(alloc, runner, loaded),
+    }
+}
+
+/// What the tool decides on the files: a change is backed up next, and any other answer is given
+/// once the lock is free.
+fn decided<T: Tools>(alloc: Global, runner: &Runner, loaded: Loaded) -> State
+    ensures { DecidesTo runner.now loaded result }
+{
+    match T::decide(alloc, &runner.asked, loaded.files(), loaded.defs()) {
+        Ok(Decided::Change(new, answer)) => backing_up(alloc, runner, loaded, new, answer),
+        Ok(Decided::Stay(answer)) => State::Unlocking(loaded.release().forget(), answer),
+        Err(_) => {
+            drop(loaded);
+            failed(alloc, runner, CommitStage::Before, FolderFault::Memory)
+        }
+    }
+}
+
+/// The change that the tool decided is backed up next.
+fn backing_up(alloc: Global, runner: &Runner, loaded: Loaded, new: Files, answer: Answer) -> State
+    requires { DecidesOn runner.now.asked loaded.files loaded.defs (Decided.Change new answer) }
+    ensures { DecidesTo runner.now loaded result }
+{
+    // The tool isn't needed: that the words ask for the request is a clause of it.
+    let _ = runner.asked.tool();
+    match loaded.prepare(alloc, new) {
+        Ok(backing) => State::BackingUp(backing, answer),
+        Err(_) => given_up(
+            alloc,
+            runner,
+            answer,
+            CommitStage::Before,
+            FolderFault::Memory,
+        ),
+    }
+}
+
+/// A file is too large or absent: the keeper frees its lock, but after a fault of the folder.
+fn ended(alloc: Global, runner: &Runner, end: LoadEnd) -> State
+    ensures { EndsAt runner.now.asked.request.tool end result }
+{
+    match end {
+        LoadEnd::Fault(fault) => stopped(alloc, runner, fault),
+        LoadEnd::TooLarge(name, keeper) => {
+            leave(
+                alloc,
+                runner,
+                keeper.forget(),
+                Cause::TooLarge(Which::File(name)),
+            )
+        }
+        LoadEnd::NoTable(table, keeper) => {
+            leave(alloc, runner, keeper.forget(), Cause::NoTable(table))
+        }
+    }
+}

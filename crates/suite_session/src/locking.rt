@@ -1,0 +1,218 @@
+// The turns in which a session takes the lock.
+ghost use Rattle.std.specs.Prelude.{◌≡◌, ◌<◌};
+ghost use Rattle.suite_session.specs.Locking.{after_look, after_read, after_listing, cause_of_end, cause_of_fault, cause_of_refusal};
+ghost use Rattle.suite_session.specs.Counts.{Listed};
+ghost use Rattle.suite_session.specs.Left.{calls_left, turns_left};
+ghost use Rattle.suite_session.specs.Moment.{moment};
+ghost use Rattle.suite_session.specs.Stands.{AnswersWith, StandsAs, Turns};
+
+use crate::runner::Runner;
+use crate::state::State;
+use acct_outside::{CommitStage, Folder, FolderFault};
+use lock_steps::{
+    Asking, Claimed, Confirmed, Judged, LockEnd, LockRefusal, Looking, Loser, Seen, Told,
+};
+use std::alloc::Global;
+use suite_answers::Cause;
+
+/// Lists the locks. Where there is none, a lock of its own comes next.
+pub(crate) fn look<F: Folder>(
+    alloc: Global,
+    runner: &Runner,
+    looking: Looking,
+    folder: &mut F,
+) -> State
+    requires { StandsAs
+        (moment (F.admits folder.old) (F.told folder.old) (F.fault_count folder.old))
+        runner.now (State.Looking looking) }
+    ensures turns { Turns
+        (moment (F.admits folder.old) (F.told folder.old) (F.fault_count folder.old))
+        (moment (F.admits folder.new) (F.told folder.new) (F.fault_count folder.new))
+        runner.now result }
+    ensures nearer { turns_left result < turns_left (State.Looking looking) }
+    ensures counted { calls_left result < calls_left (State.Looking looking) }
+{
+    match looking.look(folder) {
+        Ok(seen) => after_look(seen),
+        Err(end) => stopped(alloc, runner, end),
+    }
+}
+
+/// There is no lock, or a greatest one.
+fn after_look(seen: Seen) -> State
+    ensures { result ≡ after_look seen }
+{
+    if seen.greatest() == 0 {
+        State::Claiming(seen.none())
+    } else {
+        State::Reading(seen)
+    }
+}
+
+/// Reads the greatest lock.
+pub(crate) fn read<F: Folder>(alloc: Global, runner: &Runner, seen: Seen, folder: &mut F) -> State
+    requires { StandsAs
+        (moment (F.admits folder.old) (F.told folder.old) (F.fault_count folder.old))
+        runner.now (State.Reading seen) }
+    ensures turns { Turns
+        (moment (F.admits folder.old) (F.told folder.old) (F.fault_count folder.old))
+        (moment (F.admits folder.new) (F.told folder.new) (F.fault_count folder.new))
+        runner.now result }
+    ensures nearer { turns_left result < turns_left (State.Reading seen) }
+    ensures counted { calls_left result < calls_left (State.Reading seen) }
+{
+    match seen.read(alloc, folder) {
+        Ok(told) => after_read(told),
+        Err(end) => stopped(alloc, runner, end),
+    }
+}
+
+/// The greatest lock is free, or held by another session.
+fn after_read(told: Told) -> State
+    ensures { result ≡ after_read told }
+{
+    match told {
+        Told::Judged(judged) => State::Claiming(judged),
+        Told::Ask(asking) => State::Asking(asking),
+    }
+}
+
+/// Asks whether the session that holds the greatest lock still runs.
+pub(crate) fn ask<F: Folder>(
+    alloc: Global,
+    runner: &Runner,
+    asking: Asking,
+    folder: &mut F,
+) -> State
+    requires { StandsAs
+        (moment (F.admits folder.old) (F.told folder.old) (F.fault_count folder.old))
+        runner.now (State.Asking asking) }
+    ensures turns { Turns
+        (moment (F.admits folder.old) (F.told folder.old) (F.fault_count folder.old))
+        (moment (F.admits folder.new) (F.told folder.new) (F.fault_count folder.new))
+        runner.now result }
+    ensures nearer { turns_left result < turns_left (State.Asking asking) }
+    ensures counted { calls_left result < calls_left (State.Asking asking) }
+{
+    match asking.ask(folder) {
+        Ok(judged) => State::Claiming(judged),
+        Err(end) => stopped(alloc, runner, end),
+    }
+}
+
+/// Creates a lock of its own.
+pub(crate) fn claim<F: Folder>(
+    alloc: Global,
+    runner: &Runner,
+    judged: Judged,
+    folder: &mut F,
+) -> State
+    requires { StandsAs
+        (moment (F.admits folder.old) (F.told folder.old) (F.fault_count folder.old))
+        runner.now (State.Claiming judged) }
+    ensures turns { Turns
+        (moment (F.admits folder.old) (F.told folder.old) (F.fault_count folder.old))
+        (moment (F.admits folder.new) (F.told folder.new) (F.fault_count folder.new))
+        runner.now result }
+    ensures nearer { turns_left result < turns_left (State.Claiming judged) }
+    ensures counted { calls_left result < calls_left (State.Claiming judged) }
+{
+    match judged.claim(folder) {
+        Ok(claimed) => State::Confirming(claimed),
+        Err(end) => stopped(alloc, runner, end),
+    }
+}
+
+/// Lists the locks again.
+pub(crate) fn confirm<F: Folder>(
+    alloc: Global,
+    runner: &Runner,
+    claimed: Claimed,
+    folder: &mut F,
+) -> State
+    requires { StandsAs
+        (moment (F.admits folder.old) (F.told folder.old) (F.fault_count folder.old))
+        runner.now (State.Confirming claimed) }
+    ensures turns { Turns
+        (moment (F.admits folder.old) (F.told folder.old) (F.fault_count folder.old))
+        (moment (F.admits folder.new) (F.told folder.new) (F.fault_count folder.new))
+        runner.now result }
+    ensures nearer { turns_left result < turns_left (State.Confirming claimed) }
+    ensures counted { Listed (F.told folder.new) runner.now (State.Confirming claimed) result }
+{
+    match claimed.confirm(folder) {
+        Ok(confirmed) => after_listing(confirmed),
+        Err(end) => stopped(alloc, runner, end),
+    }
+}
+
+/// The own lock is the greatest, or a greater one stands.
+fn after_listing(confirmed: Confirmed) -> State
+    ensures { result ≡ after_listing confirmed }
+{
+    match confirmed {
+        Confirmed::Keeper(keeper) => State::ReadingIntent(keeper),
+        Confirmed::Loser(loser) => State::Withdrawing(loser),
+    }
+}
+
+/// Removes its own lock, which was outrun.
+pub(crate) fn withdraw<F: Folder>(
+    alloc: Global,
+    runner: &Runner,
+    loser: Loser,
+    folder: &mut F,
+) -> State
+    requires { StandsAs
+        (moment (F.admits folder.old) (F.told folder.old) (F.fault_count folder.old))
+        runner.now (State.Withdrawing loser) }
+    ensures turns { Turns
+        (moment (F.admits folder.old) (F.told folder.old) (F.fault_count folder.old))
+        (moment (F.admits folder.new) (F.told folder.new) (F.fault_count folder.new))
+        runner.now result }
+    ensures nearer { turns_left result < turns_left (State.Withdrawing loser) }
+    ensures counted { calls_left result < calls_left (State.Withdrawing loser) }
+{
+    stopped(alloc, runner, loser.withdraw(folder))
+}
+
+/// The answer of a step on the way to the lock that doesn't lead on.
+fn stopped(alloc: Global, runner: &Runner, end: LockEnd) -> State
+    ensures { AnswersWith runner.now.asked.request.tool (cause_of_end end) result }
+{
+    State::Answering(runner.asked.tell(alloc, cause_of_end(end)))
+}
+
+/// The cause of a step that doesn't lead on.
+fn cause_of_end(end: LockEnd) -> Cause
+    ensures { result ≡ cause_of_end end }
+{
+    match end {
+        LockEnd::Refused(refusal) => cause_of_refusal(refusal),
+        LockEnd::Folder(fault) => cause_of_fault(CommitStage::Before, fault),
+    }
+}
+
+/// The cause of a refused lock.
+fn cause_of_refusal(refusal: LockRefusal) -> Cause
+    ensures { result ≡ cause_of_refusal refusal }
+{
+    match refusal {
+        LockRefusal::Held(token) => Cause::Held(token),
+        LockRefusal::Gone(number) => Cause::Gone(number),
+        LockRefusal::Raced(number) => Cause::Raced(number),
+        LockRefusal::Outrun(number, greater) => Cause::Outrun(number, greater),
+        LockRefusal::Damaged(number) => Cause::LockDamaged(number),
+        LockRefusal::Exhausted => Cause::Exhausted,
+    }
+}
+
+/// The cause of a fault of the folder at a stage of the commit.
+pub(crate) fn cause_of_fault(stage: CommitStage, fault: FolderFault) -> Cause
+    ensures { result ≡ cause_of_fault stage fault }
+{
+    match fault {
+        FolderFault::Failed => Cause::DiskFault(stage),
+        FolderFault::Memory => Cause::Memory(stage),
+    }
+}

@@ -1,0 +1,136 @@
+// What a session that has begun carries from its begin to its answer.
+ghost use Rattle.std.specs.Prelude.{◌≡◌, ◌≤◌, length, IfOk};
+ghost use Rattle.acct_text.specs.Limits.{last_day, table_limit};
+ghost use Rattle.account_model.specs.Words.{Asks};
+ghost use Rattle.option_words.specs.Parsed.{request_in};
+ghost use Rattle.suite_session.specs.Answers.{given_for, IsTold, memory_answer};
+
+use acct_outside::{CommitStage, Token};
+use acct_text::{Bytes, Word};
+use option_words::{Parsed, Tool};
+use std::alloc::{AllocError, Global};
+use std::marker::Model;
+use suite_answers::{Answer, Cause, Outcome};
+
+/// The status of a command that found no memory.
+const MEMORY_STATUS: u8 = 100;
+
+/// What a session was asked: its words with what they ask for, its input, and the day.
+#[derive(Drop)]
+pub struct Asked {
+    pub(crate) words: Vec<Word>,
+    pub(crate) parsed: Parsed,
+    pub(crate) input: Bytes,
+    /// Counted from 1970-01-01, at most 2,932,896 (9999-12-31).
+    pub(crate) day: u32,
+}
+
+impl Model for Asked {
+    ghost use Rattle.option_words.specs.Parsed.{request_in};
+    ghost use Rattle.suite_session.specs.Runner.{Question, IsPosed, question};
+
+    ghost Value = { Question };
+
+    ghost view = { λ asked. record {
+      command = record { words = asked.words.items; input = asked.input; day = asked.day };
+      request = request_in asked.parsed;
+    } };
+
+    ghost invariant = { λ asked. IsPosed
+        (question asked.words.items (request_in asked.parsed) asked.input asked.day) };
+}
+
+/// A session that has begun.
+#[derive(Drop)]
+pub(crate) struct Runner {
+    pub(crate) token: Token,
+    pub(crate) asked: Asked,
+}
+
+impl Model for Runner {
+    ghost use Rattle.suite_session.specs.Runner.{Runner as Begun};
+
+    ghost Value = { Begun };
+
+    ghost view = { λ runner. record { token = runner.token; asked = runner.asked } };
+}
+
+impl Asked {
+    /// What the words ask for.
+    pub fn parsed(&self) -> &Parsed
+        ensures { request_in result.now ≡ self.now.request }
+    {
+        &self.parsed
+    }
+
+    /// The tool that was asked for.
+    pub fn tool(&self) -> Tool
+        ensures value { result ≡ self.now.request.tool }
+        ensures asks { Asks self.now.command.words self.now.request }
+    {
+        self.parsed.tool
+    }
+
+    /// The input, which is empty for a tool that reads none.
+    pub fn input(&self) -> &Bytes
+        ensures value { result.now ≡ self.now.command.input }
+        ensures within { length result.now ≤ table_limit }
+    {
+        &self.input
+    }
+
+    /// The day, counted from 1970-01-01.
+    pub fn day(&self) -> u32
+        ensures value { result ≡ self.now.command.day }
+        ensures in_time { result ≤ last_day }
+    {
+        self.day
+    }
+
+    /// The answer to a cause that is no tool's; where its text finds no memory, that of want of
+    /// memory at its stage.
+    pub(crate) fn tell(&self, alloc: Global, cause: Cause) -> Answer
+        ensures { IsTold self.now.request.tool cause result }
+    {
+        let stage = cause.stage();
+        match self.try_to_tell(alloc, cause) {
+            Ok(answer) => answer,
+            Err(_) => memory_answer(alloc, stage),
+        }
+    }
+
+    /// The answer to a cause that is no tool's. The error says that memory ran out for its text.
+    pub fn try_to_tell(&self, alloc: Global, cause: Cause) -> Result<Answer, AllocError>
+        ensures { IfOk result (λ answer. answer ≡ given_for self.now.request.tool cause) }
+    {
+        match cause {
+            Cause::Memory(stage) => Ok(memory_answer(alloc, stage)),
+            cause => Answer::of_cause(alloc, self.tool(), cause),
+        }
+    }
+}
+
+/// The answer that there is no memory, at a stage of the commit. It takes none.
+pub fn memory_answer(alloc: Global, stage: CommitStage) -> Answer
+    ensures { result ≡ memory_answer stage }
+{
+    Answer {
+        outcome: Outcome {
+            status: MEMORY_STATUS,
+            cause: Cause::Memory(stage),
+        },
+        out: Bytes::new(alloc),
+        err: Bytes::new(alloc),
+    }
+}
+
+/// A copy of the words.
+pub(crate) fn copy_words(alloc: Global, words: &[Word]) -> Result<Vec<Word>, AllocError>
+    ensures { IfOk result (λ copied. copied.items ≡ words.now) }
+{
+    let mut copied = Vec::new(alloc);
+    for word in words {
+        copied.push(Word::of(alloc, word.as_slice())?)?;
+    }
+    Ok(copied)
+}
