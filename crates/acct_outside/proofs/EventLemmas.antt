@@ -1,11 +1,11 @@
 -- What an event of a folder in memory does, and which result the folder gives.
-use Rattle.std.proofs.Common.{◌≡◌, refl, List, [], ◌∷◌, ◌++◌, map, reverse, not, ◌&&◌, inl, inr, Bool, true, false, cond, ℕ, None, Some, Option, ◌∙◌, ap}
+use Rattle.std.proofs.Common.{◌≡◌, refl, sym, zero, suc, ◌+◌, ◌<◌, ◌≤◌, length, take, get_or, arith, List, [], ◌∷◌, ◌++◌, map, reverse, not, ◌&&◌, inl, inr, Bool, true, false, cond, ℕ, None, Some, Option, ◌∙◌, ap}
 use Rattle.std.specs.Prelude.{bytes_eq, IsNone}
 use Rattle.std.specs.Option.{is_some, is_none}
 use Rattle.acct_outside.specs.declared.Name.{Name}
 use Rattle.acct_outside.specs.declared.Name.TheVariants.{Lock}
-use Rattle.std.proofs.lemmas.Bool.{cases_Bool}
-use Rattle.std.proofs.lemmas.List.{map-append, reverse-append}
+use Rattle.std.proofs.lemmas.Bool.{cases_Bool, cond-true, cond-false}
+use Rattle.std.proofs.lemmas.List.{map-append, reverse-append, take_all, take_more}
 use Rattle.acct_text.specs.Bytes.{Bytes}
 use Rattle.acct_outside.specs.declared.Created.{Created}
 use Rattle.acct_outside.specs.declared.Created.TheVariants.{Done as Fresh, Exists}
@@ -18,7 +18,7 @@ use Rattle.acct_outside.specs.declared.event.Answer.{Answer as KeptAnswer}
 use Rattle.acct_outside.specs.Tokens.{Token}
 use Rattle.acct_outside.specs.Folder.{Folder}
 use Rattle.acct_outside.specs.Calls.{Call, Effect, happened, nothing, left, failed, creates, writes, renames, removes, done, effect_of, changed_by}
-use Rattle.acct_outside.specs.History.{History, after_event}
+use Rattle.acct_outside.specs.History.{History, after_event, is_of, own_events}
 use Rattle.acct_outside.specs.Life.{Life, unbegun, running, faulted, ended, life, life_step, runs_in, is_running}
 use Rattle.acct_outside.specs.Gives.{GivesEffect, GivesResult}
 use Rattle.acct_outside.specs.Events.{MayFail, actual_effect, IsLaterCall, event_of, history_of, ends, call_of, call_event, result_in, answer_in, created_in, says_exists, answers_exists}
@@ -141,6 +141,46 @@ pub history_of-push : (events : List KeptEvent) (event : KeptEvent)
 history_of-push events event =
     ap reverse (map-append event_of events (event ∷ []))
     ∙ reverse-append (map event_of events) (event_of event ∷ [])
+
+-- a history with an own event in it has own events
+module _ (token : Token) (event : KeptEvent) (own : is_of token (event_of event) ≡ true) where
+  known_to : (events : List KeptEvent) (place count : ℕ)
+      → place < count → count ≤ length events → event ≡ get_or events place event
+      → ¬ (own_events token (history_of (take count events)) ≡ [])
+  known_to events place zero low within at none = absurd (omega arith)
+  known_to events place (suc count) low within at none =
+      let last : KeptEvent = get_or events count event in
+      let front : History = history_of (take count events) in
+      let number : suc count ≡ count + 1 = omega arith in
+      let is : history_of (take (suc count) events) ≡ event_of last ∷ front =
+      ap (λ (n : ℕ). history_of (take n events)) number
+      ∙ ap history_of (take_more events count event (omega arith))
+      ∙ history_of-push (take count events) last in
+      let none_last : own_events token (event_of last ∷ front) ≡ [] =
+      ap (own_events token) (sym is) ∙ none in
+      elim (cases_Bool (is_of token (event_of last))) [
+        | inl hit ↦
+            absurd (cc (
+              none_last,
+              cond-true {A = History} (is_of token (event_of last))
+                  (event_of last ∷ own_events token front) (own_events token front) hit,
+            ))
+        | inr miss ↦
+            let later : ¬ (place ≡ count) = λ same.
+            cc (own, miss, at ∙ ap (λ (n : ℕ). get_or events n event) same) in
+            let below : place < count = grind (arith, later) in
+            known_to events place count below (omega arith) at
+            (sym (cond-false {A = History} (is_of token (event_of last))
+            (event_of last ∷ own_events token front) (own_events token front) miss) ∙ none_last)
+      ]
+
+  pub known-at : (events : List KeptEvent) (place : ℕ)
+      → place < length events → event ≡ get_or events place event
+      → ¬ (own_events token (history_of events) ≡ [])
+  known-at events place low at none =
+      known_to events place (length events) low (omega arith) at
+      (ap (λ (l : List KeptEvent). own_events token (history_of l))
+      (take_all (length events) events (omega arith)) ∙ none)
 
 -- what isn't there is None
 none-of : (content : Option Bytes) → is_none content ≡ true → IsNone content

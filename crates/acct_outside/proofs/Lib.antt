@@ -2,6 +2,7 @@ mod Rows
 pub mod NameLemmas
 pub mod StoreLemmas
 pub mod TokenLemmas
+pub mod NewTokenLemmas
 pub mod NumberLemmas
 pub mod FolderLemmas
 pub mod EventLemmas

@@ -1,8 +1,8 @@
 -- Lists of lock numbers with one more and one less: which numbers stand in them, that they stay
 -- ascending, and that they stay in their bounds.
-use Rattle.std.proofs.Common.{◌≡◌, refl, sym, ◌∙◌, ℕ, ◌<◌, Bool, true, false, cond, not, ◌||◌, ◌&&◌, ◌==◌, nat_lt, List, [], ◌∷◌, All, arith, suc}
+use Rattle.std.proofs.Common.{◌≡◌, refl, sym, ◌∙◌, ap, subst, inl, inr, ℕ, ◌<◌, Bool, true, false, cond, not, ◌||◌, ◌&&◌, ◌==◌, nat_lt, List, [], ◌∷◌, All, arith, suc}
 use Rattle.std.specs.List.{AllPairs}
-use Rattle.std.proofs.lemmas.Bool.{cond_both}
+use Rattle.std.proofs.lemmas.Bool.{cases_Bool, cond_both}
 use Rattle.std.proofs.lemmas.Bool.Decides.{nat_tests, Decides-eqb}
 use Rattle.std.proofs.lemmas.List.Elements.{All-cons, All-head, All-tail, All-from_get_or, All-weaker}
 use Rattle.std.proofs.lemmas.List.Kept.{AllPairs-cons, AllPairs-filter}
@@ -83,6 +83,18 @@ module _ (P : ℕ → Type 0) where
       cond_both (nat_lt n k) (n ∷ k ∷ ks) (cond (n == k) (k ∷ ks) (k ∷ with_number n ks)) (All P)
       (λ _. more)
       (λ _. cond_both (n == k) (k ∷ ks) (k ∷ with_number n ks) (All P) (λ _. all) (λ _. later))
+
+-- what holds of each number of a list holds of one that stands in it
+pub All-has : (P : ℕ → Type 0) (n : ℕ) (ks : List ℕ)
+    → All P ks → has_number n ks ≡ true → P n
+All-has P n [] all has = absurd cc
+All-has P n (k ∷ ks) all has =
+    elim (cases_Bool (n == k)) [
+      | inl same ↦ subst P (sym (same_number n k same)) (All-head P k ks all)
+      | inr apart ↦
+          All-has P n ks (All-tail P k ks all)
+          (sym (ap (λ (b : Bool). b || has_number n ks) apart) ∙ has)
+    ]
 
 -- the numbers ascend, each once
 abbrev pub Ascends : List ℕ → Type 0

@@ -1,16 +1,13 @@
 -- What is found among files after one was dropped or put.
-use Rattle.std.proofs.Common.{◌≡◌, ℕ, ◌+◌, ◌<◌, length, take, get_or, Bool, true, false, not, cond, List, [], ◌∷◌, ◌++◌, Option, None, Some, refl, sym, ◌∙◌, ap, subst, inl, inr}
+use Rattle.std.proofs.Common.{◌≡◌, ℕ, ◌+◌, ◌<◌, length, take, get_or, true, false, not, cond, List, [], ◌∷◌, ◌++◌, Option, None, Some, refl, sym, ◌∙◌, ap, subst, inl, inr}
 use Rattle.std.specs.List.{filter}
 use Rattle.std.proofs.lemmas.List.{take_more}
-use Rattle.std.specs.Prelude.{bytes_eq, ◌&&◌}
-use Rattle.std.proofs.lemmas.Slice.Eq.{bytes_eq-Decides}
 use Rattle.std.proofs.lemmas.Bool.{cases_Bool, cond-true, cond-false}
 use Rattle.acct_text.specs.Bytes.{Bytes}
 use Rattle.acct_outside.specs.declared.Name.{Name}
 use Rattle.acct_outside.specs.Names.{same_name}
-use Rattle.acct_outside.specs.declared.Name.TheVariants.{Lock}
 use Rattle.acct_outside.specs.Folder.{Folder, with_file}
-use Rattle.acct_outside.specs.Store.{file_in, folder_of, with_files, is_lock, is_lock_with}
+use Rattle.acct_outside.specs.Store.{file_in, folder_of, with_files}
 use Rattle.acct_outside.proofs.NameLemmas.{same_name-true, same_name-self}
 
 else_back : (name other : Name) → same_name other name ≡ false → same_name name other ≡ false
@@ -88,43 +85,6 @@ pub folder_of-is : (files : List (Name × Bytes)) (locks : List ℕ) (folder : F
     → folder_of files locks ≡ folder
 folder_of-is files locks folder same_files same_locks =
     λ i. record { file = λ name. same_files name i; locks = same_locks i }
-
--- no file of a lock has the text
-abbrev pub LacksLock : Bytes → List (Name × Bytes) → Type 0
-LacksLock text files = (number : ℕ) → ¬ (file_in files (Lock number) ≡ Some text)
-
--- a file that is no lock with the text doesn't stand as one
-other_lock : (text : Bytes) (file : Name × Bytes) (number : ℕ) (same : Bool)
-    → is_lock_with text file ≡ false
-    → same_name file.0 (Lock number) ≡ same
-    → ¬ (cond same (Some file.1) None ≡ Some text)
-other_lock text file number true other is stands =
-    let name : file.0 ≡ Lock number = same_name-true file.0 (Lock number) is in
-    let lock : is_lock file.0 ≡ true = ap is_lock name in
-    let apart : bytes_eq file.1 text ≡ false =
-    sym (ap (λ (b : Bool). b && bytes_eq file.1 text) lock) ∙ other in
-    let equal : file.1 ≡ text = cc in
-    cc (apart, (bytes_eq-Decides file.1 text).1 equal)
-other_lock text file number false other is stands = cc
-
--- what stands first among files isn't the text, nor what stands next
-lacks_next : (text : Bytes) (content next : Option Bytes)
-    → ¬ (content ≡ Some text)
-    → ¬ (next ≡ Some text)
-    → ¬ (or_else content next ≡ Some text)
-lacks_next text None next lacks next_lacks = next_lacks
-lacks_next text (Some bytes) next lacks next_lacks = lacks
-
--- the text is that of no lock among files, and of none with one more that isn't a lock with it
-pub LacksLock-push : (text : Bytes) (files : List (Name × Bytes)) (file : Name × Bytes)
-    → LacksLock text files
-    → is_lock_with text file ≡ false
-    → LacksLock text (files ++ file ∷ [])
-LacksLock-push text files file lacks other = λ number stands.
-    lacks_next text (file_in files (Lock number)) (file_in (file ∷ []) (Lock number))
-    (lacks number)
-    (other_lock text file number (same_name file.0 (Lock number)) other refl)
-    (sym (file_in-append files (file ∷ []) (Lock number)) ∙ stands)
 
 -- one more file put in a folder
 pub with_files-push : (files : List (Name × Bytes)) (file : Name × Bytes) (folder : Folder)

@@ -1,5 +1,5 @@
 -- What a folder in memory tells after a call: nothing new, or the call's event and no other.
-use Rattle.std.proofs.Common.{◌≡◌, Bool, true, false, [], ◌∷◌, Some, None, Result, Ok, Err, refl, sym, ◌∙◌, ap, subst}
+use Rattle.std.proofs.Common.{◌≡◌, Bool, true, false, List, [], ◌∷◌, Some, None, Result, Ok, Err, refl, sym, ◌∙◌, ap, subst}
 use Rattle.std.specs.Prelude.{IsErr, IsErrAnd, IfOk, IfErr, OnErr, bytes_eq, ◌||◌}
 use Rattle.std.proofs.lemmas.Bool.{cond-true}
 use Rattle.acct_outside.specs.declared.Verdict.{Verdict}
@@ -17,6 +17,7 @@ use Rattle.acct_outside.proofs.TokenLemmas.{begin-runs, bytes_eq-self, or_true, 
 use Rattle.acct_outside.specs.Others.{ByOthers, none_came}
 use Rattle.acct_outside.specs.Contract.{Past, was_begun, MayAct, MayAnswer, WhereTold, TellsCall, TellsEvent, TellsBegin}
 use Rattle.acct_outside.specs.Logged.{with_event}
+use Rattle.acct_outside.specs.NewTokens.{IsFirstUnused}
 use Rattle.acct_outside.specs.Memory.{no_others, past_of, Runs, TellsAct, TellsFault}
 use Rattle.acct_outside.specs.declared.memory.MemoryFolder.{MemoryFolder}
 use Rattle.acct_outside.specs.declared.Call.{Call as FolderCall}
@@ -157,16 +158,17 @@ module _ (old new : Past) (command : Command) where
       )
 
 -- a begin that started a session, or found no memory
-pub begin_started : (old new : Past) (command : Command) (result : Result Token FolderFault)
+pub begin_started : (old new : Past) (outsiders : List Token) (command : Command)
+    (result : Result Token FolderFault)
     → IfOk result (λ token. new ≡ with_event (begin_event (Some token) command) old)
     → IfOk result IsToken
-    → IfOk result (λ token. own_events token old.history ≡ [])
+    → IfOk result (IsFirstUnused old outsiders)
     → IfErr result (λ fault. fault ≡ Memory)
     → OnErr result (new ≡ old)
     → Begins old new command result
-begin_started old new command (Ok token) is is_token is_new memory same =
-    begin_done old new command token is_token is_new is
-begin_started old new command (Err fault) is is_token is_new memory same =
+begin_started old new outsiders command (Ok token) is is_token first memory same =
+    begin_done old new command token is_token first.unused.no_event is
+begin_started old new outsiders command (Err fault) is is_token first memory same =
     subst (λ (f : FolderFault). Begins old new command (Err f)) (sym memory)
     (begin_memory old new command same)
 

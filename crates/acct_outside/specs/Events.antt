@@ -109,6 +109,10 @@ begin_event (Some token) command =
 abbrev pub done_event : Token → (call : Call) → Answer call → Event
 done_event token call answer = record { token = token; call = call; result = done answer }
 
+-- the event of a session's call that failed with this effect
+abbrev pub failed_event : Token → Call → Effect → Event
+failed_event token call effect = record { token = token; call = call; result = failed effect }
+
 -- the event of a session's call with its outcome
 abbrev pub call_event : Token → FolderCall → Outcome → Event
 call_event token call outcome =
@@ -143,9 +147,10 @@ abbrev pub MayFail : FolderCall → Type 0
 MayFail (Answered status) = ⊥
 MayFail call = IsLaterCall call
 
--- the call can have happened in this folder: a create where its lock doesn't stand, a rename where
--- its source stands, and every other call
+-- the call can have happened in this folder though it failed: a create where its lock doesn't stand,
+-- a rename where its source stands, no begin, and every other call
 abbrev pub may_happen : Folder → Call → Bool
+may_happen folder (begins command) = false
 may_happen folder (creates number) = is_none (folder.file (Lock number))
 may_happen folder (renames from to) = is_some (folder.file from)
 may_happen folder call = true

@@ -18,3 +18,9 @@ pub record CountsFailure {T E : Type 0} (failure : E) (before now : ℕ) (result
     : Type 0 where
   pub never_falls : before ≤ now
   pub failed : IsErrOf result failure → HasRisen before now
+
+-- the count rises by one where the call failed, and stays where it didn't
+pub record CountsEach {T E : Type 0} (failure : E) (before now : ℕ) (result : Result T E)
+    : Type 0 where
+  pub failed : IsErrOf result failure → now ≡ next_count before
+  pub others : ¬ (IsErrOf result failure) → now ≡ before

@@ -1,21 +1,22 @@
 -- What a folder in memory tells, counts and was given.
-use Rattle.std.specs.Prelude.{◌≡◌, ℕ, true, List, Some, Result, Ok, Err, IsErrOf}
+use Rattle.std.specs.Prelude.{◌≡◌, ◌≤◌, ⊤, ℕ, true, List, Option, None, Some, IsSomeAnd, Result, Ok, Err}
 use Rattle.acct_outside.specs.declared.FolderFault.{FolderFault}
-use Rattle.acct_outside.specs.declared.FolderFault.TheVariants.{Failed}
+use Rattle.acct_outside.specs.declared.FolderFault.TheVariants.{Failed, Memory}
+use Rattle.acct_outside.specs.declared.Effect.{Effect as CallEffect}
 use Rattle.acct_outside.specs.declared.mishap.Mishap.{Mishap}
 use Rattle.acct_outside.specs.declared.memory.MemoryFolder.{MemoryFolder}
 use Rattle.acct_outside.specs.Tokens.{Token}
 use Rattle.acct_outside.specs.Calls.{Call, Answer}
 use Rattle.acct_outside.specs.Life.{is_running}
 use Rattle.acct_outside.specs.Others.{Admission}
-use Rattle.acct_outside.specs.Faults.{next_count}
+use Rattle.acct_outside.specs.Faults.{next_count, HasRisen, CountsEach}
 use Rattle.acct_outside.specs.Contract.{Past, Tells}
-use Rattle.acct_outside.specs.Logged.{past_in, with_event}
+use Rattle.acct_outside.specs.Logged.{past_in, with_event, folder_after}
 use Rattle.acct_outside.specs.declared.Call.{Call as FolderCall}
 use Rattle.acct_outside.specs.declared.event.Outcome.TheVariants.{Done}
 use Rattle.acct_outside.specs.declared.event.Answer.TheVariants.{Empty}
-use Rattle.acct_outside.specs.Events.{call_of, call_event}
-use Rattle.acct_outside.specs.Plan.{is_planned}
+use Rattle.acct_outside.specs.Events.{call_of, call_event, failed_event, actual_effect, effect_in}
+use Rattle.acct_outside.specs.Plan.{planned_effect, effect_due}
 
 -- a folder in memory admits no event of another session
 abbrev pub no_others : Admission
@@ -64,16 +65,44 @@ pub record IsUncounted (old new : MemoryFolder) : Type 0 where
   pub plan : plan_of new ≡ plan_of old
   pub alive : alive_of new ≡ alive_of old
 
--- the call was counted; the plan and the tokens told alive stay
-pub record IsCounted (old new : MemoryFolder) : Type 0 where
+-- the count of faults after a call that gave no answer: it rose by one where the call failed, and is
+-- as it was where there was no memory
+pub record CountsFault (old new : MemoryFolder) (fault : FolderFault) : Type 0 where
+  pub never_falls : faults_of old ≤ faults_of new
+  pub rises : fault ≡ Failed → HasRisen (faults_of old) (faults_of new)
+  pub by_one : fault ≡ Failed → faults_of new ≡ next_count (faults_of old)
+  pub stays : fault ≡ Memory → faults_of new ≡ faults_of old
+
+-- the call was counted, and its fault where it failed; the plan and the tokens told alive stay
+pub record IsCounted {T : Type 0} (old new : MemoryFolder) (result : Result T FolderFault)
+    : Type 0 where
   pub calls : calls_of new ≡ next_count (calls_of old)
+  pub faults : CountsEach Failed (faults_of old) (faults_of new) result
   pub plan : plan_of new ≡ plan_of old
   pub alive : alive_of new ≡ alive_of old
 
--- the call that was counted last failed only where a mishap was planned for it
-abbrev pub FailsByPlan : {T : Type 0} → MemoryFolder → Result T FolderFault → Type 0
-FailsByPlan folder result =
-    IsErrOf result Failed → is_planned (calls_of folder) (plan_of folder) ≡ true
+-- what the call that was counted last is to do as it fails, None where it isn't to fail
+abbrev pub due_of : MemoryFolder → MemoryFolder → Call → Option CallEffect
+due_of old new call =
+    effect_due (folder_after (past_of old)) call (planned_effect (calls_of new) (plan_of new))
+
+-- the call failed with this effect, as far as it can have had it
+abbrev pub FailsWith : MemoryFolder → MemoryFolder → Token → Call → CallEffect → Type 0
+FailsWith old new token call effect =
+    past_of new
+    ≡ with_event
+    (failed_event token call
+    (actual_effect (folder_after (past_of old)) call (effect_in effect)))
+    (past_of old)
+
+-- The call that was counted last failed exactly where it was to, and with the planned effect. Of
+-- one that found no memory nothing is said.
+abbrev pub FailsAsPlanned : {T : Type 0} → MemoryFolder → MemoryFolder → Token → Call
+    → Result T FolderFault → Type 0
+FailsAsPlanned old new token call (Ok answer) = due_of old new call ≡ None
+FailsAsPlanned old new token call (Err Failed) =
+    IsSomeAnd (due_of old new call) (FailsWith old new token call)
+FailsAsPlanned old new token call (Err Memory) = ⊤
 
 -- the session runs in the folder's history
 pub record Runs (folder : MemoryFolder) (token : Token) : Type 0 where

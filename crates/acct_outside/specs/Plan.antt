@@ -1,8 +1,23 @@
--- Which calls of a folder in memory are to fail.
-use Rattle.std.specs.Prelude.{ℕ, Bool, false, ◌||◌, ◌==◌, List, [], ◌∷◌}
+-- Which calls of a folder in memory are to fail, and what they do then.
+use Rattle.std.specs.Prelude.{ℕ, Bool, false, ◌==◌, if◌then◌else◌, List, [], ◌∷◌, Option, None, Some, is_none}
 use Rattle.acct_outside.specs.declared.mishap.Mishap.{Mishap}
+use Rattle.acct_outside.specs.declared.Effect.{Effect}
+use Rattle.acct_outside.specs.declared.Effect.TheVariants.{Nothing}
+use Rattle.acct_outside.specs.Folder.{Folder}
+use Rattle.acct_outside.specs.Calls.{Call, renames}
 
--- a mishap is planned for the call with this number
-abbrev pub is_planned : ℕ → List Mishap → Bool
-is_planned number [] = false
-is_planned number (mishap ∷ plan) = (mishap.call == number) || is_planned number plan
+-- what the call with this number does as it fails, by the first mishap that is planned for it
+abbrev pub planned_effect : ℕ → List Mishap → Option Effect
+planned_effect number [] = None
+planned_effect number (mishap ∷ plan) =
+    if mishap.call == number then Some mishap.effect else planned_effect number plan
+
+-- the call fails here by itself: a rename whose source is absent
+abbrev pub is_refused : Folder → Call → Bool
+is_refused folder (renames from to) = is_none (folder.file from)
+is_refused folder call = false
+
+-- what the call does here as it fails, and None where it isn't to fail: one that fails by itself
+-- does nothing, another does what is planned
+abbrev pub effect_due : Folder → Call → Option Effect → Option Effect
+effect_due folder call planned = if is_refused folder call then Some Nothing else planned

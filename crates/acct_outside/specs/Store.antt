@@ -1,8 +1,7 @@
 -- What stands in a folder in memory, as the `Folder` that contracts see.
-use Rattle.std.specs.Prelude.{ℕ, Bool, true, false, ◌&&◌, bytes_eq, List, [], ◌∷◌, Option, None, Some, if◌then◌else◌}
+use Rattle.std.specs.Prelude.{ℕ, List, [], ◌∷◌, Option, None, Some, if◌then◌else◌}
 use Rattle.acct_text.specs.Bytes.{Bytes}
 use Rattle.acct_outside.specs.declared.Name.{Name}
-use Rattle.acct_outside.specs.declared.Name.TheVariants.{Lock}
 use Rattle.acct_outside.specs.Names.{same_name}
 use Rattle.acct_outside.specs.Folder.{Folder, with_file}
 
@@ -10,15 +9,6 @@ use Rattle.acct_outside.specs.Folder.{Folder, with_file}
 abbrev pub file_in : List (Name × Bytes) → Name → Option Bytes
 file_in [] name = None
 file_in (file ∷ files) name = if same_name file.0 name then Some file.1 else file_in files name
-
--- the name is of a lock
-abbrev pub is_lock : Name → Bool
-is_lock (Lock number) = true
-is_lock name = false
-
--- the file is a lock with this text
-abbrev pub is_lock_with : Bytes → Name × Bytes → Bool
-is_lock_with text file = is_lock file.0 && bytes_eq file.1 text
 
 -- the folder of these files and of the numbers of the locks among them
 abbrev pub folder_of : List (Name × Bytes) → List ℕ → Folder

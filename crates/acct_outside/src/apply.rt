@@ -4,6 +4,7 @@ ghost use Rattle.acct_outside.specs.Calls.{changed_by, happened, left};
 ghost use Rattle.acct_outside.specs.History.{after_event};
 ghost use Rattle.acct_outside.specs.Tokens.{Token as TokenText};
 ghost use Rattle.acct_outside.specs.Events.{IsLaterCall, actual_effect, answers_exists, call_event, call_of, effect_in, may_happen};
+ghost use Rattle.acct_outside.specs.Plan.{is_refused};
 
 use crate::event::{Answer, Outcome};
 use crate::store::Store;
@@ -97,11 +98,22 @@ impl Store {
         }
     }
 
+    /// Whether the call fails here by itself: a rename whose source is absent.
+    pub(crate) fn refuses(&self, call: &Call) -> bool
+        ensures { result ≡ is_refused (folder_in self.now) (call_of call.now) }
+    {
+        match call {
+            Call::Rename(from, _) => !self.stands(*from),
+            _ => false,
+        }
+    }
+
     // Whether the call can have happened here.
     fn may_happen(&self, call: &Call) -> bool
         ensures { result ≡ may_happen (folder_in self.now) (call_of call.now) }
     {
         match call {
+            Call::Begin => false,
             Call::Create(number) => !self.stands(Name::Lock(*number)),
             Call::Rename(from, _) => self.stands(*from),
             _ => true,

@@ -1,5 +1,5 @@
 // The calls of a stream or clock in memory that fail.
-ghost use Rattle.std.specs.Prelude.{◌≡◌, ◌≤◌, IsTrue, ◌↔◌, Contains, MatchBool};
+ghost use Rattle.std.specs.Prelude.{◌≡◌, ◌≤◌, IsTrue, ◌↔◌, Contains, if◌then◌else◌};
 ghost use Rattle.acct_outside.specs.Faults.{HasRisen, next_count};
 
 use crate::mishap::risen;
@@ -30,9 +30,10 @@ impl Failing {
     pub(crate) fn next(&mut self) -> bool
         ensures fails { IsTrue result ↔ Contains self.old.failing.items
             (next_count self.old.calls) }
-        ensures faults { MatchBool result
-            ((self.old.faults ≤ self.new.faults) × HasRisen self.old.faults self.new.faults)
-            (self.new.faults ≡ self.old.faults) }
+        ensures faults { self.new.faults
+            ≡ (if result then next_count self.old.faults else self.old.faults) }
+        ensures falls_not { self.old.faults ≤ self.new.faults }
+        ensures rises { IsTrue result → HasRisen self.old.faults self.new.faults }
         ensures calls { self.new.calls ≡ next_count self.old.calls }
         ensures failing { self.new.failing.items ≡ self.old.failing.items }
     {

@@ -1,5 +1,5 @@
 // The history of a folder in memory, with what stands after it and the sessions that run.
-ghost use Rattle.std.specs.Prelude.{◌≡◌, ◌+◌, ◌≤◌, [], Some, None, All, ◌&&◌, not, bytes_eq, IfOk, OnOk, OnErr, true, false, vec_len, vec_capacity};
+ghost use Rattle.std.specs.Prelude.{◌≡◌, ◌↔◌, ◌+◌, ◌≤◌, [], Some, None, All, ◌&&◌, not, bytes_eq, IfOk, OnOk, OnErr, true, false, vec_len, vec_capacity};
 ghost use Rattle.std.proofs.Props.{props};
 ghost use Rattle.acct_outside.specs.History.{after, own_events};
 ghost use Rattle.acct_outside.specs.Life.{is_running};
@@ -151,7 +151,8 @@ impl Log {
 
     /// Whether an event has the token.
     pub(crate) fn knows(&self, token: &Token) -> bool
-        ensures { result ≡ false → own_events token.now (history_of self.now.events.items) ≡ [] }
+        ensures { (result ≡ false)
+            ↔ (own_events token.now (history_of self.now.events.items) ≡ []) }
     {
         for event in &self.events {
             if event.is_of(token) {

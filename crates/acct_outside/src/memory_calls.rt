@@ -1,24 +1,21 @@
 // The calls of a folder in memory. Each is counted, then fails where a mishap is planned for it, and
 // else finds its answer and records its event.
-ghost use Rattle.std.specs.Prelude.{◌≡◌, ◌≤◌, ◌↔◌, All, IfOk, IsSome, Ok, false, true};
-ghost use Rattle.acct_outside.specs.Calls.{lists, reads, asks, creates, writes, renames, removes, answers};
-ghost use Rattle.acct_outside.specs.Folder.{Folder as FolderMap};
-ghost use Rattle.acct_outside.specs.Faults.{CountsFailure, next_count};
+ghost use Rattle.std.specs.Prelude.{◌≡◌, ◌↔◌, [], All, IfOk, IsOk, Ok, false};
+ghost use Rattle.acct_outside.specs.Calls.{begins, lists, reads, asks, creates, writes, renames, removes, answers};
+ghost use Rattle.acct_outside.specs.Faults.{CountsFailure};
 ghost use Rattle.acct_outside.specs.Life.{is_running};
-ghost use Rattle.acct_outside.specs.Tokens.{held_text};
-ghost use Rattle.acct_outside.specs.declared.Name.TheVariants.{Lock};
+ghost use Rattle.acct_outside.specs.NewTokens.{IsFirstUnused};
 ghost use Rattle.acct_outside.specs.Events.{has_token};
 ghost use Rattle.acct_outside.specs.Contract.{IsName, IsLockNumber, IsWithinLimit, MayAct, TellsRead, TellsBegin, WhereTold, locks_result};
 
 use crate::event::{Answer, Command, Outcome};
 use crate::memory::MemoryFolder;
-use crate::{Call, Created, Effect, Folder, FolderFault, Found, Name, Token, Verdict};
+use crate::{Call, Created, Folder, FolderFault, Found, Name, Token, Verdict};
 use acct_text::{Bytes, Word};
 
 impl Folder for MemoryFolder {
     ghost use Rattle.std.specs.Prelude.{Some};
-    ghost use Rattle.acct_outside.specs.Logged.{folder_after};
-    ghost use Rattle.acct_outside.specs.Memory.{FailsByPlan, IsCounted, Runs, TellsIn, alive_of, faults_of, no_others, past_of};
+    ghost use Rattle.acct_outside.specs.Memory.{FailsAsPlanned, IsCounted, IsUncounted, Runs, TellsIn, alive_of, faults_of, no_others, past_of};
 
     ghost told = { λ folder. Some (past_of folder) };
 
@@ -26,7 +23,10 @@ impl Folder for MemoryFolder {
 
     ghost fault_count = { faults_of };
 
-    fn enter(&mut self, _prefix: &Bytes) -> Result<(), FolderFault> {
+    fn enter(&mut self, _prefix: &Bytes) -> Result<(), FolderFault>
+        ensures done { IsOk result }
+        ensures stays { self.new ≡ self.old }
+    {
         Ok(())
     }
 
@@ -38,11 +38,10 @@ impl Folder for MemoryFolder {
         ensures acts { IfOk result (MayAct no_others (Some (past_of self.new))) }
         ensures faults { CountsFailure FolderFault.Failed (faults_of self.old)
             (faults_of self.new) result }
-        ensures counted { IsCounted self.old self.new }
-        ensures planned { FailsByPlan self.new result }
-        ensures other { IfOk result (λ token. has_token token (alive_of self.old) ≡ false) }
-        ensures no_lock { IfOk result (λ token. (number : _)
-            → ¬ ((past_of self.old).first.file (Lock number) ≡ Some (held_text token))) }
+        ensures counted { IsCounted self.old self.new result }
+        ensures planned { FailsAsPlanned self.old self.new []
+            (begins (record { words = words.now; input = input.now; day = day })) result }
+        ensures token { IfOk result (IsFirstUnused (past_of self.old) (alive_of self.old)) }
     {
         self.mishaps.count();
         let Ok(command) = Command::of(self.alloc, words, input, day) else {
@@ -60,8 +59,8 @@ impl Folder for MemoryFolder {
         ensures numbers { IfOk result (λ numbers. All IsLockNumber numbers.items) }
         ensures faults { CountsFailure FolderFault.Failed (faults_of self.old)
             (faults_of self.new) result }
-        ensures counted { IsCounted self.old self.new }
-        ensures planned { FailsByPlan self.new result }
+        ensures counted { IsCounted self.old self.new result }
+        ensures planned { FailsAsPlanned self.old self.new by.now lists result }
     {
         self.mishaps.count();
         self.pass(by, Call::Locks)?;
@@ -76,8 +75,8 @@ impl Folder for MemoryFolder {
         ensures limit { IfOk result (IsWithinLimit limit) }
         ensures faults { CountsFailure FolderFault.Failed (faults_of self.old)
             (faults_of self.new) result }
-        ensures counted { IsCounted self.old self.new }
-        ensures planned { FailsByPlan self.new result }
+        ensures counted { IsCounted self.old self.new result }
+        ensures planned { FailsAsPlanned self.old self.new by.now (reads name) result }
     {
         self.mishaps.count();
         self.pass(by, Call::Read(name))?;
@@ -91,8 +90,8 @@ impl Folder for MemoryFolder {
             × (has_token token.now (alive_of self.old) ≡ false))) }
         ensures faults { CountsFailure FolderFault.Failed (faults_of self.old)
             (faults_of self.new) result }
-        ensures counted { IsCounted self.old self.new }
-        ensures planned { FailsByPlan self.new result }
+        ensures counted { IsCounted self.old self.new result }
+        ensures planned { FailsAsPlanned self.old self.new by.now (asks token.now) result }
     {
         self.mishaps.count();
         let call = self.pass(by, Call::Verdict(token.copy()?))?;
@@ -107,8 +106,8 @@ impl Folder for MemoryFolder {
         ensures told { TellsIn self.old self.new by.now (creates number) result }
         ensures faults { CountsFailure FolderFault.Failed (faults_of self.old)
             (faults_of self.new) result }
-        ensures counted { IsCounted self.old self.new }
-        ensures planned { FailsByPlan self.new result }
+        ensures counted { IsCounted self.old self.new result }
+        ensures planned { FailsAsPlanned self.old self.new by.now (creates number) result }
     {
         self.mishaps.count();
         let call = self.pass(by, Call::Create(number))?;
@@ -123,8 +122,8 @@ impl Folder for MemoryFolder {
         ensures told { TellsIn self.old self.new by.now (writes name bytes.now) result }
         ensures faults { CountsFailure FolderFault.Failed (faults_of self.old)
             (faults_of self.new) result }
-        ensures counted { IsCounted self.old self.new }
-        ensures planned { FailsByPlan self.new result }
+        ensures counted { IsCounted self.old self.new result }
+        ensures planned { FailsAsPlanned self.old self.new by.now (writes name bytes.now) result }
     {
         self.mishaps.count();
         self.act(by, Call::Write(name, bytes.copy()?))
@@ -136,16 +135,11 @@ impl Folder for MemoryFolder {
         ensures told { TellsIn self.old self.new by.now (renames from to) result }
         ensures faults { CountsFailure FolderFault.Failed (faults_of self.old)
             (faults_of self.new) result }
-        ensures counted { IsCounted self.old self.new }
-        ensures planned { IsSome ((folder_after (past_of self.old)).file from)
-            → FailsByPlan self.new result }
+        ensures counted { IsCounted self.old self.new result }
+        ensures planned { FailsAsPlanned self.old self.new by.now (renames from to) result }
     {
         self.mishaps.count();
-        let call = Call::Rename(from, to);
-        if !self.log.store.stands(from) {
-            return Err(self.fail(by, call, Effect::Nothing));
-        }
-        self.act(by, call)
+        self.act(by, Call::Rename(from, to))
     }
 
     fn remove(&mut self, by: &Token, name: Name) -> Result<(), FolderFault>
@@ -153,8 +147,8 @@ impl Folder for MemoryFolder {
         ensures told { TellsIn self.old self.new by.now (removes name) result }
         ensures faults { CountsFailure FolderFault.Failed (faults_of self.old)
             (faults_of self.new) result }
-        ensures counted { IsCounted self.old self.new }
-        ensures planned { FailsByPlan self.new result }
+        ensures counted { IsCounted self.old self.new result }
+        ensures planned { FailsAsPlanned self.old self.new by.now (removes name) result }
     {
         self.mishaps.count();
         self.act(by, Call::Remove(name))
@@ -164,6 +158,7 @@ impl Folder for MemoryFolder {
         requires { Runs self.old by.now }
         ensures told { TellsIn self.old self.new by.now (answers status) (Ok tt) }
         ensures faults { faults_of self.new ≡ faults_of self.old }
+        ensures uncounted { IsUncounted self.old self.new }
     {
         self.log.answer(by, status);
     }

@@ -1,6 +1,6 @@
 // Streams and a clock in memory, of which the listed calls fail.
 ghost use Rattle.std.specs.Prelude.{◌≡◌, ◌≤◌, ◌++◌, ◌↔◌, ℕ, List, [], Some, length, drop, take, IfOk, OnErr, OnOk, IsErrOf};
-ghost use Rattle.acct_outside.specs.Faults.{CountsFailure};
+ghost use Rattle.acct_outside.specs.Faults.{CountsEach, CountsFailure};
 ghost use Rattle.acct_outside.specs.Streams.{Takes};
 ghost use Rattle.acct_text.specs.Limits.{last_day};
 
@@ -51,6 +51,8 @@ impl Source for MemorySource {
         ensures fails { IsErrOf result SourceFault.Failed ↔ Fails (source_calls self.old) }
         ensures calls { source_calls self.new ≡ with_next (source_calls self.old) }
         ensures faults { CountsFailure SourceFault.Failed (source_faults self.old)
+            (source_faults self.new) result }
+        ensures each { CountsEach SourceFault.Failed (source_faults self.old)
             (source_faults self.new) result }
     {
         if self.failing.next() {
@@ -128,6 +130,8 @@ impl Sink for MemorySink {
         ensures calls { sink_calls self.new ≡ with_next (sink_calls self.old) }
         ensures faults { CountsFailure SinkFault.Failed (sink_faults self.old)
             (sink_faults self.new) result }
+        ensures each { CountsEach SinkFault.Failed (sink_faults self.old)
+            (sink_faults self.new) result }
     {
         if self.failing.next() {
             return Err(SinkFault::Failed);
@@ -189,6 +193,8 @@ impl Clock for MemoryClock {
         ensures fails { IsErrOf result ClockFault.Failed ↔ Fails (clock_calls self.old) }
         ensures calls { clock_calls self.new ≡ with_next (clock_calls self.old) }
         ensures faults { CountsFailure ClockFault.Failed (clock_faults self.old)
+            (clock_faults self.new) result }
+        ensures each { CountsEach ClockFault.Failed (clock_faults self.old)
             (clock_faults self.new) result }
     {
         if self.failing.next() {

@@ -1,8 +1,7 @@
 // The plan of calls that fail in a folder in memory.
-ghost use Rattle.std.specs.Prelude.{◌≡◌, ◌≤◌, IfOk, MatchOption, true, false, IsNone, IsSome};
-ghost use Rattle.std.specs.Option.{is_some};
+ghost use Rattle.std.specs.Prelude.{◌≡◌, ◌≤◌, IfOk};
 ghost use Rattle.acct_outside.specs.Faults.{HasRisen, next_count};
-ghost use Rattle.acct_outside.specs.Plan.{is_planned};
+ghost use Rattle.acct_outside.specs.Plan.{planned_effect};
 
 use crate::Effect;
 use std::alloc::AllocError;
@@ -11,7 +10,7 @@ use std::alloc::AllocError;
 /// `answered` and `faults`, and what it does.
 #[derive(Debug, Drop)]
 pub struct Mishap {
-    /// The number of the call.
+    /// The number of the call. Of several with one number the first counts.
     pub call: u64,
     /// What the call does. It counts as `Nothing` where the call can't have done that.
     pub effect: Effect,
@@ -45,7 +44,7 @@ impl Mishaps {
     /// What the call that was counted last is to do as it fails, and None where it isn't to fail.
     pub(crate) fn planned(&self) -> Result<Option<Effect>, AllocError>
         ensures { IfOk result
-            (λ found. is_some found ≡ is_planned self.now.calls self.now.plan.items) }
+            (λ effect. effect ≡ planned_effect self.now.calls self.now.plan.items) }
     {
         for mishap in &self.plan {
             if mishap.call == self.calls {

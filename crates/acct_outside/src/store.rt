@@ -1,5 +1,5 @@
 // What stands in a folder in memory: its files, and the numbers of the locks among them.
-ghost use Rattle.std.specs.Prelude.{◌≡◌, ◌<◌, ◌≤◌, ℕ, Some, None, List, All, IfOk, OnOk, OnErr, if◌then◌else◌, vec_len, vec_capacity, false};
+ghost use Rattle.std.specs.Prelude.{◌≡◌, ◌↔◌, ◌<◌, ◌≤◌, ℕ, Some, None, List, All, IfOk, IsTrue, OnOk, OnErr, if◌then◌else◌, vec_len, vec_capacity};
 ghost use Rattle.std.specs.Option.{option_copied, is_some};
 ghost use Rattle.acct_outside.specs.declared.Name.{Name};
 ghost use Rattle.acct_outside.specs.declared.Name.TheVariants.{Lock};
@@ -8,9 +8,9 @@ ghost use Rattle.acct_outside.specs.Folder.{IsFolder, with_number, without_numbe
 ghost use Rattle.acct_outside.specs.Calls.{found_within};
 ghost use Rattle.acct_outside.specs.Gives.{GivesCreated};
 ghost use Rattle.acct_outside.specs.Contract.{IsName, IsLockNumber, IsWithinLimit, found_of};
-ghost use Rattle.acct_outside.specs.Store.{file_in, folder_of, empty_folder, folder_with, is_lock_with};
+ghost use Rattle.acct_outside.specs.Store.{file_in, folder_of, empty_folder, folder_with};
 ghost use Rattle.std.proofs.Props.{props};
-ghost use Rattle.acct_outside.specs.Tokens.{held_text};
+ghost use Rattle.acct_outside.specs.NewTokens.{IsNamed};
 
 use crate::{Created, Found, Name, Token};
 use acct_text::Bytes;
@@ -99,18 +99,27 @@ impl Store {
         }
     }
 
-    /// Whether the token stands in the text of a lock.
+    /// Whether a lock has the text of the token.
     pub(crate) fn names(&self, alloc: Global, token: &Token) -> Result<bool, AllocError>
-        ensures { IfOk result (λ names. names ≡ false → (number : ℕ)
-            → ¬ ((folder_in self.now).file (Lock number) ≡ Some (held_text token.now))) }
+        ensures { IfOk result (λ names. IsTrue names ↔ IsNamed token.now (folder_in self.now)) }
     {
         let text = token.held(alloc)?;
-        for file in &self.files {
-            if is_lock_with(text.as_slice(), file) {
+        for number in &self.locks {
+            if self.has_lock(*number, &text) {
                 return Ok(true);
             }
         }
         Ok(false)
+    }
+
+    // Whether the lock with the number stands with this text.
+    fn has_lock(&self, number: u64, text: &Bytes) -> bool
+        ensures { IsTrue result ↔ ((folder_in self.now).file (Lock number) ≡ Some text.now) }
+    {
+        match self.get(Name::Lock(number)) {
+            Some(bytes) => bytes.as_slice() == text.as_slice(),
+            None => false,
+        }
     }
 
     /// Puts a file at the name, in the place of what stands there.
@@ -153,13 +162,6 @@ impl Store {
         add_lock(&mut self.locks, to);
         Ok(())
     }
-}
-
-// Whether the file is a lock with this text.
-fn is_lock_with(text: &[u8], file: &(Name, Bytes)) -> bool
-    ensures { result ≡ is_lock_with text.now file.now }
-{
-    matches!(file.0, Name::Lock(_)) && file.1.as_slice() == text
 }
 
 // Whether the two names are the same.

@@ -1,8 +1,9 @@
 // The tokens of sessions.
 ghost use Rattle.std.specs.Prelude.{◌≡◌, ◌≤◌, ◌↔◌, IsTrue, IfOk, MatchOption};
 ghost use Rattle.acct_outside.specs.Tokens.{IsToken, held_text};
+ghost use Rattle.acct_outside.specs.NewTokens.{numbered_token};
 
-use acct_text::Bytes;
+use acct_text::{Bytes, push_decimal};
 use std::alloc::{AllocError, Global};
 use std::marker::Model;
 
@@ -35,6 +36,15 @@ impl Token {
         Ok(Some(Token {
             text: Bytes::of(alloc, text)?,
         }))
+    }
+
+    /// The token `mN` of the number N.
+    pub(crate) fn numbered(alloc: Global, number: u64) -> Result<Self, AllocError>
+        ensures { IfOk result (λ token. token ≡ numbered_token number) }
+    {
+        let mut text = Bytes::of(alloc, b"m")?;
+        push_decimal(&mut text, number)?;
+        Ok(Token { text })
     }
 
     /// An equal token.

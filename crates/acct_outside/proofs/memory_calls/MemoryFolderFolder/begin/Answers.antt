@@ -1,26 +1,26 @@
-use Rattle.std.proofs.Common.{◌≡◌, refl, subst, [], Ok, Err, Some, Result}
+use Rattle.std.proofs.Common.{◌≡◌, refl, subst, List, Ok, Err, Some, Result}
 use Rattle.std.specs.Prelude.{IfOk}
 use Rattle.acct_outside.specs.declared.FolderFault.{FolderFault}
 use Rattle.acct_outside.specs.Tokens.{Token}
 use Rattle.acct_outside.specs.Calls.{Command}
-use Rattle.acct_outside.specs.History.{own_events}
+use Rattle.acct_outside.specs.NewTokens.{IsFirstUnused}
 use Rattle.acct_outside.specs.Contract.{Past, MayAct}
 use Rattle.acct_outside.specs.Logged.{with_event}
 use Rattle.acct_outside.specs.Events.{begin_event, command_of}
-use Rattle.acct_outside.specs.Memory.{no_others, past_of, Runs}
+use Rattle.acct_outside.specs.Memory.{no_others, alive_of, past_of, Runs}
 use Rattle.acct_outside.specs.declared.memory.MemoryFolder.{MemoryFolder}
 use Rattle.acct_outside.proofs.ToldLemmas.{Begins, begin_memory, begin_fault, begin_started, begun_runs, may_act}
 use Rattle.acct_outside.proofs.memory_calls.MemoryFolderFolder.begin.Goals as goal
 
 -- a session that a begin started runs
-starts : (old : Past) (new : MemoryFolder) (command : Command)
+starts : (old : Past) (new : MemoryFolder) (outsiders : List Token) (command : Command)
     (result : Result Token FolderFault)
     → IfOk result (λ token. past_of new ≡ with_event (begin_event (Some token) command) old)
-    → IfOk result (λ token. own_events token old.history ≡ [])
+    → IfOk result (IsFirstUnused old outsiders)
     → IfOk result (Runs new)
-starts old new command (Ok token) is is_new =
-    record { runs = begun_runs old (past_of new) command token is_new is }
-starts old new command (Err fault) is is_new = tt
+starts old new outsiders command (Ok token) is first =
+    record { runs = begun_runs old (past_of new) command token first.unused.no_event is }
+starts old new outsiders command (Err fault) is first = tt
 
 -- a session that a begin started may call the folder
 may_call : (new : MemoryFolder) (result : Result Token FolderFault)
@@ -47,19 +47,19 @@ returns-in-Ok-None-clause-told c =
       day = c.in-Ok.ensures.day i;
     }) in
     subst (λ (command : Command). Begins old new command c.start.result) is
-    (begin_started old new (command_of c.in-Ok.command) c.start.result c.start.ensures.ok
-    c.start.ensures.is_token c.start.ensures.is_new c.start.ensures.memory c.start.ensures.same)
+    (begin_started old new (alive_of c.args.self.now) (command_of c.in-Ok.command) c.start.result c.start.ensures.ok
+    c.start.ensures.is_token c.start.ensures.token c.start.ensures.memory c.start.ensures.same)
 
 pub returns-in-Ok-None-clause-runs : goal.returns-in-Ok-None-clause-runs
 returns-in-Ok-None-clause-runs c =
-    starts (past_of c.args.self.now) c.start.new.self (command_of c.in-Ok.command) c.start.result
-    c.start.ensures.ok c.start.ensures.is_new
+    starts (past_of c.args.self.now) c.start.new.self (alive_of c.args.self.now) (command_of c.in-Ok.command) c.start.result
+    c.start.ensures.ok c.start.ensures.token
 
 pub returns-in-Ok-None-clause-acts : goal.returns-in-Ok-None-clause-acts
 returns-in-Ok-None-clause-acts c =
     may_call c.start.new.self c.start.result
-    (starts (past_of c.args.self.now) c.start.new.self (command_of c.in-Ok.command) c.start.result
-    c.start.ensures.ok c.start.ensures.is_new)
+    (starts (past_of c.args.self.now) c.start.new.self (alive_of c.args.self.now) (command_of c.in-Ok.command) c.start.result
+    c.start.ensures.ok c.start.ensures.token)
 
 pub returns-in-Ok-Some-clause-told : goal.returns-in-Ok-Some-clause-told
 returns-in-Ok-Some-clause-told c =

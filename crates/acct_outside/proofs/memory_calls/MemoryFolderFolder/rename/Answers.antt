@@ -1,34 +1,41 @@
-use Rattle.std.proofs.Common.{◌∙◌, ap, sym, Result, Ok, Err}
-use Rattle.acct_outside.specs.Tokens.{Token}
-use Rattle.acct_outside.specs.Calls.{renames}
-use Rattle.acct_outside.specs.Logged.{folder_after}
-use Rattle.acct_outside.specs.Memory.{past_of, TellsAct, TellsIn}
-use Rattle.acct_outside.proofs.ToldLemmas.{told_done, gives_after}
-use Rattle.std.specs.Prelude.{IsSome}
-use Rattle.std.specs.Option.{is_some}
-use Rattle.acct_outside.specs.Folder.{Folder}
+use Rattle.std.proofs.Common.{◌≡◌, Option, Some, None, Result, Ok, Err, refl, cond}
+use Rattle.std.specs.Prelude.{IsSome, is_none}
+use Rattle.acct_text.specs.Bytes.{Bytes}
 use Rattle.acct_outside.specs.declared.Name.{Name}
+use Rattle.acct_outside.specs.declared.Effect.{Effect}
+use Rattle.acct_outside.specs.declared.Effect.TheVariants.{Nothing}
 use Rattle.acct_outside.specs.declared.FolderFault.{FolderFault}
 use Rattle.acct_outside.specs.declared.Call.TheVariants.{Rename}
 use Rattle.acct_outside.specs.declared.memory.MemoryFolder.{MemoryFolder}
+use Rattle.acct_outside.specs.Tokens.{Token}
+use Rattle.acct_outside.specs.Calls.{renames}
+use Rattle.acct_outside.specs.Plan.{planned_effect}
+use Rattle.acct_outside.specs.Logged.{folder_after}
+use Rattle.acct_outside.specs.Memory.{FailsAsPlanned, TellsAct, TellsIn, calls_of, past_of, plan_of}
+use Rattle.acct_outside.proofs.ToldLemmas.{told_done, gives_after}
 use Rattle.acct_outside.proofs.memory_calls.MemoryFolderFolder.rename.Goals as goal
 
--- a rename of what stands tells its event
+-- what isn't to fail by itself stands
+source_stands : (content : Option Bytes) (planned : Option Effect)
+    → cond (is_none content) (Some Nothing) planned ≡ None
+    → IsSome content
+source_stands None planned due = absurd cc
+source_stands (Some bytes) planned due = refl
+
+-- a rename tells its event
 tells_rename : (old new : MemoryFolder) (by : Token) (from to : Name)
     (result : Result (Unit {0}) FolderFault)
-    → IsSome ((folder_after (past_of old)).file from)
+    → FailsAsPlanned old new by (renames from to) result
     → TellsAct old new by (Rename from to) result
     → TellsIn old new by (renames from to) result
-tells_rename old new by from to (Ok unit) stands is =
+tells_rename old new by from to (Ok unit) planned is =
     told_done (past_of old) (past_of new) by (renames from to) (gives_after by (renames from to))
-    tt is stands
-tells_rename old new by from to (Err fault) stands is = is
+    tt is
+    (source_stands ((folder_after (past_of old)).file from)
+    (planned_effect (calls_of new) (plan_of new)) planned)
+tells_rename old new by from to (Err fault) planned is = is
 
 pub returns-clause-told : goal.returns-clause-told
 returns-clause-told c =
-    let from = c.args.from in
     tells_rename (record c.args.self.now { mishaps = c.count.new.self }) c.act.new.self
-    c.args.by.now from c.args.to c.act.result
-    (ap (λ (folder : Folder). is_some (folder.file from)) (sym c.args.self.now.log.stands)
-    ∙ sym c.stands.ensures ∙ c.if-not-stands.false)
-    c.act.ensures.told
+    c.args.by.now c.args.from c.args.to c.act.result c.act.ensures.planned c.act.ensures.told

@@ -1,25 +1,32 @@
-use Rattle.std.proofs.Common.{◌≡◌, ◌+◌, ◌++◌, [], ◌∷◌, List, false, take, get_or, ap, sym, ◌∙◌, subst, arith}
-use Rattle.std.proofs.lemmas.List.{take_more}
-use Rattle.acct_text.specs.Bytes.{Bytes}
-use Rattle.acct_outside.specs.declared.Name.{Name}
+use Rattle.std.proofs.Common.{◌≡◌, ◌∙◌, ℕ, Some, All, sym, ap, subst}
+use Rattle.std.proofs.lemmas.List.{take_all}
+use Rattle.std.proofs.lemmas.List.Elements.{All-more}
+use Rattle.acct_outside.specs.declared.Name.TheVariants.{Lock}
 use Rattle.acct_outside.specs.Tokens.{held_text}
-use Rattle.acct_outside.specs.Store.{is_lock_with}
-use Rattle.acct_outside.proofs.StoreLemmas.{LacksLock, LacksLock-push}
+use Rattle.acct_outside.specs.Store.{file_in}
+use Rattle.acct_outside.specs.Stored.{folder_in}
+use Rattle.acct_outside.proofs.NewTokenLemmas.{unnamed}
 use Rattle.acct_outside.proofs.store.Store.names.Goals as goal
 
-pub loop-file-preserved : goal.loop-file-preserved
-loop-file-preserved c =
-    let text = held_text c.args.token.now in
-    let files = c.args.self.now.files.items in
-    let place = c.loop-file.file-index in
-    let file = c.file-item.result in
-    let front : take (place + 1) files ≡ take place files ++ file ∷ [] =
-    take_more files place file (omega arith)
-    ∙ ap (λ (f : Name × Bytes). take place files ++ f ∷ [])
-    (ap (λ (l : List (Name × Bytes)). get_or l place file) (sym c.deref-file-items.ensures.value)
-    ∙ sym c.file-item.is) in
-    let other : is_lock_with text file ≡ false =
-    ap (λ (t : Bytes). is_lock_with t file) (sym (c.as_slice.ensures ∙ c.in_ok-text.ensures))
-    ∙ sym c.is_lock_with.ensures ∙ c.if-is_lock_with.false in
-    subst (LacksLock text) (sym front)
-    (LacksLock-push text (take place files) file c.loop-file.invariant other)
+pub loop-number-preserved : goal.loop-number-preserved
+loop-number-preserved c =
+    All-more
+    (λ n. ¬ (file_in c.args.self.now.files.items (Lock n) ≡ Some (held_text c.args.token.now)))
+    c.deref-number-items.result.now c.loop-number.number-index 0 c.loop-number-test.true
+    c.loop-number.invariant
+    (λ is. absurd (cc (c.if-has_lock.ensures.1 (is ∙ ap Some (sym c.in_ok-text.ensures)))))
+
+pub returns : goal.returns
+returns c =
+    let self = c.args.self.now in
+    let token = c.args.token.now in
+    let numbers = c.deref-number-items.result.now in
+    let Lacks : ℕ → Type 0 = λ n. ¬ (file_in self.files.items (Lock n) ≡ Some (held_text token)) in
+    let all : All Lacks self.locks.items =
+    subst (All Lacks)
+    (take_all c.loop-number.number-index numbers c.loop-number-test.false
+    ∙ c.deref-number-items.ensures.value)
+    c.loop-number.invariant in (
+      λ is. absurd cc,
+      λ named. absurd (unnamed (folder_in self) token self.is_folder all named),
+    )

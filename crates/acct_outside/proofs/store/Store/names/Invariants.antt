@@ -1,7 +1,10 @@
-use Rattle.std.proofs.Common.{take}
+use Rattle.std.proofs.Common.{◌≡◌, Some, All, take}
+use Rattle.acct_outside.specs.declared.Name.TheVariants.{Lock}
 use Rattle.acct_outside.specs.Tokens.{held_text}
-use Rattle.acct_outside.proofs.StoreLemmas.{LacksLock}
+use Rattle.acct_outside.specs.Store.{file_in}
 use Rattle.acct_outside.proofs.store.Store.names.Given as goal
 
-abbrev pub invariant-loop-file : goal.invariant-loop-file
-invariant-loop-file l = LacksLock (held_text l.token) (take l.file-index l.self.files.items)
+abbrev pub invariant-loop-number : goal.invariant-loop-number
+invariant-loop-number l =
+    All (λ n. ¬ (file_in l.self.files.items (Lock n) ≡ Some (held_text l.token)))
+    (take l.number-index l.number-items)
