@@ -1,11 +1,2 @@
 pub mod UserTools
 pub mod Decided
-pub mod Allotments
-pub mod Plans
-pub mod Joining
-pub mod Removals
-pub mod KeptGroups
-pub mod Others
-pub mod UsermodFields
-pub mod UsermodGroups
-pub mod UsermodRanges

@@ -5,9 +5,6 @@ ghost use Rattle.login_defs.specs.Held.{IsHeld};
 ghost use Rattle.user_commands.specs.Decided.{ActsUnder, DecidesUnder, ReportsUnder};
 ghost use Rattle.user_commands.specs.UserTools.{IsUserTool};
 
-use crate::useradd::useradd;
-use crate::userdel::{userdel, userdel_report};
-use crate::usermod::usermod;
 use crate::{Decision, UserRequest};
 use account_model::Tool;
 use acct_text::Files;
@@ -15,6 +12,9 @@ use command_values::{Asked, ToolFault};
 use login_defs::Defs;
 use std::alloc::{AllocError, Global};
 use table_edits::{Report, Script, Tables, decide_as};
+use user_changes::usermod;
+use user_creation::useradd;
+use user_removal::{userdel, userdel_report};
 
 /// What the command decides on these files, by the settings and the day, in days since 1970-01-01:
 /// it is refused, or all tables stay as they are, or they become others. An absent passwd or group

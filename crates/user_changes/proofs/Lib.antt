@@ -1,0 +1,4 @@
+pub mod RefusalLemmas
+pub mod MeetingLemmas
+pub mod MembershipLemmas
+pub mod GroupNames

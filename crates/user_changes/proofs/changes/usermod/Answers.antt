@@ -1,0 +1,26 @@
+use Rattle.user_changes.proofs.RefusalLemmas.{changed, new-name-good, refused-by_conflict, refused-by_value}
+use Rattle.table_edits.proofs.ActingLemmas.{acts-handed}
+use Rattle.user_changes.proofs.changes.usermod.Goals as goal
+
+pub returns-in_err-check_values : goal.returns-in_err-check_values
+returns-in_err-check_values c =
+    let fault = c.in_err-check_values.field-0.0 in
+    acts-handed _ c.from_residual.result fault c.from_residual.ensures.1
+    (refused-by_value c.args.asked.now c.args.tables.now c.args.day fault
+    c.in_err-check_values.ensures)
+
+pub check_conflicts-requires : goal.check_conflicts-requires
+check_conflicts-requires c = new-name-good c.args.asked.now c.in_ok-check_values.ensures
+
+pub returns-in_err-check_conflicts : goal.returns-in_err-check_conflicts
+returns-in_err-check_conflicts c =
+    let fault = c.in_err-check_conflicts.field-0.0 in
+    acts-handed _ c.from_residual-in_err-check_conflicts.result fault
+    c.from_residual-in_err-check_conflicts.ensures.1
+    (refused-by_conflict c.args.asked.now c.args.tables.now c.args.day fault
+    c.in_ok-check_values.ensures c.in_err-check_conflicts.ensures)
+
+pub returns : goal.returns
+returns c =
+    changed c.args.asked.now c.args.tables.now c.args.day c.in_ok-changed_user.field-0
+    c.in_ok-check_values.ensures c.in_ok-check_conflicts.ensures c.in_ok-changed_user.ensures

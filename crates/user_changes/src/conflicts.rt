@@ -1,0 +1,138 @@
+// What usermod(8) refuses by the tables: what is missing, and what is taken.
+ghost use Rattle.std.specs.Prelude.{◌≡◌, ◌||◌, None, IfOk, codes};
+ghost use Rattle.account_model.specs.Ids.{used_uids};
+ghost use Rattle.account_model.specs.Names.{is_valid_name};
+ghost use Rattle.account_model.specs.Refusals.{bad_value};
+ghost use Rattle.account_model.specs.Text.{first_some};
+ghost use Rattle.account_model.specs.Usermod.{empty_hash, is_own_uid, is_uid_taken, no_shadow, taken_name, taken_uid, unlistable_name, usermod_conflicts};
+ghost use Rattle.account_model.specs.Users.{has_user, has_shadow};
+ghost use Rattle.acct_tables.specs.Refusing.{RefusesBy};
+ghost use Rattle.id_choice.specs.Used.{AreThoseOf};
+ghost use Rattle.table_edits.specs.Stopping.{StopsBy};
+
+use crate::changes::new_name;
+use crate::hash::{hash_of, sets_aging};
+use crate::meetings::{check_subgids, check_subuids};
+use crate::memberships::group_names;
+use account_model::Refusal;
+use acct_text::Bytes;
+use command_values::{Asked, ToolFault, check_list_name};
+use given_groups::{check_given_group, check_given_groups};
+use id_choice::UsedIds;
+use std::alloc::{AllocError, Global};
+use table_edits::Tables;
+
+/// Refuses what is missing or taken, in this order. `Memory` may come at each step.
+pub(crate) fn check_conflicts(
+    alloc: Global,
+    asked: &Asked,
+    tables: &Tables,
+) -> Result<(), ToolFault>
+    requires { bad_value (codes "l") is_valid_name asked.now ≡ None }
+    ensures { StopsBy (first_some (usermod_conflicts asked.now tables.now)) result }
+{
+    tables.check_user(alloc, asked.operand())?;
+    check_new_name(alloc, asked, tables)?;
+    check_new_uid(alloc, asked, tables)?;
+    check_given_group(alloc, asked, tables)?;
+    check_given_groups(alloc, asked, tables)?;
+    check_hash(alloc, asked, tables)?;
+    check_subuids(alloc, asked, tables)?;
+    check_subgids(alloc, asked, tables)?;
+    check_shadow(asked, tables)?;
+    check_listed(alloc, asked, tables)
+}
+
+// Refuses a name of `-l` that another user has, in passwd or in shadow: `UserExists`.
+fn check_new_name(alloc: Global, asked: &Asked, tables: &Tables) -> Result<(), ToolFault>
+    ensures { StopsBy (taken_name asked.now tables.now) result }
+{
+    let name = new_name(asked);
+    if name == asked.operand() || !is_name_taken(alloc, tables, name)? {
+        return Ok(());
+    }
+    Err(ToolFault::Refused(Refusal::UserExists(Bytes::of(alloc, name)?)))
+}
+
+// Whether a record of passwd or shadow has the name.
+fn is_name_taken(alloc: Global, tables: &Tables, name: &[u8]) -> Result<bool, AllocError>
+    ensures { IfOk result (λ taken.
+        taken ≡ (has_user name.now tables.now || has_shadow name.now tables.now)) }
+{
+    if tables.user_named(alloc, name)?.is_some() {
+        return Ok(true);
+    }
+    Ok(tables.shadow_named(alloc, name)?.is_some())
+}
+
+// Refuses a UID of `-u` that is another user's where `-o` isn't given: `UidInUse`.
+fn check_new_uid(alloc: Global, asked: &Asked, tables: &Tables) -> Result<(), ToolFault>
+    ensures { StopsBy (taken_uid asked.now tables.now) result }
+{
+    let Some(uid) = asked.id(b'u') else {
+        return Ok(());
+    };
+    let used = tables.used_uids(alloc)?;
+    if is_uid_taken(alloc, asked, tables, &used, uid)? {
+        return Err(ToolFault::Refused(Refusal::UidInUse(uid)));
+    }
+    Ok(())
+}
+
+// Whether the UID is used by another user, and `-o` isn't given.
+fn is_uid_taken(
+    alloc: Global,
+    asked: &Asked,
+    tables: &Tables,
+    used: &UsedIds,
+    uid: u32,
+) -> Result<bool, AllocError>
+    requires { AreThoseOf used.now (used_uids tables.now) }
+    ensures { IfOk result (λ taken. taken ≡ is_uid_taken asked.now tables.now uid) }
+{
+    if !used.holds(uid) || asked.has(b'o') {
+        return Ok(false);
+    }
+    Ok(!is_own_uid(alloc, asked, tables, uid)?)
+}
+
+// Whether it is the user's UID.
+fn is_own_uid(alloc: Global, asked: &Asked, tables: &Tables, uid: u32) -> Result<bool, AllocError>
+    ensures { IfOk result (λ own. own ≡ is_own_uid asked.now tables.now uid) }
+{
+    match tables.user_named(alloc, asked.operand())? {
+        Some(user) => Ok(uid == user.uid),
+        None => Ok(false),
+    }
+}
+
+// Refuses to unlock a hash that would be empty then: `EmptyHash`.
+fn check_hash(alloc: Global, asked: &Asked, tables: &Tables) -> Result<(), ToolFault>
+    ensures { StopsBy (empty_hash asked.now tables.now) result }
+{
+    let user = asked.operand();
+    if !asked.has(b'U') || hash_of(alloc, tables, user)?.as_slice() != b"!".as_slice() {
+        return Ok(());
+    }
+    Err(ToolFault::Refused(Refusal::EmptyHash(Bytes::of(alloc, user)?)))
+}
+
+// Refuses to set the aging where shadow is absent: `NoShadow`.
+fn check_shadow(asked: &Asked, tables: &Tables) -> Result<(), ToolFault>
+    ensures { RefusesBy (no_shadow asked.now tables.now) result }
+{
+    if sets_aging(asked) && !tables.has_shadow_file() {
+        return Err(ToolFault::Refused(Refusal::NoShadow));
+    }
+    Ok(())
+}
+
+// Refuses a user with a comma in the name, whom `-G` would add to a list: `BadName`.
+fn check_listed(alloc: Global, asked: &Asked, tables: &Tables) -> Result<(), ToolFault>
+    ensures { StopsBy (unlistable_name asked.now tables.now) result }
+{
+    if group_names(alloc, asked, tables)?.is_empty() {
+        return Ok(());
+    }
+    check_list_name(alloc, asked.operand())
+}

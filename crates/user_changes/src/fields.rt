@@ -1,0 +1,119 @@
+// The fields of passwd and shadow (usermod(8), `-c`, `-d`, `-e`, `-f`, `-g`, `-l`, `-p`, `-s` and
+// `-u`).
+ghost use Rattle.std.specs.Prelude.{◌≡◌, [], ◌∷◌, codes, IfOk, OnOk, option_and_then};
+ghost use Rattle.account_model.specs.Edits.{each_where};
+ghost use Rattle.account_model.specs.Format.{is_named};
+ghost use Rattle.account_model.specs.Records.{passwd_format, shadow_format};
+ghost use Rattle.account_model.specs.Request.{operand, value_of};
+ghost use Rattle.account_model.specs.Tables.{no_edits};
+ghost use Rattle.account_model.specs.Usermod.{changed_shadow, changed_user};
+ghost use Rattle.account_model.specs.Values.{days_value, expiration_value};
+ghost use Rattle.table_edits.specs.Additions.{HasAlso};
+ghost use Rattle.user_changes.specs.Fields.{day_of_change, shadow_fields, user_fields};
+
+use crate::changes::new_name;
+use acct_text::Bytes;
+use command_values::{Asked, read_days, read_expiration};
+use given_groups::given_group;
+use std::alloc::{AllocError, Global};
+use table_edits::{PasswdAct, Script, ShadowAct, ShadowFields, Tables, UserFields};
+
+/// Sets the fields of passwd.
+pub(crate) fn write_passwd(
+    alloc: Global,
+    script: &mut Script,
+    asked: &Asked,
+    tables: &Tables,
+) -> Result<(), AllocError>
+    ensures { OnOk result (HasAlso
+        (record no_edits {
+          passwd = each_where (is_named passwd_format (operand asked.now))
+              (changed_user asked.now tables.now) ∷ [];
+        })
+        script.old script.new) }
+{
+    let fields = user_fields(alloc, asked, tables)?;
+    script.change_user(alloc, asked.operand(), PasswdAct::SetFields(fields))
+}
+
+/// Sets the fields of shadow; `day` is that of a new password.
+pub(crate) fn write_shadow(
+    alloc: Global,
+    script: &mut Script,
+    asked: &Asked,
+    day: u32,
+) -> Result<(), AllocError>
+    ensures { OnOk result (HasAlso
+        (record no_edits {
+          shadow = each_where (is_named shadow_format (operand asked.now))
+              (changed_shadow asked.now day) ∷ [];
+        })
+        script.old script.new) }
+{
+    let fields = shadow_fields(alloc, asked, day)?;
+    script.change_shadow(alloc, asked.operand(), ShadowAct::SetFields(fields))
+}
+
+// The fields of passwd that the options give.
+fn user_fields(alloc: Global, asked: &Asked, tables: &Tables) -> Result<UserFields, AllocError>
+    ensures { IfOk result (λ fields. fields ≡ user_fields asked.now tables.now) }
+{
+    Ok(UserFields {
+        name: Some(Bytes::of(alloc, new_name(asked))?),
+        uid: asked.id(b'u'),
+        gid: given_group(alloc, asked, tables)?.map(|group| group.gid),
+        comment: text_of(alloc, asked, b'c')?,
+        home: text_of(alloc, asked, b'd')?,
+        shell: text_of(alloc, asked, b's')?,
+    })
+}
+
+// The fields of shadow that the options give.
+fn shadow_fields(alloc: Global, asked: &Asked, day: u32) -> Result<ShadowFields, AllocError>
+    ensures { IfOk result (λ fields. fields ≡ shadow_fields asked.now day) }
+{
+    Ok(ShadowFields {
+        name: Some(Bytes::of(alloc, new_name(asked))?),
+        last_change: day_of_change(asked, day),
+        minimum: None,
+        maximum: None,
+        warning: None,
+        inactive: inactive_days(asked),
+        expiration: expiration_day(asked),
+    })
+}
+
+// The text that an option gives.
+fn text_of(alloc: Global, asked: &Asked, letter: u8) -> Result<Option<Bytes>, AllocError>
+    ensures { IfOk result (λ text. text ≡ value_of (letter ∷ []) asked.now) }
+{
+    match asked.value(letter) {
+        Some(text) => Ok(Some(Bytes::of(alloc, text)?)),
+        None => Ok(None),
+    }
+}
+
+// The day of the last change, which a new password sets.
+fn day_of_change(asked: &Asked, day: u32) -> Option<Option<u32>>
+    ensures { result ≡ day_of_change asked.now day }
+{
+    if asked.has(b'p') {
+        Some(Some(day))
+    } else {
+        None
+    }
+}
+
+// The days of `-f`; `Some(None)` empties the field.
+fn inactive_days(asked: &Asked) -> Option<Option<u32>>
+    ensures { result ≡ option_and_then days_value (value_of (codes "f") asked.now) }
+{
+    read_days(asked.value(b'f')?)
+}
+
+// The day of `-e`; `Some(None)` empties the field.
+fn expiration_day(asked: &Asked) -> Option<Option<u32>>
+    ensures { result ≡ option_and_then expiration_value (value_of (codes "e") asked.now) }
+{
+    read_expiration(asked.value(b'e')?)
+}

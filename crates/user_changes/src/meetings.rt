@@ -1,0 +1,111 @@
+// The ranges of subordinate IDs that a user gets, and those that they meet (usermod(8), `-v` and
+// `-w`; subuid(5), subgid(5)).
+ghost use Rattle.std.specs.Prelude.{◌≡◌, ◌+◌, ◌-◌, IfOk, OnOk, option_map};
+ghost use Rattle.acct_text.specs.Lines.{lines_of};
+ghost use Rattle.acct_text.specs.declared.Tab.TheVariants.{Subuid, Subgid};
+ghost use Rattle.account_model.specs.declared.refusal.Refusal.TheVariants.{Meets};
+ghost use Rattle.account_model.specs.Edits.{edited_by};
+ghost use Rattle.account_model.specs.Records.{subid_format};
+ghost use Rattle.account_model.specs.Usermod.{new_name, range_owner, subgid_change, subuid_change};
+ghost use Rattle.account_model.specs.UsermodRanges.{edits_before_adding, meeting_in};
+ghost use Rattle.account_model.specs.Written.{IsNameField};
+ghost use Rattle.subid_ranges.specs.RangeLines.{meeting_line, with_range};
+ghost use Rattle.table_edits.specs.Stopping.{StopsBy};
+ghost use Rattle.user_changes.specs.Ranges.{change_of, first_meeting_in, owner_of};
+
+use crate::ranges::{UserRanges, subgid_ranges, subuid_ranges};
+use account_model::Refusal;
+use acct_text::{Bytes, Tab};
+use command_values::{Asked, IdRange, ToolFault};
+use std::alloc::{AllocError, Global};
+use subid_ranges::{RangeFault, Ranges};
+use table_edits::{Tables, edited_text};
+
+/// Refuses the first range of `-v` that meets a line of subuid as it stands then: `Meets`. An
+/// absent subuid is met by none.
+pub(crate) fn check_subuids(alloc: Global, asked: &Asked, tables: &Tables) -> Result<(), ToolFault>
+    requires { IsNameField (new_name asked.now) }
+    ensures { StopsBy (meeting_in Subuid (range_owner asked.now tables.now)
+        (subuid_change asked.now) tables.now.subuid) result }
+{
+    let ranges = subuid_ranges(alloc, asked, tables)?;
+    check_added(alloc, &ranges, Tab::Subuid, &tables.files().subuid)
+}
+
+/// Refuses the first range of `-w` that meets a line of subgid as it stands then: `Meets`. An
+/// absent subgid is met by none.
+pub(crate) fn check_subgids(alloc: Global, asked: &Asked, tables: &Tables) -> Result<(), ToolFault>
+    requires { IsNameField (new_name asked.now) }
+    ensures { StopsBy (meeting_in Subgid (range_owner asked.now tables.now)
+        (subgid_change asked.now) tables.now.subgid) result }
+{
+    let ranges = subgid_ranges(alloc, asked, tables)?;
+    check_added(alloc, &ranges, Tab::Subgid, &tables.files().subgid)
+}
+
+// Refuses the first new range that meets a line of the file: `Meets`.
+fn check_added(
+    alloc: Global,
+    ranges: &UserRanges,
+    tab: Tab,
+    file: &Option<Bytes>,
+) -> Result<(), ToolFault>
+    requires { IsNameField (owner_of ranges.now).new_name }
+    ensures { StopsBy
+        (meeting_in tab (owner_of ranges.now) (change_of ranges.now) file.now) result }
+{
+    match file {
+        Some(text) if !ranges.added.is_empty() => check_lines(alloc, ranges, tab, text.as_slice()),
+        _ => Ok(()),
+    }
+}
+
+// Refuses the first new range that meets a line of the text, as it stands after the renaming, the
+// removals and the ranges added before: `Meets`.
+fn check_lines(alloc: Global, ranges: &UserRanges, tab: Tab, text: &[u8]) -> Result<(), ToolFault>
+    requires { IsNameField (owner_of ranges.now).new_name }
+    ensures { StopsBy (first_meeting_in tab (owner_of ranges.now) (change_of ranges.now)
+        (lines_of text.now)) result }
+{
+    let mut lines = lines_before(alloc, ranges, text)?;
+    for ids in &ranges.added {
+        add_range(alloc, &mut lines, ranges.new_name.as_slice(), tab, ids)?;
+    }
+    Ok(())
+}
+
+// The lines of the text after the renaming and the removals.
+fn lines_before(alloc: Global, ranges: &UserRanges, text: &[u8]) -> Result<Ranges, AllocError>
+    requires { IsNameField (owner_of ranges.now).new_name }
+    ensures { IfOk result (λ lines. lines ≡ edited_by subid_format
+        (edits_before_adding (owner_of ranges.now) (change_of ranges.now)) (lines_of text.now)) }
+{
+    let mut edits = Vec::new(alloc);
+    ranges.push_removals(alloc, &mut edits)?;
+    let text = edited_text(alloc, text, edits.as_slice())?;
+    Ranges::load(alloc, text.as_slice())
+}
+
+// Adds the IDs to the owner's, where no line has one of them; else `Meets` refuses.
+fn add_range(
+    alloc: Global,
+    lines: &mut Ranges,
+    owner: &[u8],
+    tab: Tab,
+    ids: &IdRange,
+) -> Result<(), ToolFault>
+    requires { IsNameField owner.now }
+    ensures refused { StopsBy (option_map (Meets ids.now.first ids.now.last tab)
+        (meeting_line ids.now.first ids.now.last lines.old)) result }
+    ensures added { OnOk result (lines.new ≡ with_range owner.now ids.now.first
+        (ids.now.last + 1 - ids.now.first) lines.old) }
+{
+    match lines.add(alloc, owner, ids.first, ids.last) {
+        Ok(()) => Ok(()),
+        Err(RangeFault::Overlap(line)) => Err(ToolFault::Refused(Refusal::Meets(
+            ids.first, ids.last, tab, line,
+        ))),
+        // the IDs are a range, so nothing but memory can be wanting
+        Err(_) => Err(ToolFault::Memory),
+    }
+}

@@ -1,0 +1,192 @@
+// The subordinate IDs that a user loses and gets (usermod(8), `-v`, `-V`, `-w` and `-W`; subuid(5),
+// subgid(5)).
+ghost use Rattle.std.specs.Prelude.{◌≡◌, ◌++◌, ◌∷◌, [], map, IfOk, OnOk};
+ghost use Rattle.account_model.specs.Edits.Edit.{Add, Become};
+ghost use Rattle.account_model.specs.Tables.{no_edits};
+ghost use Rattle.account_model.specs.Usermod.{range_owner, subgid_change, subuid_change, uid_after};
+ghost use Rattle.account_model.specs.UsermodRanges.{add_range, cut_range, edits_before_adding, range_edits, ranges_given};
+ghost use Rattle.account_model.specs.Users.{uid_of};
+ghost use Rattle.command_values.specs.Ranges.{ids_named};
+ghost use Rattle.table_edits.specs.Additions.{HasAlso};
+ghost use Rattle.table_edits.specs.SeenEdits.{seen_edits};
+ghost use Rattle.table_edits.specs.SubidChanges.{subid_becomes};
+ghost use Rattle.user_changes.specs.Ranges.{change_of, owner_of};
+
+use crate::changes::new_name;
+use acct_lines::SubidRecord;
+use acct_text::Bytes;
+use command_values::{Asked, IdRange};
+use std::alloc::{AllocError, Global};
+use table_edits::{Edit, RangeCut, Script, SubidChange, Tables};
+
+/// The IDs of subuid or of subgid that a user loses and gets.
+#[derive(Drop)]
+pub(crate) struct UserRanges {
+    /// The user, by the name so far.
+    pub old_name: Bytes,
+    /// The name of the user from now on.
+    pub new_name: Bytes,
+    /// The UID of the user from now on, where it is known.
+    pub uid: Option<u32>,
+    /// The IDs that go, in the order in which they were given.
+    pub removed: Vec<IdRange>,
+    /// The IDs that come behind them, in their order.
+    pub added: Vec<IdRange>,
+}
+
+/// Renames the owner in subuid and subgid, and changes the ranges there.
+pub(crate) fn write_ranges(
+    alloc: Global,
+    script: &mut Script,
+    asked: &Asked,
+    tables: &Tables,
+) -> Result<(), AllocError>
+    ensures { OnOk result (HasAlso
+        (record no_edits {
+          subuid = range_edits (range_owner asked.now tables.now) (subuid_change asked.now);
+          subgid = range_edits (range_owner asked.now tables.now) (subgid_change asked.now);
+        })
+        script.old script.new) }
+{
+    subuid_ranges(alloc, asked, tables)?.push_edits(alloc, &mut script.subuid)?;
+    subgid_ranges(alloc, asked, tables)?.push_edits(alloc, &mut script.subgid)
+}
+
+/// The IDs of `-V` and `-v`.
+pub(crate) fn subuid_ranges(
+    alloc: Global,
+    asked: &Asked,
+    tables: &Tables,
+) -> Result<UserRanges, AllocError>
+    ensures owner { IfOk result (λ ranges. owner_of ranges ≡ range_owner asked.now tables.now) }
+    ensures change { IfOk result (λ ranges. change_of ranges ≡ subuid_change asked.now) }
+{
+    UserRanges::of(alloc, asked, tables, b'V', b'v')
+}
+
+/// The IDs of `-W` and `-w`.
+pub(crate) fn subgid_ranges(
+    alloc: Global,
+    asked: &Asked,
+    tables: &Tables,
+) -> Result<UserRanges, AllocError>
+    ensures owner { IfOk result (λ ranges. owner_of ranges ≡ range_owner asked.now tables.now) }
+    ensures change { IfOk result (λ ranges. change_of ranges ≡ subgid_change asked.now) }
+{
+    UserRanges::of(alloc, asked, tables, b'W', b'w')
+}
+
+impl UserRanges {
+    // The IDs that the two options remove and add.
+    fn of(
+        alloc: Global,
+        asked: &Asked,
+        tables: &Tables,
+        removing: u8,
+        adding: u8,
+    ) -> Result<UserRanges, AllocError>
+        ensures owner { IfOk result (λ ranges.
+            owner_of ranges ≡ range_owner asked.now tables.now) }
+        ensures change { IfOk result (λ ranges. change_of ranges ≡ record {
+          removed = ranges_given (removing ∷ []) asked.now;
+          added = ranges_given (adding ∷ []) asked.now;
+        }) }
+    {
+        Ok(UserRanges {
+            old_name: Bytes::of(alloc, asked.operand())?,
+            new_name: Bytes::of(alloc, new_name(asked))?,
+            uid: uid_after(alloc, asked, tables)?,
+            removed: asked.ranges(alloc, removing)?,
+            added: asked.ranges(alloc, adding)?,
+        })
+    }
+
+    // Adds the edits of the table: those before ranges are added, and then the new ranges.
+    fn push_edits(
+        &self,
+        alloc: Global,
+        edits: &mut Vec<Edit<SubidRecord, SubidChange>>,
+    ) -> Result<(), AllocError>
+        ensures { OnOk result (seen_edits subid_becomes edits.new.items
+            ≡ seen_edits subid_becomes edits.old.items
+            ++ range_edits (owner_of self.now) (change_of self.now)) }
+    {
+        self.push_removals(alloc, edits)?;
+        self.push_additions(edits)
+    }
+
+    /// Adds the renaming of the owner, and then the removals of IDs.
+    pub(crate) fn push_removals(
+        &self,
+        alloc: Global,
+        edits: &mut Vec<Edit<SubidRecord, SubidChange>>,
+    ) -> Result<(), AllocError>
+        ensures { OnOk result (seen_edits subid_becomes edits.new.items
+            ≡ seen_edits subid_becomes edits.old.items
+            ++ edits_before_adding (owner_of self.now) (change_of self.now)) }
+    {
+        let change = SubidChange::Rename(self.old_name.copy()?, self.new_name.copy()?);
+        edits.push(Edit::Become(change))?;
+        for ids in &self.removed {
+            edits.push(Edit::Become(self.cut(ids)?))?;
+        }
+        Ok(())
+    }
+
+    // Adds the additions of IDs.
+    fn push_additions(
+        &self,
+        edits: &mut Vec<Edit<SubidRecord, SubidChange>>,
+    ) -> Result<(), AllocError>
+        ensures { OnOk result (seen_edits subid_becomes edits.new.items
+            ≡ seen_edits subid_becomes edits.old.items
+            ++ map (add_range (owner_of self.now)) (change_of self.now).added) }
+    {
+        for ids in &self.added {
+            edits.push(Edit::Add(self.range(ids)?))?;
+        }
+        Ok(())
+    }
+
+    // The change by which the IDs go out of the user's ranges.
+    fn cut(&self, ids: &IdRange) -> Result<SubidChange, AllocError>
+        ensures { IfOk result (λ change.
+            Become (subid_becomes change) ≡ cut_range (owner_of self.now) (ids_named ids.now)) }
+    {
+        Ok(SubidChange::Cut(RangeCut {
+            owner: self.new_name.copy()?,
+            uid: self.uid,
+            first: ids.first,
+            last: ids.last,
+        }))
+    }
+
+    // The record of the IDs.
+    fn range(&self, ids: &IdRange) -> Result<SubidRecord, AllocError>
+        ensures { IfOk result (λ range.
+            Add range ≡ add_range (owner_of self.now) (ids_named ids.now)) }
+    {
+        Ok(SubidRecord {
+            owner: self.new_name.copy()?,
+            first: ids.first,
+            count: ids.last - ids.first + 1,
+        })
+    }
+}
+
+// The UID of `-u`, and else the user's.
+fn uid_after(alloc: Global, asked: &Asked, tables: &Tables) -> Result<Option<u32>, AllocError>
+    ensures { IfOk result (λ uid. uid ≡ uid_after asked.now tables.now) }
+{
+    match asked.id(b'u') {
+        Some(uid) => Ok(Some(uid)),
+        None => uid_of(alloc, tables, asked.operand()),
+    }
+}
+
+// The UID of the user of the name.
+fn uid_of(alloc: Global, tables: &Tables, name: &[u8]) -> Result<Option<u32>, AllocError>
+    ensures { IfOk result (λ uid. uid ≡ uid_of name.now tables.now) }
+{
+    Ok(tables.user_named(alloc, name)?.map(|user| user.uid))
+}

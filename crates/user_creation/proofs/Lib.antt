@@ -1,0 +1,3 @@
+pub mod UseraddLemmas
+pub mod JoiningLemmas
+pub mod RangeLemmas

@@ -1,0 +1,3 @@
+pub mod Allotments
+pub mod Plans
+pub mod Joining

@@ -1,0 +1,174 @@
+// The edits that make a user (useradd(8)).
+ghost use Rattle.std.specs.Prelude.{◌≡◌, ◌++◌, ◌∷◌, [], IfOk, OnOk, if◌then◌else◌};
+ghost use Rattle.account_model.specs.Edits.Edit.{Add, Put};
+ghost use Rattle.account_model.specs.Hashes.{locked};
+ghost use Rattle.account_model.specs.NewAccount.{add_group};
+ghost use Rattle.account_model.specs.Request.{operand};
+ghost use Rattle.account_model.specs.Tables.{no_edits};
+ghost use Rattle.account_model.specs.Useradd.{join_groups as joined_groups, new_user};
+ghost use Rattle.table_edits.specs.Additions.{HasAlso};
+ghost use Rattle.table_edits.specs.SeenEdits.{seen_edits};
+ghost use Rattle.table_edits.specs.SeenScript.{seen_script};
+ghost use Rattle.table_edits.specs.SubidChanges.{subid_becomes};
+ghost use Rattle.user_creation.specs.Allotments.{added_range};
+ghost use Rattle.user_creation.specs.Joining.{joining, joining_all};
+ghost use Rattle.user_creation.specs.Plans.{planned_script};
+
+use crate::plan::{NewIds, Plan};
+use crate::ranges::Allotment;
+use crate::records::new_user;
+use account_model::{ShadowRecord, SubidRecord};
+use acct_text::Bytes;
+use command_values::Asked;
+use given_groups::{find_group, group_words};
+use std::alloc::{AllocError, Global};
+use table_edits::{Edit, Script, SubidChange, Tables};
+
+/// The edits that make a user of these IDs with this line of shadow, by the plan: the lines of the
+/// user, a group of its own, the groups of `-G` and the subordinate ranges.
+pub(crate) fn planned_script(
+    alloc: Global,
+    asked: &Asked,
+    tables: &Tables,
+    plan: Plan,
+    ids: NewIds,
+    shadow: ShadowRecord,
+) -> Result<Script, AllocError>
+    ensures { IfOk result (λ script. seen_script script
+        ≡ planned_script asked.now tables.now plan shadow ids.uid ids.gid) }
+{
+    let mut script = Script::new(alloc);
+    add_lines(alloc, &mut script, asked, tables, ids, shadow)?;
+    add_own_group(alloc, &mut script, asked, tables, plan, ids)?;
+    join_groups(alloc, &mut script, asked, tables)?;
+    add_ranges(alloc, &mut script, asked, plan)?;
+    Ok(script)
+}
+
+// The lines of the user in passwd and shadow.
+fn add_lines(
+    alloc: Global,
+    script: &mut Script,
+    asked: &Asked,
+    tables: &Tables,
+    ids: NewIds,
+    shadow: ShadowRecord,
+) -> Result<(), AllocError>
+    ensures { OnOk result (HasAlso
+        (record no_edits {
+          passwd = Add (new_user asked.now tables.now ids.uid ids.gid) ∷ [];
+          shadow = Put shadow ∷ [];
+        })
+        script.old script.new) }
+{
+    let user = new_user(alloc, asked, tables, ids)?;
+    script.passwd.push(Edit::Add(user))?;
+    script.shadow.push(Edit::Put(shadow))?;
+    Ok(())
+}
+
+// The group of the user's own, where one is made.
+fn add_own_group(
+    alloc: Global,
+    script: &mut Script,
+    asked: &Asked,
+    tables: &Tables,
+    plan: Plan,
+    ids: NewIds,
+) -> Result<(), AllocError>
+    ensures { OnOk result (HasAlso
+        (if plan.own_group then add_group (operand asked.now) locked ids.gid tables.now
+        else no_edits)
+        script.old script.new) }
+{
+    if !plan.own_group {
+        return Ok(());
+    }
+    script.add_group(alloc, tables, asked.operand(), b"!", ids.gid)
+}
+
+// The user joins the groups of `-G`.
+fn join_groups(
+    alloc: Global,
+    script: &mut Script,
+    asked: &Asked,
+    tables: &Tables,
+) -> Result<(), AllocError>
+    ensures { OnOk result (HasAlso (joined_groups asked.now tables.now) script.old script.new) }
+{
+    let words = group_words(alloc, asked)?;
+    join_all(alloc, script, tables, words.as_slice(), asked.operand())
+}
+
+// The user joins the groups that the words name.
+fn join_all(
+    alloc: Global,
+    script: &mut Script,
+    tables: &Tables,
+    words: &[Bytes],
+    user: &[u8],
+) -> Result<(), AllocError>
+    ensures { OnOk result
+        (HasAlso (joining_all tables.now user.now words.now) script.old script.new) }
+{
+    for word in words {
+        join(alloc, script, tables, word.as_slice(), user)?;
+    }
+    Ok(())
+}
+
+// The user joins the group that the word names.
+fn join(
+    alloc: Global,
+    script: &mut Script,
+    tables: &Tables,
+    word: &[u8],
+    user: &[u8],
+) -> Result<(), AllocError>
+    ensures { OnOk result (HasAlso (joining tables.now user.now word.now) script.old script.new) }
+{
+    match find_group(alloc, tables, word)? {
+        Some(group) => script.add_to_group(alloc, group.name.as_slice(), user),
+        None => Ok(()),
+    }
+}
+
+// The subordinate ranges of the user.
+fn add_ranges(
+    alloc: Global,
+    script: &mut Script,
+    asked: &Asked,
+    plan: Plan,
+) -> Result<(), AllocError>
+    ensures { OnOk result (HasAlso
+        (record no_edits {
+          subuid = added_range asked.now plan.subuid;
+          subgid = added_range asked.now plan.subgid;
+        })
+        script.old script.new) }
+{
+    add_range(alloc, &mut script.subuid, asked, plan.subuid)?;
+    add_range(alloc, &mut script.subgid, asked, plan.subgid)
+}
+
+// The new line of a table of ranges, where there is a range.
+fn add_range(
+    alloc: Global,
+    edits: &mut Vec<Edit<SubidRecord, SubidChange>>,
+    asked: &Asked,
+    allotment: Allotment,
+) -> Result<(), AllocError>
+    ensures { OnOk result (seen_edits subid_becomes edits.new.items
+        ≡ seen_edits subid_becomes edits.old.items ++ added_range asked.now allotment) }
+{
+    let Allotment::Range(first, count) = allotment else {
+        return Ok(());
+    };
+    let owner = Bytes::of(alloc, asked.operand())?;
+    edits.push(Edit::Add(SubidRecord {
+        owner,
+        first,
+        count,
+    }))?;
+    Ok(())
+}

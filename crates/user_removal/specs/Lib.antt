@@ -1,0 +1,3 @@
+pub mod Removals
+pub mod KeptGroups
+pub mod Others

@@ -1,0 +1,58 @@
+// Users with another name that a user shares an ID with (userdel(8)).
+ghost use Rattle.std.specs.Prelude.{◌≡◌, IfOk, find};
+ghost use Rattle.account_model.specs.Users.{other_users};
+ghost use Rattle.user_removal.specs.Others.{has_id};
+
+use account_model::PasswdRecord;
+use acct_lines::TableRecord;
+use std::alloc::{AllocError, Global};
+use table_edits::{RecordTest, Tables, first_passing};
+
+/// An ID of a user.
+#[derive(Clone, Copy)]
+pub(crate) enum AccountId {
+    /// The user's own.
+    Uid(u32),
+    /// That of its primary group.
+    Gid(u32),
+}
+
+/// The first user with another name that has the ID.
+pub(crate) fn first_other(
+    alloc: Global,
+    tables: &Tables,
+    name: &[u8],
+    id: AccountId,
+) -> Result<Option<PasswdRecord>, AllocError>
+    ensures { IfOk result (λ found.
+        found ≡ find (has_id id) (other_users name.now tables.now)) }
+{
+    first_passing(alloc, &tables.files().passwd, &OtherWith { name, id })
+}
+
+// That a user has another name, and the ID.
+#[derive(Clone, Copy)]
+struct OtherWith<'a> {
+    name: &'a [u8],
+    id: AccountId,
+}
+
+impl<'a> RecordTest<PasswdRecord> for OtherWith<'a> {
+    ghost use Rattle.user_removal.specs.Others.{is_other_with};
+
+    ghost accepts = { λ test user. is_other_with test.name.now test.id user };
+
+    fn passes(&self, user: &PasswdRecord) -> bool {
+        user.name() != self.name && has_id(user, self.id)
+    }
+}
+
+// Whether the user has the ID.
+fn has_id(user: &PasswdRecord, id: AccountId) -> bool
+    ensures { result ≡ has_id id user.now }
+{
+    match id {
+        AccountId::Uid(uid) => user.uid == uid,
+        AccountId::Gid(gid) => user.gid == gid,
+    }
+}
