@@ -2,6 +2,10 @@
 // has its use, its options in the order of the manual page, its rules by their numbers and its
 // statuses.
 
+ghost use Rattle.std.specs.Prelude.{◌≡◌, true};
+ghost use Rattle.account_model.specs.Options.{option_forms};
+ghost use Rattle.suite_main.specs.HelpTexts.{tells_options};
+
 mod chage;
 mod chpasswd;
 mod getsubids;
@@ -53,21 +57,24 @@ Exit status, where no tool has answered:
   102  the output or the message can't be written
 ";
 
-/// The text of a tool, in lines of at most 80 columns.
-pub(crate) fn text_of(tool: Tool) -> &'static str {
+/// The text of a tool, in lines of at most 80 columns. It lists the options by which the tool's words
+/// are read.
+pub(crate) fn text_of(tool: Tool) -> &'static str
+    ensures { tells_options (option_forms tool) result.now ≡ true }
+{
     match tool {
-        Tool::Useradd => useradd::TEXT,
-        Tool::Usermod => usermod::TEXT,
-        Tool::Userdel => userdel::TEXT,
-        Tool::Groupadd => groupadd::TEXT,
-        Tool::Groupmod => groupmod::TEXT,
-        Tool::Groupdel => groupdel::TEXT,
-        Tool::Gpasswd => gpasswd::TEXT,
-        Tool::Chage => chage::TEXT,
-        Tool::Chpasswd => chpasswd::TEXT,
-        Tool::Pwck => pwck::TEXT,
-        Tool::Grpck => grpck::TEXT,
-        Tool::Getsubids => getsubids::TEXT,
+        Tool::Useradd => useradd::text(),
+        Tool::Usermod => usermod::text(),
+        Tool::Userdel => userdel::text(),
+        Tool::Groupadd => groupadd::text(),
+        Tool::Groupmod => groupmod::text(),
+        Tool::Groupdel => groupdel::text(),
+        Tool::Gpasswd => gpasswd::text(),
+        Tool::Chage => chage::text(),
+        Tool::Chpasswd => chpasswd::text(),
+        Tool::Pwck => pwck::text(),
+        Tool::Grpck => grpck::text(),
+        Tool::Getsubids => getsubids::text(),
     }
 }
 

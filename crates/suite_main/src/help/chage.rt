@@ -1,5 +1,14 @@
-/// What `accounts chage --help` prints (chage(1)).
-pub(crate) const TEXT: &str = "\
+// What `accounts chage --help` prints (chage(1)).
+ghost use Rattle.std.specs.Prelude.{◌≡◌, true};
+ghost use Rattle.account_model.specs.declared.tool.Tool.TheVariants.{Chage};
+ghost use Rattle.account_model.specs.Options.{option_forms};
+ghost use Rattle.suite_main.specs.HelpTexts.{tells_options};
+
+/// The text, with the options of chage and no others.
+pub(crate) fn text() -> &'static str
+    ensures { tells_options (option_forms Chage) result.now ≡ true }
+{
+    "\
 Usage: accounts chage -P DIR options LOGIN
        accounts chage --help
 
@@ -32,4 +41,5 @@ Exit status:
   100  want of memory
   102  the output or the message can't be written
   103  the clock gives no day
-";
+"
+}

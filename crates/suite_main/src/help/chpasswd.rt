@@ -1,5 +1,14 @@
-/// What `accounts chpasswd --help` prints (chpasswd(8)).
-pub(crate) const TEXT: &str = "\
+// What `accounts chpasswd --help` prints (chpasswd(8)).
+ghost use Rattle.std.specs.Prelude.{◌≡◌, true};
+ghost use Rattle.account_model.specs.declared.tool.Tool.TheVariants.{Chpasswd};
+ghost use Rattle.account_model.specs.Options.{option_forms};
+ghost use Rattle.suite_main.specs.HelpTexts.{tells_options};
+
+/// The text, with the options of chpasswd and no others.
+pub(crate) fn text() -> &'static str
+    ensures { tells_options (option_forms Chpasswd) result.now ≡ true }
+{
+    "\
 Usage: accounts chpasswd -P DIR -e
        accounts chpasswd --help
 
@@ -22,4 +31,5 @@ Exit status:
   101  the input can't be read
   102  the output or the message can't be written
   103  the clock gives no day
-";
+"
+}

@@ -1,5 +1,14 @@
-/// What `accounts groupadd --help` prints (groupadd(8)).
-pub(crate) const TEXT: &str = "\
+// What `accounts groupadd --help` prints (groupadd(8)).
+ghost use Rattle.std.specs.Prelude.{◌≡◌, true};
+ghost use Rattle.account_model.specs.declared.tool.Tool.TheVariants.{Groupadd};
+ghost use Rattle.account_model.specs.Options.{option_forms};
+ghost use Rattle.suite_main.specs.HelpTexts.{tells_options};
+
+/// The text, with the options of groupadd and no others.
+pub(crate) fn text() -> &'static str
+    ensures { tells_options (option_forms Groupadd) result.now ≡ true }
+{
+    "\
 Usage: accounts groupadd -P DIR [options] GROUP
        accounts groupadd --help
 
@@ -29,4 +38,5 @@ Exit status:
   100  want of memory
   102  the output or the message can't be written
   103  the clock gives no day
-";
+"
+}

@@ -1,5 +1,14 @@
-/// What `accounts groupdel --help` prints (groupdel(8)).
-pub(crate) const TEXT: &str = "\
+// What `accounts groupdel --help` prints (groupdel(8)).
+ghost use Rattle.std.specs.Prelude.{◌≡◌, true};
+ghost use Rattle.account_model.specs.declared.tool.Tool.TheVariants.{Groupdel};
+ghost use Rattle.account_model.specs.Options.{option_forms};
+ghost use Rattle.suite_main.specs.HelpTexts.{tells_options};
+
+/// The text, with the options of groupdel and no others.
+pub(crate) fn text() -> &'static str
+    ensures { tells_options (option_forms Groupdel) result.now ≡ true }
+{
+    "\
 Usage: accounts groupdel -P DIR [options] GROUP
        accounts groupdel --help
 
@@ -19,4 +28,5 @@ Exit status:
   100  want of memory
   102  the output or the message can't be written
   103  the clock gives no day
-";
+"
+}

@@ -1,5 +1,14 @@
-/// What `accounts groupmod --help` prints (groupmod(8)).
-pub(crate) const TEXT: &str = "\
+// What `accounts groupmod --help` prints (groupmod(8)).
+ghost use Rattle.std.specs.Prelude.{◌≡◌, true};
+ghost use Rattle.account_model.specs.declared.tool.Tool.TheVariants.{Groupmod};
+ghost use Rattle.account_model.specs.Options.{option_forms};
+ghost use Rattle.suite_main.specs.HelpTexts.{tells_options};
+
+/// The text, with the options of groupmod and no others.
+pub(crate) fn text() -> &'static str
+    ensures { tells_options (option_forms Groupmod) result.now ≡ true }
+{
+    "\
 Usage: accounts groupmod -P DIR [options] GROUP
        accounts groupmod --help
 
@@ -28,4 +37,5 @@ Exit status:
   100  want of memory
   102  the output or the message can't be written
   103  the clock gives no day
-";
+"
+}

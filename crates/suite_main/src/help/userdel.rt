@@ -1,5 +1,14 @@
-/// What `accounts userdel --help` prints (userdel(8)).
-pub(crate) const TEXT: &str = "\
+// What `accounts userdel --help` prints (userdel(8)).
+ghost use Rattle.std.specs.Prelude.{◌≡◌, true};
+ghost use Rattle.account_model.specs.declared.tool.Tool.TheVariants.{Userdel};
+ghost use Rattle.account_model.specs.Options.{option_forms};
+ghost use Rattle.suite_main.specs.HelpTexts.{tells_options};
+
+/// The text, with the options of userdel and no others.
+pub(crate) fn text() -> &'static str
+    ensures { tells_options (option_forms Userdel) result.now ≡ true }
+{
+    "\
 Usage: accounts userdel -P DIR [options] LOGIN
        accounts userdel --help
 
@@ -20,4 +29,5 @@ Exit status:
   100  want of memory
   102  the output or the message can't be written
   103  the clock gives no day
-";
+"
+}
