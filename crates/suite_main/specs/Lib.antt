@@ -1,1 +1,3 @@
+pub mod Help
+pub mod HelpTexts
 pub mod Paths

@@ -18,7 +18,7 @@ use acct_outside::Sink;
 use acct_text::Word;
 use clock::RealClock;
 use folder::RealFolder;
-use help::{HELP, VERSION};
+use help::{HELP, VERSION, text_of};
 use std::alloc::AllocError;
 use std::io::ErrorKind;
 use std::process::ExitCode;
@@ -56,6 +56,7 @@ fn answer<R: Files + Input + Clock + AllocGlobal + Clone + Drop, O: Sink, E: Sin
 ) -> u8 {
     match request_of(words) {
         Request::Help => tell(out, HELP, 0),
+        Request::ToolHelp(tool) => tell(out, text_of(tool), 0),
         Request::Version => tell(out, VERSION, 0),
         Request::Suite => run(rt, words, out, err).unwrap_or(NO_MEMORY),
     }

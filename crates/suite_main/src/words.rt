@@ -1,6 +1,8 @@
 // The words after the program's name, and what main answers to them by itself.
-ghost use Rattle.std.specs.Prelude.{◌≡◌, ◌↔◌, [], ◌∷◌, IsTrue, codes};
+ghost use Rattle.std.specs.Prelude.{◌≡◌, ◌↔◌, [], ◌∷◌, Some, IsTrue, codes};
+ghost use Rattle.suite_main.specs.Help.{AskAbout, AskForTools};
 
+use account_model::Tool;
 use acct_text::Word;
 use std::rt::Env;
 use std::{env, io};
@@ -8,8 +10,10 @@ use std::{env, io};
 /// Who answers the words.
 #[derive(Clone, Copy, Debug, PartialEq, Eq)]
 pub(crate) enum Request {
-    /// main, with the options of all tools.
+    /// main, with the list of the tools.
     Help,
+    /// main, with the text of this tool.
+    ToolHelp(Tool),
     /// main, with the version.
     Version,
     /// The suite, whatever the words are.
@@ -27,18 +31,33 @@ pub(crate) fn words_of<R: Env + AllocGlobal>(rt: &R) -> io::Result<Vec<Word>> {
     Ok(words)
 }
 
-/// Who answers the words: main where `--help` or `--version` is the only one, and else the suite.
+/// Who answers the words: main where they ask for a text and for nothing else, and else the suite.
 pub(crate) fn request_of(words: &[Word]) -> Request
-    ensures help { (result ≡ Request.Help) ↔ (words.now ≡ codes "--help" ∷ []) }
+    ensures help { (result ≡ Request.Help) ↔ AskForTools words.now }
+    ensures tool_help { (tool : Tool) → (result ≡ Request.ToolHelp tool) ↔ AskAbout words.now tool }
     ensures version { (result ≡ Request.Version) ↔ (words.now ≡ codes "--version" ∷ []) }
 {
-    if is_only(words, b"--help") {
-        return Request::Help;
-    }
     if is_only(words, b"--version") {
         return Request::Version;
     }
-    Request::Suite
+    if is_only(words, b"--help") || is_only(words, b"-h") || is_only(words, b"help") {
+        return Request::Help;
+    }
+    match asked_about(words) {
+        Some(tool) => Request::ToolHelp(tool),
+        None => Request::Suite,
+    }
+}
+
+/// The tool that the words ask about: its name with `--help` or `-h`, and nothing behind that.
+fn asked_about(words: &[Word]) -> Option<Tool>
+    ensures { (tool : Tool) → (result ≡ Some tool) ↔ AskAbout words.now tool }
+{
+    let (name, options) = words.split_first()?;
+    if is_only(options, b"--help") || is_only(options, b"-h") {
+        return Tool::named(name.as_slice());
+    }
+    None
 }
 
 /// Whether this is the only word.

@@ -1,0 +1,45 @@
+// What `accounts chage --help` prints (chage(1)).
+ghost use Rattle.std.specs.Prelude.{◌≡◌, true};
+ghost use Rattle.account_model.specs.declared.tool.Tool.TheVariants.{Chage};
+ghost use Rattle.account_model.specs.Options.{option_forms};
+ghost use Rattle.suite_main.specs.HelpTexts.{tells_options};
+
+/// The text, with the options of chage and no others.
+pub(crate) fn text() -> &'static str
+    ensures { tells_options (option_forms Chage) result.now ≡ true }
+{
+    "\
+Usage: accounts chage -P DIR options LOGIN
+       accounts chage --help
+
+Change or list the aging of the password of the user LOGIN of the system image
+in DIR.
+
+Options:
+  -P, --prefix DIR              directory of the system image; always needed
+  -d, --lastday LAST_DAY        date of the last change
+  -E, --expiredate EXPIRE_DATE  date on which the account expires
+  -I, --inactive INACTIVE       days from the password's expiry to the account's
+  -l, --list                    list the aging
+  -m, --mindays MIN_DAYS        days before the next change is allowed
+  -M, --maxdays MAX_DAYS        days before the next change is required
+  -W, --warndays WARN_DAYS      days of warning before that
+
+A date is YYYY-MM-DD or a number of days since 1970-01-01. The date or number of
+days -1 empties the field.
+
+Rules, by their numbers in the message \"options break rule N\":
+  1  at least one option but -P
+  2  -l with no other
+
+Exit status:
+  0    the aging is changed, is so already, or is listed
+  1    no lock, a file that can't be used or updated, unknown user, or several
+       entries of a name
+  2    words that can't be read, a rule is broken, or an invalid value
+  15   shadow does not exist
+  100  want of memory
+  102  the output or the message can't be written
+  103  the clock gives no day
+"
+}

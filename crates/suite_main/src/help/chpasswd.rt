@@ -1,0 +1,35 @@
+// What `accounts chpasswd --help` prints (chpasswd(8)).
+ghost use Rattle.std.specs.Prelude.{◌≡◌, true};
+ghost use Rattle.account_model.specs.declared.tool.Tool.TheVariants.{Chpasswd};
+ghost use Rattle.account_model.specs.Options.{option_forms};
+ghost use Rattle.suite_main.specs.HelpTexts.{tells_options};
+
+/// The text, with the options of chpasswd and no others.
+pub(crate) fn text() -> &'static str
+    ensures { tells_options (option_forms Chpasswd) result.now ≡ true }
+{
+    "\
+Usage: accounts chpasswd -P DIR -e
+       accounts chpasswd --help
+
+Set the passwords of users of the system image in DIR by the lines LOGIN:HASH of
+the standard input, all of them or none.
+
+Options:
+  -P, --prefix DIR              directory of the system image; always needed
+  -e, --encrypted               the lines hold hashes; always needed
+
+Rules, by their numbers in the message \"options break rule N\":
+  1  -e is given
+
+Exit status:
+  0    the passwords are set
+  1    no lock, a file or an input that can't be used, a file that can't be
+       updated, a bad line, or several entries of a name
+  2    words that can't be read, or a rule is broken
+  100  want of memory
+  101  the input can't be read
+  102  the output or the message can't be written
+  103  the clock gives no day
+"
+}

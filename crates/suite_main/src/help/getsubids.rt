@@ -1,0 +1,30 @@
+// What `accounts getsubids --help` prints (getsubids(1)).
+ghost use Rattle.std.specs.Prelude.{◌≡◌, true};
+ghost use Rattle.account_model.specs.declared.tool.Tool.TheVariants.{Getsubids};
+ghost use Rattle.account_model.specs.Options.{option_forms};
+ghost use Rattle.suite_main.specs.HelpTexts.{tells_options};
+
+/// The text, with the options of getsubids and no others.
+pub(crate) fn text() -> &'static str
+    ensures { tells_options (option_forms Getsubids) result.now ≡ true }
+{
+    "\
+Usage: accounts getsubids -P DIR [options] NAME
+       accounts getsubids --help
+
+List the subordinate UIDs of the user NAME of the system image in DIR.
+
+Options:
+  -P, --prefix DIR              directory of the system image; always needed
+  -g                            list the subordinate GIDs
+
+Exit status:
+  0    the ranges are listed
+  1    words that can't be read, no lock, a file that can't be used or updated,
+       or no range
+  2    words that accounts itself refuses
+  100  want of memory
+  102  the output or the message can't be written
+  103  the clock gives no day
+"
+}

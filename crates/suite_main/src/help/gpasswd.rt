@@ -1,0 +1,42 @@
+// What `accounts gpasswd --help` prints (gpasswd(1)).
+ghost use Rattle.std.specs.Prelude.{◌≡◌, true};
+ghost use Rattle.account_model.specs.declared.tool.Tool.TheVariants.{Gpasswd};
+ghost use Rattle.account_model.specs.Options.{option_forms};
+ghost use Rattle.suite_main.specs.HelpTexts.{tells_options};
+
+/// The text, with the options of gpasswd and no others.
+pub(crate) fn text() -> &'static str
+    ensures { tells_options (option_forms Gpasswd) result.now ≡ true }
+{
+    "\
+Usage: accounts gpasswd -P DIR option GROUP
+       accounts gpasswd --help
+
+Change the members or the password of the group GROUP of the system image in
+DIR.
+
+Options:
+  -P, --prefix DIR              directory of the system image; always needed
+  -a, --add USER                add a member
+  -d, --delete USER             remove a member
+  -A, --administrators USERS    all administrators, separated by commas
+  -M, --members USERS           all members, separated by commas
+  -r, --remove-password         remove the password
+  -R, --restrict                restrict the group to its members
+
+Rules, by their numbers in the message \"options break rule N\":
+  1  at least one option but -P
+  2  no two of the options but -A with -M
+
+Exit status:
+  0    the group is changed, or is so already
+  1    no lock, a file that can't be used or updated, or several entries of a
+       name
+  2    words that can't be read, or a rule is broken
+  3    unknown group or user, a user that is no member, or a user whose name
+       has a comma
+  100  want of memory
+  102  the output or the message can't be written
+  103  the clock gives no day
+"
+}

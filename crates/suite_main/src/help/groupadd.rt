@@ -1,0 +1,42 @@
+// What `accounts groupadd --help` prints (groupadd(8)).
+ghost use Rattle.std.specs.Prelude.{◌≡◌, true};
+ghost use Rattle.account_model.specs.declared.tool.Tool.TheVariants.{Groupadd};
+ghost use Rattle.account_model.specs.Options.{option_forms};
+ghost use Rattle.suite_main.specs.HelpTexts.{tells_options};
+
+/// The text, with the options of groupadd and no others.
+pub(crate) fn text() -> &'static str
+    ensures { tells_options (option_forms Groupadd) result.now ≡ true }
+{
+    "\
+Usage: accounts groupadd -P DIR [options] GROUP
+       accounts groupadd --help
+
+Create the group GROUP in the system image in DIR.
+
+Options:
+  -P, --prefix DIR              directory of the system image; always needed
+  -f, --force                   succeed where the group exists, and take another
+                                GID where that of -g is in use
+  -g, --gid GID                 GID
+  -K, --key KEY=VALUE           value in place of that of login.defs
+  -o, --non-unique              allow a GID that is in use
+  -p, --password PASSWORD       hash of the password
+  -r, --system                  a system group
+
+Rules, by their numbers in the message \"options break rule N\":
+  1  -o only with -g
+
+Exit status:
+  0    the group is created, or exists and -f is given
+  2    words that can't be read, or a rule is broken
+  3    invalid name, setting or value
+  4    the GID is in use, or no GID is free
+  9    the group exists
+  10   no lock, a file that can't be used or updated, or several entries of a
+       name
+  100  want of memory
+  102  the output or the message can't be written
+  103  the clock gives no day
+"
+}

@@ -1,0 +1,41 @@
+// What `accounts groupmod --help` prints (groupmod(8)).
+ghost use Rattle.std.specs.Prelude.{◌≡◌, true};
+ghost use Rattle.account_model.specs.declared.tool.Tool.TheVariants.{Groupmod};
+ghost use Rattle.account_model.specs.Options.{option_forms};
+ghost use Rattle.suite_main.specs.HelpTexts.{tells_options};
+
+/// The text, with the options of groupmod and no others.
+pub(crate) fn text() -> &'static str
+    ensures { tells_options (option_forms Groupmod) result.now ≡ true }
+{
+    "\
+Usage: accounts groupmod -P DIR [options] GROUP
+       accounts groupmod --help
+
+Change the group GROUP of the system image in DIR.
+
+Options:
+  -P, --prefix DIR              directory of the system image; always needed
+  -g, --gid GID                 GID, which also its users get
+  -n, --new-name NEW_GROUP      new name
+  -o, --non-unique              allow a GID that is in use
+  -p, --password PASSWORD       hash of the password
+
+Rules, by their numbers in the message \"options break rule N\":
+  1  -o only with -g
+  2  at least one of -g, -n and -p
+
+Exit status:
+  0    the group is changed, or is so already
+  2    words that can't be read, or a rule is broken
+  3    invalid value
+  4    the GID is in use
+  6    unknown group
+  9    the new name is in use
+  10   no lock, a file that can't be used or updated, or several entries of a
+       name
+  100  want of memory
+  102  the output or the message can't be written
+  103  the clock gives no day
+"
+}

@@ -1,0 +1,37 @@
+// What `accounts grpck --help` prints (grpck(8)).
+ghost use Rattle.std.specs.Prelude.{◌≡◌, true};
+ghost use Rattle.account_model.specs.declared.tool.Tool.TheVariants.{Grpck};
+ghost use Rattle.account_model.specs.Options.{option_forms};
+ghost use Rattle.suite_main.specs.HelpTexts.{tells_options};
+
+/// The text, with the options of grpck and no others.
+pub(crate) fn text() -> &'static str
+    ensures { tells_options (option_forms Grpck) result.now ≡ true }
+{
+    "\
+Usage: accounts grpck -P DIR option
+       accounts grpck --help
+
+Check or sort group and gshadow of the system image in DIR.
+
+Options:
+  -P, --prefix DIR              directory of the system image; always needed
+  -r, --read-only               report, and change nothing
+  -s, --sort                    sort by GID
+
+Rules, by their numbers in the message \"options break rule N\":
+  1  -r or -s
+  2  not both
+
+Exit status:
+  0    no problem is found, or the files are sorted
+  1    words that can't be read, or a rule is broken
+  2    a problem is found, or words that accounts itself refuses
+  3    a file can't be used
+  4    no lock
+  5    a file can't be updated
+  100  want of memory
+  102  the output or the message can't be written
+  103  the clock gives no day
+"
+}

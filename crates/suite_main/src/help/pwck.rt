@@ -1,0 +1,38 @@
+// What `accounts pwck --help` prints (pwck(8)).
+ghost use Rattle.std.specs.Prelude.{◌≡◌, true};
+ghost use Rattle.account_model.specs.declared.tool.Tool.TheVariants.{Pwck};
+ghost use Rattle.account_model.specs.Options.{option_forms};
+ghost use Rattle.suite_main.specs.HelpTexts.{tells_options};
+
+/// The text, with the options of pwck and no others.
+pub(crate) fn text() -> &'static str
+    ensures { tells_options (option_forms Pwck) result.now ≡ true }
+{
+    "\
+Usage: accounts pwck -P DIR option
+       accounts pwck --help
+
+Check or sort passwd and shadow of the system image in DIR.
+
+Options:
+  -P, --prefix DIR              directory of the system image; always needed
+  -q, --quiet                   report errors without warnings
+  -r, --read-only               report, and change nothing
+  -s, --sort                    sort by UID
+
+Rules, by their numbers in the message \"options break rule N\":
+  1  -r or -s
+  2  not both
+
+Exit status:
+  0    no problem is found, or the files are sorted
+  1    words that can't be read, or a rule is broken
+  2    a problem is found, or words that accounts itself refuses
+  3    a file can't be used
+  4    no lock
+  5    a file can't be updated
+  100  want of memory
+  102  the output or the message can't be written
+  103  the clock gives no day
+"
+}
