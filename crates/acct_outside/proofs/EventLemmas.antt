@@ -142,8 +142,8 @@ history_of-push events event =
     ap reverse (map-append event_of events (event ∷ []))
     ∙ reverse-append (map event_of events) (event_of event ∷ [])
 
--- a history with an own event in it has own events
 module _ (token : Token) (event : KeptEvent) (own : is_of token (event_of event) ≡ true) where
+  -- a front of the events behind an own one has own events
   known_to : (events : List KeptEvent) (place count : ℕ)
       → place < count → count ≤ length events → event ≡ get_or events place event
       → ¬ (own_events token (history_of (take count events)) ≡ [])
@@ -174,6 +174,7 @@ module _ (token : Token) (event : KeptEvent) (own : is_of token (event_of event)
             (event_of last ∷ own_events token front) (own_events token front) miss) ∙ none_last)
       ]
 
+  -- events of which one is the session's have own events
   pub known-at : (events : List KeptEvent) (place : ℕ)
       → place < length events → event ≡ get_or events place event
       → ¬ (own_events token (history_of events) ≡ [])
