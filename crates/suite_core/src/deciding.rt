@@ -130,6 +130,8 @@ fn change(alloc: Global, asked: &Asked, new: Files, output: Output) -> Result<De
 {
     match large_table(&new) {
         Some(table) => {
+            drop(new);
+            drop(output);
             let cause = Cause::TooLarge(Which::File(Name::Table(table)));
             Ok(Decided::Stay(asked.try_to_tell(alloc, cause)?))
         }

@@ -2,9 +2,9 @@ use Rattle.std.proofs.Common.{ℕ, List, subst}
 use Rattle.std.proofs.lemmas.Result.{IfOk-weaker}
 use Rattle.account_model.specs.Action.{outcome_of}
 use Rattle.account_model.specs.Change.{action_of}
+use Rattle.account_model.specs.Request.{Request}
 use Rattle.acct_tables.specs.Decisions.{Decides}
 use Rattle.aging_commands.specs.Asking.{Asking}
-use Rattle.suite_session.specs.Runner.{Question}
 use Rattle.suite_core.proofs.deciding.decide_aging.Goals as goal
 
 -- the request is that of the command, with its whole input, and the day is its day
@@ -17,9 +17,9 @@ returns c = IfOk-weaker c.decide.result _ _ (λ decision decides settings holds.
     (subst (λ (input : List ℕ). Decides c.args.asked.now.request.tool files
     (outcome_of (action_of c.args.asked.now.request input c.day.result
     files settings) files) decision) c.input.ensures.value
-    (subst (λ (asked : Question). Decides asked.request.tool files
-    (outcome_of (action_of asked.request c.input.result.now c.day.result
-    files settings) files) decision) c.asked.view_is
+    (subst (λ (request : Request). Decides request.tool files
+    (outcome_of (action_of request c.input.result.now c.day.result
+    files settings) files) decision) c.parsed.ensures
     (subst (λ (asking : Asking). Decides asking.request.tool files
     (outcome_of (action_of asking.request asking.input c.day.result
     files settings) files) decision) c.in_ok-request.ensures
