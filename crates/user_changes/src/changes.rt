@@ -1,7 +1,9 @@
 // usermod LOGIN (usermod(8)): changes a user.
-ghost use Rattle.std.specs.Prelude.{◌≡◌, IfOk};
+ghost use Rattle.std.specs.Prelude.{◌≡◌, ◌∷◌, [], IfOk, codes};
+ghost use Rattle.account_model.specs.Refusals.{bad_values};
 ghost use Rattle.account_model.specs.Text.{first_some};
 ghost use Rattle.account_model.specs.Usermod.{new_name, usermod, usermod_checks, usermod_script};
+ghost use Rattle.account_model.specs.UsermodRanges.{is_range};
 ghost use Rattle.acct_tables.specs.Refusing.{RefusesBy};
 ghost use Rattle.table_edits.specs.Acting.{ActsBy};
 ghost use Rattle.table_edits.specs.SeenScript.{seen_script};
@@ -42,6 +44,18 @@ fn check_values(alloc: Global, asked: &Asked) -> Result<(), ToolFault>
     asked.check_value(alloc, b'p', Form::Field)?;
     asked.check_value(alloc, b'l', Form::Name)?;
     asked.check_value(alloc, b'u', Form::Id)?;
+    check_ranges(alloc, asked)
+}
+
+// Refuses the ranges of `-v`, `-V`, `-w` and `-W`: `BadValue`.
+fn check_ranges(alloc: Global, asked: &Asked) -> Result<(), ToolFault>
+    ensures { RefusesBy (first_some
+        (bad_values (codes "v") is_range asked.now
+        ∷ bad_values (codes "V") is_range asked.now
+        ∷ bad_values (codes "w") is_range asked.now
+        ∷ bad_values (codes "W") is_range asked.now
+        ∷ [])) result }
+{
     asked.check_values(alloc, b'v', Form::Range)?;
     asked.check_values(alloc, b'V', Form::Range)?;
     asked.check_values(alloc, b'w', Form::Range)?;

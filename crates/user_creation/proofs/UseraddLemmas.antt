@@ -2,24 +2,16 @@
 -- (`conflicts-planned`) and the edits (`script-planned`). So it answers the first refusal of its
 -- words (`refused-by_words`), then that of its conflicts (`refused-by_conflict`), and else the edits
 -- (`made-user`). Way: field by field of the plan.
-use Rattle.std.proofs.Common.{◌≡◌, ℕ, Bool, true, false, List, [], ◌∷◌, ◌++◌, refl, sym, ap, subst, ◌∙◌}
-use Rattle.std.specs.Prelude.{Option, Some, None, Result, Ok, Err, is_none, option_and_then, option_map, unwrap_or, ◌&&◌, if◌then◌else◌}
+use Rattle.std.proofs.Common.{◌≡◌, ℕ, Bool, true, List, refl, sym, ap, subst, ◌∙◌}
+use Rattle.std.specs.Prelude.{Option, Some, None, Err, option_and_then, option_map, unwrap_or, if◌then◌else◌}
 use Rattle.acct_text.specs.declared.files.Files.{Files}
 use Rattle.account_model.specs.declared.records.ShadowRecord.{ShadowRecord}
-use Rattle.account_model.specs.declared.refusal.Refusal.{Refusal}
-use Rattle.account_model.specs.declared.refusal.Refusal.TheVariants.{GroupExists, NoFreeUid, NoFreeGid}
-use Rattle.account_model.specs.Action.{Action}
 use Rattle.account_model.specs.GivenGroups.{given_group}
-use Rattle.account_model.specs.Hashes.{locked}
-use Rattle.account_model.specs.NewAccount.{add_group}
-use Rattle.account_model.specs.NewRanges.{Subordinate, allotted, is_allotted, free_start, new_range, no_gap, subordinate_gids, subordinate_uids}
-use Rattle.account_model.specs.Refusals.{refuse_if}
-use Rattle.account_model.specs.Request.{Request, operand}
+use Rattle.account_model.specs.NewRanges.{Subordinate, allotted, no_gap, subordinate_gids, subordinate_uids}
+use Rattle.account_model.specs.Request.{Request}
 use Rattle.account_model.specs.Settings.{Setting}
-use Rattle.account_model.specs.Tables.{no_edits}
 use Rattle.account_model.specs.Text.{first_some}
 use Rattle.account_model.specs.Useradd.{add_user, default_gid, gid_beside, makes_group, new_shadow, new_uid, own_gid, primary_gid, useradd_checks, useradd_conflicts, useradd_script, useradd_under}
-use Rattle.account_model.specs.Users.{has_group}
 use Rattle.acct_tables.specs.Refusing.{IsFaultOf}
 use Rattle.acct_tables.specs.declared.tool_fault.ToolFault.{ToolFault}
 use Rattle.acct_tables.specs.declared.tool_fault.ToolFault.TheVariants.{Refused, Memory}

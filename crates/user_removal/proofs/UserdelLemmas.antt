@@ -2,7 +2,7 @@
 -- name and the ID (`others-found`). So a group is kept for its members, or else for such a user
 -- (`kept-members`, `kept-never`, `kept-primary`). Way: one by one; then test by test.
 use Rattle.std.proofs.Common.{◌≡◌, ℕ, Bool, true, false, List, [], ◌∷◌, refl, sym, ap, ◌∙◌, inl, inr, not}
-use Rattle.std.specs.Prelude.{Option, Some, None, option_map, find, filter, is_some, ◌&&◌, bytes_eq, codes, if◌then◌else◌}
+use Rattle.std.specs.Prelude.{Option, Some, None, option_map, find, filter, ◌&&◌, bytes_eq, codes}
 use Rattle.std.proofs.lemmas.Bool.{cases_Bool}
 use Rattle.acct_text.specs.Bytes.{is_empty}
 use Rattle.acct_text.specs.declared.files.Files.{Files}

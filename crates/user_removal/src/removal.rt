@@ -1,5 +1,5 @@
 // userdel LOGIN (userdel(8)): removes a user.
-ghost use Rattle.std.specs.Prelude.{◌≡◌, ◌∷◌, [], List, IfOk, OnOk};
+ghost use Rattle.std.specs.Prelude.{◌≡◌, ◌∷◌, [], List, Some, None, IfOk, OnOk, if◌then◌else◌};
 ghost use Rattle.account_model.specs.Request.{operand};
 ghost use Rattle.account_model.specs.Settings.{Setting};
 ghost use Rattle.account_model.specs.Tables.{in_order};
@@ -131,18 +131,24 @@ fn remove_ranges(
 fn own_uid(alloc: Global, tables: &Tables, user: &[u8]) -> Result<Option<u32>, AllocError>
     ensures { IfOk result (λ uid. uid ≡ own_uid user.now tables.now) }
 {
-    let Some(uid) = tables.user_named(alloc, user)?.map(|user| user.uid) else {
-        return Ok(None);
-    };
-    if is_shared(alloc, tables, user, uid)? {
+    match tables.user_named(alloc, user)? {
+        Some(owner) => unshared(alloc, tables, user, owner.uid),
+        None => Ok(None),
+    }
+}
+
+// The UID, where no other user has it.
+fn unshared(
+    alloc: Global,
+    tables: &Tables,
+    user: &[u8],
+    uid: u32,
+) -> Result<Option<u32>, AllocError>
+    ensures { IfOk result (λ own.
+        own ≡ (if is_shared user.now tables.now uid then None else Some uid)) }
+{
+    if first_other(alloc, tables, user, AccountId::Uid(uid))?.is_some() {
         return Ok(None);
     }
     Ok(Some(uid))
-}
-
-// Whether another user has the UID.
-fn is_shared(alloc: Global, tables: &Tables, user: &[u8], uid: u32) -> Result<bool, AllocError>
-    ensures { IfOk result (λ shared. shared ≡ is_shared user.now tables.now uid) }
-{
-    Ok(first_other(alloc, tables, user, AccountId::Uid(uid))?.is_some())
 }

@@ -1,4 +1,3 @@
-use Rattle.std.proofs.Common.{sym}
 use Rattle.account_model.specs.NewAccount.{settings_for}
 use Rattle.table_edits.proofs.ActingLemmas.{acts-handed}
 use Rattle.user_creation.proofs.UseraddLemmas.{refused-by_words, refused-by_conflict, made-user}
