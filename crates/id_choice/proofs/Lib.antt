@@ -1,3 +1,4 @@
+pub mod AddedRuns
+pub mod ChoiceLemmas
+pub mod RunLemmas
 pub mod UsedLemmas
-pub mod FreeSearch
-pub mod RangeItems

@@ -139,33 +139,29 @@ chosen-there Regular (Some range) used ids choice same is =
 chosen-there System (Some range) used ids choice same is =
     system-there range.0 range.1 used ids same choice is
 
--- lists of the same IDs give the same choice
-pub same-choice :
-    (kind : Kind) (range : Option (ℕ × ℕ)) (used ids : List ℕ)
-    → AreThoseOf used ids
-    → chosen_id kind range used ≡ chosen_id kind range ids
-same-choice kind range used ids same =
-    let choice = chosen_id kind range used
-    in let is = chosen-there kind range used ids choice same (chosen_id-is kind range used)
-    in chosen-one kind range ids choice (chosen_id kind range ids) is (chosen_id-is kind range ids)
-
 module _
-    (kind : Kind) (range : Option (ℕ × ℕ)) (used ids : List ℕ) (same : AreThoseOf used ids) where
-  -- the preferred ID is used
+    (kind : Kind) (range : Option (ℕ × ℕ)) (used ids : List ℕ) (same : AreThoseOf used ids)
+    (choice : Option ℕ) (is : IsChosenId kind range used choice) where
+  -- a choice is that of each list of the same IDs
+  pub same-choice : choice ≡ chosen_id kind range ids
+  same-choice =
+      chosen-one kind range ids choice (chosen_id kind range ids)
+      (chosen-there kind range used ids choice same is) (chosen_id-is kind range ids)
+
+  -- where the preferred ID is used
   pub preferred-used :
       (preferred : Option ℕ) (id : ℕ)
       → preferred ≡ Some id
       → is_used used id ≡ true
-      → chosen_id kind range used ≡ id_for preferred kind range ids
-  preferred-used preferred id is e =
-      rw (is, sym (same id) ∙ e) (same-choice kind range used ids same)
+      → choice ≡ id_for preferred kind range ids
+  preferred-used preferred id some e = rw (some, sym (same id) ∙ e) same-choice
 
-  -- no ID is preferred
+  -- where no ID is preferred
   pub none-preferred :
       (preferred : Option ℕ)
       → preferred ≡ None
-      → chosen_id kind range used ≡ id_for preferred kind range ids
-  none-preferred preferred is = rw is (same-choice kind range used ids same)
+      → choice ≡ id_for preferred kind range ids
+  none-preferred preferred none = rw none same-choice
 
 -- where the set holds the IDs of a list and gets one more, it holds those of the list with that one
 -- behind them

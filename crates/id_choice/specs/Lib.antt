@@ -1,1 +1,3 @@
+pub mod RunMaps
+pub mod Runs
 pub mod Used

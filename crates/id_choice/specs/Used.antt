@@ -2,7 +2,7 @@
 -- (useradd(8), groupadd(8)).
 use Rattle.std.specs.Prelude.{◌≡◌, ℕ, List, Option, Some, None, if◌then◌else◌}
 use Rattle.account_model.specs.declared.settings.Kind.{Kind}
-use Rattle.account_model.specs.Ids.{is_used, chosen_id}
+use Rattle.account_model.specs.Ids.{IsGreatest, IsLeast, is_used, chosen_id}
 
 -- the used IDs are exactly those of the list, in any order and any number of times
 abbrev pub AreThoseOf : List ℕ → List ℕ → Type 0
@@ -18,3 +18,13 @@ abbrev pub id_for : Option ℕ → Kind → Option (ℕ × ℕ) → List ℕ →
 id_for None kind range used = chosen_id kind range used
 id_for (Some id) kind range used =
     if is_used used id then chosen_id kind range used else Some id
+
+-- the least of a set, or none where it is empty
+abbrev pub FindsLeast : (ℕ → Type 0) → Option ℕ → Type 0
+FindsLeast Member None = (id : ℕ) → Member id → ⊥
+FindsLeast Member (Some id) = IsLeast Member id
+
+-- and the greatest
+abbrev pub FindsGreatest : (ℕ → Type 0) → Option ℕ → Type 0
+FindsGreatest Member None = (id : ℕ) → Member id → ⊥
+FindsGreatest Member (Some id) = IsGreatest Member id

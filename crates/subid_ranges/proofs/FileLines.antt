@@ -2,7 +2,7 @@
 -- IDs go out of them (`cut-of_file`), and are then those of the text that is left (`left-lines`).
 -- Way: each edit prints only ranges that read back.
 use Rattle.std.proofs.Common.{◌≡◌, ℕ, ◌+◌, ◌-◌, ◌<◌, ◌≤◌, min, max, Bool, true, false, List, [], ◌∷◌, refl, sym, ◌∙◌, ap, subst, arith}
-use Rattle.std.specs.Prelude.{Option, Result, Ok, Err, OnOk, OnErr, nat_lt, if◌then◌else◌}
+use Rattle.std.specs.Prelude.{Option, nat_lt, if◌then◌else◌}
 use Rattle.std.specs.List.{AllByRecursion}
 use Rattle.std.proofs.lemmas.Bool.{ltb-true}
 use Rattle.acct_text.specs.Lines.{Line, file_bytes, lines_of}
@@ -42,33 +42,19 @@ edit-of_file edit lines written of_file =
     (edited-lines subid_format refl (edit ∷ []) bytes (written, tt)) in
     subst (λ l. AreOfFile (edited subid_format l edit)) of_file found
 
--- by what the call answered
-either-of_file :
-    {X E : Type 0} (result : Result X E) (old new edited : List Line)
-    → AreOfFile old
-    → AreOfFile edited
-    → OnOk result (new ≡ edited)
-    → OnErr result (new ≡ old)
-    → AreOfFile new
-either-of_file (Ok done) old new edited is after ok err = subst AreOfFile (sym ok) after
-either-of_file (Err fault) old new edited is after ok err = subst AreOfFile (sym err) is
-
 -- lines of a file with one more range
 pub range-of_file :
-    {X E : Type 0} (owner copy : List ℕ) (first count : ℕ) (old new : List Line)
-    (result : Result X E)
+    (owner copy : List ℕ) (first count : ℕ) (old new : List Line)
     → AreOfFile old
     → IsSubid (new_range owner first count)
     → copy ≡ owner
-    → OnOk result (new ≡ with_range copy first count old)
-    → OnErr result (new ≡ old)
+    → new ≡ with_range copy first count old
     → AreOfFile new
-range-of_file owner copy first count old new result is held same ok err =
+range-of_file owner copy first count old new is held same added =
     let written : IsWritten subid_format (new_range copy first count) =
     subst (λ name. IsWritten subid_format (new_range name first count)) (sym same)
     (range-written (new_range owner first count) held) in
-    either-of_file result old new (with_range copy first count old) is
-    (edit-of_file (Add (new_range copy first count)) old written is) ok err
+    subst AreOfFile (sym added) (edit-of_file (Add (new_range copy first count)) old written is)
 
 -- what is left below, by whether there is some
 below-held :

@@ -1,4 +1,6 @@
 pub mod PlacedRanges
 pub mod LeastStart
+pub mod TakenLemmas
+pub mod TellLemmas
 pub mod FileLines
 pub mod CutLines

@@ -1,14 +1,14 @@
 -- Claim: what a search has left at a place is by the range there, and by what is left behind it
 -- (`ranges-left`, `meeting-here`, `meeting-behind`, `owned-left`). Way: what is left begins with the
 -- line at the place.
-use Rattle.std.proofs.Common.{◌≡◌, ℕ, zero, suc, ◌+◌, ◌-◌, ◌<◌, ◌≤◌, Bool, true, false, List, [], ◌∷◌, length, drop, get_or, refl, sym, ◌∙◌, ap, arith}
-use Rattle.std.specs.Prelude.{Option, Some, None, ◌||◌, not, is_none, is_some, map, filter, if◌then◌else◌}
+use Rattle.std.proofs.Common.{◌≡◌, ℕ, zero, suc, ◌+◌, ◌<◌, Bool, true, false, List, [], ◌∷◌, length, drop, get_or, refl, sym, ◌∙◌, ap, arith}
+use Rattle.std.specs.Prelude.{Option, Some, None, ◌||◌, not, is_none, map, filter, if◌then◌else◌}
 use Rattle.std.specs.List.{AllByRecursion, cons_option, list_any, position_from}
 use Rattle.std.proofs.lemmas.List.{at_drop_more}
 use Rattle.std.proofs.lemmas.Bool.{le-leb, true≢false}
 use Rattle.acct_text.specs.Lines.{Line}
 use Rattle.account_model.specs.declared.records.SubidRecord.{SubidRecord}
-use Rattle.account_model.specs.FreeRange.{Meeting, fits_at, meets}
+use Rattle.account_model.specs.FreeRange.{Meeting, meets}
 use Rattle.account_model.specs.Records.{last_id, subid_format}
 use Rattle.account_model.specs.SubidOwner.{is_owned}
 use Rattle.account_model.specs.UsermodRanges.{line_meets}
@@ -148,28 +148,19 @@ meeting-any first last (line ∷ lines) start =
     (position_from (line_meets (ids_from first last)) (start + 1) lines)
     (meeting-any first last lines (start + 1))
 
--- the test whether there is none, by that whether there is one
-none-is : (found : Option ℕ) (none : Bool) → is_some found ≡ not none → none ≡ is_none found
-none-is None true is = refl
-none-is None false is = absurd cc
-none-is (Some n) true is = absurd cc
-none-is (Some n) false is = refl
+-- nothing is found where the test says so
+is-none : (found : Option ℕ) → is_none found ≡ true → found ≡ None
+is-none None is = refl
+is-none (Some n) is = absurd cc
 
--- a place within the bounds fits where no line meets its IDs
-pub fits-where :
-    (low high count start last : ℕ) (lines : List Line) (none : Bool) (found : Option ℕ)
-    → low ≤ start
-    → last ≤ high
-    → last ≡ start + count - 1
-    → found ≡ meeting_line start last lines
-    → is_some found ≡ not none
-    → none ≡ fits_at low high count (ranges_of lines) start
-fits-where low high count start last lines none found above below is met answer =
-    let apart : none ≡ not (list_any (meets start (start + count - 1)) (ranges_of lines)) =
-    none-is found none answer ∙ ap is_none met ∙ meeting-any start last lines 1
-    ∙ ap (λ n. not (list_any (meets start n) (ranges_of lines))) is in
-    let small : start + count - 1 ≤ high = omega (arith, below, is) in
-    rw (le-leb low start above, le-leb (start + count - 1) high small) apart
+-- no line meets the IDs where no range has one of them
+pub meeting-free :
+    (first last : ℕ) (lines : List Line)
+    → list_any (meets first last) (ranges_of lines) ≡ false
+    → meeting_line first last lines ≡ None
+meeting-free first last lines none =
+    is-none (meeting_line first last lines)
+    (meeting-any first last lines 1 ∙ ap (λ (any : Bool). not any) none)
 
 -- a range whose IDs aren't among these
 apart-by :

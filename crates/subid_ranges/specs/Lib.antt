@@ -1,4 +1,5 @@
 pub mod RangeLines
 pub mod Owned
-pub mod FirstFit
+pub mod Numbers
+pub mod Taken
 pub mod Refusals

@@ -3,17 +3,17 @@
 ghost use Rattle.std.specs.Prelude.{◌≡◌, ◌+◌, ◌-◌, ◌<◌, ◌≤◌, IfOk, IfSome, OnOk, OnErr, Some};
 ghost use Rattle.std.specs.List.{AllByRecursion};
 ghost use Rattle.acct_text.specs.Lines.{lines_of, file_bytes};
-ghost use Rattle.account_model.specs.FreeRange.{FitsAt, Meeting, fits_at, free_range};
+ghost use Rattle.account_model.specs.FreeRange.{FitsAt, Meeting, free_range};
 ghost use Rattle.account_model.specs.Ids.{IsLeast};
 ghost use Rattle.account_model.specs.Records.{greatest_id, subid_format};
 ghost use Rattle.account_model.specs.Written.{IsNameField, IsSubid};
 ghost use Rattle.acct_tables.specs.TableLines.{record_at};
-ghost use Rattle.subid_ranges.specs.FirstFit.{kept, lesser, start_behind};
 ghost use Rattle.subid_ranges.specs.Owned.{owned_ranges};
 ghost use Rattle.subid_ranges.specs.RangeLines.{is_bad, meets_at, meeting_line, new_range, ranges_of, with_range, without_range};
 ghost use Rattle.subid_ranges.specs.Refusals.{AnswersRange, add_refusal, bad_refusal, gap_refusal};
 
 use crate::cut::{Cut, table_without};
+use crate::taken::Taken;
 use crate::{OwnedRanges, RangeFault};
 use acct_lines::SubidRecord;
 use acct_tables::{Table, last_id};
@@ -28,18 +28,20 @@ const GREATEST_ID: u32 = u32::MAX - 1;
 #[derive(Drop)]
 pub struct Ranges {
     table: Table<SubidRecord>,
+    // the numbers of its ranges
+    taken: Taken,
 }
 
 impl Model for Ranges {
     ghost use Rattle.std.specs.Prelude.{List};
     ghost use Rattle.acct_text.specs.Lines.{Line};
-    ghost use Rattle.subid_ranges.specs.RangeLines.{AreOfFile};
+    ghost use Rattle.subid_ranges.specs.Taken.{TellsOf};
 
     ghost Value = { List Line };
 
     ghost view = { λ r. r.table };
 
-    ghost invariant = { λ r. AreOfFile r.table };
+    ghost invariant = { λ r. TellsOf r.table r.taken };
 }
 
 impl Ranges {
@@ -48,9 +50,9 @@ impl Ranges {
         ensures lines { IfOk result (λ ranges. ranges ≡ lines_of text.now) }
         ensures same_bytes { IfOk result (λ ranges. file_bytes ranges ≡ text.now) }
     {
-        Ok(Ranges {
-            table: Table::load(alloc, text)?,
-        })
+        let table = Table::load(alloc, text)?;
+        let taken = Taken::of(alloc, &table)?;
+        Ok(Ranges { table, taken })
     }
 
     /// The least start, from `min` on, of `count` IDs of which none passes `max` and none lies in a
@@ -60,13 +62,7 @@ impl Ranges {
         requires small { max ≤ greatest_id }
         ensures { result ≡ free_range min max count (ranges_of self.now) }
     {
-        let mut least = self.kept(min, max, count, None, min);
-        'places: for place in 0..self.table.len() {
-            if let Some(start) = self.start_behind(place) {
-                least = self.kept(min, max, count, least, start);
-            }
-        }
-        least
+        self.taken.free_gap(min, max, count)
     }
 
     /// Allots `count` IDs to the owner at the least free start, which it gives: the line
@@ -123,7 +119,7 @@ impl Ranges {
         if is_bad(first, last) {
             return Err(RangeFault::BadRange);
         }
-        if let Some(line) = self.meeting_line(first, last) {
+        if let Some(line) = self.overlap(first, last) {
             return Err(RangeFault::Overlap(line));
         }
         self.append(alloc, owner, first, last - first + 1)?;
@@ -161,7 +157,9 @@ impl Ranges {
             first,
             last,
         };
-        self.table = table_without(alloc, &self.table, &cut)?;
+        let table = table_without(alloc, &self.table, &cut)?;
+        self.taken = Taken::of(alloc, &table)?;
+        self.table = table;
         Ok(())
     }
 
@@ -193,38 +191,24 @@ impl Ranges {
         ensures unchanged { OnErr result (self.new ≡ self.old) }
     {
         let owner = Bytes::of(alloc, owner)?;
+        self.taken.settle()?;
         self.table.append_any(SubidRecord {
             owner,
             first,
             count,
-        })
+        })?;
+        self.taken.put(first, first + (count - 1));
+        Ok(())
     }
 
-    // The lesser of two starts, where the second one fits; else the first, where there is one.
-    fn kept(&self, min: u32, max: u32, count: u32, least: Option<u32>, start: u32) -> Option<u32>
-        requires { 0 < count }
-        ensures { result ≡ kept (fits_at min max count (ranges_of self.now)) least start }
+    // The number of the first line whose range has one of these IDs; the lines are searched only
+    // where one has.
+    fn overlap(&self, first: u32, last: u32) -> Option<usize>
+        requires { first ≤ last }
+        ensures { result ≡ meeting_line first last self.now }
     {
-        if self.fits_at(min, max, count, start) {
-            lesser(least, start)
-        } else {
-            least
-        }
-    }
-
-    // Whether so many IDs from a start on lie within the bounds and in no range.
-    fn fits_at(&self, min: u32, max: u32, count: u32, start: u32) -> bool
-        requires { 0 < count }
-        ensures { result ≡ fits_at min max count (ranges_of self.now) start }
-    {
-        let last = u64::from(start) + u64::from(count) - 1;
-        if start < min {
-            return false;
-        }
-        if last > u64::from(max) {
-            return false;
-        }
-        self.meeting_line(start, last as u32).is_none()
+        self.taken.last_met(first, last)?;
+        self.meeting_line(first, last)
     }
 
     // The number of the first line, counted from 1, whose range has one of these IDs.
@@ -248,14 +232,6 @@ impl Ranges {
             None => false,
         }
     }
-
-    // The number behind the range at a place.
-    fn start_behind(&self, place: usize) -> Option<u32>
-        ensures { result ≡ start_behind (record_at subid_format self.now place) }
-    {
-        let range = self.table.at(place)?;
-        Some(last_id(range) + 1)
-    }
 }
 
 // Whether there is no range from the first ID to the last.
@@ -263,14 +239,4 @@ fn is_bad(first: u32, last: u32) -> bool
     ensures { result ≡ is_bad first last }
 {
     first > last || last > GREATEST_ID
-}
-
-// The lesser of two starts, where there is a first.
-fn lesser(least: Option<u32>, start: u32) -> Option<u32>
-    ensures { result ≡ Some (lesser least start) }
-{
-    match least {
-        Some(other) => Some(other.min(start)),
-        None => Some(start),
-    }
 }

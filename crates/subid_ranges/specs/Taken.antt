@@ -1,0 +1,40 @@
+-- Which numbers are taken, and the gaps between them (useradd(8), subuid(5), subgid(5)).
+use Rattle.std.specs.Prelude.{◌≡◌, ℕ, ◌+◌, ◌-◌, ◌≤◌, Bool, true, false, ◌||◌, List}
+use Rattle.acct_text.specs.Lines.{Line}
+use Rattle.account_model.specs.declared.records.SubidRecord.{SubidRecord}
+use Rattle.account_model.specs.Ids.{is_used}
+use Rattle.subid_ranges.specs.declared.taken.Taken.{Taken}
+use Rattle.subid_ranges.specs.Numbers.{is_of, is_ranged}
+use Rattle.subid_ranges.specs.RangeLines.{AreOfFile, ranges_of}
+
+-- whether the number is taken: it is one of the runs, or of the newest range
+abbrev pub is_taken : Taken → ℕ → Bool
+is_taken taken number = is_used taken.runs number || is_of taken.newest number
+
+-- the numbers taken are those of the ranges
+pub record TakesThoseOf (ranges : List SubidRecord) (taken : Taken) : Type 0 where
+  pub same : (number : ℕ) → is_taken taken number ≡ is_ranged ranges number
+
+-- lines are those of a file, and the numbers taken are those of their ranges
+pub record TellsOf (lines : List Line) (taken : Taken) : Type 0 where
+  pub of_file : AreOfFile lines
+  pub takes : TakesThoseOf (ranges_of lines) taken
+
+-- none of the numbers from the first to the last is taken
+abbrev pub AreFree : Taken → ℕ → ℕ → Type 0
+AreFree taken first last =
+    (number : ℕ) → first ≤ number → number ≤ last → is_taken taken number ≡ false
+
+-- numbers up to the end are taken, from one on that isn't behind the last
+pub record AreMet (taken : Taken) (first last end : ℕ) : Type 0 where
+  pub begin : ℕ
+  pub begins : begin ≤ last
+  pub ordered : begin ≤ end
+  pub reaches : first ≤ end
+  pub filled : (number : ℕ) → begin ≤ number → number ≤ end → is_taken taken number ≡ true
+
+-- so many numbers from the start on are within the bounds, and none of them is taken
+pub record IsGap (low high count : ℕ) (taken : Taken) (start : ℕ) : Type 0 where
+  pub not_below : low ≤ start
+  pub not_above : start + count - 1 ≤ high
+  pub free : AreFree taken start (start + count - 1)

@@ -1,0 +1,131 @@
+// The numbers that the ranges of a file take, and the gaps between them (useradd(8), subuid(5),
+// subgid(5)).
+ghost use Rattle.std.specs.Prelude.{◌≡◌, ℕ, ◌+◌, ◌-◌, ◌<◌, ◌≤◌, ◌||◌, None, IfOk, MatchOption, OnOk};
+ghost use Rattle.std.specs.Option.{ForSome};
+ghost use Rattle.account_model.specs.Ids.{in_range};
+ghost use Rattle.account_model.specs.Records.{subid_format};
+ghost use Rattle.acct_tables.specs.TableLines.{record_at};
+ghost use Rattle.subid_ranges.specs.Numbers.{AddsFound, MeetsRun, MissesRun};
+
+use acct_lines::SubidRecord;
+use acct_tables::{Table, last_id};
+use id_choice::{Run, Runs};
+use std::alloc::{AllocError, Global};
+
+/// The numbers that ranges take. The newest range stands apart until the next comes: `settle` takes
+/// the memory for one more, and `put` adds it without, so whoever changes lines between the two has
+/// nothing to undo.
+#[derive(Drop)]
+pub(crate) struct Taken {
+    /// The numbers of all ranges, the newest perhaps not among them.
+    pub runs: Runs,
+    /// The newest range, where it isn't among the runs.
+    pub newest: Option<Run>,
+    ghost ordered: { ForSome newest (λ run. run.first ≤ run.last) },
+}
+
+impl Taken {
+    ghost use Rattle.id_choice.specs.Used.{FindsLeast};
+    ghost use Rattle.subid_ranges.specs.RangeLines.{ranges_of};
+    ghost use Rattle.subid_ranges.specs.Taken.{AreFree, AreMet, IsGap, TakesThoseOf, is_taken};
+
+    /// The numbers of the ranges of a table.
+    pub(crate) fn of(alloc: Global, table: &Table<SubidRecord>) -> Result<Taken, AllocError>
+        ensures { IfOk result (TakesThoseOf (ranges_of table.now)) }
+    {
+        let mut runs = Runs::new(alloc);
+        'places: for place in 0..table.len() {
+            add_at(&mut runs, table, place)?;
+        }
+        Ok(Taken { runs, newest: None })
+    }
+
+    /// Takes the memory for one more range. The numbers stay the same, also at `AllocError`.
+    pub(crate) fn settle(&mut self) -> Result<(), AllocError>
+        ensures settled { OnOk result (self.new.newest ≡ None) }
+        ensures same { (number : ℕ) → is_taken self.new number ≡ is_taken self.old number }
+    {
+        if let Some(run) = self.newest {
+            self.runs.add(run.first, run.last)?;
+            self.newest = None;
+        }
+        Ok(())
+    }
+
+    /// Adds the numbers from the first to the last.
+    pub(crate) fn put(&mut self, first: u32, last: u32)
+        requires settled { self.old.newest ≡ None }
+        requires ordered { first ≤ last }
+        ensures { (number : ℕ) → is_taken self.new number
+            ≡ (in_range first last number || is_taken self.old number) }
+    {
+        self.newest = Some(Run { first, last });
+    }
+
+    /// The least start, from `min` on, of `count` numbers of which none passes `max` and none is
+    /// taken.
+    ///
+    /// Where the numbers from a start on meet a run, so do those from each later start within the
+    /// run: the next start to try is behind it.
+    pub(crate) fn free_gap(&self, min: u32, max: u32, count: u32) -> Option<u32>
+        requires { 0 < count }
+        ensures { FindsLeast (IsGap min max count self.now) result }
+    {
+        let mut start = min;
+        'starts: while let Some(last) = last_of(start, count, max) {
+            match self.last_met(start, last) {
+                None => return Some(start),
+                Some(end) if end < max => start = end + 1,
+                Some(_) => return None,
+            }
+        }
+        None
+    }
+
+    /// Where a run or the newest range ends that has one of the numbers from the first to the last.
+    pub(crate) fn last_met(&self, first: u32, last: u32) -> Option<u32>
+        requires { first ≤ last }
+        ensures { MatchOption result (AreFree self.now first last) (AreMet self.now first last) }
+    {
+        match end_where_met(self.newest, first, last) {
+            Some(end) => Some(end),
+            None => end_where_met(self.runs.last_up_to(last), first, last),
+        }
+    }
+}
+
+// Adds the numbers of the range at a place, where there is one.
+fn add_at(runs: &mut Runs, table: &Table<SubidRecord>, place: usize) -> Result<(), AllocError>
+    ensures { OnOk result
+        (AddsFound (record_at subid_format table.now place) runs.old runs.new) }
+{
+    match table.at(place) {
+        Some(range) => runs.add(range.first, last_id(range)),
+        None => Ok(()),
+    }
+}
+
+// Where the run ends, if there is one and it has one of the numbers from the first to the last.
+fn end_where_met(run: Option<Run>, first: u32, last: u32) -> Option<u32>
+    ensures { MatchOption result (MissesRun run first last) (MeetsRun run first last) }
+{
+    let run = run?;
+    if run.first <= last && first <= run.last {
+        Some(run.last)
+    } else {
+        None
+    }
+}
+
+// The last of `count` numbers from a start on, where it doesn't pass the maximum.
+fn last_of(start: u32, count: u32, max: u32) -> Option<u32>
+    requires { 0 < count }
+    ensures { MatchOption result (max < start + count - 1)
+        (λ last. (last ≡ start + count - 1) × (last ≤ max)) }
+{
+    let last = u64::from(start) + u64::from(count) - 1;
+    if last > u64::from(max) {
+        return None;
+    }
+    Some(last as u32)
+}
