@@ -1,3 +1,2 @@
 pub mod Help
 pub mod HelpTexts
-pub mod Paths

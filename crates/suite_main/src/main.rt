@@ -1,30 +1,22 @@
-//! The program `accounts`: the suite on a file system, with the streams and the clock of the system.
+//! The program `accounts`: the suite on the folder, the streams and the clock of the system.
 //!
-//! What stands here is the trusted edge: it asks the system, and no clause can say what the system
-//! answers. All that is decided is decided below, in `suite_core`.
+//! What is decided is decided below, in `suite_core`, and what is asked of the system is asked in
+//! `real_folder`. Where the system refused something, a second line on the error stream says why.
 #![tactic(auto)]
 
-mod clock;
-mod faults;
-mod files;
-mod folder;
 mod help;
-mod names;
-mod process;
-mod streams;
 mod words;
 
 use acct_outside::Sink;
 use acct_text::Word;
-use clock::RealClock;
-use folder::RealFolder;
 use help::{HELP, VERSION, text_of};
-use std::alloc::AllocError;
-use std::io::ErrorKind;
+use real_folder::{RealClock, RealFolder, RealSink, RealSource, SystemError};
+use std::alloc::{AllocError, Global};
+use std::fs::File;
+use std::io::{ErrorKind, Write};
 use std::process::ExitCode;
-use std::rt::{Clock, Files};
-use streams::{RealSink, RealSource};
-use suite_core::run_suite;
+use std::rt::{Clock, Env, Files};
+use suite_core::{Cause, run_suite};
 use words::{Request, request_of, words_of};
 
 /// The status where main itself found no memory.
@@ -37,8 +29,8 @@ const OUTPUT_FAULT: u8 = 102;
 const SYNTAX: u8 = 2;
 
 fn main(rt: HostRuntime) -> ExitCode {
-    let mut out = RealSink::new(rt.stdout());
-    let mut err = RealSink::new(rt.stderr());
+    let mut out = RealSink::new(rt.alloc(), rt.stdout(), "standard output");
+    let mut err = RealSink::new(rt.alloc(), rt.stderr(), "standard error");
     let status = match words_of(&rt) {
         Ok(words) => answer(&rt, &words, &mut out, &mut err),
         Err(e) if e.kind() == ErrorKind::OutOfMemory => NO_MEMORY,
@@ -48,12 +40,11 @@ fn main(rt: HostRuntime) -> ExitCode {
 }
 
 /// Answers the words after the program's name, and gives the status.
-fn answer<R: Files + Input + Clock + AllocGlobal + Clone + Drop, O: Sink, E: Sink>(
-    rt: &R,
-    words: &[Word],
-    out: &mut O,
-    err: &mut E,
-) -> u8 {
+fn answer<
+    R: Files<File = File> + Input + Clock + Env + AllocGlobal + Clone + Drop,
+    O: Write + Drop,
+    E: Write + Drop,
+>(rt: &R, words: &[Word], out: &mut RealSink<O>, err: &mut RealSink<E>) -> u8 {
     match request_of(words) {
         Request::Help => tell(out, HELP, 0),
         Request::ToolHelp(tool) => tell(out, text_of(tool), 0),
@@ -70,13 +61,12 @@ fn tell<S: Sink>(sink: &mut S, text: &str, status: u8) -> u8 {
     }
 }
 
-/// Runs the suite on the real objects, and gives its status.
-fn run<R: Files + Input + Clock + AllocGlobal + Clone + Drop, O: Sink, E: Sink>(
-    rt: &R,
-    words: &[Word],
-    out: &mut O,
-    err: &mut E,
-) -> Result<u8, AllocError> {
+/// Runs the suite on the real objects, and gives its status. After a fault it says why.
+fn run<
+    R: Files<File = File> + Input + Clock + Env + AllocGlobal + Clone + Drop,
+    O: Write + Drop,
+    E: Write + Drop,
+>(rt: &R, words: &[Word], out: &mut RealSink<O>, err: &mut RealSink<E>) -> Result<u8, AllocError> {
     let mut folder = RealFolder::new(rt.clone()?);
     let mut input = RealSource::new(rt.alloc(), rt.reader());
     let mut clock = RealClock::new(rt.clone()?);
@@ -89,5 +79,24 @@ fn run<R: Files + Input + Clock + AllocGlobal + Clone + Drop, O: Sink, E: Sink>(
         err,
         &mut clock,
     );
+    let error = match outcome.cause {
+        Cause::DiskFault(_) => folder.last_error(),
+        Cause::InputFault => input.last_error(),
+        Cause::OutputFault(_) => out.last_error(),
+        Cause::ClockFault => clock.last_error(),
+        _ => None,
+    };
+    if let Some(error) = error {
+        tell_why(rt.alloc(), err, error);
+    }
     Ok(outcome.status)
+}
+
+/// Writes the reason of a fault, where there is memory for it. The status stays that of the fault.
+fn tell_why<S: Sink>(alloc: Global, err: &mut S, error: &SystemError) {
+    if let Ok(reason) = error.text(alloc) {
+        if let Ok(line) = format!(in alloc; "accounts: {}\n", reason.as_str()) {
+            let _ = err.put(line.as_str().as_bytes());
+        }
+    }
 }

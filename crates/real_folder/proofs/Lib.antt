@@ -1,0 +1,2 @@
+pub mod HelpWords
+pub mod LockNumber

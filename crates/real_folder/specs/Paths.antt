@@ -1,0 +1,27 @@
+-- Which path of the file system stands for which name of the folder.
+use Rattle.std.specs.Prelude.{◌≡◌, ◌↔◌, ℕ, ◌==◌, ◌++◌, List, [], length, Option, Some, codes, if◌then◌else◌}
+use Rattle.acct_outside.specs.declared.Name.{Name}
+use Rattle.acct_outside.specs.Contract.{IsLockNumber}
+use Rattle.acct_outside.specs.Names.{file_name}
+
+-- The path of a file in the folder. A folder that no prefix named has the empty path, and so has all
+-- in it: nothing stands there, and nothing can be made there (path_resolution(7), "Empty pathname").
+abbrev pub path_in : List ℕ → List ℕ → List ℕ
+path_in etc file = if length etc == 0 then [] else etc ++ codes "/" ++ file
+
+-- the path of a name of the suite
+abbrev pub path_at : List ℕ → Name → List ℕ
+path_at etc name = path_in etc (file_name name)
+
+-- the front of the names that sessions have for their lock files before these are locks
+abbrev pub own_front : List ℕ
+own_front = codes "accounts.held+"
+
+-- the name of the file that the session with a token fills before it is its lock
+abbrev pub own_name : List ℕ → List ℕ
+own_name token = own_front ++ token
+
+-- what is found is the number of a lock whose text this is
+abbrev pub FindsLock : (ℕ → List ℕ) → List ℕ → Option ℕ → Type 0
+FindsLock text_of text found =
+    (number : ℕ) → IsLockNumber number → (found ≡ Some number) ↔ (text ≡ text_of number)

@@ -1,0 +1,266 @@
+// The folder DIR/etc on a file system, trusted to do what it is asked: what its calls do there is a few
+// lines over whole files. What each step relies on is on the disk before it (docs/OPERATING.md, "What is
+// on the disk when").
+ghost use Rattle.std.specs.Prelude.{◌≡◌, ◌↔◌, Ok, All, IsOk, IfOk, IsErrOf, string_bytes};
+ghost use Rattle.acct_outside.specs.declared.FolderFault.TheVariants.{Failed};
+ghost use Rattle.acct_outside.specs.Contract.{IsLockNumber, IsWithinLimit};
+ghost use Rattle.acct_outside.specs.Faults.{CountsFailure};
+ghost use Rattle.acct_outside.specs.Tokens.{held_text as held};
+ghost use Rattle.real_folder.specs.Paths.{path_at};
+
+use crate::faults::{Faults, SystemError, about};
+use crate::files;
+use crate::files::Links;
+use crate::lock_file::{LOCK_MODE, LockFile, remove_left_over};
+use crate::names::{lock_number, own_path, path_of};
+use crate::process::{locked_token, own_identity};
+use acct_outside::{Created, FolderFault, Found, Name, Token};
+use acct_text::Bytes;
+use std::alloc::{AllocError, Global};
+use std::fs::{File, OpenFile};
+use std::io::Write;
+use std::rt::Files;
+use std::{fs, io};
+
+mod calls;
+
+/// What is staged holds hashes, and is its owner's until it takes on the mode of a table.
+const STAGE_MODE: u32 = 0o600;
+
+/// DIR/etc on a file system, for one session: its token is that of the process, and its lock is held
+/// until the folder is dropped.
+#[derive(Drop)]
+pub struct RealFolder<R: Files<File = File> + AllocGlobal + Clone + Drop> {
+    rt: R,
+    /// The path of DIR/etc, empty until `enter` named it.
+    etc: String,
+    /// The file of the session's lock, from its begin on.
+    lock_file: Option<LockFile>,
+    /// The path of the lock that was read last, empty where none was: a verdict is on its holder.
+    judged: String,
+    faults: Faults,
+}
+
+impl<R: Files<File = File> + AllocGlobal + Clone + Drop> RealFolder<R> {
+    /// A folder that isn't named yet.
+    pub fn new(rt: R) -> Self {
+        let etc = String::new(rt.alloc());
+        let judged = String::new(rt.alloc());
+        RealFolder {
+            rt,
+            etc,
+            lock_file: None,
+            judged,
+            faults: Faults::new(),
+        }
+    }
+
+    /// Why the system last refused a call.
+    pub fn last_error(&self) -> Option<&SystemError> {
+        self.faults.last.as_ref()
+    }
+
+    /// Where the name stands.
+    fn path(&self, name: Name) -> Result<String, AllocError>
+        ensures { IfOk result (λ p. string_bytes p ≡ path_at (string_bytes self.now.etc) name) }
+    {
+        path_of(self.rt.alloc(), self.etc.as_str(), name)
+    }
+
+    /// Where the file stands that the session fills before it is its lock.
+    fn own_path(&self, by: &Token) -> Result<String, AllocError> {
+        let by = String::from_utf8_lossy(self.rt.alloc(), by.as_slice())?;
+        own_path(self.rt.alloc(), self.etc.as_str(), by.as_str())
+    }
+
+    /// What the system answered about a path.
+    fn at<T>(&self, path: &str, done: io::Result<T>) -> Result<T, SystemError>
+        ensures { IfOk result (λ value. done ≡ Ok value) }
+    {
+        about(self.rt.alloc(), path, done)
+    }
+
+    /// Answers a call that changes nothing: an error of the system is want of memory, or counted.
+    fn answer_look<T>(&mut self, found: Result<T, SystemError>) -> Result<T, FolderFault>
+        ensures answers { IsOk result ↔ IsOk found }
+        ensures answer { IfOk result (λ answer. found ≡ Ok answer) }
+        ensures faults { CountsFailure Failed self.old.faults.count self.new.faults.count result }
+    {
+        match found {
+            Err(e) if e.kind() == io::ErrorKind::OutOfMemory => Err(FolderFault::Memory),
+            found => self.answer_change(found),
+        }
+    }
+
+    /// Answers a call that changes files: each error of the system is counted, also want of memory
+    /// there, since the change may have happened.
+    fn answer_change<T>(&mut self, done: Result<T, SystemError>) -> Result<T, FolderFault>
+        ensures answers { IsOk result ↔ IsOk done }
+        ensures answer { IfOk result (λ answer. done ≡ Ok answer) }
+        ensures never_memory { ¬ (IsErrOf result FolderFault.Memory) }
+        ensures faults { CountsFailure Failed self.old.faults.count self.new.faults.count result }
+    {
+        match done {
+            Ok(answer) => Ok(answer),
+            Err(error) => {
+                self.faults.note(error);
+                Err(FolderFault::Failed)
+            }
+        }
+    }
+
+    /// Claims the file of the session's lock, and gives its token. Where the file system has no locks
+    /// the token says so, and the file is made with the lock.
+    ///
+    /// An error of the claim is about the folder, where a file is to be made.
+    fn claim_token(&mut self) -> Result<Token, SystemError>
+        ensures { self.new.faults.count ≡ self.old.faults.count }
+    {
+        let alloc = self.rt.alloc();
+        let identity = own_identity(&self.rt)?;
+        let locked = locked_token(alloc, identity.as_str())?;
+        let own = own_path(alloc, self.etc.as_str(), locked.as_str())?;
+        let (locked, unlocked) = (token_of(alloc, &locked)?, token_of(alloc, &identity)?);
+        let claimed = LockFile::claimed(&self.rt, own);
+        self.lock_file = self.at(self.etc.as_str(), claimed)?;
+        match self.lock_file {
+            Some(_) => Ok(locked),
+            None => Ok(unlocked),
+        }
+    }
+
+    /// The numbers of the locks in the folder, ascending.
+    fn lock_numbers(&self) -> io::Result<Vec<u64>>
+        ensures { IfOk result (λ numbers. All IsLockNumber numbers.items) }
+    {
+        let mut numbers = Vec::new(self.rt.alloc());
+        for entry in fs::read_dir(&self.rt, self.etc.as_str())? {
+            if let Some(number) = lock_number(entry?.file_name()) {
+                numbers.push(number)?;
+            }
+        }
+        numbers.sort()?;
+        Ok(numbers)
+    }
+
+    /// Reads a file. An intent that is found is to last before anyone carries it out.
+    fn read_at(&self, name: Name, path: &str, limit: u64) -> Result<Found, SystemError>
+        ensures { IfOk result (IsWithinLimit limit) }
+    {
+        let found = self.at(path, files::read(&self.rt, path, links_at(name), limit))?;
+        if name == Name::Intent && !matches!(found, Found::Absent) {
+            self.sync_folder()?;
+        }
+        Ok(found)
+    }
+
+    /// Makes what was renamed in the folder last.
+    fn sync_folder(&self) -> Result<(), SystemError> {
+        let etc = self.etc.as_str();
+        self.at(etc, files::sync_folder(&self.rt, etc))
+    }
+
+    /// Makes a lock of the file that was claimed, or of one that only its text keeps.
+    fn make_lock(&mut self, own: String, lock: &str, text: &[u8]) -> Result<Created, SystemError>
+        ensures { self.new.faults.count ≡ self.old.faults.count }
+    {
+        let mut file = match self.lock_file.take() {
+            Some(file) => file,
+            None => self.at(lock, LockFile::unlocked(&self.rt, own))?,
+        };
+        let placed = self.at(lock, file.place(&self.rt, lock, text));
+        self.lock_file = Some(file);
+        placed
+    }
+
+    /// Writes a file anew, with the access that goes with its name, and then to the disk. Of what is to
+    /// be a backup only the rename knows the table, so it ends the write.
+    fn write_at(
+        &self,
+        name: Name,
+        path: &str,
+        table: &str,
+        bytes: &[u8],
+    ) -> Result<(), SystemError> {
+        let mut file = self.at(path, files::renew(&self.rt, path, mode_of(name)))?;
+        self.at(path, file.write_all(bytes))?;
+        if name == Name::BackupStage {
+            return Ok(());
+        }
+        if let Name::Staged(_) = name {
+            files::take_on(&self.rt, path, table)?;
+        }
+        self.at(path, file.sync_all())
+    }
+
+    /// Renames a file to a name. The rename to the intent is the commit, and is to last once it is
+    /// answered. With the freed lock goes what others left over.
+    fn rename_to(&self, name: Name, old: &str, new: &str, table: &str) -> Result<(), SystemError> {
+        if let Name::Backup(_) = name {
+            files::take_on(&self.rt, old, table)?;
+            self.at(old, files::sync(&self.rt, old))?;
+        }
+        if let Name::Lock(_) = name {
+            let _ = remove_left_over(&self.rt, self.etc.as_str());
+        }
+        self.at(new, fs::rename(&self.rt, old, new))?;
+        if name == Name::Intent {
+            self.sync_folder()?;
+        }
+        Ok(())
+    }
+
+    /// Removes the file of a name. Before the intent goes, by which a recovery redoes them, the renames
+    /// to the tables are to last.
+    fn remove_at(&self, name: Name, path: &str) -> Result<(), SystemError> {
+        if name == Name::Intent {
+            self.sync_folder()?;
+        }
+        self.at(path, files::remove(&self.rt, path))
+    }
+}
+
+/// The text of a lock that the session holds.
+fn held_text(alloc: Global, by: &Token) -> Result<Bytes, AllocError>
+    ensures { IfOk result (λ text. text ≡ held by.now) }
+{
+    let mut text = Bytes::of(alloc, b"held ")?;
+    text.push(by.as_slice())?;
+    text.push(b"\n")?;
+    Ok(text)
+}
+
+/// The token that the text is.
+fn token_of(alloc: Global, text: &String) -> Result<Token, SystemError> {
+    match Token::read(alloc, text.as_str().as_bytes())? {
+        Some(token) => Ok(token),
+        None => Err(SystemError::from(io::Error::other("/proc gives no token"))),
+    }
+}
+
+/// The table whose mode and owner go with what is staged for it or is its backup.
+fn model_of(name: Name) -> Name {
+    match name {
+        Name::Staged(table) | Name::Backup(table) => Name::Table(table),
+        other => other,
+    }
+}
+
+/// The mode of what is written at a name. All may read a freed lock.
+fn mode_of(name: Name) -> u32 {
+    match name {
+        Name::FreeStage => LOCK_MODE,
+        _ => STAGE_MODE,
+    }
+}
+
+/// Whether a link may stand at the name. Only login.defs(5) is never replaced.
+fn links_at(name: Name) -> Links {
+    match name {
+        Name::Defs => Links::Followed,
+        _ => Links::Refused,
+    }
+}
+
+#[cfg(test)]
+mod tests;

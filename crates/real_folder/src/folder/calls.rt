@@ -1,0 +1,94 @@
+// The calls of the folder DIR/etc on a file system. It tells no history.
+ghost use Rattle.std.specs.Prelude.{None};
+
+use super::{RealFolder, held_text, model_of};
+use crate::files;
+use crate::names::etc_of;
+use crate::verdict::verdict_of;
+use acct_outside::{Created, Folder, FolderFault, Found, Name, Token, Verdict};
+use acct_text::{Bytes, Word};
+use std::fs::File;
+use std::rt::Files;
+
+impl<R: Files<File = File> + AllocGlobal + Clone + Drop> Folder for RealFolder<R> {
+    ghost told = { λ _. None };
+
+    ghost admits = { λ _ _ _. ⊥ };
+
+    ghost fault_count = { λ folder. folder.faults.count };
+
+    fn enter(&mut self, prefix: &Bytes) -> Result<(), FolderFault> {
+        self.etc = etc_of(self.rt.alloc(), prefix)?;
+        Ok(())
+    }
+
+    fn begin(&mut self, _words: &[Word], _input: &Bytes, _day: u32) -> Result<Token, FolderFault> {
+        let token = self.claim_token();
+        self.answer_look(token)
+    }
+
+    fn locks(&mut self, _by: &Token) -> Result<Vec<u64>, FolderFault> {
+        let numbers = self.at(self.etc.as_str(), self.lock_numbers());
+        self.answer_look(numbers)
+    }
+
+    fn read(&mut self, _by: &Token, name: Name, limit: u64) -> Result<Found, FolderFault> {
+        let path = self.path(name)?;
+        let found = self.read_at(name, path.as_str(), limit);
+        if let Name::Lock(_) = name {
+            self.judged = path;
+        }
+        self.answer_look(found)
+    }
+
+    fn verdict(&mut self, by: &Token, token: &Token) -> Result<Verdict, FolderFault> {
+        let text = held_text(self.rt.alloc(), token)?;
+        let verdict = verdict_of(&self.rt, by, token, self.judged.as_str(), text.as_slice());
+        self.answer_look(verdict)
+    }
+
+    fn create(&mut self, by: &Token, number: u64) -> Result<Created, FolderFault> {
+        let lock = self.path(Name::Lock(number))?;
+        let own = self.own_path(by)?;
+        let text = held_text(self.rt.alloc(), by)?;
+        let created = self.make_lock(own, lock.as_str(), text.as_slice());
+        self.answer_change(created)
+    }
+
+    // The file is made anew, so that nobody reads it who could read what stood there.
+    fn write(&mut self, _by: &Token, name: Name, bytes: &Bytes) -> Result<(), FolderFault> {
+        let path = self.path(name)?;
+        let table = self.path(model_of(name))?;
+        let written = self.write_at(name, path.as_str(), table.as_str(), bytes.as_slice());
+        if written.is_err() {
+            // A part of a file would only fill the disk.
+            let _ = files::remove(&self.rt, path.as_str());
+        }
+        self.answer_change(written)
+    }
+
+    fn rename(&mut self, _by: &Token, from: Name, to: Name) -> Result<(), FolderFault> {
+        let old = self.path(from)?;
+        let new = self.path(to)?;
+        let table = self.path(model_of(to))?;
+        let renamed = self.rename_to(to, old.as_str(), new.as_str(), table.as_str());
+        self.answer_change(renamed)
+    }
+
+    fn remove(&mut self, _by: &Token, name: Name) -> Result<(), FolderFault> {
+        let path = self.path(name)?;
+        let removed = self.remove_at(name, path.as_str());
+        self.answer_change(removed)
+    }
+
+    // The session ends with its process, which the verdict of others tells.
+    fn answered(&mut self, _by: &Token, _status: u8) {
+        if let Some(file) = &mut self.lock_file {
+            file.forget(&self.rt);
+        }
+    }
+
+    fn faults(&self) -> u64 {
+        self.faults.count
+    }
+}

@@ -1,0 +1,80 @@
+// A file system without hard links, as FAT is, over that of a runtime.
+use std::alloc::Allocator;
+use std::fs::{Metadata, OpenOptions, Permissions};
+use std::io;
+use std::path::PathBuf;
+use std::rt::Files;
+
+/// The files of a runtime without hard links: the trait's own `hard_link` refuses each.
+#[derive(Clone, Drop)]
+pub(super) struct Linkless<R: Files + Clone + Drop> {
+    rt: R,
+}
+
+impl<R: Files + Clone + Drop> Linkless<R> {
+    pub(super) fn new(rt: R) -> Self {
+        Linkless { rt }
+    }
+}
+
+impl<R: Files + Alloc + Clone + Drop> Alloc for Linkless<R> {
+    type A = R::A;
+
+    fn alloc(&self) -> R::A {
+        self.rt.alloc()
+    }
+}
+
+impl<R: Files + Clone + Drop> Files for Linkless<R> {
+    type File = R::File;
+
+    type Dir = R::Dir;
+
+    fn open_file(&self, how: &OpenOptions, path: &str) -> io::Result<R::File> {
+        self.rt.open_file(how, path)
+    }
+
+    fn open_dir(&self, path: &str) -> io::Result<R::Dir> {
+        self.rt.open_dir(path)
+    }
+
+    fn metadata(&self, path: &str) -> io::Result<Metadata> {
+        self.rt.metadata(path)
+    }
+
+    fn symlink_metadata(&self, path: &str) -> io::Result<Metadata> {
+        self.rt.symlink_metadata(path)
+    }
+
+    fn copy(&self, from: &str, to: &str) -> io::Result<u64> {
+        self.rt.copy(from, to)
+    }
+
+    fn rename(&self, from: &str, to: &str) -> io::Result<()> {
+        self.rt.rename(from, to)
+    }
+
+    fn remove_file(&self, path: &str) -> io::Result<()> {
+        self.rt.remove_file(path)
+    }
+
+    fn create_dir(&self, path: &str) -> io::Result<()> {
+        self.rt.create_dir(path)
+    }
+
+    fn remove_dir(&self, path: &str) -> io::Result<()> {
+        self.rt.remove_dir(path)
+    }
+
+    fn remove_dir_all<B: Allocator>(&self, alloc: B, path: &str) -> io::Result<()> {
+        self.rt.remove_dir_all(alloc, path)
+    }
+
+    fn read_link<B: Allocator>(&self, alloc: B, path: &str) -> io::Result<PathBuf<B>> {
+        self.rt.read_link(alloc, path)
+    }
+
+    fn set_permissions(&self, path: &str, permissions: Permissions) -> io::Result<()> {
+        self.rt.set_permissions(path, permissions)
+    }
+}

@@ -1,0 +1,140 @@
+// The standard streams of the system.
+ghost use Rattle.std.specs.Prelude.{◌≡◌, None};
+
+use crate::faults::{Faults, SystemError};
+use acct_outside::{Sink, SinkFault, Source, SourceFault};
+use acct_text::Bytes;
+use std::alloc::Global;
+use std::io::{Read, Write};
+
+/// How many bytes one read asks for at most.
+const PIECE: usize = 4096;
+
+/// A source of what a reader gives, as standard input. It doesn't tell what is left.
+#[derive(Drop)]
+pub struct RealSource<R: Read + Drop> {
+    alloc: Global,
+    reader: R,
+    faults: Faults,
+}
+
+impl<R: Read + Drop> RealSource<R> {
+    /// A source that has given nothing yet.
+    pub fn new(alloc: Global, reader: R) -> Self {
+        RealSource {
+            alloc,
+            reader,
+            faults: Faults::new(),
+        }
+    }
+
+    /// Why the system last refused a read.
+    pub fn last_error(&self) -> Option<&SystemError> {
+        self.faults.last.as_ref()
+    }
+}
+
+impl<R: Read + Drop> Source for RealSource<R> {
+    ghost left = { λ _. None };
+
+    ghost fault_count = { λ source. source.faults.count };
+
+    fn take(&mut self, room: usize) -> Result<Bytes, SourceFault> {
+        let mut buffer = [0u8; PIECE];
+        let most = room.min(PIECE);
+        let count = match self.reader.read(&mut buffer[..most]) {
+            Ok(count) => count,
+            Err(e) => {
+                let error = SystemError::new(self.alloc, "standard input", e);
+                self.faults.note(error);
+                return Err(SourceFault::Failed);
+            }
+        };
+        match Bytes::of(self.alloc, &buffer[..count]) {
+            Ok(piece) => Ok(piece),
+            Err(_) => Err(SourceFault::Memory),
+        }
+    }
+
+    fn faults(&self) -> u64 {
+        self.faults.count
+    }
+}
+
+/// A sink to a writer, as standard output. It doesn't tell what it holds.
+#[derive(Drop)]
+pub struct RealSink<W: Write + Drop> {
+    alloc: Global,
+    writer: W,
+    name: &'static str,
+    faults: Faults,
+}
+
+impl<W: Write + Drop> RealSink<W> {
+    /// A sink that was given nothing yet, with the name that its errors tell.
+    pub fn new(alloc: Global, writer: W, name: &'static str) -> Self {
+        RealSink {
+            alloc,
+            writer,
+            name,
+            faults: Faults::new(),
+        }
+    }
+
+    /// Why the system last refused a write.
+    pub fn last_error(&self) -> Option<&SystemError> {
+        self.faults.last.as_ref()
+    }
+}
+
+impl<W: Write + Drop> Sink for RealSink<W> {
+    ghost holds = { λ _. None };
+
+    ghost fault_count = { λ sink. sink.faults.count };
+
+    // A writer that takes nothing of what is left fails too.
+    fn put(&mut self, piece: &[u8]) -> Result<(), SinkFault> {
+        match self.writer.write_all(piece) {
+            Ok(()) => Ok(()),
+            Err(e) => {
+                let error = SystemError::new(self.alloc, self.name, e);
+                self.faults.note(error);
+                Err(SinkFault::Failed)
+            }
+        }
+    }
+
+    fn faults(&self) -> u64 {
+        self.faults.count
+    }
+}
+
+#[cfg(test)]
+mod tests {
+    use super::*;
+    use std::test::Fail;
+
+    #[test]
+    fn a_source_gives_what_is_left_in_pieces(rt: HostRuntime) -> Result<(), Fail> {
+        let mut source = RealSource::new(rt.alloc(), b"abc".as_slice());
+        assert_eq!(rt; source.take(2)?.as_slice(), b"ab".as_slice());
+        assert_eq!(rt; source.take(2)?.as_slice(), b"c".as_slice());
+        assert_eq!(rt; source.take(2)?.as_slice(), b"".as_slice());
+        Ok(())
+    }
+
+    #[test]
+    fn a_full_writer_is_a_fault_that_says_why(rt: HostRuntime) -> Result<(), Fail> {
+        let mut room = [0u8; 4];
+        let mut sink = RealSink::new(rt.alloc(), room.as_mut_slice(), "standard output");
+        assert!(rt; sink.put(b"abc").is_ok());
+        assert!(rt; sink.put(b"de").is_err());
+        assert_eq!(rt; sink.faults(), 1);
+        let why = sink.last_error().ok_or("no error")?.text(rt.alloc())?;
+        assert_eq!(rt;
+            why.as_str(),
+            "standard output: failed to write whole buffer"
+        );
+        Ok(())
+    }
+}
