@@ -8,14 +8,17 @@
 use crate::files;
 use crate::names::is_own_name;
 use acct_outside::Created;
-use std::fs::File;
+use std::fs::{File, Permissions};
 use std::io::{ErrorKind, Read};
-use std::os::unix::fs::MetadataExt;
+use std::os::unix::fs::{MetadataExt, PermissionsExt};
 use std::rt::Files;
 use std::{fs, io};
 
 /// All may read who holds a lock.
 pub(crate) const LOCK_MODE: u32 = 0o644;
+
+/// Nobody else may open a file that isn't locked yet, as he could lock it first.
+const CLAIM_MODE: u32 = 0o600;
 
 /// How often a claim is begun anew before it gives up.
 const CLAIMS: usize = 100;
@@ -48,7 +51,7 @@ pub(crate) struct LockFile {
 /// begins anew.
 fn claim<R: Files<File = File>>(rt: &R, path: &str) -> io::Result<Option<File>> {
     for _ in 0..CLAIMS {
-        let file = files::make(rt, path, LOCK_MODE)?;
+        let file = files::make(rt, path, CLAIM_MODE)?;
         if file.lock().is_err() {
             files::remove(rt, path)?;
             return Ok(None);
@@ -91,7 +94,7 @@ impl LockFile {
     /// Makes a file under the session's own name that nothing but its text will keep.
     pub(crate) fn unlocked<R: Files<File = File>>(rt: &R, own: String) -> io::Result<Self> {
         Ok(LockFile {
-            file: files::make(rt, own.as_str(), LOCK_MODE)?,
+            file: files::make(rt, own.as_str(), CLAIM_MODE)?,
             hold: Hold::Text,
             own: Some(own),
         })
@@ -104,7 +107,7 @@ impl LockFile {
         lock: &str,
         text: &[u8],
     ) -> io::Result<Created> {
-        files::fill(&mut self.file, text)?;
+        self.fill(text)?;
         let linked = self.link(rt, lock);
         self.forget(rt);
         match linked {
@@ -112,6 +115,13 @@ impl LockFile {
             Err(e) if has_no_links(&e) => self.make_in_place(rt, lock, text),
             linked => linked.map(|_| Created::Done),
         }
+    }
+
+    /// Writes the text of the lock to the disk, for all to read.
+    fn fill(&mut self, text: &[u8]) -> io::Result<()> {
+        self.file
+            .set_permissions(Permissions::from_mode(LOCK_MODE))?;
+        files::fill(&mut self.file, text)
     }
 
     /// Gives the file the lock's name beside its own.
@@ -142,7 +152,7 @@ impl LockFile {
             Err(e) if e.kind() == ErrorKind::AlreadyExists => return Ok(Created::Exists),
             file => self.file = file?,
         }
-        if let Err(e) = files::fill(&mut self.file, text) {
+        if let Err(e) = self.fill(text) {
             let _ = fs::remove_file(rt, lock);
             return Err(e);
         }
@@ -154,7 +164,7 @@ impl LockFile {
 fn make_held<R: Files<File = File>>(rt: &R, path: &str, hold: Hold) -> io::Result<File> {
     match hold {
         Hold::Kernel => claim(rt, path)?.ok_or(io::Error::from(ErrorKind::Unsupported)),
-        Hold::Text => files::make(rt, path, LOCK_MODE),
+        Hold::Text => files::make(rt, path, CLAIM_MODE),
     }
 }
 

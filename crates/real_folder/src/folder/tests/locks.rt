@@ -72,7 +72,9 @@ fn a_lock_is_created_once(rt: HostRuntime) -> Result<(), Fail> {
     assert_eq!(rt; mine.create(&by, 1)?, Created::Done);
     let mut theirs = entered(&rt, "out/created_once")?;
     assert_eq!(rt; theirs.create(&token(&rt, "other")?, 1)?, Created::Exists);
-    let text = fs::read_to_string(&rt, "out/created_once/etc/accounts.lock.1")?;
+    let lock = "out/created_once/etc/accounts.lock.1";
+    assert_eq!(rt; fs::metadata(&rt, lock)?.mode() % 0o1000, 0o644);
+    let text = fs::read_to_string(&rt, lock)?;
     let held = format!(in rt.alloc(); "held {}\n", str::from_utf8(by.as_slice())?)?;
     assert_eq!(rt; text.as_str(), held.as_str());
     assert_eq!(rt; own_files(&rt, etc)?, 0);
