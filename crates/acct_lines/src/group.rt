@@ -29,8 +29,8 @@ impl TableRecord for GroupRecord {
         let mut line = Names::new(alloc);
         line.push(self.name.as_slice())?;
         line.push(self.password.as_slice())?;
-        line.push(parts::number(alloc, self.gid)?.as_slice())?;
-        line.push(parts::names(alloc, &self.members)?.as_slice())?;
+        parts::push_number(alloc, &mut line, self.gid)?;
+        parts::push_names(alloc, &mut line, &self.members)?;
         join_fields(alloc, &line)
     }
 

@@ -28,8 +28,8 @@ impl TableRecord for GshadowRecord {
         let mut line = Names::new(alloc);
         line.push(self.name.as_slice())?;
         line.push(self.password.as_slice())?;
-        line.push(parts::names(alloc, &self.administrators)?.as_slice())?;
-        line.push(parts::names(alloc, &self.members)?.as_slice())?;
+        parts::push_names(alloc, &mut line, &self.administrators)?;
+        parts::push_names(alloc, &mut line, &self.members)?;
         join_fields(alloc, &line)
     }
 

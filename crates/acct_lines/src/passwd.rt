@@ -33,8 +33,8 @@ impl TableRecord for PasswdRecord {
         let mut line = Names::new(alloc);
         line.push(self.name.as_slice())?;
         line.push(self.password.as_slice())?;
-        line.push(parts::number(alloc, self.uid)?.as_slice())?;
-        line.push(parts::number(alloc, self.gid)?.as_slice())?;
+        parts::push_number(alloc, &mut line, self.uid)?;
+        parts::push_number(alloc, &mut line, self.gid)?;
         line.push(self.comment.as_slice())?;
         line.push(self.home.as_slice())?;
         line.push(self.shell.as_slice())?;

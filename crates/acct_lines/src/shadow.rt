@@ -39,12 +39,12 @@ impl TableRecord for ShadowRecord {
         let mut line = Names::new(alloc);
         line.push(self.name.as_slice())?;
         line.push(self.hash.as_slice())?;
-        line.push(parts::days(alloc, self.last_change)?.as_slice())?;
-        line.push(parts::days(alloc, self.minimum)?.as_slice())?;
-        line.push(parts::days(alloc, self.maximum)?.as_slice())?;
-        line.push(parts::days(alloc, self.warning)?.as_slice())?;
-        line.push(parts::days(alloc, self.inactive)?.as_slice())?;
-        line.push(parts::days(alloc, self.expiration)?.as_slice())?;
+        parts::push_days(alloc, &mut line, self.last_change)?;
+        parts::push_days(alloc, &mut line, self.minimum)?;
+        parts::push_days(alloc, &mut line, self.maximum)?;
+        parts::push_days(alloc, &mut line, self.warning)?;
+        parts::push_days(alloc, &mut line, self.inactive)?;
+        parts::push_days(alloc, &mut line, self.expiration)?;
         line.push(self.rest.as_slice())?;
         join_fields(alloc, &line)
     }

@@ -38,8 +38,8 @@ impl TableRecord for SubidRecord {
     fn print(&self, alloc: Global) -> Result<Bytes, AllocError> {
         let mut line = Names::new(alloc);
         line.push(self.owner.as_slice())?;
-        line.push(parts::number(alloc, self.first)?.as_slice())?;
-        line.push(parts::number(alloc, self.count)?.as_slice())?;
+        parts::push_number(alloc, &mut line, self.first)?;
+        parts::push_number(alloc, &mut line, self.count)?;
         join_fields(alloc, &line)
     }
 

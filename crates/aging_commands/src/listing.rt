@@ -15,36 +15,68 @@ pub(crate) fn aging_report(alloc: Global, user: &ShadowRecord) -> Result<Bytes, 
     ensures { IfOk result (λ lines. lines ≡ report_of user.now) }
 {
     let mut lines = Bytes::new(alloc);
-    let last_change = shown_last_change(alloc, user.last_change)?;
-    push_line(&mut lines, b"last change", &last_change)?;
-    let expiry = shown_expiry(alloc, user.last_change, user.maximum)?;
-    push_line(&mut lines, b"password expires", &expiry)?;
-    push_line(
-        &mut lines,
-        b"minimum days",
-        &shown_days(alloc, user.minimum)?,
-    )?;
-    push_line(
-        &mut lines,
-        b"maximum days",
-        &shown_days(alloc, user.maximum)?,
-    )?;
-    push_line(
-        &mut lines,
-        b"warning days",
-        &shown_days(alloc, user.warning)?,
-    )?;
-    push_line(
-        &mut lines,
-        b"inactive days",
-        &shown_days(alloc, user.inactive)?,
-    )?;
-    push_line(
-        &mut lines,
-        b"account expires",
-        &shown_date(alloc, user.expiration)?,
-    )?;
+    push_last_change(alloc, &mut lines, b"last change", user.last_change)?;
+    push_expiry(alloc, &mut lines, b"password expires", user)?;
+    push_days(alloc, &mut lines, b"minimum days", user.minimum)?;
+    push_days(alloc, &mut lines, b"maximum days", user.maximum)?;
+    push_days(alloc, &mut lines, b"warning days", user.warning)?;
+    push_days(alloc, &mut lines, b"inactive days", user.inactive)?;
+    push_date(alloc, &mut lines, b"account expires", user.expiration)?;
     Ok(lines)
+}
+
+// Adds a line with the day of the last change.
+fn push_last_change(
+    alloc: Global,
+    lines: &mut Bytes,
+    heading: &[u8],
+    day: Option<u32>,
+) -> Result<(), AllocError>
+    ensures { OnOk result
+        (lines.new ≡ lines.old ++ shown_line heading.now (text_of_last_change day)) }
+{
+    let value = shown_last_change(alloc, day)?;
+    push_line(lines, heading, &value)
+}
+
+// Adds a line with the day when the password expires.
+fn push_expiry(
+    alloc: Global,
+    lines: &mut Bytes,
+    heading: &[u8],
+    user: &ShadowRecord,
+) -> Result<(), AllocError>
+    ensures { OnOk result (lines.new ≡ lines.old
+        ++ shown_line heading.now (text_of_expiry user.now.last_change user.now.maximum)) }
+{
+    let value = shown_expiry(alloc, user.last_change, user.maximum)?;
+    push_line(lines, heading, &value)
+}
+
+// Adds a line with a number of days.
+fn push_days(
+    alloc: Global,
+    lines: &mut Bytes,
+    heading: &[u8],
+    days: Option<u32>,
+) -> Result<(), AllocError>
+    ensures { OnOk result (lines.new ≡ lines.old ++ shown_line heading.now (text_of_days days)) }
+{
+    let value = shown_days(alloc, days)?;
+    push_line(lines, heading, &value)
+}
+
+// Adds a line with a date.
+fn push_date(
+    alloc: Global,
+    lines: &mut Bytes,
+    heading: &[u8],
+    day: Option<u32>,
+) -> Result<(), AllocError>
+    ensures { OnOk result (lines.new ≡ lines.old ++ shown_line heading.now (text_of_date day)) }
+{
+    let value = shown_date(alloc, day)?;
+    push_line(lines, heading, &value)
 }
 
 // Adds a line `HEADING: VALUE`.

@@ -2,8 +2,8 @@ use Rattle.std.proofs.Common.{ℕ, List, [], ◌∷◌, ◌++◌, take, sym, ◌
 use Rattle.account_model.specs.Text.{comma}
 use Rattle.account_model.specs.Records.{print_names}
 use Rattle.acct_lines.proofs.NamesJoined.{print_names-more, print_names-first, print_names-none, name-stands}
-use Rattle.acct_lines.proofs.parts.names.Goals as goal
-use Rattle.acct_lines.proofs.parts.names.Goals.{in-Some+in_ok-push-2, in_default, then-place-gt0+in_ok-push, else-place-gt0}
+use Rattle.acct_lines.proofs.parts.names_text.Goals as goal
+use Rattle.acct_lines.proofs.parts.names_text.Goals.{in-Some+in_ok-push-2, in_default, then-place-gt0+in_ok-push, else-place-gt0}
 
 pub loop-place-preserved : goal.loop-place-preserved
 loop-place-preserved c =
