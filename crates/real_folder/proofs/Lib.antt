@@ -1,2 +1,1 @@
-pub mod HelpWords
 pub mod LockNumber
