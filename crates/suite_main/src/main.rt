@@ -79,21 +79,22 @@ fn run<
         err,
         &mut clock,
     );
-    let error = match outcome.cause {
-        Cause::DiskFault(_) => folder.last_error(),
-        Cause::InputFault => input.last_error(),
-        Cause::OutputFault(_) => out.last_error(),
-        Cause::ClockFault => clock.last_error(),
-        _ => None,
-    };
-    if let Some(error) = error {
-        tell_why(rt.alloc(), err, error);
+    match outcome.cause {
+        Cause::DiskFault(_) => tell_why(rt.alloc(), err, folder.last_error()),
+        Cause::InputFault => tell_why(rt.alloc(), err, input.last_error()),
+        Cause::OutputFault(_) => tell_why(rt.alloc(), err, out.last_error()),
+        Cause::ClockFault => tell_why(rt.alloc(), err, clock.last_error()),
+        _ => {}
     }
     Ok(outcome.status)
 }
 
-/// Writes the reason of a fault, where there is memory for it. The status stays that of the fault.
-fn tell_why<S: Sink>(alloc: Global, err: &mut S, error: &SystemError) {
+/// Writes the reason of a fault, where one is known and there is memory for it. The status stays that
+/// of the fault.
+fn tell_why<S: Sink>(alloc: Global, err: &mut S, error: Option<&SystemError>) {
+    let Some(error) = error else {
+        return;
+    };
     if let Ok(reason) = error.text(alloc) {
         if let Ok(line) = format!(in alloc; "accounts: {}\n", reason.as_str()) {
             let _ = err.put(line.as_str().as_bytes());
