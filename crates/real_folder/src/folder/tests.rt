@@ -34,6 +34,18 @@ fn token(rt: &HostRuntime, text: &str) -> Result<Token, Fail> {
     }
 }
 
+/// Makes a table that its group may read.
+fn make_shadow(rt: &HostRuntime, path: &str) -> Result<(), Fail> {
+    fs::write(rt, path, "old\n")?;
+    fs::set_permissions(rt, path, Permissions::from_mode(0o640))?;
+    Ok(())
+}
+
+/// The mode of a file.
+fn mode_of(rt: &HostRuntime, path: &str) -> Result<u32, Fail> {
+    Ok(fs::metadata(rt, path)?.mode() % 0o1000)
+}
+
 #[test]
 fn locks_are_listed_by_number(rt: HostRuntime) -> Result<(), Fail> {
     let mut folder = image(&rt, "out/listed")?;
@@ -65,38 +77,35 @@ fn a_staged_table_is_its_owners_alone(rt: HostRuntime) -> Result<(), Fail> {
     )?;
     let text = Bytes::of(rt.alloc(), b"new\n")?;
     folder.write(&by, Name::Staged(Tab::Shadow), &text)?;
-    assert_eq!(rt;
-        fs::metadata(&rt, "out/staged/etc/shadow+")?.mode() % 0o1000,
-        0o600
-    );
+    assert_eq!(rt; mode_of(&rt, "out/staged/etc/shadow+")?, 0o600);
     let staged = fs::read_to_string(&rt, "out/staged/etc/shadow+")?;
     assert_eq!(rt; staged.as_str(), "new\n");
     Ok(())
 }
 
 #[test]
-fn a_table_and_its_backup_keep_the_tables_mode(rt: HostRuntime) -> Result<(), Fail> {
-    let mut folder = image(&rt, "out/renamed")?;
+fn a_table_keeps_its_mode(rt: HostRuntime) -> Result<(), Fail> {
+    let mut folder = image(&rt, "out/kept")?;
     let by = token(&rt, "me")?;
-    fs::write(&rt, "out/renamed/etc/shadow", "old\n")?;
-    fs::set_permissions(&rt, "out/renamed/etc/shadow", Permissions::from_mode(0o640))?;
+    make_shadow(&rt, "out/kept/etc/shadow")?;
     let text = Bytes::of(rt.alloc(), b"new\n")?;
-    folder.write(&by, Name::BackupStage, &text)?;
-    assert_eq!(rt;
-        fs::metadata(&rt, "out/renamed/etc/accounts.backup+")?.mode() % 0o1000,
-        0o600
-    );
-    folder.rename(&by, Name::BackupStage, Name::Backup(Tab::Shadow))?;
     folder.write(&by, Name::Staged(Tab::Shadow), &text)?;
-    assert_eq!(rt;
-        fs::metadata(&rt, "out/renamed/etc/shadow+")?.mode() % 0o1000,
-        0o640
-    );
+    assert_eq!(rt; mode_of(&rt, "out/kept/etc/shadow+")?, 0o640);
     folder.rename(&by, Name::Staged(Tab::Shadow), Name::Table(Tab::Shadow))?;
-    for file in ["out/renamed/etc/shadow-", "out/renamed/etc/shadow"] {
-        assert_eq!(rt; fs::metadata(&rt, file)?.mode() % 0o1000, 0o640);
-        assert_eq!(rt; fs::read_to_string(&rt, file)?.as_str(), "new\n");
-    }
+    assert_eq!(rt; mode_of(&rt, "out/kept/etc/shadow")?, 0o640);
+    Ok(())
+}
+
+#[test]
+fn a_backup_takes_the_tables_mode(rt: HostRuntime) -> Result<(), Fail> {
+    let mut folder = image(&rt, "out/backup")?;
+    let by = token(&rt, "me")?;
+    make_shadow(&rt, "out/backup/etc/shadow")?;
+    let text = Bytes::of(rt.alloc(), b"old\n")?;
+    folder.write(&by, Name::BackupStage, &text)?;
+    assert_eq!(rt; mode_of(&rt, "out/backup/etc/accounts.backup+")?, 0o600);
+    folder.rename(&by, Name::BackupStage, Name::Backup(Tab::Shadow))?;
+    assert_eq!(rt; mode_of(&rt, "out/backup/etc/shadow-")?, 0o640);
     Ok(())
 }
 
@@ -171,19 +180,26 @@ fn a_folder_whose_name_is_not_utf_8_is_never_touched(rt: HostRuntime) -> Result<
 }
 
 #[test]
-fn a_link_or_a_folder_is_no_table(rt: HostRuntime) -> Result<(), Fail> {
+fn a_link_is_no_table(rt: HostRuntime) -> Result<(), Fail> {
     let mut folder = image(&rt, "out/links")?;
     let by = token(&rt, "me")?;
     fs::write(&rt, "out/links/etc/target", "old\n")?;
     symlink(&rt, "target", "out/links/etc/passwd")?;
-    fs::create_dir_all(&rt, "out/links/etc/group")?;
+    assert!(rt; folder.read(&by, Name::Table(Tab::Passwd), 16).is_err());
     let staged = folder.write(&by, Name::Staged(Tab::Passwd), &Bytes::new(rt.alloc()));
     assert!(rt; staged.is_err());
     let why = folder.last_error().ok_or("no error")?.text(rt.alloc())?;
     assert_eq!(rt; why.as_str(), "out/links/etc/passwd: not a regular file");
-    assert!(rt; folder.read(&by, Name::Table(Tab::Passwd), 16).is_err());
-    assert!(rt; folder.read(&by, Name::Table(Tab::Group), 16).is_err());
-    assert_eq!(rt; folder.faults(), 3);
+    Ok(())
+}
+
+#[test]
+fn a_folder_is_no_table(rt: HostRuntime) -> Result<(), Fail> {
+    let mut folder = image(&rt, "out/folders")?;
+    fs::create_dir_all(&rt, "out/folders/etc/group")?;
+    let found = folder.read(&token(&rt, "me")?, Name::Table(Tab::Group), 16);
+    assert!(rt; found.is_err());
+    assert_eq!(rt; folder.faults(), 1);
     Ok(())
 }
 

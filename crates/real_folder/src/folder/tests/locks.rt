@@ -65,20 +65,25 @@ fn own_text(rt: &HostRuntime, dir: &str) -> Result<String, Fail> {
 
 #[test]
 fn a_lock_is_created_once(rt: HostRuntime) -> Result<(), Fail> {
-    let etc = "out/created_once/etc";
     let mut mine = image(&rt, "out/created_once")?;
     let by = begun(&rt, &mut mine)?;
-    assert_eq!(rt; own_files(&rt, etc)?, 1);
+    assert_eq!(rt; own_files(&rt, "out/created_once/etc")?, 1);
     assert_eq!(rt; mine.create(&by, 1)?, Created::Done);
     let mut theirs = entered(&rt, "out/created_once")?;
     assert_eq!(rt; theirs.create(&token(&rt, "other")?, 1)?, Created::Exists);
-    let lock = "out/created_once/etc/accounts.lock.1";
-    assert_eq!(rt; fs::metadata(&rt, lock)?.mode() % 0o1000, 0o644);
-    let text = fs::read_to_string(&rt, lock)?;
-    let held = format!(in rt.alloc(); "held {}\n", str::from_utf8(by.as_slice())?)?;
-    assert_eq!(rt; text.as_str(), held.as_str());
-    assert_eq!(rt; own_files(&rt, etc)?, 0);
+    assert_eq!(rt; own_files(&rt, "out/created_once/etc")?, 0);
     assert_eq!(rt; mine.faults(), 0);
+    Ok(())
+}
+
+#[test]
+fn a_lock_holds_its_token_for_all_to_read(rt: HostRuntime) -> Result<(), Fail> {
+    let mut folder = image(&rt, "out/created")?;
+    begun(&rt, &mut folder)?;
+    folder.create(&token(&rt, "me")?, 1)?;
+    let lock = "out/created/etc/accounts.lock.1";
+    assert_eq!(rt; mode_of(&rt, lock)?, 0o644);
+    assert_eq!(rt; fs::read_to_string(&rt, lock)?.as_str(), "held me\n");
     Ok(())
 }
 
@@ -152,47 +157,70 @@ fn a_session_takes_over_from_one_of_the_same_token(rt: HostRuntime) -> Result<()
     Ok(())
 }
 
+/// Takes lock 1 and frees it.
+fn pass_through(rt: &HostRuntime, dir: &str) -> Result<(), Fail> {
+    let mut keeper = entered(rt, dir)?;
+    let by = token(rt, "keeper")?;
+    keeper.create(&by, 1)?;
+    keeper.write(&by, Name::FreeStage, &Bytes::of(rt.alloc(), b"free\n")?)?;
+    keeper.rename(&by, Name::FreeStage, Name::Lock(1))?;
+    Ok(())
+}
+
 #[test]
 fn what_is_left_over_goes_with_the_next_lock(rt: HostRuntime) -> Result<(), Fail> {
-    let etc = "out/left_over/etc";
-    let mut running = image(&rt, "out/left_over")?;
-    let own = begun(&rt, &mut running)?;
+    image(&rt, "out/left_over")?;
     fs::write(
         &rt,
         "out/left_over/etc/accounts.held+filled",
         "held filled\n",
     )?;
     fs::write(&rt, "out/left_over/etc/accounts.held+empty", "")?;
-    let by = token(&rt, "me")?;
-    let mut keeper = entered(&rt, "out/left_over")?;
-    keeper.create(&by, 1)?;
-    assert_eq!(rt; own_files(&rt, etc)?, 3);
-    keeper.write(&by, Name::FreeStage, &Bytes::of(rt.alloc(), b"free\n")?)?;
-    keeper.rename(&by, Name::FreeStage, Name::Lock(1))?;
-    assert_eq!(rt; own_files(&rt, etc)?, 1);
-    assert_eq!(rt;
-        fs::metadata(&rt, "out/left_over/etc/accounts.lock.1")?.mode() % 0o1000,
-        0o644
-    );
-    running.answered(&own, 0);
-    assert_eq!(rt; own_files(&rt, etc)?, 0);
+    pass_through(&rt, "out/left_over")?;
+    assert_eq!(rt; own_files(&rt, "out/left_over/etc")?, 0);
+    assert_eq!(rt; mode_of(&rt, "out/left_over/etc/accounts.lock.1")?, 0o644);
     Ok(())
 }
 
 #[test]
-fn without_hard_links_a_lock_is_made_in_its_place(rt: HostRuntime) -> Result<(), Fail> {
-    let mut other = image(&rt, "out/linkless")?;
-    let mut mine = RealFolder::new(Linkless::new(rt.clone()?));
-    mine.enter(&Bytes::of(rt.alloc(), b"out/linkless")?)?;
+fn what_a_session_holds_is_not_left_over(rt: HostRuntime) -> Result<(), Fail> {
+    let mut running = image(&rt, "out/running")?;
+    let own = begun(&rt, &mut running)?;
+    pass_through(&rt, "out/running")?;
+    assert_eq!(rt; own_files(&rt, "out/running/etc")?, 1);
+    running.answered(&own, 0);
+    assert_eq!(rt; own_files(&rt, "out/running/etc")?, 0);
+    Ok(())
+}
+
+/// The folder DIR/etc on a file system without hard links.
+fn linkless(rt: &HostRuntime, dir: &str) -> Result<RealFolder<Linkless<HostRuntime>>, Fail> {
+    let mut folder = RealFolder::new(Linkless::new(rt.clone()?));
+    folder.enter(&Bytes::of(rt.alloc(), dir.as_bytes())?)?;
+    Ok(folder)
+}
+
+#[test]
+fn without_hard_links_a_lock_is_created_once(rt: HostRuntime) -> Result<(), Fail> {
+    image(&rt, "out/linkless_once")?;
+    let mut mine = linkless(&rt, "out/linkless_once")?;
     begun(&rt, &mut mine)?;
-    assert_eq!(rt; mine.create(&token(&rt, ELSEWHERE)?, 1)?, Created::Done);
-    assert_eq!(rt; judged(&rt, &mut other, ELSEWHERE)?, Verdict::Alive);
-    let mut theirs = RealFolder::new(Linkless::new(rt.clone()?));
-    theirs.enter(&Bytes::of(rt.alloc(), b"out/linkless")?)?;
+    assert_eq!(rt; mine.create(&token(&rt, "me")?, 1)?, Created::Done);
+    let mut theirs = linkless(&rt, "out/linkless_once")?;
     assert_eq!(rt; theirs.create(&token(&rt, "other")?, 1)?, Created::Exists);
+    assert_eq!(rt; own_files(&rt, "out/linkless_once/etc")?, 0);
+    Ok(())
+}
+
+#[test]
+fn without_hard_links_a_lock_is_held_as_well(rt: HostRuntime) -> Result<(), Fail> {
+    let mut other = image(&rt, "out/linkless")?;
+    let mut mine = linkless(&rt, "out/linkless")?;
+    begun(&rt, &mut mine)?;
+    mine.create(&token(&rt, ELSEWHERE)?, 1)?;
+    assert_eq!(rt; judged(&rt, &mut other, ELSEWHERE)?, Verdict::Alive);
     drop(mine);
     assert_eq!(rt; judged(&rt, &mut other, ELSEWHERE)?, Verdict::Dead);
-    assert_eq!(rt; own_files(&rt, "out/linkless/etc")?, 0);
     Ok(())
 }
 
