@@ -104,6 +104,13 @@ alone : (test : Bool) → (test || false) ≡ test
 alone true = refl
 alone false = refl
 
+-- what is told of the first of a list, where there is one, is the first of what is told
+map-cons_option :
+    {X Y : Type 0} (told : X → Y) (first : Option X) (rest : List X)
+    → map told (cons_option first rest) ≡ cons_option (option_map told first) (map told rest)
+map-cons_option told None rest = refl
+map-cons_option told (Some x) rest = refl
+
 module _ {R : Type 0} (format : Format R) (number : R → ℕ) (lines : List Line) where
   -- the IDs of the records from a place on
   abbrev pub ids_from : ℕ → List ℕ
@@ -116,33 +123,43 @@ module _ {R : Type 0} (format : Format R) (number : R → ℕ) (lines : List Lin
       → (is_used used id || is_used (ids_from place) id)
       ≡ is_used (map number (records_of format lines)) id
 
+  -- the IDs from a place on begin with that of the record there
+  ids-by :
+      (place : ℕ) (found : Option ℕ)
+      → place < length lines
+      → found ≡ option_map number (record_at format lines place)
+      → ids_from place ≡ cons_option found (ids_from (place + 1))
+  ids-by place found inside is =
+      ap (map number) (records-from format lines place inside)
+      ∙ map-cons_option number (record_at format lines place)
+      (records_of format (drop (place + 1) lines))
+      ∙ ap (λ found. cons_option found (ids_from (place + 1))) (sym is)
+
   -- the ID of the record at a place is one more that is used
   pub ids-more :
-      (old new : List ℕ) (place : ℕ) (r : R)
+      (old new : List ℕ) (place found : ℕ)
       → place < length lines
-      → record_at format lines place ≡ Some r
-      → AreThoseOf new (number r ∷ old)
+      → Some found ≡ option_map number (record_at format lines place)
+      → AreThoseOf new (found ∷ old)
       → Gathers old place
       → Gathers new (place + 1)
-  ids-more old new place r inside is added gathers = λ id.
+  ids-more old new place found inside is added gathers = λ id.
       let rest = is_used (ids_from (place + 1)) id in
-      let from : is_used (ids_from place) id ≡ ((number r == id) || rest) =
-      ap (λ records. is_used (map number records) id)
-      (records-by format lines place inside (Some r) is)
+      let from : is_used (ids_from place) id ≡ ((found == id) || rest) =
+      ap (λ ids. is_used ids id) (ids-by place (Some found) inside is)
       in ap (λ used. used || rest) (added id)
-      ∙ reordered (number r == id) (is_used old id) rest
+      ∙ reordered (found == id) (is_used old id) rest
       ∙ ap (λ behind. is_used old id || behind) (sym from) ∙ gathers id
 
   -- other text has none
   pub ids-other :
       (used : List ℕ) (place : ℕ)
       → place < length lines
-      → record_at format lines place ≡ None
+      → None ≡ option_map number (record_at format lines place)
       → Gathers used place
       → Gathers used (place + 1)
   ids-other used place inside is gathers = λ id.
-      ap (λ records. is_used used id || is_used (map number records) id)
-      (sym (records-by format lines place inside None is))
+      ap (λ ids. is_used used id || is_used ids id) (sym (ids-by place None inside is))
       ∙ gathers id
 
   -- behind the last line those that are used are all

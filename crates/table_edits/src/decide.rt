@@ -1,5 +1,5 @@
 // What a command decides once none of its refusals is there, by its script.
-ghost use Rattle.std.specs.Prelude.{◌≡◌, ◌++◌, IfOk, OnOk};
+ghost use Rattle.std.specs.Prelude.{◌≡◌, ◌++◌, if◌then◌else◌, IfOk, OnOk};
 ghost use Rattle.std.specs.List.{AllByRecursion};
 ghost use Rattle.acct_text.specs.Contents.{same_content};
 ghost use Rattle.account_model.specs.Action.{multiple_entries, multiple_in, outcome_of};
@@ -37,16 +37,37 @@ pub fn decide_by(
     if let Some(refusal) = multiple_entries(alloc, tables, script)? {
         return refuse(alloc, tool, refusal);
     }
+    let output = output_of(alloc, tool, report)?;
     let new = tables.edited(alloc, script)?;
-    let output = Output {
+    Ok(decision_between(tables.files(), new, output))
+}
+
+// What a tool prints that doesn't refuse, with its status.
+fn output_of(alloc: Global, tool: Tool, report: Report) -> Result<Output, AllocError>
+    ensures { IfOk result (λ output. output ≡ record {
+      status = report.status;
+      out = report.out;
+      err = messages tool report.notices;
+    }) }
+{
+    let err = messages(alloc, tool, &report.notices)?;
+    Ok(Output {
         status: report.status,
         out: report.out,
-        err: messages(alloc, tool, &report.notices)?,
-    };
-    if are_same(tables.files(), &new) {
-        Ok(Decision::Same(output))
+        err,
+    })
+}
+
+// The decision between the old tables and the new: they stay where all six are equal.
+fn decision_between(old: &Files, new: Files, output: Output) -> Decision
+    ensures { result ≡ (if files_eq old.now new
+        then Decision.Same output
+        else Decision.Change new output) }
+{
+    if are_same(old, &new) {
+        Decision::Same(output)
     } else {
-        Ok(Decision::Change(new, output))
+        Decision::Change(new, output)
     }
 }
 

@@ -1,7 +1,8 @@
 // What the tools do with records of group (group(5)).
-ghost use Rattle.std.specs.Prelude.{◌≡◌, IfOk};
+ghost use Rattle.std.specs.Prelude.{◌≡◌, IfOk, OnOk};
 ghost use Rattle.account_model.specs.declared.records.GroupRecord.{GroupRecord};
 ghost use Rattle.table_edits.specs.GroupChanges.{group_after};
+ghost use Rattle.table_edits.specs.Memberships.{group_by};
 
 use crate::lists::{with_name, without_name};
 use crate::{Becoming, EditedRecord, Membership};
@@ -76,19 +77,38 @@ fn acted(alloc: Global, old: &GroupRecord, act: &GroupAct) -> Result<GroupRecord
     ensures { IfOk result (λ new. new ≡ group_after act.now old.now) }
 {
     let mut new = old.copy(alloc)?;
-    match act {
-        GroupAct::SetGid(gid) => new.gid = *gid,
-        GroupAct::Rename(name) => new.name = name.copy()?,
-        GroupAct::SetPassword(password) => new.password = password.copy()?,
-        GroupAct::AddMember(user) => new.members = with_name(&old.members, user.as_slice())?,
-        GroupAct::RemoveMember(user) => {
-            new.members = without_name(alloc, &old.members, user.as_slice())?
-        }
-        GroupAct::SetMembers(members) => new.members = members.copy()?,
-        GroupAct::SetMembership(membership) => {
-            new.members = membership.members(alloc, old.name.as_slice(), &old.members)?;
-            return membership.renamed(alloc, &new);
-        }
-    }
+    act_on(alloc, &mut new, act)?;
     Ok(new)
+}
+
+// Does the act with the record. At `AllocError` a user who joins may have the old name in it.
+fn act_on(alloc: Global, group: &mut GroupRecord, act: &GroupAct) -> Result<(), AllocError>
+    ensures { OnOk result (group.new ≡ group_after act.now group.old) }
+{
+    match act {
+        GroupAct::SetGid(gid) => group.gid = *gid,
+        GroupAct::Rename(name) => group.name = name.copy()?,
+        GroupAct::SetPassword(password) => group.password = password.copy()?,
+        GroupAct::AddMember(user) => group.members = with_name(&group.members, user.as_slice())?,
+        GroupAct::RemoveMember(user) => {
+            group.members = without_name(alloc, &group.members, user.as_slice())?
+        }
+        GroupAct::SetMembers(members) => group.members = members.copy()?,
+        GroupAct::SetMembership(membership) => return set_membership(alloc, group, membership),
+    }
+    Ok(())
+}
+
+// The user joins or leaves the group, and has the new name in it. At `AllocError` the members may
+// have the old name still.
+fn set_membership(
+    alloc: Global,
+    group: &mut GroupRecord,
+    membership: &Membership,
+) -> Result<(), AllocError>
+    ensures { OnOk result (group.new ≡ group_by membership.now group.old) }
+{
+    group.members = membership.members(alloc, group.name.as_slice(), &group.members)?;
+    *group = membership.renamed(alloc, group)?;
+    Ok(())
 }

@@ -5,8 +5,9 @@ ghost use Rattle.account_model.specs.Ids.{used_gids as gids_of};
 ghost use Rattle.account_model.specs.Tables.{group_records};
 ghost use Rattle.id_choice.specs.Used.{AreThoseOf};
 
+use crate::ids::used_ids;
 use crate::search::OfGid;
-use crate::{Tables, file_lines, first_passing};
+use crate::{Tables, first_passing};
 use acct_lines::GroupRecord;
 use id_choice::UsedIds;
 use std::alloc::{AllocError, Global};
@@ -23,13 +24,6 @@ impl Tables<'_> {
     pub fn used_gids(&self, alloc: Global) -> Result<UsedIds, AllocError>
         ensures { IfOk result (λ used. AreThoseOf used (gids_of self.now)) }
     {
-        let groups = &file_lines(alloc, &self.files().group)?;
-        let mut used = UsedIds::new(alloc);
-        for place in 0..groups.len() {
-            if let Some(group) = groups.record_at::<GroupRecord>(alloc, place)? {
-                used.add(group.gid)?;
-            }
-        }
-        Ok(used)
+        used_ids::<GroupRecord>(alloc, &self.files().group)
     }
 }

@@ -1,6 +1,7 @@
 // What the tools do with records of gshadow (gshadow(5)).
-ghost use Rattle.std.specs.Prelude.{◌≡◌, IfOk};
+ghost use Rattle.std.specs.Prelude.{◌≡◌, IfOk, OnOk};
 ghost use Rattle.table_edits.specs.GshadowChanges.{gshadow_after, without_user};
+ghost use Rattle.table_edits.specs.Memberships.{gshadow_by};
 
 use crate::lists::{with_name, without_name};
 use crate::{Becoming, EditedRecord, Membership};
@@ -81,36 +82,48 @@ fn acted(alloc: Global, old: &GshadowRecord, act: &GshadowAct) -> Result<Gshadow
     ensures { IfOk result (λ new. new ≡ gshadow_after act.now old.now) }
 {
     let mut new = old.copy(alloc)?;
-    match act {
-        GshadowAct::Rename(name) => new.name = name.copy()?,
-        GshadowAct::SetPassword(password) => new.password = password.copy()?,
-        GshadowAct::SetAdministrators(names) => new.administrators = names.copy()?,
-        GshadowAct::AddMember(user) => new.members = with_name(&old.members, user.as_slice())?,
-        GshadowAct::RemoveMember(user) => {
-            new.members = without_name(alloc, &old.members, user.as_slice())?
-        }
-        GshadowAct::SetMembers(members) => new.members = members.copy()?,
-        GshadowAct::RemoveUser(user) => return without_user(alloc, old, user.as_slice()),
-        GshadowAct::SetMembership(membership) => {
-            new.members = membership.members(alloc, old.name.as_slice(), &old.members)?;
-            return membership.renamed(alloc, &new);
-        }
-    }
+    act_on(alloc, &mut new, act)?;
     Ok(new)
 }
 
-// The record without the user in either list.
-fn without_user(
-    alloc: Global,
-    old: &GshadowRecord,
-    user: &[u8],
-) -> Result<GshadowRecord, AllocError>
-    ensures { IfOk result (λ new. new ≡ without_user user.now old.now) }
+// Does the act with the record. At `AllocError` the user may have left one list alone.
+fn act_on(alloc: Global, group: &mut GshadowRecord, act: &GshadowAct) -> Result<(), AllocError>
+    ensures { OnOk result (group.new ≡ gshadow_after act.now group.old) }
 {
-    Ok(GshadowRecord {
-        name: old.name.copy()?,
-        password: old.password.copy()?,
-        administrators: without_name(alloc, &old.administrators, user)?,
-        members: without_name(alloc, &old.members, user)?,
-    })
+    match act {
+        GshadowAct::Rename(name) => group.name = name.copy()?,
+        GshadowAct::SetPassword(password) => group.password = password.copy()?,
+        GshadowAct::SetAdministrators(names) => group.administrators = names.copy()?,
+        GshadowAct::AddMember(user) => group.members = with_name(&group.members, user.as_slice())?,
+        GshadowAct::RemoveMember(user) => {
+            group.members = without_name(alloc, &group.members, user.as_slice())?
+        }
+        GshadowAct::SetMembers(members) => group.members = members.copy()?,
+        GshadowAct::RemoveUser(user) => return remove_user(alloc, group, user.as_slice()),
+        GshadowAct::SetMembership(membership) => return set_membership(alloc, group, membership),
+    }
+    Ok(())
+}
+
+// Removes the user from either list. At `AllocError` it may have left one of them.
+fn remove_user(alloc: Global, group: &mut GshadowRecord, user: &[u8]) -> Result<(), AllocError>
+    ensures { OnOk result (group.new ≡ without_user user.now group.old) }
+{
+    group.administrators = without_name(alloc, &group.administrators, user)?;
+    group.members = without_name(alloc, &group.members, user)?;
+    Ok(())
+}
+
+// The user joins or leaves the group, and has the new name in it. At `AllocError` the members may
+// have the old name still.
+fn set_membership(
+    alloc: Global,
+    group: &mut GshadowRecord,
+    membership: &Membership,
+) -> Result<(), AllocError>
+    ensures { OnOk result (group.new ≡ gshadow_by membership.now group.old) }
+{
+    group.members = membership.members(alloc, group.name.as_slice(), &group.members)?;
+    *group = membership.renamed(alloc, group)?;
+    Ok(())
 }

@@ -19,6 +19,7 @@ mod group_edits;
 mod groups;
 mod gshadow_changes;
 mod hash_change;
+mod ids;
 mod lists;
 mod lookups;
 mod memberships;

@@ -1,12 +1,12 @@
 // Edits that each may touch the records of one name only: they are carried out where these stand,
 // so that a list of them takes no pass over the table for each.
-ghost use Rattle.std.specs.Prelude.{◌≡◌, true, List, map, IfOk, IfSome, OnOk};
+ghost use Rattle.std.specs.Prelude.{◌≡◌, true, ℕ, List, Option, map, IfOk, IfSome, OnOk};
 ghost use Rattle.acct_text.specs.Lines.{Line, lines_of};
 ghost use Rattle.account_model.specs.Edits.{as_ended, edited, with_line};
 ghost use Rattle.account_model.specs.Edits as model;
 ghost use Rattle.account_model.specs.RecordEdits.{IsWrittenEdit};
 ghost use Rattle.account_model.specs.Written.{IsWritten};
-ghost use Rattle.table_edits.specs.NamePlaces.{place_of_name};
+ghost use Rattle.table_edits.specs.NamePlaces.{TellsPlaces, TellsSomePlaces, place_of_name};
 ghost use Rattle.table_edits.specs.NamedLines.{IsKnown, IsPlaced, line_names};
 ghost use Rattle.table_edits.specs.Naming.{ChangesOnly, IsOfName};
 ghost use Rattle.table_edits.specs.SeenEdits.{seen_edit};
@@ -35,18 +35,41 @@ pub(crate) fn known_before<'a, R: EditedRecord + Drop>(
 ) -> Result<Known<'a>, AllocError>
     ensures { IfOk result (IsKnown R.format (lines_of text.now)) }
 {
-    let lines = &FileLines::of(alloc, text)?;
-    let of_text = name_places::<R>(alloc, lines)?;
+    let of_text = places_in_text::<R>(alloc, text)?;
     let mut places = HashMap::new(alloc);
-    'edits: for edit in edits {
-        if let Some(name) = only_name(edit) {
-            places.insert(name, place_in(&of_text, name))?;
-        }
-    }
+    note_edits(&mut places, &of_text, edits)?;
     Ok(Known {
         places,
         ended: false,
     })
+}
+
+// Where the records of each name stand in the text.
+fn places_in_text<R: EditedRecord + Drop>(
+    alloc: Global,
+    text: &[u8],
+) -> Result<HashMap<&[u8], NamePlace>, AllocError>
+    ensures { IfOk result (TellsPlaces 0 (line_names R.format (lines_of text.now))) }
+{
+    let lines = FileLines::of(alloc, text)?;
+    name_places::<R>(alloc, &lines)
+}
+
+// Notes for each edit of one name where the records of the name stand, by what the file tells.
+fn note_edits<'a, R: EditedRecord + Drop>(
+    places: &mut HashMap<&'a [u8], NamePlace>,
+    of_text: &HashMap<&[u8], NamePlace>,
+    edits: &'a [Edit<R, R::Change>],
+) -> Result<(), AllocError>
+    ensures { OnOk result ((names : List (Option (List ℕ))) → TellsPlaces 0 names of_text.now
+        → TellsSomePlaces names places.old → TellsSomePlaces names places.new) }
+{
+    'edits: for edit in edits {
+        if let Some(name) = only_name(edit) {
+            places.insert(name, place_in(of_text, name))?;
+        }
+    }
+    Ok(())
 }
 
 // The name of all records that the edit may touch; none where it may touch others.

@@ -9,6 +9,7 @@ ghost use Rattle.account_model.specs.Tables.{passwd_records};
 ghost use Rattle.id_choice.specs.Used.{AreThoseOf};
 ghost use Rattle.table_edits.specs.Stopping.{StopsBy};
 
+use crate::ids::used_ids;
 use crate::search::OfGid;
 use crate::{Tables, file_lines, first_passing};
 use account_model::Refusal;
@@ -31,14 +32,7 @@ impl Tables<'_> {
     pub fn used_uids(&self, alloc: Global) -> Result<UsedIds, AllocError>
         ensures { IfOk result (λ used. AreThoseOf used (uids_of self.now)) }
     {
-        let users = &file_lines(alloc, &self.files().passwd)?;
-        let mut used = UsedIds::new(alloc);
-        for place in 0..users.len() {
-            if let Some(user) = users.record_at::<PasswdRecord>(alloc, place)? {
-                used.add(user.uid)?;
-            }
-        }
-        Ok(used)
+        used_ids::<PasswdRecord>(alloc, &self.files().passwd)
     }
 
     /// Refuses a name that no user has: `NoUser`.
