@@ -18,7 +18,7 @@ use crate::names::NameSet;
 use crate::problem::Problem;
 use crate::problems::Problems;
 use acct_lines::{TableRecord, first_field};
-use acct_tables::Decision;
+use acct_tables::{Decision, read_record};
 use acct_text::{Bytes, Tab, push_decimal};
 use std::alloc::{AllocError, Global};
 use table_edits::file_lines;
@@ -82,12 +82,32 @@ impl Report {
         let mut earlier = NameSet::new(alloc);
         for place in 0..lines.len() {
             let text = lines.text_at(place);
-            let item: Option<R> = lines.record_at(alloc, place)?;
-            let problems = line_problems(alloc, text, &item, known, &earlier)?;
-            self.push_line(alloc, tab, place + 1, &problems)?;
-            note_record(&mut earlier, text, &item)?;
+            self.check_line::<R>(alloc, known, &mut earlier, tab, place + 1, text)?;
         }
         Ok(())
+    }
+
+    // Adds the problems of a line with this text, counted from 1, behind records of which the names
+    // are kept, and keeps the name of its record.
+    fn check_line<'a, R: CheckedRecord + Drop>(
+        &mut self,
+        alloc: Global,
+        known: &Known,
+        earlier: &mut NameSet<'a>,
+        tab: Tab,
+        line: usize,
+        text: &'a [u8],
+    ) -> Result<(), AllocError>
+        ensures added { OnOk result ((before : List R) → AreNamesOf R.format before earlier.old
+            → self.new ≡ with_problems tab (at_line line
+            (problems_of_line R.format (R.problems known.now) before text.now)) self.old) }
+        ensures kept { OnOk result ((before : List R) → AreNamesOf R.format before earlier.old
+            → AreNamesOf R.format (before ++ option_to_list (R.format.read text.now)) earlier.new) }
+    {
+        let item: Option<R> = read_record(alloc, text)?;
+        let problems = line_problems(alloc, text, &item, known, earlier)?;
+        self.push_line(alloc, tab, line, &problems)?;
+        note_record(earlier, text, &item)
     }
 
     // Adds the problems of a line, counted from 1.

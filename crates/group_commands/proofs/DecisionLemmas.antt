@@ -1,5 +1,5 @@
 -- Claim: a tool of groups reports nothing beside its edits (`tool-silent`). Way: tool by tool.
-use Rattle.std.proofs.Common.{◌≡◌, ℕ, List, [], refl, inl, inr}
+use Rattle.std.proofs.Common.{ℕ, List, [], refl, inl, inr}
 use Rattle.std.proofs.lemmas.Bool.{cases_Bool}
 use Rattle.acct_text.specs.declared.files.Files.{Files}
 use Rattle.account_model.specs.declared.tool.Tool.{Tool}

@@ -1,8 +1,8 @@
 -- Claim: groupadd answers the first refusal of its words (`refused-by_words`), then that of what is
 -- taken (`refused-by_conflict`), and else the lines of the group (`made-group`). Way: by whether
 -- `-f` leaves a group that exists, where the refusals end with those of the words.
-use Rattle.std.proofs.Common.{◌≡◌, ℕ, Bool, true, false, List, [], ◌∷◌, ◌++◌, refl, sym, subst, ◌∙◌}
-use Rattle.std.specs.Prelude.{Option, Some, None, Result, Ok, Err, IsErrAnd, if◌then◌else◌}
+use Rattle.std.proofs.Common.{◌≡◌, ℕ, Bool, true, false, List, ◌++◌, refl, sym, ◌∙◌}
+use Rattle.std.specs.Prelude.{Some, None, Err, if◌then◌else◌}
 use Rattle.acct_text.specs.declared.files.Files.{Files}
 use Rattle.account_model.specs.Action.{Action, changes}
 use Rattle.account_model.specs.Groupadd.{groupadd_checks, groupadd_conflicts, groupadd_script, new_gid}

@@ -1,6 +1,7 @@
-use Rattle.std.proofs.Common.{◌≡◌, ◌∙◌, ◌<◌, [], length, take, sym, ap, arith}
+use Rattle.std.proofs.Common.{◌≡◌, ◌∙◌, ◌+◌, ◌<◌, ◌++◌, [], length, take, refl, sym, ap, arith}
+use Rattle.std.specs.Prelude.{option_to_list}
 use Rattle.account_model.specs.Format.{has_named, records_of}
-use Rattle.account_model.specs.Problems.{problems_behind, problems_of_line}
+use Rattle.account_model.specs.Problems.{at_line, problems_behind, problems_of_line}
 use Rattle.acct_tables.specs.Order.{text_at}
 use Rattle.check_reports.specs.Reported.{with_problems}
 use Rattle.check_reports.proofs.RecordWalk.{records-more}
@@ -15,21 +16,23 @@ loop-place-preserved g c =
     let place = c.loop-place.place in
     let inside : place < length lines = omega arith in
     let done = records_of format (take place lines) in
-    let item = c.in_ok-item.item in
-    let found = c.in_ok-item.ensures.found in
+    let kept = c.loop-place.invariant.kept in
     let text : c.text_at-text.result.now ≡ text_at lines place = c.text_at-text.ensures in
-    let read : item ≡ format.read c.text_at-text.result.now =
-    found ∙ read-at format lines place inside ∙ ap format.read (sym text) in
+    let checked = c.in_ok-check_line.ensures {u = tt} in
     record {
-      so_far = report-more format problems c.args.tab lines place c.in_ok-problems.problems
-          c.loop-place.self c.push_line.new.self
+      so_far = report-more format problems c.args.tab lines place
+          (problems_of_line format problems done (text_at lines place))
+          c.loop-place.self c.check_line.new.self
           (with_problems c.args.tab (problems_behind format problems [] lines) c.args.self.now)
-          inside
-          (c.in_ok-problems.ensures done c.loop-place.invariant.kept read
-          ∙ ap (problems_of_line format problems done) text)
-          c.loop-place.invariant.so_far (c.in_ok-push_line.ensures {u = tt});
-      kept = λ name. c.in_ok-note_record.ensures done c.loop-place.invariant.kept read name
-          ∙ ap (has_named format name) (sym (records-more format lines place item inside (sym found)));
+          inside refl c.loop-place.invariant.so_far
+          (checked.added done kept
+          ∙ ap (λ text. with_problems c.args.tab
+          (at_line (place + 1) (problems_of_line format problems done text)) c.loop-place.self) text);
+      kept = λ name. checked.kept done kept name
+          ∙ ap (λ text. has_named format name (done ++ option_to_list (format.read text))) text
+          ∙ ap (has_named format name)
+          (sym (records-more format lines place (format.read (text_at lines place)) inside
+          (read-at format lines place inside)));
     }
 
 pub returns : goal.returns
