@@ -20,6 +20,7 @@ use Rattle.suite_rules.specs.Standing.{Standing, no_standing, standing}
 use Rattle.suite_rules.specs.Lawful.{Lawful}
 use Rattle.suite_rules.specs.Settled.{settled}
 use Rattle.suite_rules.specs.Committed.{Commitment, commitment_of, commits, committed, commitments_of, place, fold_deeds, folded}
+use Rattle.suite_rules.proofs.Keepers.{active-runs}
 use Rattle.suite_rules.proofs.Places.{places-stay}
 use Rattle.suite_rules.proofs.Commitments.{fold-append, place-below}
 use Rattle.suite_rules.proofs.Once.{committed-once, kept-stays}
@@ -183,7 +184,8 @@ module _ (deeds : SuiteDeeds) (first : Folder) (history : History)
       ∙ (places-stay.stays deeds first was.newer was.older whole was.number (omega (arith, top_is))
       ∙ (place-below was.number (committed was.older)
       (recursion_from_All (λ one. one.number < was.number) (committed was.older)
-      (facts.settled_is_fold.below_keeper token was.number was.active was.uncommitted))
+      (facts.settled_is_fold.below_keeper token was.number (active-runs was.active)
+      was.uncommitted))
       ∙ keeper-list))
 
 -- the claim

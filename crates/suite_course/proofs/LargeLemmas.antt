@@ -33,6 +33,7 @@ use Rattle.suite_rules.specs.Settled.{listed_by}
 use Rattle.suite_rules.specs.Committed.{Commitment, committed, place, folded}
 use Rattle.suite_rules.specs.Invariant.{KnownStands, NoneStands}
 use Rattle.suite_rules.specs.Laws.{IsCleanKeeper}
+use Rattle.suite_rules.proofs.Keepers.{active-runs}
 use Rattle.suite_rules.proofs.Places.{places-stay}
 use Rattle.suite_rules.proofs.Commitments.{place-below}
 use Rattle.suite_rules.proofs.Once.{committed-once, kept-stays}
@@ -206,8 +207,8 @@ module _ (deeds : SuiteDeeds) (first : Folder) where
         ap (λ (list : List Commitment). folded deeds first list table)
         (place-below number (committed history)
         (recursion_from_All (λ one. one.number < number) (committed history)
-        ((invariant deeds first history lawful).settled_is_fold.below_keeper token number clean.active
-        clean.uncommitted)))
+        ((invariant deeds first history lawful).settled_is_fold.below_keeper token number
+        (active-runs clean.active) clean.uncommitted)))
         ∙ (sym (lawful-settles.is_fold deeds first history lawful table)
         ∙ ap (λ (content : Option Bytes).
         option_or (listed_in (listed_by content) table) (tables (after first history) table))

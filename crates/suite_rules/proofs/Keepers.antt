@@ -14,7 +14,8 @@ use Rattle.suite_rules.specs.Deeds.{SuiteDeeds}
 use Rattle.suite_rules.specs.OwnLock.{lock_kept, made_number, held_number}
 use Rattle.suite_rules.specs.Standing.{Standing, standing, standing_step}
 use Rattle.suite_rules.specs.Lawful.{KeepsRulesOrNone, IsNext, Lawful, starts, goes_on}
-use Rattle.suite_rules.specs.Laws.{RunsAsKeeper, OneKeeper}
+use Rattle.suite_rules.specs.Invariant.{RunsAsKeeper, IsActiveKeeper}
+use Rattle.suite_rules.specs.Laws.{OneKeeper}
 use Rattle.suite_rules.proofs.Sessions.{token-cases, each, own-life, own-standing, other-life, other-standing, ran-before, fresh}
 use Rattle.suite_rules.proofs.Effects.{locks-same}
 use Rattle.suite_rules.proofs.LockSteps.{LockStep, lock_quiet, lock-step}
@@ -37,6 +38,11 @@ event-step deeds history token folder (begins command) (done answer) keeps gives
     lock_quiet (locks-same folder) refl refl
 event-step deeds history token folder call result keeps gives =
     lock-step deeds history token folder (standing token history) call result keeps.permitted gives
+
+-- a keeper of which no call failed runs as keeper
+pub active-runs : {history : History} {token : Token} {number : ℕ} →
+    IsActiveKeeper history token number → RunsAsKeeper history token number
+active-runs active = record { runs = ap runs_in active.runs; keeps = active.keeps }
 
 -- the session was keeper of the number at some moment of the history
 abbrev pub EverKept : Token → ℕ → List Event → Type 0

@@ -24,14 +24,14 @@ use Rattle.suite_rules.specs.Lawful.{KeepsRulesOrNone, IsNext, Lawful, goes_on}
 use Rattle.suite_rules.specs.Settled.{settled}
 use Rattle.suite_rules.specs.Committed.{Commitment, Rises, commits, committed, place, fold_deeds, folded}
 use Rattle.suite_rules.specs.Backups.{before_last_change, last_backup, AreBackups}
-use Rattle.suite_rules.specs.Invariant.{KnownStands, NoneStands, KeeperView, IsActiveKeeper}
+use Rattle.suite_rules.specs.Invariant.{KnownStands, NoneStands, KeeperView, RunsAsKeeper, IsActiveKeeper}
 use Rattle.suite_rules.specs.Laws.{IsCleanKeeper, LawfulSettles}
 use Rattle.suite_rules.proofs.Numbers.{number-is, number-differs}
 use Rattle.suite_rules.proofs.Names.{fails-apart}
 use Rattle.suite_rules.proofs.Sessions.{token-cases, each, own-life, own-standing, other-life, other-standing, IsDone, is_done, active-before, fresh}
 use Rattle.suite_rules.proofs.Effects.{SameFiles, files-same, gives-effect}
 use Rattle.suite_rules.proofs.LockFacts.{moment, LockFacts, top-bound}
-use Rattle.suite_rules.proofs.Keepers.{EverKept, ever-kept, lock-facts, alone, ever-made, ever-once}
+use Rattle.suite_rules.proofs.Keepers.{active-runs, EverKept, ever-kept, lock-facts, alone, ever-made, ever-once}
 use Rattle.suite_rules.proofs.ViewSteps.{view-same}
 use Rattle.suite_rules.proofs.FileSteps.{FileEffect, files_stay, file_written, intent_committed, table_installed, table_backed_up, intent_cleared, lock_given_back, file-effect, view-step, view-part}
 use Rattle.suite_rules.proofs.SettledSteps.{Ground, committing, settled-none, settled-step, backup-step}
@@ -164,14 +164,14 @@ module _ (deeds : SuiteDeeds) (token : Token) (before after : Folder) (life : Li
   settings-same _ (intent_cleared keeper rule runs none same) = same Defs refl refl
   settings-same _ (lock_given_back keeper runs same) = same Defs refl refl
 
--- an active keeper that hasn't called its commit has a greater number than all committed commands
+-- a running keeper that hasn't called its commit has a greater number than all committed commands
 pub above-committed : (deeds : SuiteDeeds) (first : Folder) (history : History) →
     Lawful deeds first history → (token : Token) (number : ℕ) →
-    IsActiveKeeper history token number →
+    RunsAsKeeper history token number →
     (standing token history).commit ≡ commit_uncalled →
     AllByRecursion (Committer history) (committed history) →
     AllByRecursion (λ one. one.number < number) (committed history)
-above-committed deeds first history lawful token number active uncalled =
+above-committed deeds first history lawful token number keeper uncalled =
     each-follows (Committer history) (λ one. one.number < number) (committed history) below
   where
     facts : LockFacts (moment first history)
@@ -184,7 +184,7 @@ above-committed deeds first history lawful token number active uncalled =
         most =
             let made = ever-made deeds first history lawful one.token one.number committer.kept in
             let least = (facts.made_most one.token one.number made).1 in
-            let is = facts.keeper_top token number (ap runs_in active.runs) active.keeps in
+            let is = facts.keeper_top token number keeper.runs keeper.keeps in
             omega arith
 
         cases : (same : Bool) → (one.number == number) ≡ same →
@@ -197,7 +197,7 @@ above-committed deeds first history lawful token number active uncalled =
             number other
             (subst (λ (made : ℕ). EverKept one.token made history)
             (number-is one.number number same) committer.kept)
-            (ever-kept token number [] history active.keeps))
+            (ever-kept token number [] history keeper.keeps))
 
 -- The facts go on with the next event.
 module _ (deeds : SuiteDeeds) (first : Folder) (event : Event) (history : History)
@@ -362,8 +362,8 @@ module _ (deeds : SuiteDeeds) (first : Folder) (event : Event) (history : Histor
       (rw (append-nil (committed history)) facts.rises)
       (λ keeper command active uncalled is.
       rises-append (committed history) (own-commitment keeper.number command) facts.rises
-      (above-committed deeds first history lawful event.token keeper.number active uncalled
-      facts.committers))
+      (above-committed deeds first history lawful event.token keeper.number (active-runs active)
+      uncalled facts.committers))
 
   -- the settled files were the fold
   fold-now : settled (after first history) ≡ folded deeds first (committed history)
@@ -460,8 +460,8 @@ has-seen deeds first history lawful token number seen keeper table content is = 
 
     at-place : place number (committed history) ≡ committed history
     at-place = place-below number (committed history)
-        (above-committed deeds first history lawful token number keeper.active keeper.uncommitted
-        facts.committers)
+        (above-committed deeds first history lawful token number (active-runs keeper.active)
+        keeper.uncommitted facts.committers)
 
 -- the law
 pub lawful-settles : LawfulSettles

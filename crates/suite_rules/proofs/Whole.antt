@@ -161,9 +161,9 @@ module _ (deeds : SuiteDeeds) (first : Folder) where
       at_most_top = each-all (λ one. one.number ≤ top (after first history)) (committed history)
           (each-follows (Committer history) (λ one. one.number ≤ top (after first history))
           (committed history) at-most-top files.committers);
-      below_keeper = λ token number active uncalled.
+      below_keeper = λ token number keeper uncalled.
           each-all (λ one. one.number < number) (committed history)
-          (above-committed deeds first history lawful token number active uncalled
+          (above-committed deeds first history lawful token number keeper uncalled
           files.committers);
     }
 

@@ -88,6 +88,11 @@ pub record KeeperView (folder : Folder) (knows : Knowledge) (staged : Stages) : 
   pub stages : (name : Name) (bytes : Bytes) → is_staging name ≡ true →
       staged name ≡ Some bytes → folder.file name ≡ Some bytes
 
+-- the session runs as keeper of the number; one of its calls may have failed
+pub record RunsAsKeeper (history : History) (token : Token) (number : ℕ) : Type 0 where
+  pub runs : is_running token history ≡ true
+  pub keeps : (standing token history).own ≡ lock_kept number
+
 -- the session runs without a failed call, and keeps the number
 pub record IsActiveKeeper (history : History) (token : Token) (number : ℕ) : Type 0 where
   pub runs : life token history ≡ running
@@ -100,13 +105,13 @@ KeeperViewHolds first history = (token : Token) (number : ℕ) → IsActiveKeepe
     (top (after first history) ≡ number) × KeeperView (after first history) own.knows own.staged
 
 -- The settled files are the fold of the committed list. Its numbers rise, are at most the greatest
--- lock number, and lie below that of an active keeper that hasn't called its commit.
+-- lock number, and lie below that of a running keeper that hasn't called its commit.
 pub record SettledIsFold (deeds : SuiteDeeds) (first : Folder) (history : History) : Type 0 where
   pub is_fold : (table : Tab) →
       settled (after first history) table ≡ folded deeds first (committed history) table
   pub rises : Rises (committed history)
   pub at_most_top : All (λ one. one.number ≤ top (after first history)) (committed history)
-  pub below_keeper : (token : Token) (number : ℕ) → IsActiveKeeper history token number →
+  pub below_keeper : (token : Token) (number : ℕ) → RunsAsKeeper history token number →
       (standing token history).commit ≡ commit_uncalled →
       All (λ one. one.number < number) (committed history)
 

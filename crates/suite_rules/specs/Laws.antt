@@ -1,5 +1,5 @@
 -- The laws of lawful histories, for any deeds, first folder and history.
-use Rattle.std.specs.Prelude.{◌≡◌, ℕ, ◌≤◌, true, [], ◌++◌, Option, Some, IsSome}
+use Rattle.std.specs.Prelude.{◌≡◌, ℕ, ◌≤◌, [], ◌++◌, Option, Some, IsSome}
 use Rattle.acct_text.specs.declared.Tab.{Tab}
 use Rattle.acct_text.specs.Bytes.{Bytes}
 use Rattle.acct_outside.specs.declared.Name.TheVariants.{Table, Lock, Defs}
@@ -7,7 +7,7 @@ use Rattle.acct_outside.specs.Tokens.{Token}
 use Rattle.acct_outside.specs.Folder.{Folder, top, settings_file}
 use Rattle.acct_outside.specs.Calls.{Command, Call, Answer, CallResult, Effect, begins, done, failed, died}
 use Rattle.acct_outside.specs.History.{History, after, own_events}
-use Rattle.acct_outside.specs.Life.{life, is_running}
+use Rattle.acct_outside.specs.Life.{life}
 use Rattle.acct_outside.specs.Gives.{GivesResult}
 use Rattle.suite_rules.specs.Deeds.{SuiteDeeds}
 use Rattle.suite_rules.specs.OwnLock.{lock_kept, kept_number}
@@ -18,7 +18,7 @@ use Rattle.suite_rules.specs.Lawful.{IsNext, Lawful}
 use Rattle.suite_rules.specs.Settled.{settled}
 use Rattle.suite_rules.specs.Committed.{commitment_of, Rises, committed, commitments_of, place, folded}
 use Rattle.suite_rules.specs.Backups.{AreBackups}
-use Rattle.suite_rules.specs.Invariant.{IsActiveKeeper}
+use Rattle.suite_rules.specs.Invariant.{RunsAsKeeper, IsActiveKeeper}
 
 -- the call came to no answer
 pub data IsUnanswered {A : Type 0} : CallResult A → Type 0 where
@@ -46,11 +46,6 @@ pub record OwnStanding : Type 0 where
       life token history ≡ life token (own_events token history)
   pub same_standing : (token : Token) (history : History) →
       standing token history ≡ standing token (own_events token history)
-
--- the session runs as keeper of the number; one of its calls may have failed
-pub record RunsAsKeeper (history : History) (token : Token) (number : ℕ) : Type 0 where
-  pub runs : is_running token history ≡ true
-  pub keeps : (standing token history).own ≡ lock_kept number
 
 -- The greatest lock number never falls. At most one running session is keeper, its lock stands, and
 -- its number is the greatest that ever stood. No two sessions were keeper of one number.
