@@ -1,3 +1,4 @@
 pub mod Reasons
 pub mod Answers
 pub mod Fronts
+pub mod Changes

@@ -5,6 +5,7 @@
 
 mod answer;
 mod cause;
+mod laws;
 mod memory;
 mod message;
 mod pieces;
@@ -15,4 +16,5 @@ pub use account_model::{LineProblem, Refusal, Tool, WordFault};
 pub use acct_outside::{CommitStage, Name, Token};
 pub use answer::Answer;
 pub use cause::{Cause, Outcome, Which};
+pub use laws::changes_succeed;
 pub use memory::put_memory_text;

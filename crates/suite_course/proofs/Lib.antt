@@ -14,6 +14,7 @@ mod IntentLimits
 mod LargeLemmas
 mod LeavesLemmas
 mod OpenLemmas
+mod SuccessLemmas
 mod PlaceLemmas
 pub mod RanLemmas
 mod TurnedLemmas

@@ -41,6 +41,7 @@ use Rattle.suite_session.specs.Due.{AnswersAll, AnswersSome, AnsweredAll, WasKee
 use Rattle.suite_course.proofs.AloneLemmas.{answers-alone}
 use Rattle.suite_course.proofs.DeedLemmas.{files-have}
 use Rattle.suite_course.proofs.LargeLemmas.{large-stayed, last-next}
+use Rattle.suite_course.proofs.SuccessLemmas.{changed-succeeds}
 use Rattle.suite_course.specs.Top.{HasChanged, HasStayed, IsAnswerAt, IsShownAt}
 
 -- files are those of their contents
@@ -126,9 +127,9 @@ changed-at : (deeds : SuiteDeeds) (first : Folder) (history : History) →
     Lawful deeds first history → (asked : Question) (token : Token) (runner : Runner)
     (answer : Answer) → runner.token ≡ token → runner.asked ≡ asked →
     (standing token history).command ≡ Some asked.command →
-    (standing token history).commit ≡ commit_done → AnsweredAll runner answer history →
-    HasChanged deeds asked first history token answer
-changed-at deeds first history lawful asked token runner answer same question began is all =
+    (standing token history).commit ≡ commit_done → answer.outcome.cause ≡ Changed →
+    AnsweredAll runner answer history → HasChanged deeds asked first history token answer
+changed-at deeds first history lawful asked token runner answer same question began is changed all =
     let whole = subst (Lawful deeds first) all.parts lawful in
     let before = lawful-prefix deeds first all.newer all.older whole in
     let owner = subst (λ (one : Token). IsCleanKeeper all.older one all.number all.seen) same
@@ -154,6 +155,7 @@ changed-at deeds first history lawful asked token runner answer same question be
           ∙ ap₂ (λ (number : Option ℕ) (command : Option Command).
           commitment_of token number command) kept_now began;
       at_place = there;
+      succeeds = changed-succeeds runner.asked all.files all.defs answer all.is_answer changed;
       alone = answers-alone deeds first history lawful asked token answer all.number kept_now
           (record {
             newer = all.newer;
@@ -194,30 +196,31 @@ never-lost deeds first history lawful token number other lost =
 pub shown-at : (deeds : SuiteDeeds) (first : Folder) (history : History) →
     Lawful deeds first history → (asked : Question) (runner : Runner) (answer : Answer) →
     runner.asked ≡ asked → (standing runner.token history).command ≡ Some asked.command →
-    (cause : Cause) → (standing runner.token history).commit ≡ commit_at (stage_of cause) →
+    (cause : Cause) → answer.outcome.cause ≡ cause →
+    (standing runner.token history).commit ≡ commit_at (stage_of cause) →
     IsShown runner answer history cause →
     IsShownAt deeds asked first history runner.token answer cause
-shown-at deeds first history lawful asked runner answer question began Changed is shown =
+shown-at deeds first history lawful asked runner answer question began Changed told is shown =
     changed-at deeds first history lawful asked runner.token runner answer refl question began is
-    shown
-shown-at deeds first history lawful asked runner answer question began Same is shown =
+    told shown
+shown-at deeds first history lawful asked runner answer question began Same told is shown =
     all-stayed deeds first history lawful asked runner.token runner answer refl question is shown.0 shown.1
-shown-at deeds first history lawful asked runner answer question began (Refused refusal) is shown =
+shown-at deeds first history lawful asked runner answer question began (Refused refusal) told is shown =
     all-stayed deeds first history lawful asked runner.token runner answer refl question is shown.0 shown.1
-shown-at deeds first history lawful asked runner answer question began (BadSetting line) is shown =
+shown-at deeds first history lawful asked runner answer question began (BadSetting line) told is shown =
     all-stayed deeds first history lawful asked runner.token runner answer refl question is shown.0 shown.1
-shown-at deeds first history lawful asked runner answer question began (NoTable table) is shown =
+shown-at deeds first history lawful asked runner answer question began (NoTable table) told is shown =
     some-stayed deeds first history lawful asked runner.token runner answer refl question is shown.0 shown.1
 shown-at deeds first history lawful asked runner answer question began
-    (TooLarge (File (Table table))) is shown =
+    (TooLarge (File (Table table))) told is shown =
     large-at deeds first history lawful asked runner answer (Table table) question is shown
 shown-at deeds first history lawful asked runner answer question began
-    (TooLarge (File Defs)) is shown =
+    (TooLarge (File Defs)) told is shown =
     large-at deeds first history lawful asked runner answer Defs question is shown
 shown-at deeds first history lawful asked runner answer question began
-    (Outrun number other) is (inl met) =
+    (Outrun number other) told is (inl met) =
     met
 shown-at deeds first history lawful asked runner answer question began
-    (Outrun number other) is (inr lost) =
+    (Outrun number other) told is (inr lost) =
     absurd (never-lost deeds first history lawful runner.token number other lost)
-shown-at deeds first history lawful asked runner answer question began cause is shown = shown
+shown-at deeds first history lawful asked runner answer question began cause told is shown = shown

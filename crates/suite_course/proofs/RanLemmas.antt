@@ -204,7 +204,7 @@ module _ (asked : Question) (entry now : Moment) where
         IsShownAt deeds asked first past.history runner.token final one.cause) (sym ends)
         (shown-at deeds first past.history lawful asked runner final same
         (answered.due.asked ∙ ap (λ (one : Question). Some one.command) same)
-        final.outcome.cause answered.due.commits answered.due.shown))
+        final.outcome.cause refl answered.due.commits answered.due.shown))
 
     -- what the history shows of either
     ran-shown : (by : Token) → AnsweredAs asked entry now by final ⊎ IsUnbegun asked given →

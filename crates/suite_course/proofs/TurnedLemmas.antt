@@ -15,7 +15,7 @@ use Rattle.suite_course.proofs.PlaceLemmas.{shown-at}
 pub answers-keep-promises : AnswersKeepPromises
 answers-keep-promises deeds ours runner answer past lawful says due =
     let shown = shown-at deeds past.first past.history lawful runner.asked runner answer refl due.asked
-    answer.outcome.cause due.commits due.shown in
+    answer.outcome.cause refl due.commits due.shown in
     record {
       settles = λ newer older parts table. lawful-settles.is_fold deeds past.first older
           (lawful-prefix deeds past.first newer older (subst (Lawful deeds past.first) parts lawful))

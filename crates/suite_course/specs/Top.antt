@@ -99,13 +99,14 @@ abbrev pub AnswersAlone : SuiteDeeds → Question → Folder → History → Tok
 AnswersAlone deeds asked first history token given = (old : History) → IsAlone token old history →
     IsAnswerOnOld deeds asked first old history token given
 
--- the session has committed once, and its answer is that at its place
+-- the session has committed once, and its answer is that at its place, with status 0
 pub record HasChanged (deeds : SuiteDeeds) (asked : Question) (first : Folder) (history : History)
     (token : Token) (given : Answer) : Type 0 where
   pub number : ℕ
   pub once : commitments_of token (committed history)
       ≡ record { token = token; number = number; command = asked.command } ∷ []
   pub at_place : IsAnswerAt deeds asked first history number given
+  pub succeeds : given.outcome.status ≡ 0
   pub alone : AnswersAlone deeds asked first history token given
 
 -- the session has committed nothing, and its answer is that at the place of its number
