@@ -1,97 +1,221 @@
-// The calls and syncs of one `accounts groupadd` on DIR/etc, and nothing else: what the disk and the
-// kernel cost. bench/run sets its time beside that of the program. usage: floor DIR LINE
+// The calls, bytes and syncs of one command on DIR/etc, and nothing else: what the disk and the kernel
+// cost. It takes the lock, reads login.defs and the six tables, changes those that are named by a copy
+// of their last line, as a commit does (docs/OPERATING.md), and frees the lock; given DIR alone it only
+// reads. bench/run sets its time beside that of the program. usage: floor DIR [lock [TABLE..]]
 #define _GNU_SOURCE
 #include <dirent.h>
 #include <fcntl.h>
 #include <stdio.h>
 #include <stdlib.h>
 #include <string.h>
+#include <sys/file.h>
 #include <sys/stat.h>
 #include <unistd.h>
 
+enum { TABLES = 6, FIRST_READ = 512 };
+
+struct text {
+    char *bytes;
+    size_t size, room;
+};
+
+static const char *names[TABLES] = {"passwd", "shadow", "group", "gshadow", "subuid", "subgid"};
+static struct text tables[TABLES], changed[TABLES];
+static int is_changed[TABLES];
 static int folder;
 
-static void fail(const char *what) {
-    perror(what);
-    exit(1);
+static void must(int is_done, const char *what) {
+    if (!is_done) {
+        perror(what);
+        exit(1);
+    }
 }
 
-static void list(void) {
-    DIR *names = fdopendir(openat(folder, ".", O_RDONLY | O_DIRECTORY));
-    if (!names)
-        fail("list");
-    while (readdir(names))
-        ;
-    closedir(names);
-}
-
-// The bytes of a file, with room for one more line; none where there is no such file.
-static char *load(const char *name, size_t *size) {
+// Reads of a size that doubles until the end, as the library of the program makes them.
+static struct text load(int at, const char *name, int flags) {
+    struct text text = {0};
     struct stat about;
-    int file = openat(folder, name, O_RDONLY);
-    *size = 0;
-    if (file < 0)
-        return NULL;
-    if (fstat(file, &about) < 0)
-        fail(name);
-    char *text = malloc(about.st_size + 4096);
-    ssize_t got;
-    while ((got = read(file, text + *size, about.st_size + 1 - *size)) > 0)
-        *size += got;
+    if (at == folder && fstatat(at, name, &about, flags) < 0)
+        return text;
+    int file = openat(at, name, O_RDONLY | O_CLOEXEC);
+    must(file >= 0, name);
+    ssize_t got = 1;
+    while (got > 0) {
+        if (text.size == text.room) {
+            text.room = text.room ? 2 * text.room : FIRST_READ;
+            text.bytes = realloc(text.bytes, text.room);
+        }
+        got = read(file, text.bytes + text.size, text.room - text.size);
+        must(got >= 0, name);
+        text.size += got;
+    }
     close(file);
     return text;
 }
 
-static void save(const char *name, int flags, const char *text, size_t size) {
-    int file = openat(folder, name, O_WRONLY | O_CREAT | flags, 0600);
-    if (file < 0)
-        fail(name);
+static void list(void) {
+    DIR *entries = fdopendir(openat(folder, ".", O_RDONLY | O_DIRECTORY | O_CLOEXEC));
+    must(entries != NULL, "list");
+    while (readdir(entries))
+        ;
+    closedir(entries);
+}
+
+static void put(int file, const char *bytes, size_t size) {
     while (size > 0) {
-        ssize_t put = write(file, text, size);
-        if (put < 0)
-            fail(name);
-        text += put;
-        size -= put;
+        ssize_t done = write(file, bytes, size);
+        must(done > 0, "write");
+        bytes += done;
+        size -= done;
     }
-    if (fsync(file) < 0)
-        fail(name);
+}
+
+static int make(const char *name, mode_t mode) {
+    unlinkat(folder, name, 0);
+    int file = openat(folder, name, O_WRONLY | O_CREAT | O_EXCL | O_CLOEXEC, mode);
+    must(file >= 0 && fchmod(file, mode) == 0, name);
+    return file;
+}
+
+static void take_on(const char *name, const char *table) {
+    struct stat model;
+    must(fstatat(folder, table, &model, AT_SYMLINK_NOFOLLOW) == 0, table);
+    fchownat(folder, name, model.st_uid, -1, AT_SYMLINK_NOFOLLOW);
+    fchownat(folder, name, -1, model.st_gid, AT_SYMLINK_NOFOLLOW);
+    must(fchmodat(folder, name, model.st_mode & 07777, 0) == 0, name);
+}
+
+static void finish(int file, const char *from, const char *to) {
+    must(fsync(file) == 0, from);
+    close(file);
+    must(renameat(folder, from, folder, to) == 0, to);
+}
+
+static void sync_folder(void) {
+    int file = openat(folder, ".", O_RDONLY | O_CLOEXEC);
+    must(file >= 0 && fsync(file) == 0, "folder");
     close(file);
 }
 
-static void move(const char *from, const char *to) {
-    if (renameat(folder, from, folder, to) < 0 || fsync(folder) < 0)
-        fail(to);
+static const char *with(const char *name, const char *end) {
+    static char joined[64];
+    snprintf(joined, sizeof joined, "%s%s", name, end);
+    return joined;
+}
+
+static int take_lock(void) {
+    char own[64];
+    load(AT_FDCWD, "/proc/sys/kernel/random/boot_id", 0);
+    load(AT_FDCWD, "/proc/self/stat", 0);
+    readlink("/proc/self/ns/pid", own, sizeof own);
+    snprintf(own, sizeof own, "accounts.held+%d", getpid());
+    struct stat about;
+    int file = openat(folder, own, O_WRONLY | O_CREAT | O_EXCL | O_CLOEXEC, 0600);
+    must(file >= 0 && fchmod(file, 0600) == 0 && flock(file, LOCK_EX) == 0, own);
+    must(fstat(file, &about) == 0 && fstatat(folder, own, &about, AT_SYMLINK_NOFOLLOW) == 0, own);
+    list();
+    must(fchmod(file, 0644) == 0, own);
+    put(file, "held 00000000-0000-0000-0000-000000000000.10000.100000.4026531836.flock\n", 72);
+    must(fsync(file) == 0, own);
+    must(linkat(folder, own, folder, "accounts.lock.1", 0) == 0, "accounts.lock.1");
+    unlinkat(folder, own, 0);
+    list();
+    return file;
+}
+
+static void read_all(void) {
+    for (int i = 0; i < TABLES; i++)
+        tables[i] = load(folder, names[i], AT_SYMLINK_NOFOLLOW);
+    load(folder, "login.defs", 0);
+}
+
+// The table with its last line once more.
+static struct text longer(struct text old) {
+    size_t start = old.size > 0 ? old.size - 1 : 0;
+    while (start > 0 && old.bytes[start - 1] != '\n')
+        start--;
+    struct text text = {malloc(old.size + (old.size - start)), old.size, 0};
+    memcpy(text.bytes, old.bytes, old.size);
+    memcpy(text.bytes + old.size, old.bytes + start, old.size - start);
+    text.size += old.size - start;
+    return text;
+}
+
+static void back_up(int i) {
+    int file = make("accounts.backup+", 0600);
+    put(file, tables[i].bytes, tables[i].size);
+    close(file);
+    take_on("accounts.backup+", names[i]);
+    file = openat(folder, "accounts.backup+", O_RDONLY | O_CLOEXEC);
+    finish(file, "accounts.backup+", with(names[i], "-"));
+}
+
+static void commit(void) {
+    size_t size = 0;
+    for (int i = 0; i < TABLES; i++)
+        size += changed[i].size;
+    char *intent = malloc(size + 1);
+    size = 0;
+    for (int i = 0; i < TABLES; i++) {
+        if (is_changed[i])
+            memcpy(intent + size, changed[i].bytes, changed[i].size);
+        size += changed[i].size;
+    }
+    int file = make("accounts.intent+", 0600);
+    put(file, intent, size);
+    finish(file, "accounts.intent+", "accounts.intent");
+    sync_folder();
+}
+
+static void install(int i) {
+    int file = make(with(names[i], "+"), 0600);
+    put(file, changed[i].bytes, changed[i].size);
+    take_on(with(names[i], "+"), names[i]);
+    finish(file, with(names[i], "+"), names[i]);
+}
+
+static void change(void) {
+    for (int i = 0; i < TABLES; i++)
+        if (is_changed[i])
+            back_up(i);
+    commit();
+    for (int i = 0; i < TABLES; i++)
+        if (is_changed[i])
+            install(i);
+    sync_folder();
+    unlinkat(folder, "accounts.intent", 0);
+}
+
+static void free_lock(int lock) {
+    int file = make("accounts.free+", 0644);
+    put(file, "free\n", 5);
+    must(fsync(file) == 0, "accounts.free+");
+    close(file);
+    list();
+    must(renameat(folder, "accounts.free+", folder, "accounts.lock.1") == 0, "accounts.free+");
+    close(lock);
 }
 
 int main(int count, char **words) {
-    static const char *names[] = {"passwd", "shadow", "gshadow", "subuid", "subgid", "login.defs"};
     char path[4096];
-    size_t size, ignored;
-    if (count != 3)
+    if (count < 2)
         return 2;
     snprintf(path, sizeof path, "%s/etc", words[1]);
     folder = open(path, O_RDONLY | O_DIRECTORY);
-    if (folder < 0)
-        fail(path);
-    list();
-    save("accounts.lock.1", O_EXCL, "held", 4);
-    list();
-    load("accounts.intent", &ignored);
-    for (int i = 0; i < 6; i++)
-        load(names[i], &ignored);
-    char *group = load("group", &size);
-    if (!group)
-        fail("group");
-    save("accounts.backup+", O_TRUNC, group, size);
-    move("accounts.backup+", "group-");
-    size += sprintf(group + size, "%s\n", words[2]);
-    save("accounts.intent+", O_TRUNC, group, size);
-    move("accounts.intent+", "accounts.intent");
-    save("group+", O_TRUNC, group, size);
-    move("group+", "group");
-    unlinkat(folder, "accounts.intent", 0);
-    fsync(folder);
-    save("accounts.free+", O_TRUNC, "free\n", 5);
-    move("accounts.free+", "accounts.lock.1");
+    must(folder >= 0, path);
+    if (count == 2) {
+        read_all();
+        return 0;
+    }
+    int lock = take_lock();
+    load(folder, "accounts.intent", AT_SYMLINK_NOFOLLOW);
+    read_all();
+    for (int i = 0; i < TABLES; i++)
+        for (int word = 3; word < count; word++)
+            if (strcmp(words[word], names[i]) == 0)
+                is_changed[i] = 1, changed[i] = longer(tables[i]);
+    if (count > 3)
+        change();
+    free_lock(lock);
     return 0;
 }
