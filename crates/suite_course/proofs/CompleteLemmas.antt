@@ -39,7 +39,7 @@ use Rattle.suite_session.specs.Deeds.{AreOfTools}
 use Rattle.suite_session.specs.Stands.{IsOutside}
 use Rattle.suite_course.specs.Open.{StandsOpen}
 use Rattle.suite_course.specs.Streams.{Streams, Serves, after_streams}
-use Rattle.suite_course.specs.Supplies.{Supplies, IsTooMuch, IsUnsupplied, LacksNothing}
+use Rattle.suite_course.specs.Supplies.{Supplies, CountsSupplies, IsTooMuch, IsUnsupplied, LacksNothing}
 use Rattle.suite_course.specs.Top.{Answered, AnswersOnOld, BegunOrNone, EndsEarly, EndsUnsupplied, ExtendsLawfully, HasNoToken, IsAlone, IsShownAt, StreamsServe, WhereLawful}
 use Rattle.suite_course.proofs.OpenLemmas.{some-event, never-last, never-gone, never-damaged, never-held, never-raced, never-outrun, never-unread, never-large}
 
@@ -266,11 +266,12 @@ unsupplied-complete tool before now was holds outcome cause due early lacks serv
 -- the second claim
 pub ends-unsupplied : (tool : Tool) (before now : Supplies) (was holds : Streams)
     (outcome : Outcome) (cause : Cause) → IsUnsupplied tool before now cause →
-    EndsEarly (Some tool) (told tool cause) was holds outcome →
+    CountsSupplies before now → EndsEarly (Some tool) (told tool cause) was holds outcome →
     EndsUnsupplied tool before now was holds outcome
-ends-unsupplied tool before now was holds outcome cause due early = record {
+ends-unsupplied tool before now was holds outcome cause due counts early = record {
   cause = cause;
   due = due;
+  counts = counts;
   ends = early;
   complete = unsupplied-complete tool before now was holds outcome cause due early;
 }

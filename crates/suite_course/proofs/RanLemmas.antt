@@ -332,6 +332,8 @@ finished-ran asked entry now was holds outcome finished =
           turns.risen finished.put finished.served finished.ends lawful begun shown;
       bounded = ran-bounded asked entry now outcome finished.given finished.put finished.ends
           finished.token finished.made turns.stands entry.told turns.grew;
+      narrows = turns.narrows;
+      never_falls = turns.never_falls;
     }
 
 -- ---- A command that finished, from its entry

@@ -1,5 +1,5 @@
 -- What the streams hold after an answer, and how an answer is left by a stream that failed.
-use Rattle.std.specs.Prelude.{◌≡◌, ◌⊎◌, ℕ, Option, Some, None, Result, Ok, Err}
+use Rattle.std.specs.Prelude.{◌≡◌, ◌⊎◌, ℕ, ◌≤◌, Option, Some, None, Result, Ok, Err}
 use Rattle.acct_text.specs.Bytes.{Bytes}
 use Rattle.acct_outside.specs.declared.CommitStage.{CommitStage}
 use Rattle.acct_outside.specs.declared.streams.SinkFault.{SinkFault}
@@ -38,13 +38,16 @@ text_of tool answer = elim (memory_stage answer.outcome.cause) [
   | None ↦ answer.err
 ]
 
--- Output and message came whole; or where a stream failed or found no memory, a front of each.
+-- Output and message came whole; or where a stream failed or found no memory, a front of each. No count
+-- of faults falls.
 pub record Serves (tool : Option Tool) (answer : Answer) (before now : Streams)
     (result : Result (Unit {0}) SinkFault) : Type 0 where
   pub output : WhereBytesTold before.out now.out (PutsFront answer.out result)
   pub message : WhereBytesTold before.err now.err (PutsFront (text_of tool answer) result)
   pub failed : result ≡ Err Failed → HasRisen before.out_faults now.out_faults
       ⊎ HasRisen before.err_faults now.err_faults
+  pub out_counts : before.out_faults ≤ now.out_faults
+  pub err_counts : before.err_faults ≤ now.err_faults
 
 -- the answer as the streams left it
 abbrev pub after_streams : Result (Unit {0}) SinkFault → Answer → Answer

@@ -36,6 +36,11 @@ supplies left input_faults gave clock_faults = record {
   clock_faults = clock_faults;
 }
 
+-- no count of faults falls
+pub record CountsSupplies (before now : Supplies) : Type 0 where
+  pub source : before.input_faults ≤ now.input_faults
+  pub clock : before.clock_faults ≤ now.clock_faults
+
 -- the cause of a fault of the source
 abbrev pub cause_of_source : SourceFault → Cause
 cause_of_source Failed = InputFault
@@ -72,6 +77,7 @@ pub record AreSupplied (tool : Tool) (before now : Supplies) (input : Bytes) (da
   pub no_input : reads_input tool ≡ false → input ≡ []
   pub within : length input ≤ table_limit
   pub on_day : now.gave ≡ Some day
+  pub counts : CountsSupplies before now
 
 -- why the command has no input or no day: the source or the clock failed, more came than an input may
 -- have, or there was no memory

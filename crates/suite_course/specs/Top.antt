@@ -1,6 +1,6 @@
 -- What the top call answers: how a command ends that asks for nothing, and what the history of a
 -- folder shows of one that ran.
-use Rattle.std.specs.Prelude.{◌≡◌, ◌≢◌, ◌⊎◌, ◌∷◌, ◌++◌, [], ℕ, Some, None, Option, List, slice_get, Result}
+use Rattle.std.specs.Prelude.{◌≡◌, ◌≢◌, ◌⊎◌, ◌∷◌, ◌++◌, [], ℕ, ◌≤◌, Some, None, Option, List, slice_get, Result}
 use Rattle.std.specs.List.{AllByRecursion}
 use Rattle.acct_text.specs.declared.Tab.{Tab}
 use Rattle.acct_outside.specs.declared.Name.TheVariants.{Table, Backup, Intent, Lock, Defs}
@@ -12,7 +12,7 @@ use Rattle.acct_outside.specs.Faults.{HasRisen}
 use Rattle.acct_outside.specs.Folder.{Folder, settings_file}
 use Rattle.acct_outside.specs.Calls.{answers, done}
 use Rattle.acct_outside.specs.History.{History, after, own_events}
-use Rattle.acct_outside.specs.Contract.{WhereTold}
+use Rattle.acct_outside.specs.Contract.{Narrows, WhereTold}
 use Rattle.account_model.specs.declared.tool.Tool.{Tool}
 use Rattle.account_model.specs.Options.{Word}
 use Rattle.account_model.specs.Words.{tool_named}
@@ -39,7 +39,7 @@ use Rattle.suite_session.specs.Stands.{IsDecided, IsDiskFault, IsOutside, IsStop
 use Rattle.suite_course.specs.Bound.{IsBounded}
 use Rattle.suite_course.specs.Open.{StandsOpen}
 use Rattle.suite_course.specs.Streams.{Streams, Serves, after_streams}
-use Rattle.suite_course.specs.Supplies.{Supplies, IsUnsupplied, LacksNothing}
+use Rattle.suite_course.specs.Supplies.{Supplies, CountsSupplies, IsUnsupplied, LacksNothing}
 
 -- ---- What the history shows
 
@@ -208,6 +208,7 @@ pub record EndsUnsupplied (tool : Tool) (before now : Supplies) (was holds : Str
     (outcome : Outcome) : Type 0 where
   pub cause : Cause
   pub due : IsUnsupplied tool before now cause
+  pub counts : CountsSupplies before now
   pub ends : EndsEarly (Some tool) (told tool cause) was holds outcome
   pub complete : LacksNothing tool before now → StreamsServe was holds →
       outcome.cause ≡ Memory Before
@@ -217,7 +218,9 @@ pub record EndsUnsupplied (tool : Tool) (before now : Supplies) (was holds : Str
 -- settles to the fold of its commitments. The session began in this call, its last event is its
 -- answer, and the history shows what the cause of that says. New events are of others, or the
 -- session's own within the bound. A session that was alone leaves the locks, the intent and the backups
--- as it must; and where nothing stood in its way it gives the tool's answer, or finds no memory.
+-- as it must; and where nothing stood in its way it gives the tool's answer, or finds no memory. From
+-- then on the folder admits no more than before, and its count of faults hasn't fallen, so that the
+-- clauses of a later command in the same folder go on from here.
 pub record Ran (asked : Question) (before now : Moment) (was holds : Streams) (outcome : Outcome)
     : Type 0 where
   pub given : Answer
@@ -243,3 +246,5 @@ pub record Ran (asked : Question) (before now : Moment) (was holds : Streams) (o
       WhereLawful before now (λ deeds first old new. (token : Token) → IsAlone token old new →
       StandsOpen (after first old) token new →
       AnswersOnOld deeds asked first old new token (after_streams put given))
+  pub narrows : Narrows before.admits now.admits
+  pub never_falls : before.faults ≤ now.faults

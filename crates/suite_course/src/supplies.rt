@@ -3,7 +3,7 @@ ghost use Rattle.std.specs.Prelude.{◌≡◌, ◌≤◌, true, false, [], lengt
 ghost use Rattle.acct_text.specs.Limits.{last_day, table_limit};
 ghost use Rattle.acct_outside.specs.Faults.{CountsFailure};
 ghost use Rattle.acct_outside.specs.Streams.{WhereBytesTold};
-ghost use Rattle.suite_course.specs.Supplies.{AreSupplied, IsUnsupplied, LacksInput, TakesAll, cause_of_source, reads_input, supplies};
+ghost use Rattle.suite_course.specs.Supplies.{AreSupplied, CountsSupplies, IsUnsupplied, LacksInput, TakesAll, cause_of_source, reads_input, supplies};
 
 use acct_outside::{Clock, CommitStage, Source, SourceFault};
 use acct_text::Bytes;
@@ -45,6 +45,11 @@ pub(crate) fn supply<S: Source, C: Clock>(
         (C.gave clock.old) (C.fault_count clock.old))
         (supplies (S.left source.new) (S.fault_count source.new)
         (C.gave clock.new) (C.fault_count clock.new))) }
+    ensures counts { CountsSupplies
+        (supplies (S.left source.old) (S.fault_count source.old)
+        (C.gave clock.old) (C.fault_count clock.old))
+        (supplies (S.left source.new) (S.fault_count source.new)
+        (C.gave clock.new) (C.fault_count clock.new)) }
     ensures untouched { reads_input tool ≡ false → source.new ≡ source.old }
 {
     let input = input_of(alloc, tool, source)?;

@@ -5,4 +5,8 @@ use Rattle.suite_course.proofs.running.run_request.Goals as goal
 -- no input or no day: nothing was called of the folder
 pub returns-in-Err-clause-ran : goal.returns-in-Err-clause-ran
 returns-in-Err-clause-ran g c =
-    inl (refl, ends-unsupplied _ _ _ _ _ _ c.in-Err.cause c.in-Err.ensures.lacks c.tell.ensures)
+    inl (
+      refl,
+      ends-unsupplied _ _ _ _ _ _ c.in-Err.cause c.in-Err.ensures.lacks c.supply.ensures.counts
+          c.tell.ensures,
+    )
