@@ -1,0 +1,40 @@
+-- A command that is alone in its folder: what it answers, and what it makes of the files.
+use Rattle.std.specs.Prelude.{◌≡◌, ℕ, Option, unwrap_or}
+use Rattle.acct_text.specs.Bytes.{Bytes}
+use Rattle.acct_text.specs.declared.files.Files.{Files}
+use Rattle.acct_outside.specs.Folder.{settings_file}
+use Rattle.acct_outside.specs.History.{after}
+use Rattle.acct_outside.specs.Contract.{Past}
+use Rattle.account_model.specs.Request.{Request}
+use Rattle.account_model.specs.Answer.{answer, deed}
+use Rattle.suite_rules.specs.Deeds.{SuiteDeeds}
+use Rattle.suite_rules.specs.Lawful.{Lawful}
+use Rattle.suite_rules.specs.Settled.{settled}
+use Rattle.suite_answers.specs.declared.cause.Outcome.{Outcome}
+use Rattle.suite_session.specs.Answers.{cause_of_answer}
+use Rattle.suite_session.specs.Deeds.{AreOfTools, files_of}
+
+-- the told history keeps the rules, for the deeds of the tools
+abbrev pub IsLawful : Past → Type 0
+IsLawful past =
+    (deeds : SuiteDeeds) × AreOfTools deeds × Lawful deeds past.first past.history
+
+-- the six tables as they are settled
+abbrev pub files_at : Past → Files
+files_at past = files_of (settled (after past.first past.history))
+
+-- login.defs as it stands
+abbrev pub defs_at : Past → Option Bytes
+defs_at past = settings_file (after past.first past.history)
+
+-- With some input, on some day, the outcome is that of the request's answer on the settled files of
+-- before, and these became what the answer makes of them; login.defs stays.
+pub record IsStep (request : Request) (old new : Past) (outcome : Outcome) : Type 0 where
+  pub input : Bytes
+  pub day : ℕ
+  pub cause : outcome.cause
+      ≡ cause_of_answer (answer request input day (files_at old) (defs_at old)).cause
+  pub status : outcome.status ≡ (answer request input day (files_at old) (defs_at old)).status
+  pub files : files_at new
+      ≡ unwrap_or (deed request input day (files_at old) (defs_at old)) (files_at old)
+  pub settings : defs_at new ≡ defs_at old

@@ -1,0 +1,32 @@
+// A command that is alone in its folder: one step of the account model.
+ghost use Rattle.account_model.specs.Request.{Request};
+ghost use Rattle.account_model.specs.Words.{Asks};
+ghost use Rattle.acct_outside.specs.Memory.{past_of};
+ghost use Rattle.suite_session.specs.Stands.{IsDecided};
+ghost use Rattle.suite_clients.specs.Alone.{IsLawful, IsStep};
+
+use acct_outside::{Clock, MemoryFolder, Sink, Source};
+use acct_text::Word;
+use std::alloc::Global;
+use suite_core::{Outcome, run_suite};
+
+/// Runs a command in a folder in memory, where no other session runs meanwhile.
+///
+/// Where its tool decided, its outcome is that of the account model's answer on the settled files of
+/// before, and the settled files afterwards are those that the model makes of them.
+pub fn run_alone<S: Source, O: Sink, E: Sink, C: Clock>(
+    alloc: Global,
+    words: &[Word],
+    folder: &mut MemoryFolder,
+    input: &mut S,
+    out: &mut O,
+    err: &mut E,
+    clock: &mut C,
+) -> Outcome
+    requires { IsLawful (past_of folder.old) }
+    ensures lawful { IsLawful (past_of folder.new) }
+    ensures step { (request : Request) → Asks words.now request → IsDecided result.cause →
+        IsStep request (past_of folder.old) (past_of folder.new) result }
+{
+    run_suite(alloc, words, folder, input, out, err, clock)
+}
