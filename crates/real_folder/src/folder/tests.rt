@@ -1,5 +1,8 @@
 // What a real folder does on a disk, which no clause can say. The images stand in out/, which is no part
-// of the repository.
+// of the repository. A test makes the folder, and lends it to a function that tries it: on each of its
+// ways out that one drops little, so it is soon proved.
+ghost use Rattle.acct_outside.specs.Contract.{IsName};
+
 use super::*;
 use acct_outside::{Folder, Verdict};
 use acct_text::Tab;
@@ -46,9 +49,80 @@ fn mode_of(rt: &HostRuntime, path: &str) -> Result<u32, Fail> {
     Ok(fs::metadata(rt, path)?.mode() % 0o1000)
 }
 
+/// Fails where the fact isn't so.
+fn is_so(is_so: bool, fact: &'static str) -> Result<(), Fail> {
+    if is_so { Ok(()) } else { Err(Fail::from(fact)) }
+}
+
+/// Writes a text at a name.
+fn put(
+    rt: &HostRuntime,
+    folder: &mut RealFolder<HostRuntime>,
+    by: &Token,
+    name: Name,
+    text: &[u8],
+) -> Result<(), Fail>
+    requires { IsName name }
+{
+    folder.write(by, name, &Bytes::of(rt.alloc(), text)?)?;
+    Ok(())
+}
+
+/// Whether a write of a text at a name fails.
+fn fails_to_put(
+    rt: &HostRuntime,
+    folder: &mut RealFolder<HostRuntime>,
+    by: &Token,
+    name: Name,
+) -> Result<bool, Fail> {
+    Ok(
+        folder
+            .write(by, name, &Bytes::of(rt.alloc(), b"new\n")?)
+            .is_err(),
+    )
+}
+
+/// Whether a file holds the text.
+fn holds(rt: &HostRuntime, path: &str, text: &str) -> Result<bool, Fail> {
+    Ok(fs::read_to_string(rt, path)?.as_str() == text)
+}
+
+/// Whether a read finds the text.
+fn finds(
+    folder: &mut RealFolder<HostRuntime>,
+    by: &Token,
+    name: Name,
+    limit: u64,
+    text: &[u8],
+) -> Result<bool, Fail>
+    requires { IsName name }
+{
+    match folder.read(by, name, limit)? {
+        Found::Held(bytes) => Ok(bytes.as_slice() == text),
+        _ => Ok(false),
+    }
+}
+
+/// Whether the last error is told so.
+fn tells(rt: &HostRuntime, folder: &RealFolder<HostRuntime>, text: &str) -> Result<bool, Fail> {
+    match folder.last_error() {
+        Some(error) => Ok(error.text(rt.alloc())?.as_str() == text),
+        None => Ok(false),
+    }
+}
+
 #[test]
 fn locks_are_listed_by_number(rt: HostRuntime) -> Result<(), Fail> {
+    let by = token(&rt, "me")?;
     let mut folder = image(&rt, "out/listed")?;
+    lists_by_number(&rt, &mut folder, &by)
+}
+
+fn lists_by_number(
+    rt: &HostRuntime,
+    folder: &mut RealFolder<HostRuntime>,
+    by: &Token,
+) -> Result<(), Fail> {
     for file in [
         "out/listed/etc/accounts.lock.10",
         "out/listed/etc/accounts.lock.9",
@@ -59,158 +133,290 @@ fn locks_are_listed_by_number(rt: HostRuntime) -> Result<(), Fail> {
         "out/listed/etc/accounts.lock",
         "out/listed/etc/passwd",
     ] {
-        fs::write(&rt, file, "")?;
+        fs::write(rt, file, "")?;
     }
-    let numbers = folder.locks(&token(&rt, "me")?)?;
-    assert_eq!(rt; numbers.as_slice(), [9, 10].as_slice());
+    let numbers = folder.locks(by)?;
+    is_so(
+        numbers.as_slice() == [9, 10].as_slice(),
+        "the numbers are 9 and 10",
+    )?;
     Ok(())
 }
 
 #[test]
 fn a_staged_table_is_its_owners_alone(rt: HostRuntime) -> Result<(), Fail> {
-    let mut folder = image(&rt, "out/staged")?;
     let by = token(&rt, "me")?;
+    let mut folder = image(&rt, "out/staged")?;
+    stages_for_the_owner_alone(&rt, &mut folder, &by)
+}
+
+fn stages_for_the_owner_alone(
+    rt: &HostRuntime,
+    folder: &mut RealFolder<HostRuntime>,
+    by: &Token,
+) -> Result<(), Fail> {
     fs::write(
-        &rt,
+        rt,
         "out/staged/etc/shadow+",
         "left behind, for all to read\n",
     )?;
-    let text = Bytes::of(rt.alloc(), b"new\n")?;
-    folder.write(&by, Name::Staged(Tab::Shadow), &text)?;
-    assert_eq!(rt; mode_of(&rt, "out/staged/etc/shadow+")?, 0o600);
-    let staged = fs::read_to_string(&rt, "out/staged/etc/shadow+")?;
-    assert_eq!(rt; staged.as_str(), "new\n");
+    put(rt, folder, by, Name::Staged(Tab::Shadow), b"new\n")?;
+    is_so(
+        mode_of(rt, "out/staged/etc/shadow+")? == 0o600,
+        "the staged table has mode 600",
+    )?;
+    is_so(
+        holds(rt, "out/staged/etc/shadow+", "new\n")?,
+        "the staged table is new",
+    )?;
     Ok(())
 }
 
 #[test]
 fn a_table_keeps_its_mode(rt: HostRuntime) -> Result<(), Fail> {
-    let mut folder = image(&rt, "out/kept")?;
     let by = token(&rt, "me")?;
-    make_shadow(&rt, "out/kept/etc/shadow")?;
-    let text = Bytes::of(rt.alloc(), b"new\n")?;
-    folder.write(&by, Name::Staged(Tab::Shadow), &text)?;
-    assert_eq!(rt; mode_of(&rt, "out/kept/etc/shadow+")?, 0o640);
-    folder.rename(&by, Name::Staged(Tab::Shadow), Name::Table(Tab::Shadow))?;
-    assert_eq!(rt; mode_of(&rt, "out/kept/etc/shadow")?, 0o640);
+    let mut folder = image(&rt, "out/kept")?;
+    keeps_the_mode(&rt, &mut folder, &by)
+}
+
+fn keeps_the_mode(
+    rt: &HostRuntime,
+    folder: &mut RealFolder<HostRuntime>,
+    by: &Token,
+) -> Result<(), Fail> {
+    make_shadow(rt, "out/kept/etc/shadow")?;
+    put(rt, folder, by, Name::Staged(Tab::Shadow), b"new\n")?;
+    is_so(
+        mode_of(rt, "out/kept/etc/shadow+")? == 0o640,
+        "the staged table has mode 640",
+    )?;
+    folder.rename(by, Name::Staged(Tab::Shadow), Name::Table(Tab::Shadow))?;
+    is_so(
+        mode_of(rt, "out/kept/etc/shadow")? == 0o640,
+        "the table has mode 640",
+    )?;
     Ok(())
 }
 
 #[test]
 fn a_backup_takes_the_tables_mode(rt: HostRuntime) -> Result<(), Fail> {
-    let mut folder = image(&rt, "out/backup")?;
     let by = token(&rt, "me")?;
-    make_shadow(&rt, "out/backup/etc/shadow")?;
-    let text = Bytes::of(rt.alloc(), b"old\n")?;
-    folder.write(&by, Name::BackupStage, &text)?;
-    assert_eq!(rt; mode_of(&rt, "out/backup/etc/accounts.backup+")?, 0o600);
-    folder.rename(&by, Name::BackupStage, Name::Backup(Tab::Shadow))?;
-    assert_eq!(rt; mode_of(&rt, "out/backup/etc/shadow-")?, 0o640);
+    let mut folder = image(&rt, "out/backup")?;
+    backs_up_with_the_mode(&rt, &mut folder, &by)
+}
+
+fn backs_up_with_the_mode(
+    rt: &HostRuntime,
+    folder: &mut RealFolder<HostRuntime>,
+    by: &Token,
+) -> Result<(), Fail> {
+    make_shadow(rt, "out/backup/etc/shadow")?;
+    put(rt, folder, by, Name::BackupStage, b"old\n")?;
+    is_so(
+        mode_of(rt, "out/backup/etc/accounts.backup+")? == 0o600,
+        "the staged backup has mode 600",
+    )?;
+    folder.rename(by, Name::BackupStage, Name::Backup(Tab::Shadow))?;
+    is_so(
+        mode_of(rt, "out/backup/etc/shadow-")? == 0o640,
+        "the backup has mode 640",
+    )?;
     Ok(())
 }
 
 #[test]
 fn a_rename_of_nothing_is_a_fault(rt: HostRuntime) -> Result<(), Fail> {
-    let mut folder = image(&rt, "out/nothing")?;
     let by = token(&rt, "me")?;
-    assert!(rt; folder.rename(&by, Name::IntentStage, Name::Intent).is_err());
-    assert_eq!(rt; folder.faults(), 1);
+    let mut folder = image(&rt, "out/nothing")?;
+    fails_to_rename_nothing(&rt, &mut folder, &by)
+}
+
+fn fails_to_rename_nothing(
+    rt: &HostRuntime,
+    folder: &mut RealFolder<HostRuntime>,
+    by: &Token,
+) -> Result<(), Fail> {
+    is_so(
+        folder.rename(by, Name::IntentStage, Name::Intent).is_err(),
+        "the rename fails",
+    )?;
+    is_so(folder.faults() == 1, "one fault is counted")?;
     Ok(())
 }
 
 #[test]
 fn what_is_absent_is_removed_at_once(rt: HostRuntime) -> Result<(), Fail> {
-    let mut folder = image(&rt, "out/removed")?;
     let by = token(&rt, "me")?;
-    folder.remove(&by, Name::Intent)?;
-    fs::write(&rt, "out/removed/etc/accounts.intent", "")?;
-    folder.remove(&by, Name::Intent)?;
-    assert!(rt; !fs::exists(&rt, "out/removed/etc/accounts.intent")?);
-    assert_eq!(rt; folder.faults(), 0);
+    let mut folder = image(&rt, "out/removed")?;
+    removes_what_is_absent(&rt, &mut folder, &by)
+}
+
+fn removes_what_is_absent(
+    rt: &HostRuntime,
+    folder: &mut RealFolder<HostRuntime>,
+    by: &Token,
+) -> Result<(), Fail> {
+    folder.remove(by, Name::Intent)?;
+    fs::write(rt, "out/removed/etc/accounts.intent", "")?;
+    folder.remove(by, Name::Intent)?;
+    is_so(
+        !fs::exists(rt, "out/removed/etc/accounts.intent")?,
+        "the intent is gone",
+    )?;
+    is_so(folder.faults() == 0, "no fault is counted")?;
     Ok(())
 }
 
 #[test]
 fn an_intent_that_stands_is_read(rt: HostRuntime) -> Result<(), Fail> {
-    let mut folder = image(&rt, "out/intent")?;
     let by = token(&rt, "me")?;
-    fs::write(&rt, "out/intent/etc/accounts.intent", "abc")?;
-    let found = folder.read(&by, Name::Intent, 3)?;
-    assert!(rt; matches!(found, Found::Held(_)));
-    assert_eq!(rt; folder.faults(), 0);
+    let mut folder = image(&rt, "out/intent")?;
+    reads_an_intent(&rt, &mut folder, &by)
+}
+
+fn reads_an_intent(
+    rt: &HostRuntime,
+    folder: &mut RealFolder<HostRuntime>,
+    by: &Token,
+) -> Result<(), Fail> {
+    fs::write(rt, "out/intent/etc/accounts.intent", "abc")?;
+    is_so(
+        finds(folder, by, Name::Intent, 3, b"abc")?,
+        "the intent is found",
+    )?;
+    is_so(folder.faults() == 0, "no fault is counted")?;
     Ok(())
 }
 
 #[test]
 fn a_table_is_read_up_to_its_limit(rt: HostRuntime) -> Result<(), Fail> {
-    let mut folder = image(&rt, "out/limit")?;
     let by = token(&rt, "me")?;
-    fs::write(&rt, "out/limit/etc/group", "abc")?;
-    match folder.read(&by, Name::Table(Tab::Group), 3)? {
-        Found::Held(bytes) => assert_eq!(rt; bytes.as_slice(), b"abc".as_slice()),
-        _ => assert!(rt; false),
-    }
-    let found = folder.read(&by, Name::Table(Tab::Group), 2)?;
-    assert!(rt; matches!(found, Found::TooLarge));
+    let mut folder = image(&rt, "out/limit")?;
+    reads_up_to_the_limit(&rt, &mut folder, &by)
+}
+
+fn reads_up_to_the_limit(
+    rt: &HostRuntime,
+    folder: &mut RealFolder<HostRuntime>,
+    by: &Token,
+) -> Result<(), Fail> {
+    fs::write(rt, "out/limit/etc/group", "abc")?;
+    is_so(
+        finds(folder, by, Name::Table(Tab::Group), 3, b"abc")?,
+        "the table is found",
+    )?;
+    let found = folder.read(by, Name::Table(Tab::Group), 2)?;
+    is_so(matches!(found, Found::TooLarge), "the table is too large")?;
     Ok(())
 }
 
 #[test]
 fn a_missing_folder_has_no_tables_and_no_listing(rt: HostRuntime) -> Result<(), Fail> {
-    let mut folder = entered(&rt, "out/missing")?;
     let by = token(&rt, "me")?;
-    let found = folder.read(&by, Name::Table(Tab::Passwd), 16)?;
-    assert!(rt; matches!(found, Found::Absent));
-    assert!(rt; folder.locks(&by).is_err());
-    assert_eq!(rt; folder.faults(), 1);
+    let mut folder = entered(&rt, "out/missing")?;
+    finds_nothing(&rt, &mut folder, &by)
+}
+
+fn finds_nothing(
+    rt: &HostRuntime,
+    folder: &mut RealFolder<HostRuntime>,
+    by: &Token,
+) -> Result<(), Fail> {
+    let found = folder.read(by, Name::Table(Tab::Passwd), 16)?;
+    is_so(matches!(found, Found::Absent), "the table is absent")?;
+    is_so(folder.locks(by).is_err(), "the listing fails")?;
+    is_so(folder.faults() == 1, "one fault is counted")?;
     Ok(())
 }
 
 #[test]
 fn a_folder_whose_name_is_not_utf_8_is_never_touched(rt: HostRuntime) -> Result<(), Fail> {
+    let by = token(&rt, "me")?;
     let mut folder = RealFolder::new(rt.clone()?);
     folder.enter(&Bytes::of(rt.alloc(), b"out/caf\xE9")?)?;
-    let by = token(&rt, "me")?;
-    let text = Bytes::of(rt.alloc(), b"new\n")?;
-    assert!(rt; folder.locks(&by).is_err());
-    assert!(rt; folder.create(&by, 1).is_err());
-    assert!(rt; folder.write(&by, Name::IntentStage, &text).is_err());
-    assert_eq!(rt; folder.faults(), 3);
+    fails_each_call(&rt, &mut folder, &by)
+}
+
+fn fails_each_call(
+    rt: &HostRuntime,
+    folder: &mut RealFolder<HostRuntime>,
+    by: &Token,
+) -> Result<(), Fail> {
+    is_so(folder.locks(by).is_err(), "the listing fails")?;
+    is_so(folder.create(by, 1).is_err(), "the create fails")?;
+    is_so(
+        fails_to_put(rt, folder, by, Name::IntentStage)?,
+        "the write fails",
+    )?;
+    is_so(folder.faults() == 3, "three faults are counted")?;
     Ok(())
 }
 
 #[test]
 fn a_link_is_no_table(rt: HostRuntime) -> Result<(), Fail> {
-    let mut folder = image(&rt, "out/links")?;
     let by = token(&rt, "me")?;
-    fs::write(&rt, "out/links/etc/target", "old\n")?;
-    symlink(&rt, "target", "out/links/etc/passwd")?;
-    assert!(rt; folder.read(&by, Name::Table(Tab::Passwd), 16).is_err());
-    let staged = folder.write(&by, Name::Staged(Tab::Passwd), &Bytes::new(rt.alloc()));
-    assert!(rt; staged.is_err());
-    let why = folder.last_error().ok_or("no error")?.text(rt.alloc())?;
-    assert_eq!(rt; why.as_str(), "out/links/etc/passwd: not a regular file");
+    let mut folder = image(&rt, "out/links")?;
+    refuses_a_link(&rt, &mut folder, &by)
+}
+
+fn refuses_a_link(
+    rt: &HostRuntime,
+    folder: &mut RealFolder<HostRuntime>,
+    by: &Token,
+) -> Result<(), Fail> {
+    fs::write(rt, "out/links/etc/target", "old\n")?;
+    symlink(rt, "target", "out/links/etc/passwd")?;
+    is_so(
+        folder.read(by, Name::Table(Tab::Passwd), 16).is_err(),
+        "the read fails",
+    )?;
+    is_so(
+        fails_to_put(rt, folder, by, Name::Staged(Tab::Passwd))?,
+        "the write fails",
+    )?;
+    is_so(
+        tells(rt, folder, "out/links/etc/passwd: not a regular file")?,
+        "the error names the table",
+    )?;
     Ok(())
 }
 
 #[test]
 fn a_folder_is_no_table(rt: HostRuntime) -> Result<(), Fail> {
+    let by = token(&rt, "me")?;
     let mut folder = image(&rt, "out/folders")?;
-    fs::create_dir_all(&rt, "out/folders/etc/group")?;
-    let found = folder.read(&token(&rt, "me")?, Name::Table(Tab::Group), 16);
-    assert!(rt; found.is_err());
-    assert_eq!(rt; folder.faults(), 1);
+    refuses_a_folder(&rt, &mut folder, &by)
+}
+
+fn refuses_a_folder(
+    rt: &HostRuntime,
+    folder: &mut RealFolder<HostRuntime>,
+    by: &Token,
+) -> Result<(), Fail> {
+    fs::create_dir_all(rt, "out/folders/etc/group")?;
+    let found = folder.read(by, Name::Table(Tab::Group), 16);
+    is_so(found.is_err(), "the read fails")?;
+    is_so(folder.faults() == 1, "one fault is counted")?;
     Ok(())
 }
 
 #[test]
 fn a_link_may_stand_for_login_defs(rt: HostRuntime) -> Result<(), Fail> {
+    let by = token(&rt, "me")?;
     let mut folder = image(&rt, "out/defs")?;
-    fs::write(&rt, "out/defs/etc/target", "GID_MIN 500\n")?;
-    symlink(&rt, "target", "out/defs/etc/login.defs")?;
-    match folder.read(&token(&rt, "me")?, Name::Defs, 16)? {
-        Found::Held(bytes) => assert_eq!(rt; bytes.as_slice(), b"GID_MIN 500\n".as_slice()),
-        _ => assert!(rt; false),
-    }
+    follows_a_link(&rt, &mut folder, &by)
+}
+
+fn follows_a_link(
+    rt: &HostRuntime,
+    folder: &mut RealFolder<HostRuntime>,
+    by: &Token,
+) -> Result<(), Fail> {
+    fs::write(rt, "out/defs/etc/target", "GID_MIN 500\n")?;
+    symlink(rt, "target", "out/defs/etc/login.defs")?;
+    is_so(
+        finds(folder, by, Name::Defs, 16, b"GID_MIN 500\n")?,
+        "the settings are found",
+    )?;
     Ok(())
 }

@@ -14,6 +14,15 @@ fn begun<R: Files<File = File> + AllocGlobal + Clone + Drop>(
     Ok(folder.begin(&[], &Bytes::new(rt.alloc()), 20000)?)
 }
 
+/// Makes lock 1 as the session of a token.
+fn created<R: Files<File = File> + AllocGlobal + Clone + Drop>(
+    rt: &HostRuntime,
+    folder: &mut RealFolder<R>,
+    by: &str,
+) -> Result<Created, Fail> {
+    Ok(folder.create(&token(rt, by)?, 1)?)
+}
+
 /// Reads lock 1 and asks for the verdict on its holder.
 fn judged(
     rt: &HostRuntime,
@@ -63,38 +72,83 @@ fn own_text(rt: &HostRuntime, dir: &str) -> Result<String, Fail> {
     Ok(String::from_str(rt.alloc(), identity)?)
 }
 
+/// Begins and makes lock 1 in the one folder, and then in the other, which is the same on the disk.
+fn creates_once<R: Files<File = File> + AllocGlobal + Clone + Drop>(
+    rt: &HostRuntime,
+    mine: &mut RealFolder<R>,
+    theirs: &mut RealFolder<R>,
+    etc: &str,
+) -> Result<(), Fail> {
+    drop(begun(rt, mine)?);
+    is_so(
+        created(rt, mine, "me")? == Created::Done,
+        "the lock is made",
+    )?;
+    is_so(
+        created(rt, theirs, "other")? == Created::Exists,
+        "the lock stands",
+    )?;
+    is_so(own_files(rt, etc)? == 0, "no file of a session is left")?;
+    is_so(mine.faults() == 0, "no fault is counted")?;
+    Ok(())
+}
+
 #[test]
 fn a_lock_is_created_once(rt: HostRuntime) -> Result<(), Fail> {
     let mut mine = image(&rt, "out/created_once")?;
-    let by = begun(&rt, &mut mine)?;
-    assert_eq!(rt; own_files(&rt, "out/created_once/etc")?, 1);
-    assert_eq!(rt; mine.create(&by, 1)?, Created::Done);
     let mut theirs = entered(&rt, "out/created_once")?;
-    assert_eq!(rt; theirs.create(&token(&rt, "other")?, 1)?, Created::Exists);
-    assert_eq!(rt; own_files(&rt, "out/created_once/etc")?, 0);
-    assert_eq!(rt; mine.faults(), 0);
-    Ok(())
+    creates_once(&rt, &mut mine, &mut theirs, "out/created_once/etc")
 }
 
 #[test]
 fn a_lock_holds_its_token_for_all_to_read(rt: HostRuntime) -> Result<(), Fail> {
     let mut folder = image(&rt, "out/created")?;
-    begun(&rt, &mut folder)?;
-    folder.create(&token(&rt, "me")?, 1)?;
+    creates_for_all(&rt, &mut folder)
+}
+
+fn creates_for_all(rt: &HostRuntime, folder: &mut RealFolder<HostRuntime>) -> Result<(), Fail> {
+    drop(begun(rt, folder)?);
+    is_so(
+        own_files(rt, "out/created/etc")? == 1,
+        "the session has a file",
+    )?;
+    is_so(
+        created(rt, folder, "me")? == Created::Done,
+        "the lock is made",
+    )?;
     let lock = "out/created/etc/accounts.lock.1";
-    assert_eq!(rt; mode_of(&rt, lock)?, 0o644);
-    assert_eq!(rt; fs::read_to_string(&rt, lock)?.as_str(), "held me\n");
+    is_so(mode_of(rt, lock)? == 0o644, "the lock has mode 644")?;
+    is_so(holds(rt, lock, "held me\n")?, "the lock names its token")?;
+    Ok(())
+}
+
+/// Begins and makes a lock of another boot and namespace, which holds it until the folder is dropped.
+fn holds_elsewhere<R: Files<File = File> + AllocGlobal + Clone + Drop>(
+    rt: &HostRuntime,
+    mut holder: RealFolder<R>,
+    other: &mut RealFolder<HostRuntime>,
+) -> Result<Verdict, Fail> {
+    makes_elsewhere(rt, &mut holder)?;
+    judged(rt, other, ELSEWHERE)
+}
+
+fn makes_elsewhere<R: Files<File = File> + AllocGlobal + Clone + Drop>(
+    rt: &HostRuntime,
+    holder: &mut RealFolder<R>,
+) -> Result<(), Fail> {
+    drop(begun(rt, holder)?);
+    is_so(
+        created(rt, holder, ELSEWHERE)? == Created::Done,
+        "the lock is made",
+    )?;
     Ok(())
 }
 
 #[test]
 fn a_lock_is_told_alive_until_its_holder_ends(rt: HostRuntime) -> Result<(), Fail> {
     let mut other = image(&rt, "out/two_opens")?;
-    let mut holder = entered(&rt, "out/two_opens")?;
-    begun(&rt, &mut holder)?;
-    assert_eq!(rt; holder.create(&token(&rt, ELSEWHERE)?, 1)?, Created::Done);
-    assert_eq!(rt; judged(&rt, &mut other, ELSEWHERE)?, Verdict::Alive);
-    drop(holder);
+    let told = holds_elsewhere(&rt, entered(&rt, "out/two_opens")?, &mut other)?;
+    assert_eq!(rt; told, Verdict::Alive);
     assert_eq!(rt; judged(&rt, &mut other, ELSEWHERE)?, Verdict::Dead);
     Ok(())
 }
@@ -105,22 +159,37 @@ fn a_holder_that_moved_on_is_told_alive(rt: HostRuntime) -> Result<(), Fail> {
     assert_eq!(rt; judged(&rt, &mut folder, ELSEWHERE)?, Verdict::Alive);
     for text in ["free\n", "held z\n", ""] {
         fs::write(&rt, "out/moved/etc/accounts.lock.1", text)?;
-        assert_eq!(rt;
-            judged(&rt, &mut folder, ELSEWHERE)?,
-            Verdict::Alive,
-            "at {text:?}"
-        );
+        let told = judged(&rt, &mut folder, ELSEWHERE)?;
+        assert_eq!(rt; told, Verdict::Alive, "at {text:?}");
     }
     Ok(())
+}
+
+/// What is told of the holder of lock 1, once it has the text of this token.
+fn told_of(
+    rt: &HostRuntime,
+    folder: &mut RealFolder<HostRuntime>,
+    holder: &String,
+) -> Result<Verdict, Fail> {
+    write_lock(rt, "out/tokens/etc/accounts.lock.1", holder.as_str())?;
+    judged(rt, folder, holder.as_str())
 }
 
 #[test]
 fn a_holder_is_told_by_its_token(rt: HostRuntime) -> Result<(), Fail> {
     let own = own_text(&rt, "out/tokens")?;
-    let (boot, rest) = own.as_str().split_once('.').ok_or("no boot")?;
+    let mut folder = entered(&rt, "out/tokens")?;
+    tells_by_the_token(&rt, &mut folder, own.as_str())
+}
+
+fn tells_by_the_token(
+    rt: &HostRuntime,
+    folder: &mut RealFolder<HostRuntime>,
+    own: &str,
+) -> Result<(), Fail> {
+    let (boot, rest) = own.split_once('.').ok_or("no boot")?;
     let (process, namespace) = rest.rsplit_once('.').ok_or("no namespace")?;
     let other = "00000000-0000-4000-8000-000000000000";
-    let mut folder = entered(&rt, "out/tokens")?;
     // The boot, what is put behind the start and behind the namespace, the mark, and what is told.
     for (boot, start, space, mark, verdict) in [
         (boot, "", "", "", Verdict::Alive),
@@ -136,9 +205,8 @@ fn a_holder_is_told_by_its_token(rt: HostRuntime) -> Result<(), Fail> {
         ("somebody", "", "", "", Verdict::Alive),
     ] {
         let holder = format!(in rt.alloc(); "{boot}.{process}{start}.{namespace}{space}{mark}")?;
-        write_lock(&rt, "out/tokens/etc/accounts.lock.1", holder.as_str())?;
-        let told = judged(&rt, &mut folder, holder.as_str())?;
-        assert_eq!(rt; told, verdict, "at {holder}");
+        let told = told_of(rt, folder, &holder)?;
+        is_so(told == verdict, "the verdict is that of the row")?;
     }
     Ok(())
 }
@@ -147,29 +215,42 @@ fn a_holder_is_told_by_its_token(rt: HostRuntime) -> Result<(), Fail> {
 fn a_session_takes_over_from_one_of_the_same_token(rt: HostRuntime) -> Result<(), Fail> {
     let own = own_text(&rt, "out/twin")?;
     let own = format!(in rt.alloc(); "{own}.flock")?;
-    write_lock(&rt, "out/twin/etc/accounts.lock.1", own.as_str())?;
-    let left = format!(in rt.alloc(); "out/twin/etc/accounts.held+{own}")?;
-    write_lock(&rt, left.as_str(), own.as_str())?;
     let mut folder = entered(&rt, "out/twin")?;
-    begun(&rt, &mut folder)?;
-    let verdict = judged_by(&rt, &mut folder, own.as_str(), own.as_str())?;
-    assert_eq!(rt; verdict, Verdict::Dead);
+    takes_over(&rt, &mut folder, own.as_str())
+}
+
+fn takes_over(
+    rt: &HostRuntime,
+    folder: &mut RealFolder<HostRuntime>,
+    own: &str,
+) -> Result<(), Fail> {
+    write_lock(rt, "out/twin/etc/accounts.lock.1", own)?;
+    let left = format!(in rt.alloc(); "out/twin/etc/accounts.held+{own}")?;
+    write_lock(rt, left.as_str(), own)?;
+    drop(begun(rt, folder)?);
+    is_so(
+        judged_by(rt, folder, own, own)? == Verdict::Dead,
+        "the holder is dead",
+    )?;
     Ok(())
 }
 
 /// Takes lock 1 and frees it.
 fn pass_through(rt: &HostRuntime, dir: &str) -> Result<(), Fail> {
     let mut keeper = entered(rt, dir)?;
-    let by = token(rt, "keeper")?;
-    keeper.create(&by, 1)?;
-    keeper.write(&by, Name::FreeStage, &Bytes::of(rt.alloc(), b"free\n")?)?;
-    keeper.rename(&by, Name::FreeStage, Name::Lock(1))?;
+    frees(rt, &mut keeper, &token(rt, "keeper")?)
+}
+
+fn frees(rt: &HostRuntime, keeper: &mut RealFolder<HostRuntime>, by: &Token) -> Result<(), Fail> {
+    keeper.create(by, 1)?;
+    put(rt, keeper, by, Name::FreeStage, b"free\n")?;
+    keeper.rename(by, Name::FreeStage, Name::Lock(1))?;
     Ok(())
 }
 
 #[test]
 fn what_is_left_over_goes_with_the_next_lock(rt: HostRuntime) -> Result<(), Fail> {
-    image(&rt, "out/left_over")?;
+    drop(image(&rt, "out/left_over")?);
     fs::write(
         &rt,
         "out/left_over/etc/accounts.held+filled",
@@ -185,11 +266,15 @@ fn what_is_left_over_goes_with_the_next_lock(rt: HostRuntime) -> Result<(), Fail
 #[test]
 fn what_a_session_holds_is_not_left_over(rt: HostRuntime) -> Result<(), Fail> {
     let mut running = image(&rt, "out/running")?;
-    let own = begun(&rt, &mut running)?;
-    pass_through(&rt, "out/running")?;
-    assert_eq!(rt; own_files(&rt, "out/running/etc")?, 1);
+    keeps_its_own(&rt, &mut running)
+}
+
+fn keeps_its_own(rt: &HostRuntime, running: &mut RealFolder<HostRuntime>) -> Result<(), Fail> {
+    let own = begun(rt, running)?;
+    pass_through(rt, "out/running")?;
+    is_so(own_files(rt, "out/running/etc")? == 1, "the file is left")?;
     running.answered(&own, 0);
-    assert_eq!(rt; own_files(&rt, "out/running/etc")?, 0);
+    is_so(own_files(rt, "out/running/etc")? == 0, "the file is gone")?;
     Ok(())
 }
 
@@ -202,24 +287,17 @@ fn linkless(rt: &HostRuntime, dir: &str) -> Result<RealFolder<Linkless<HostRunti
 
 #[test]
 fn without_hard_links_a_lock_is_created_once(rt: HostRuntime) -> Result<(), Fail> {
-    image(&rt, "out/linkless_once")?;
+    drop(image(&rt, "out/linkless_once")?);
     let mut mine = linkless(&rt, "out/linkless_once")?;
-    begun(&rt, &mut mine)?;
-    assert_eq!(rt; mine.create(&token(&rt, "me")?, 1)?, Created::Done);
     let mut theirs = linkless(&rt, "out/linkless_once")?;
-    assert_eq!(rt; theirs.create(&token(&rt, "other")?, 1)?, Created::Exists);
-    assert_eq!(rt; own_files(&rt, "out/linkless_once/etc")?, 0);
-    Ok(())
+    creates_once(&rt, &mut mine, &mut theirs, "out/linkless_once/etc")
 }
 
 #[test]
 fn without_hard_links_a_lock_is_held_as_well(rt: HostRuntime) -> Result<(), Fail> {
     let mut other = image(&rt, "out/linkless")?;
-    let mut mine = linkless(&rt, "out/linkless")?;
-    begun(&rt, &mut mine)?;
-    mine.create(&token(&rt, ELSEWHERE)?, 1)?;
-    assert_eq!(rt; judged(&rt, &mut other, ELSEWHERE)?, Verdict::Alive);
-    drop(mine);
+    let told = holds_elsewhere(&rt, linkless(&rt, "out/linkless")?, &mut other)?;
+    assert_eq!(rt; told, Verdict::Alive);
     assert_eq!(rt; judged(&rt, &mut other, ELSEWHERE)?, Verdict::Dead);
     Ok(())
 }
@@ -229,7 +307,6 @@ fn a_missing_folder_gives_no_token(rt: HostRuntime) -> Result<(), Fail> {
     let mut folder = entered(&rt, "out/missing")?;
     let token = folder.begin(&[], &Bytes::new(rt.alloc()), 20000);
     assert!(rt; token.is_err());
-    let why = folder.last_error().ok_or("no error")?.text(rt.alloc())?;
-    assert_eq!(rt; why.as_str(), "out/missing/etc: No such file or directory");
+    assert!(rt; tells(&rt, &folder, "out/missing/etc: No such file or directory")?);
     Ok(())
 }
