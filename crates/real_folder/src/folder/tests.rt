@@ -74,7 +74,9 @@ fn fails_to_put(
     folder: &mut RealFolder<HostRuntime>,
     by: &Token,
     name: Name,
-) -> Result<bool, Fail> {
+) -> Result<bool, Fail>
+    requires { IsName name }
+{
     Ok(
         folder
             .write(by, name, &Bytes::of(rt.alloc(), b"new\n")?)
