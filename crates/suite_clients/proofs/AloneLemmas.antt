@@ -14,6 +14,8 @@ use Rattle.acct_text.specs.Contents.{Contents}
 use Rattle.acct_text.specs.Files.{table_of}
 use Rattle.acct_outside.specs.declared.Name.TheVariants.{Table, Defs}
 use Rattle.acct_outside.specs.declared.CommitStage.TheVariants.{Before}
+use Rattle.acct_outside.specs.declared.FolderFault.{FolderFault}
+use Rattle.acct_outside.specs.declared.FolderFault.TheVariants.{Failed as FolderFailed, Memory as NoFolderMemory}
 use Rattle.acct_outside.specs.declared.streams.SinkFault.{SinkFault}
 use Rattle.acct_outside.specs.declared.streams.SinkFault.TheVariants.{Failed, Memory as NoMemory}
 use Rattle.acct_outside.specs.Tokens.{Token}
@@ -36,19 +38,20 @@ use Rattle.suite_rules.specs.Steps.{LawfulOthers}
 use Rattle.suite_rules.proofs.Settles.{file-facts}
 use Rattle.suite_answers.specs.declared.cause.Which.TheVariants.{Input, File}
 use Rattle.suite_answers.specs.declared.cause.Cause.{Cause}
-use Rattle.suite_answers.specs.declared.cause.Cause.TheVariants.{Changed, Same, Refused, TooLarge, NoTable, BadSetting, InputFault, ClockFault, Memory}
+use Rattle.suite_answers.specs.declared.cause.Cause.TheVariants.{Changed, Same, Refused, TooLarge, NoTable, BadSetting, DiskFault, InputFault, ClockFault, Memory}
 use Rattle.suite_answers.specs.declared.cause.Outcome.{Outcome}
 use Rattle.suite_answers.specs.declared.answer.Answer.{Answer}
 use Rattle.suite_answers.specs.Answers.{told}
 use Rattle.suite_session.specs.Runner.{Question}
 use Rattle.suite_session.specs.Moment.{moment}
-use Rattle.suite_session.specs.Answers.{answer_on, cause_of_answer, memory_answer, IsAnswerOn}
+use Rattle.suite_session.specs.Answers.{after_streams, answer_on, cause_of_answer, given_for, memory_answer, IsAnswerOn, IsTold}
+use Rattle.suite_session.specs.Locking.{cause_of_fault}
 use Rattle.suite_session.specs.Deeds.{AreOfTools, files_of}
 use Rattle.suite_session.specs.Grows.{Grows, none_new, others_new, own_new}
 use Rattle.suite_session.specs.Stands.{IsDecided}
-use Rattle.suite_course.specs.Streams.{Streams, after_streams}
+use Rattle.suite_course.specs.Streams.{Streams}
 use Rattle.suite_course.specs.Supplies.{Supplies, IsUnsupplied}
-use Rattle.suite_course.specs.Top.{Answered, BegunOrNone, EndsUnsupplied, HasChanged, HasNoToken, HasStayed, IsAlone, IsShownAt, Ran}
+use Rattle.suite_course.specs.Top.{EndsUnsupplied, HasChanged, HasNotRun, HasRun, HasStayed, IsAlone, IsShownAt, Ran, RunsOrNot}
 use Rattle.suite_clients.specs.Alone.{IsLawful, IsStep}
 
 -- ---- Causes that no tool decides
@@ -83,13 +86,29 @@ unsupplied-undecided tool before now was holds outcome ends decided =
     by-put (Err Failed) one = one
     by-put (Err NoMemory) one = one
 
--- a begin without a token
-unbegun-undecided : (put : Result (Unit {0}) SinkFault) (given : Answer) → HasNoToken given →
-    IsDecided (after_streams put given).outcome.cause → ⊥
-unbegun-undecided (Ok unit) given (inl is) decided = subst IsDecided is decided
-unbegun-undecided (Ok unit) given (inr is) decided = subst IsDecided is decided
-unbegun-undecided (Err Failed) given none decided = decided
-unbegun-undecided (Err NoMemory) given none decided = decided
+-- an answer that a tool decided came whole to the streams
+decided-whole : (put : Result (Unit {0}) SinkFault) (given : Answer) →
+    IsDecided (after_streams put given).outcome.cause → after_streams put given ≡ given
+decided-whole (Ok unit) given decided = refl
+decided-whole (Err Failed) given decided = absurd decided
+decided-whole (Err NoMemory) given decided = absurd decided
+
+-- a begin without a token told a fault of the folder, or that there was no memory
+not-run-undecided : (asked : Question) (given : Answer) (first : Folder) (old new : History) →
+    HasNotRun asked no_others given first old new → IsDecided given.outcome.cause → ⊥
+not-run-undecided asked given first old new idle decided = by-fault idle.fault idle.tells
+  where
+    no-answer : (answer : Answer) → (IsDecided answer.outcome.cause → ⊥) → given ≡ answer → ⊥
+    no-answer answer none is =
+        none (subst (λ (one : Answer). IsDecided one.outcome.cause) is decided)
+
+    by-fault : (fault : FolderFault) → IsTold asked.request.tool (cause_of_fault Before fault) given →
+        ⊥
+    by-fault FolderFailed (inl is) =
+        no-answer (given_for asked.request.tool (DiskFault Before)) (λ none. none) is
+    by-fault FolderFailed (inr is) = no-answer (memory_answer Before) (λ none. none) is
+    by-fault NoFolderMemory (inl is) = no-answer (memory_answer Before) (λ none. none) is
+    by-fault NoFolderMemory (inr is) = no-answer (memory_answer Before) (λ none. none) is
 
 -- ---- Who made the new events
 
@@ -101,17 +120,6 @@ grows-own token old _ most (others_new _ event new grows admitted) = absurd admi
 grows-own token old _ _ (own_new most event new grows is backs) =
     let before = grows-own token old new most grows in
     (event ∷ before.0, ap (λ (one : History). event ∷ one) before.1, (is, before.2))
-
--- one session made the last event
-one-token : (asked : Question) (outcome : Outcome) (token other : Token) (history : History) →
-    Answered asked outcome token history → Answered asked outcome other history → token ≡ other
-one-token asked outcome token other history answered also = heads answered.last also.last
-  where
-    heads : {one two : Event} {older earlier : History} →
-        history ≡ one ∷ older → history ≡ two ∷ earlier → one.token ≡ two.token
-    heads {one} {two} {older} {earlier} is was =
-        let both : one ∷ older ≡ two ∷ earlier = sym is ∙ was in
-        ap (λ (event : Event). event.token) (let same : one ≡ two = cc in same)
 
 -- what is lawful needs nothing of others where none is admitted
 pub none-admitted : (deeds : SuiteDeeds) (first : Folder) → LawfulOthers deeds no_others first
@@ -268,52 +276,40 @@ module _ (asked : Question) (old new : Past) (one other : ℕ) (was holds : Stre
   -- who ran: a session of one token, which was alone since the entry
   record WhoRan : Type 0 where
     token : Token
-    answered : Answered asked outcome token new.history
+    run : HasRun asked no_others ran.given outcome old.first old.history new.history token
     alone : IsAlone token old.history new.history
 
   -- where its tool decided
-  who-ran : IsDecided outcome.cause → WhoRan
-  who-ran decided = by-begin ran.answered.1
+  who-ran : IsDecided ran.given.outcome.cause → WhoRan
+  who-ran decided = by-session ran.session.1
     where
-      none : HasNoToken ran.given → ⊥
-      none unbegun = unbegun-undecided ran.put ran.given unbegun
-          (subst (λ (last : Outcome). IsDecided last.cause) ran.ends decided)
-
-      by-begin : BegunOrNone asked outcome ran.given old.first old.history new.history → WhoRan
-      by-begin (inr unbegun) = absurd (none unbegun)
-      by-begin (inl begun) = elim ran.bounded.1 [
-        | inr unbegun ↦ absurd (none unbegun)
-        | inl bounded ↦
-            (let same = one-token asked outcome bounded.0 begun.0 new.history bounded.1 begun.1 in
-            let own = grows-own bounded.0 old.history new.history bounded.2.made bounded.2.grows in
-            record {
-              token = begun.0;
-              answered = begun.1;
-              alone = record {
-                newer = own.0;
-                parts = own.1;
-                own = subst (λ (token : Token).
-                    AllByRecursion (λ event. event.token ≡ token) own.0) same own.2;
-                fresh = begun.2;
-              };
-            })
-      ]
+      by-session : RunsOrNot asked no_others ran.given outcome old.first old.history new.history →
+          WhoRan
+      by-session (inr idle) = absurd (not-run-undecided asked ran.given old.first old.history
+          new.history idle decided)
+      by-session (inl run) =
+          let own = grows-own run.0 old.history new.history run.1.bounded.made run.1.bounded.grows in
+          record {
+            token = run.0;
+            run = run.1;
+            alone = record { newer = own.0; parts = own.1; own = own.2; fresh = run.1.fresh };
+          }
 
   -- the claim
   pub ran-step : IsLawful old → Asks asked.command.words asked.request → IsDecided outcome.cause →
       IsStep asked.request old new outcome
   ran-step is asks decided =
-      let who = who-ran decided in
-      let final = after_streams ran.put ran.given in
+      let whole = decided-whole ran.ends.put ran.given
+      (subst (λ (last : Outcome). IsDecided last.cause) ran.ends.left decided) in
+      let same : outcome ≡ ran.given.outcome =
+      ran.ends.left ∙ ap (λ (one : Answer). one.outcome) whole in
+      let own = subst (λ (last : Outcome). IsDecided last.cause) same decided in
+      let who = who-ran own in
       let others = none-admitted is.0 old.first in
       let longer = ran.lawful.1 is.0 is.1 others is.2 in
-      let shown = subst (λ (last : Outcome).
-      IsShownAt is.0 asked old.first new.history who.token final last.cause) ran.ends
-      (ran.shown.1 is.0 is.1 others is.2 who.token who.answered) in
-      let step = step-of is.0 is.1 asked asks old.first old.history new.history who.token final
-      who.alone is.2 longer.lawful (decided-shown is.0 asked old.first new.history who.token final
-      final.outcome.cause (subst (λ (last : Outcome). IsDecided last.cause) ran.ends decided)
-      shown) in
-      subst (λ (last : Outcome). IsStep asked.request old new last) (sym ran.ends)
+      let step = step-of is.0 is.1 asked asks old.first old.history new.history who.token ran.given
+      who.alone is.2 longer.lawful (decided-shown is.0 asked old.first new.history who.token
+      ran.given ran.given.outcome.cause own (who.run.shown is.0 is.1 others is.2)) in
+      subst (λ (last : Outcome). IsStep asked.request old new last) (sym same)
       (subst (λ (first : Folder). IsStep asked.request old
-      (record { first = first; history = new.history }) final.outcome) (sym ran.lawful.0) step)
+      (record { first = first; history = new.history }) ran.given.outcome) (sym ran.lawful.0) step)

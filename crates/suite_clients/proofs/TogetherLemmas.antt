@@ -4,7 +4,7 @@
 -- Way: a session that runs has events of its own, so a new token is none of them (`never-new`); and
 -- its token isn't empty (`never-empty`), as a begin gives none such.
 use Rattle.std.proofs.lemmas.Slice.Eq.{bytes_eq-Decides}
-use Rattle.std.proofs.Common.{◌≡◌, length, is_some, refl, sym, ap, subst, ◌∙◌, ◌∷◌, [], ◌<◌, ◌≤◌, ◌+◌, Bool, true, false, ◌||◌, if◌then◌else◌, Option, Some, None, IsSome, is_none, true≢false, arith}
+use Rattle.std.proofs.Common.{◌≡◌, length, is_some, refl, sym, ap, subst, ◌∙◌, ◌∷◌, [], ◌<◌, ◌≤◌, ◌+◌, Bool, true, false, ◌||◌, if◌then◌else◌, Option, Some, None, Ok, IsSome, is_none, true≢false, arith}
 use Rattle.acct_outside.specs.declared.memory.MemoryFolder.{MemoryFolder}
 use Rattle.acct_outside.specs.Tokens.{Token}
 use Rattle.acct_outside.specs.Folder.{Folder}
@@ -124,9 +124,14 @@ module _ (before now : MemoryFolder) where
   -- after a turn the session stands
   pub new-stands : (old new : Phase) → SessionTurns (moment_of before) (moment_of now) old new →
       SessionStands (moment_of now) new
-  new-stands (Waiting asked) (Begun runner state) turns = turns.1.stands
-  new-stands (Begun runner state) (Begun same next) turns =
-      subst (λ (one : Runner). StandsAs (moment_of now) one next) (sym turns.0) turns.1.stands
+  new-stands (Waiting asked) (Begun runner state) turns =
+      record { own = state; stands = turns.1.stands; put = Ok tt; left = refl }
+  new-stands (Begun runner state) (Begun same next) turns = record {
+    own = next;
+    stands = subst (λ (one : Runner). StandsAs (moment_of now) one next) (sym turns.0) turns.1.stands;
+    put = Ok tt;
+    left = refl;
+  }
   new-stands (Over answer) (Begun runner state) turns = absurd turns
   new-stands old (Waiting asked) turns = tt
   new-stands old (Over answer) turns = tt
@@ -153,21 +158,21 @@ module _ (before now : MemoryFolder) where
       (let same_past : Some (past_of before) ≡ Some (past_of now) = sym turns.1.told in cc)
   new-lawful old new turns = absurd turns
 
-  module _ (lawful : IsLawful (past_of before)) (runner : Runner) (state : State)
-      (stands : StandsAs (moment_of before) runner state) where
+  module _ (lawful : IsLawful (past_of before)) (runner : Runner) (state own : State)
+      (stands : StandsAs (moment_of before) runner own) where
     -- the token of a turn isn't that of another session that is apart
     turn-apart : (old new : Phase) → SessionTurns (moment_of before) (moment_of now) old new →
         AreApart old (Begun runner state) → turn_token old new ≡ runner.token → ⊥
     turn-apart (Waiting asked) (Begun turned next) turns apart =
         never-new runner.token turned.token (past_of before).history
-        (state-runs before runner state stands) turns.2
+        (state-runs before runner own stands) turns.2
     turn-apart (Waiting asked) (Over answer) turns apart =
-        never-empty (past_of before) runner.token lawful (state-runs before runner state stands)
+        never-empty (past_of before) runner.token lawful (state-runs before runner own stands)
     turn-apart (Waiting asked) (Waiting same) turns apart = absurd turns
     turn-apart (Begun turned next) new turns apart =
         λ is. apart runner.token (ap (λ (token : Token). Some token) is) refl
     turn-apart (Over answer) new turns apart =
-        never-empty (past_of before) runner.token lawful (state-runs before runner state stands)
+        never-empty (past_of before) runner.token lawful (state-runs before runner own stands)
 
     -- nor is it later
     still-apart : (old new : Phase) → SessionTurns (moment_of before) (moment_of now) old new →
@@ -199,8 +204,8 @@ module _ (before now : MemoryFolder) where
       keeps : KeepsOthers before now old new
       keeps (Begun runner state) stands apart = (
         others (Begun runner state) stands
-            (turn-apart stood.lawful runner state stands old new turns apart),
-        still-apart stood.lawful runner state stands old new turns apart,
+            (turn-apart stood.lawful runner state stands.own stands.stands old new turns apart),
+        still-apart stood.lawful runner state stands.own stands.stands old new turns apart,
       )
       keeps (Waiting asked) stands apart = (
         tt,

@@ -3,13 +3,15 @@
 -- nothing lacked, found no memory (`ends-unsupplied`).
 -- Way: cause by cause (`answers-as`): what a tool answers on is the files of the entry (AloneLemmas); what
 -- others leave it doesn't meet (OpenLemmas); and each fault is counted.
-use Rattle.std.proofs.Common.{◌≡◌, refl, sym, ap, subst, ◌∙◌, ◌∷◌, ◌++◌, [], ◌+◌, ◌≤◌, length, inl, inr, Option, Some, None, Result, Ok, Err, arith}
+use Rattle.std.proofs.Common.{◌≡◌, refl, sym, ap, subst, ◌∙◌, ◌∷◌, ◌++◌, [], ◌+◌, ◌≤◌, length, ◌⊎◌, inl, inr, Option, Some, None, Result, Ok, Err, arith}
 use Rattle.std.specs.List.{AllByRecursion}
 use Rattle.std.proofs.lemmas.List.{length-append}
 use Rattle.acct_text.specs.Bytes.{Bytes}
 use Rattle.acct_text.specs.Limits.{table_limit}
 use Rattle.acct_outside.specs.declared.Name.TheVariants.{Table, Intent, Defs}
 use Rattle.acct_outside.specs.declared.CommitStage.TheVariants.{Before}
+use Rattle.acct_outside.specs.declared.FolderFault.{FolderFault}
+use Rattle.acct_outside.specs.declared.FolderFault.TheVariants.{Failed as FolderFailed, Memory as NoFolderMemory}
 use Rattle.acct_outside.specs.declared.streams.SinkFault.{SinkFault}
 use Rattle.acct_outside.specs.declared.streams.SinkFault.TheVariants.{Failed, Memory as NoMemory}
 use Rattle.acct_outside.specs.Faults.{HasRisen}
@@ -34,13 +36,14 @@ use Rattle.suite_answers.specs.Answers.{told}
 use Rattle.suite_answers.specs.Reasons.{stage_of}
 use Rattle.suite_session.specs.Runner.{Question}
 use Rattle.suite_session.specs.Moment.{Moment, commit_at}
-use Rattle.suite_session.specs.Answers.{Says}
+use Rattle.suite_session.specs.Answers.{IsTold, Says, after_streams}
 use Rattle.suite_session.specs.Deeds.{AreOfTools}
-use Rattle.suite_session.specs.Stands.{IsOutside}
+use Rattle.suite_session.specs.Locking.{cause_of_fault}
+use Rattle.suite_session.specs.Stands.{IsDiskFault}
 use Rattle.suite_course.specs.Open.{StandsOpen}
-use Rattle.suite_course.specs.Streams.{Streams, Serves, after_streams}
+use Rattle.suite_course.specs.Streams.{Streams, Serves}
 use Rattle.suite_course.specs.Supplies.{Supplies, CountsSupplies, IsTooMuch, IsUnsupplied, LacksNothing}
-use Rattle.suite_course.specs.Top.{Answered, AnswersOnOld, BegunOrNone, EndsEarly, EndsUnsupplied, ExtendsLawfully, HasNoToken, IsAlone, IsShownAt, StreamsServe, WhereLawful}
+use Rattle.suite_course.specs.Top.{Answered, AnswersOnOld, EndsEarly, EndsUnsupplied, ExtendsLawfully, IfLawful, IsAlone, IsShownAt, RunsOrNot, StreamsServe, WhereLawful}
 use Rattle.suite_course.proofs.OpenLemmas.{some-event, never-last, never-gone, never-damaged, never-held, never-raced, never-outrun, never-unread, never-large}
 
 -- ---- A session that was alone
@@ -51,7 +54,7 @@ module _ (deeds : SuiteDeeds) (asked : Question) (first : Folder) (old new : His
   -- it gives the tool's answer, by the cause of its own
   pub answers-as : (cause : Cause) → given.outcome.cause ≡ cause →
       (standing token new).commit ≡ commit_at (stage_of cause) → Says asked given cause →
-      (IsOutside cause → ⊥) → IsShownAt deeds asked first new token given cause →
+      (IsDiskFault cause → ⊥) → IsShownAt deeds asked first new token given cause →
       AnswersOnOld deeds asked first old new token given
   answers-as Changed is commits says inside shown = inr (shown.alone old alone)
   answers-as Same is commits says inside shown = inr (shown.alone old alone)
@@ -81,9 +84,9 @@ module _ (deeds : SuiteDeeds) (asked : Question) (first : Folder) (old new : His
       absurd (never-unread deeds first old new token lawful alone opened commits part shown)
   answers-as (Syntax fault) is commits says inside shown = absurd says
   answers-as (DiskFault stage) is commits says inside shown = absurd (inside tt)
-  answers-as InputFault is commits says inside shown = absurd (inside tt)
-  answers-as (OutputFault stage) is commits says inside shown = absurd (inside tt)
-  answers-as ClockFault is commits says inside shown = absurd (inside tt)
+  answers-as InputFault is commits says inside shown = absurd says
+  answers-as (OutputFault stage) is commits says inside shown = absurd says
+  answers-as ClockFault is commits says inside shown = absurd says
 
 -- who answered with the last event, and began since a moment, is who was alone since then
 one-alone : (asked : Question) (outcome : Outcome) (token other : Token) (old new : History) →
@@ -106,13 +109,26 @@ module _ (tool : Option Tool) (was holds : Streams) (serve : StreamsServe was ho
   -- where no fault of a stream was counted, none failed
   none-failed : (given : Answer) → Serves tool given was holds (Err Failed) → ⊥
   none-failed given served = elim (served.failed refl) [
-    | inl rose ↦ serve.out rose
-    | inr rose ↦ serve.err rose
+    | inl fails ↦ serve.out fails.rose
+    | inr fails ↦ serve.err fails.rose
   ]
+
+-- a begin that gave no token tells a fault of the folder, or that there was no memory
+not-run-cause : (tool : Tool) (fault : FolderFault) (given : Answer) →
+    IsTold tool (cause_of_fault Before fault) given →
+    (given.outcome.cause ≡ DiskFault Before) ⊎ (given.outcome.cause ≡ Memory Before)
+not-run-cause tool FolderFailed given (inl is) =
+    inl (ap (λ (one : Answer). one.outcome.cause) is)
+not-run-cause tool FolderFailed given (inr is) =
+    inr (ap (λ (one : Answer). one.outcome.cause) is)
+not-run-cause tool NoFolderMemory given (inl is) =
+    inr (ap (λ (one : Answer). one.outcome.cause) is)
+not-run-cause tool NoFolderMemory given (inr is) =
+    inr (ap (λ (one : Answer). one.outcome.cause) is)
 
 module _ (asked : Question) (before now : Moment) (was holds : Streams) (outcome : Outcome)
     (given : Answer) (says : Says asked given given.outcome.cause)
-    (outside : IsOutside given.outcome.cause → HasRisen before.faults now.faults)
+    (failed : IsDiskFault given.outcome.cause → HasRisen before.faults now.faults)
     (none : HasRisen before.faults now.faults → ⊥) (serve : StreamsServe was holds) where
   -- by what became of the streams
   answers-put : (put : Result (Unit {0}) SinkFault) →
@@ -121,13 +137,12 @@ module _ (asked : Question) (before now : Moment) (was holds : Streams) (outcome
       (deeds : SuiteDeeds) (first : Folder) (old new : History) → Lawful deeds first new →
       (token : Token) → Answered asked outcome token new → IsAlone token old new →
       StandsOpen (after first old) token new →
-      IsShownAt deeds asked first new token (after_streams put given) outcome.cause →
+      IsShownAt deeds asked first new token given given.outcome.cause →
       AnswersOnOld deeds asked first old new token (after_streams put given)
   answers-put (Ok unit) served ends deeds first old new lawful token answered alone opened shown =
       answers-as deeds asked first old new token lawful alone opened given given.outcome.cause refl
       (answered.commits ∙ ap (λ (one : Outcome). commit_at (stage_of one.cause)) ends) says
-      (λ fault. none (outside fault))
-      (subst (λ (one : Outcome). IsShownAt deeds asked first new token given one.cause) ends shown)
+      (λ fault. none (failed fault)) shown
   answers-put (Err Failed) served ends deeds first old new lawful token answered alone opened shown =
       absurd (none-failed (Some asked.request.tool) was holds serve given served)
   answers-put (Err NoMemory) served ends deeds first old new lawful token answered alone opened shown =
@@ -135,86 +150,78 @@ module _ (asked : Question) (before now : Moment) (was holds : Streams) (outcome
 
   -- by what became of a begin that gave no token
   unbegun-put : (put : Result (Unit {0}) SinkFault) →
-      Serves (Some asked.request.tool) given was holds put → HasNoToken given →
+      Serves (Some asked.request.tool) given was holds put →
+      (given.outcome.cause ≡ DiskFault Before) ⊎ (given.outcome.cause ≡ Memory Before) →
       (deeds : SuiteDeeds) (first : Folder) (old new : History) (token : Token) →
       AnswersOnOld deeds asked first old new token (after_streams put given)
   unbegun-put (Ok unit) served (inl fault) deeds first old new token =
-      absurd (none (outside (subst IsOutside (sym fault) tt)))
+      absurd (none (failed (subst IsDiskFault (sym fault) tt)))
   unbegun-put (Ok unit) served (inr memory) deeds first old new token = inl (Before, memory)
   unbegun-put (Err Failed) served told deeds first old new token =
       absurd (none-failed (Some asked.request.tool) was holds serve given served)
   unbegun-put (Err NoMemory) served told deeds first old new token =
       inl (stage_of given.outcome.cause, refl)
 
-  -- by the session that answered, or that there was none
+  -- by the session that ran, or that there was none
   answers-told : (put : Result (Unit {0}) SinkFault) →
       Serves (Some asked.request.tool) given was holds put →
       outcome ≡ (after_streams put given).outcome →
-      (deeds : SuiteDeeds) (first : Folder) (old new : History) → Lawful deeds first new →
-      BegunOrNone asked outcome given first old new →
-      ((token : Token) → Answered asked outcome token new →
-      IsShownAt deeds asked first new token (after_streams put given) outcome.cause) →
+      (deeds : SuiteDeeds) → AreOfTools deeds → (first : Folder) (old new : History) →
+      LawfulOthers deeds before.admits first → Lawful deeds first old → Lawful deeds first new →
+      RunsOrNot asked before.admits given outcome first old new →
       (token : Token) → IsAlone token old new → StandsOpen (after first old) token new →
       AnswersOnOld deeds asked first old new token (after_streams put given)
-  answers-told put served ends deeds first old new lawful (inl begun) shown token alone opened =
-      let same = one-alone asked outcome token begun.0 old new alone begun.1 begun.2 in
+  answers-told put served ends deeds ours first old new others was_lawful lawful (inl run) token alone
+      opened =
+      let same = one-alone asked outcome token run.0 old new alone run.1.answered run.1.fresh in
       answers-put put served ends deeds first old new lawful token
-      (subst (λ (one : Token). Answered asked outcome one new) same begun.1) alone opened
-      (subst (λ (one : Token).
-      IsShownAt deeds asked first new one (after_streams put given) outcome.cause) same
-      (shown begun.0 begun.1))
-  answers-told put served ends deeds first old new lawful (inr none_begun) shown token alone opened =
-      unbegun-put put served none_begun deeds first old new token
+      (subst (λ (one : Token). Answered asked outcome one new) same run.1.answered) alone opened
+      (subst (λ (one : Token). IsShownAt deeds asked first new one given given.outcome.cause) same
+      (run.1.shown deeds ours others was_lawful))
+  answers-told put served ends deeds ours first old new others was_lawful lawful (inr idle) token alone
+      opened =
+      unbegun-put put served (not-run-cause asked.request.tool idle.fault given idle.tells) deeds
+      first old new token
 
--- this holds of two moments of a history, where it was lawful at the first
-abbrev WhereWas : Admission → Option Past → Option Past →
-    (SuiteDeeds → Folder → History → History → Type 0) → Type 0
-WhereWas admits was told P = WhereTold was told (λ first old new.
-    (deeds : SuiteDeeds) → AreOfTools deeds → LawfulOthers deeds admits first →
-    Lawful deeds first old → P deeds first old new)
-
--- what follows of things that hold there
-where-all : (admits : Admission) (T : Folder → History → History → Type 0)
-    (P Q R : SuiteDeeds → Folder → History → History → Type 0) →
-    ((deeds : SuiteDeeds) (first : Folder) (old new : History) → T first old new →
-    P deeds first old new → Q deeds first old new → R deeds first old new) →
-    (was told : Option Past) → WhereTold was told T → WhereWas admits was told P →
-    WhereWas admits was told Q → WhereWas admits was told R
-where-all admits T P Q R follows None None told one other = tt
-where-all admits T P Q R follows (Some was) (Some past) told one other = (
+-- what follows of a history that is told, and of what it has where it was lawful
+where-both : (admits : Admission) (T : Folder → History → History → Type 0)
+    (P Q : SuiteDeeds → Folder → History → History → Type 0) →
+    ((deeds : SuiteDeeds) → AreOfTools deeds → (first : Folder) (old new : History) →
+    LawfulOthers deeds admits first → Lawful deeds first old → T first old new →
+    P deeds first old new → Q deeds first old new) →
+    (was told : Option Past) → WhereTold was told T →
+    WhereTold was told (λ first old new. IfLawful admits first old (λ deeds. P deeds first old new)) →
+    WhereTold was told (λ first old new. IfLawful admits first old (λ deeds. Q deeds first old new))
+where-both admits T P Q follows None None told one = tt
+where-both admits T P Q follows (Some was) (Some past) told one = (
   one.0,
-  λ deeds ours others lawful. follows deeds was.first was.history past.history told.1
-      (one.1 deeds ours others lawful) (other.1 deeds ours others lawful),
+  λ deeds ours others lawful. follows deeds ours was.first was.history past.history others lawful
+      told.1 (one.1 deeds ours others lawful),
 )
-where-all admits T P Q R follows None (Some past) told one other = absurd one
-where-all admits T P Q R follows (Some was) None told one other = absurd one
+where-both admits T P Q follows None (Some past) told one = absurd one
+where-both admits T P Q follows (Some was) None told one = absurd one
 
 -- the first claim
 pub ran-complete : (asked : Question) (before now : Moment) (was holds : Streams) (outcome : Outcome)
     (given : Answer) → Says asked given given.outcome.cause →
-    (IsOutside given.outcome.cause → HasRisen before.faults now.faults) →
+    (IsDiskFault given.outcome.cause → HasRisen before.faults now.faults) →
     (put : Result (Unit {0}) SinkFault) → Serves (Some asked.request.tool) given was holds put →
     outcome ≡ (after_streams put given).outcome → WhereLawful before now ExtendsLawfully →
-    WhereTold before.told now.told (BegunOrNone asked outcome given) →
-    WhereLawful before now (λ deeds first old new. (token : Token) →
-    Answered asked outcome token new →
-    IsShownAt deeds asked first new token (after_streams put given) outcome.cause) →
+    WhereTold before.told now.told (RunsOrNot asked before.admits given outcome) →
     (HasRisen before.faults now.faults → ⊥) → StreamsServe was holds →
     WhereLawful before now (λ deeds first old new. (token : Token) → IsAlone token old new →
     StandsOpen (after first old) token new →
     AnswersOnOld deeds asked first old new token (after_streams put given))
-ran-complete asked before now was holds outcome given says outside put served ends lawful begun shown
-    none serve =
-    where-all before.admits (BegunOrNone asked outcome given) ExtendsLawfully
-    (λ deeds first old new. (token : Token) → Answered asked outcome token new →
-    IsShownAt deeds asked first new token (after_streams put given) outcome.cause)
+ran-complete asked before now was holds outcome given says failed put served ends lawful session none
+    serve =
+    where-both before.admits (RunsOrNot asked before.admits given outcome) ExtendsLawfully
     (λ deeds first old new. (token : Token) → IsAlone token old new →
     StandsOpen (after first old) token new →
     AnswersOnOld deeds asked first old new token (after_streams put given))
-    (λ deeds first old new told extends shows.
-    answers-told asked before now was holds outcome given says outside none serve put served ends
-    deeds first old new extends.lawful told shows)
-    before.told now.told begun lawful shown
+    (λ deeds ours first old new others was_lawful told extends.
+    answers-told asked before now was holds outcome given says failed none serve put served ends
+    deeds ours first old new others was_lawful extends.lawful told)
+    before.told now.told session lawful
 
 -- ---- A command without input or day
 
@@ -236,8 +243,8 @@ unsupplied-memory : (tool : Tool) (before now : Supplies) (cause : Cause) →
 unsupplied-memory tool before now InputFault due lacks = absurd (lacks.source due.1)
 unsupplied-memory tool before now (TooLarge Input) due lacks =
     let all = lacks.within due.0 in
-    absurd (never-too-much before.left now.left all.0 all.1 all.2 due.1)
-unsupplied-memory tool before now ClockFault due lacks = absurd (lacks.clock due)
+    absurd (never-too-much before.left now.left all.0 all.1 all.2 due.1.1)
+unsupplied-memory tool before now ClockFault due lacks = absurd (lacks.clock due.rose)
 unsupplied-memory tool before now (Memory Before) due lacks = refl
 unsupplied-memory tool before now cause due lacks = absurd due
 

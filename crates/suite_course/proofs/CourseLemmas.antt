@@ -1,17 +1,21 @@
 -- Claim: turn by turn a session comes from its entry to its answer (`comes-turn`), and what holds from
 -- the entry to a moment and from there on holds from the entry on (`turns-then`).
 -- Way: histories grow and stay lawful one after another, as a folder never admits more than before.
-use Rattle.std.proofs.Common.{◌≡◌, refl, sym, ap, subst, ◌∙◌, ◌<◌, ◌≤◌, ◌+◌, [], ℕ, inl, inr, Option, Some, None, IfSome, true, is_none, arith}
+use Rattle.std.proofs.Common.{◌≡◌, refl, sym, ap, subst, ◌∙◌, ◌<◌, ◌≤◌, ◌+◌, [], ℕ, inl, inr, Option, Some, None, IfSome, Ok, Err, true, is_none, arith}
 use Rattle.std.proofs.lemmas.List.Elements.{filter-append}
+use Rattle.acct_outside.specs.declared.FolderFault.{FolderFault}
+use Rattle.acct_outside.specs.declared.FolderFault.TheVariants.{Failed, Memory as NoMemory}
 use Rattle.acct_outside.specs.Faults.{HasRisen}
+use Rattle.acct_outside.specs.Calls.{Command}
 use Rattle.acct_outside.specs.Folder.{Folder}
 use Rattle.acct_outside.specs.Tokens.{Token}
 use Rattle.acct_outside.specs.History.{History, is_of, own_events}
-use Rattle.acct_outside.specs.Others.{Admission}
-use Rattle.acct_outside.specs.Contract.{Past, Narrows}
+use Rattle.acct_outside.specs.Others.{Admission, ByOthers, none_came, one_came}
+use Rattle.acct_outside.specs.Contract.{Past, Narrows, TellsBegin, WhereTold}
 use Rattle.suite_rules.specs.Deeds.{SuiteDeeds}
 use Rattle.suite_rules.specs.Lawful.{Lawful}
 use Rattle.suite_rules.specs.Steps.{LawfulOthers, StaysLawful}
+use Rattle.suite_answers.specs.declared.answer.Answer.{Answer}
 use Rattle.suite_session.specs.declared.session.Phase.{Phase}
 use Rattle.suite_session.specs.declared.session.Phase.TheVariants.{Waiting, Begun, Over}
 use Rattle.suite_session.specs.Runner.{Question, Runner}
@@ -101,6 +105,75 @@ turns-none entry now token other turns = record {
   risen = turns.risen;
 }
 
+-- ---- A begin that gave no token
+
+-- events that a narrower folder admits a wider one admits
+others-wider : (wide narrow : Admission) → Narrows wide narrow → (old new : History) →
+    ByOthers narrow old new → ByOthers wide old new
+others-wider wide narrow narrows old _ none_came = none_came
+others-wider wide narrow narrows old _ (one_came event new others admitted) =
+    one_came event new (others-wider wide narrow narrows old new others)
+    (narrows new event admitted)
+
+-- so its begin is told there
+begin-wider : (wide narrow : Admission) → Narrows wide narrow → (command : Command)
+    (fault : FolderFault) (first : Folder) (old new : History) →
+    TellsBegin narrow command (Err fault) first old new →
+    TellsBegin wide command (Err fault) first old new
+begin-wider wide narrow narrows command Failed first old new begin =
+    let then = begin.1.others_then in (
+      begin.0,
+      record {
+        others_then = record {
+          between = then.between;
+          others = others-wider wide narrow narrows old then.between then.others;
+          last = then.last;
+        };
+        given = begin.1.given;
+      },
+    )
+begin-wider wide narrow narrows command NoMemory first old new begin =
+    others-wider wide narrow narrows old new begin
+
+-- where it is told from a moment
+told-wider : (wide narrow : Admission) → Narrows wide narrow → (command : Command)
+    (fault : FolderFault) (was told : Option Past) →
+    WhereTold was told (TellsBegin narrow command (Err fault)) →
+    WhereTold was told (TellsBegin wide command (Err fault))
+told-wider wide narrow narrows command fault None None tells = tt
+told-wider wide narrow narrows command fault (Some was) (Some past) tells = (
+  tells.0,
+  begin-wider wide narrow narrows command fault was.first was.history past.history tells.1,
+)
+told-wider wide narrow narrows command fault None (Some past) tells = absurd tells
+told-wider wide narrow narrows command fault (Some was) None tells = absurd tells
+
+-- one since a moment is one since an entry at which as much was told
+pub unbegun-from : (asked : Question) (entry between now : Moment) (answer : Answer) →
+    between.told ≡ entry.told → Narrows entry.admits between.admits →
+    IsUnbegun asked between now answer → IsUnbegun asked entry now answer
+unbegun-from asked entry between now answer told narrows unbegun = record {
+  fault = unbegun.fault;
+  begin = subst (λ (was : Option Past).
+      WhereTold was now.told (TellsBegin entry.admits asked.command (Err unbegun.fault))) told
+      (told-wider entry.admits between.admits narrows asked.command unbegun.fault between.told
+      now.told unbegun.begin);
+  tells = unbegun.tells;
+  says = unbegun.says;
+}
+
+-- and stays so while as much is told
+pub unbegun-stays : (asked : Question) (entry between now : Moment) (answer : Answer) →
+    now.told ≡ between.told → IsUnbegun asked entry between answer → IsUnbegun asked entry now answer
+unbegun-stays asked entry between now answer told unbegun = record {
+  fault = unbegun.fault;
+  begin = subst (λ (one : Option Past).
+      WhereTold entry.told one (TellsBegin entry.admits asked.command (Err unbegun.fault)))
+      (sym told) unbegun.begin;
+  tells = unbegun.tells;
+  says = unbegun.says;
+}
+
 -- ---- A session on its way
 
 -- a token that is new was so before
@@ -129,7 +202,7 @@ comes-turn asked entry between now (Waiting question) (Begun runner state) comes
       made = 1;
       turns = turns-as entry now runner.token 1
           (λ stands. (
-            turns.0 ∙ comes.turns.stands,
+            turns.0 ∙ comes.turns.stands.0,
             stands,
             new-from runner.token entry.told between.told
                 (grew-extends entry.admits runner.token 0 entry.told between.told first.grew) turns.2,
@@ -141,7 +214,9 @@ comes-turn asked entry between now (Waiting question) (Over answer) comes none t
     record {
       made = 1;
       turns = turns-as entry now [] 1
-          (subst (λ (one : Question). IsUnbegun one answer) comes.turns.stands) both.risen both;
+          (λ unbegun. unbegun-from asked entry between now answer comes.turns.stands.1
+          comes.turns.narrows (subst (λ (one : Question). IsUnbegun one between now answer)
+          comes.turns.stands.0 unbegun)) both.risen both;
       called = told-any now.told;
     }
 comes-turn asked entry between now (Begun runner state) (Begun same next) comes none turns nearer counts =
@@ -180,7 +255,8 @@ waiting-is (Over answer) waits = absurd waits
 pub comes-stands : (asked : Question) (entry now : Moment) (phase : Phase) →
     Comes asked entry now phase → SessionStands now phase
 comes-stands asked entry now (Waiting question) comes = tt
-comes-stands asked entry now (Begun runner state) comes = comes.turns.stands.1
+comes-stands asked entry now (Begun runner state) comes =
+    record { own = state; stands = comes.turns.stands.1; put = Ok tt; left = refl }
 comes-stands asked entry now (Over answer) comes = tt
 
 -- at its entry it has come to where it is
@@ -190,7 +266,7 @@ comes-first asked entry phase is =
     subst (λ (one : Phase). Comes asked entry entry one) (sym is) (record {
       made = 0;
       turns = record {
-        stands = refl;
+        stands = (refl, refl);
         grew = grew-nothing entry.admits [] entry.told;
         lawful = λ deeds ours. still-lawful deeds entry.admits entry.told;
         narrows = λ history event admitted. admitted;

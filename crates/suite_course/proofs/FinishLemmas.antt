@@ -1,90 +1,43 @@
 -- Claim: a session that came to its answer, whose streams were served, and that then made its last
 -- call, finished (`finishes`).
--- Way: a fault of a stream leaves the stage, so the session still stands with its answer
--- (`streams-stand`); its last call leads to its end alone (`ends-begun`).
+-- Way: the session stands as the streams left it (`streams-stand`); its last call leads to its end
+-- alone (`ends-begun`).
 use Rattle.std.proofs.Common.{◌≡◌, ℕ, ◌+◌, ◌≤◌, [], inl, inr, refl, sym, ap, subst, ◌∙◌, Option, Some, None, IfSome, IsSome, Result, Ok, Err, arith}
 use Rattle.std.proofs.lemmas.Bool.{cases_lt}
-use Rattle.acct_outside.specs.declared.CommitStage.{CommitStage}
 use Rattle.acct_outside.specs.declared.streams.SinkFault.{SinkFault}
-use Rattle.acct_outside.specs.declared.streams.SinkFault.TheVariants.{Failed, Memory as NoMemory}
 use Rattle.acct_outside.specs.Faults.{HasRisen, last_count}
-use Rattle.acct_outside.specs.Contract.{Past}
 use Rattle.account_model.specs.declared.tool.Tool.{Tool}
 use Rattle.suite_answers.specs.declared.cause.Outcome.{Outcome}
 use Rattle.suite_answers.specs.declared.answer.Answer.{Answer}
-use Rattle.suite_answers.specs.Reasons.{stage_of}
 use Rattle.suite_session.specs.declared.state.State.{State}
 use Rattle.suite_session.specs.declared.state.State.TheVariants.{Answering}
 use Rattle.suite_session.specs.declared.session.Phase.{Phase}
 use Rattle.suite_session.specs.declared.session.Phase.TheVariants.{Waiting, Begun, Over}
 use Rattle.suite_session.specs.Runner.{Question, Runner}
 use Rattle.suite_session.specs.Moment.{Moment}
-use Rattle.suite_session.specs.Due.{IsDue}
 use Rattle.suite_session.specs.Session.{HasAnswered, SessionStands, SessionTurns, answer_of, given_in, outcome_of, state_failed}
-use Rattle.suite_session.specs.Stands.{IsStopped, MayGive, StandsAs}
-use Rattle.suite_session.specs.Answers.{Says, after_fault, left_by}
+use Rattle.suite_session.specs.Answers.{Says, after_streams}
 use Rattle.suite_session.proofs.MetLemmas.{told-as}
 use Rattle.suite_session.proofs.OthersLemmas.{state-own}
-use Rattle.suite_course.specs.Streams.{Streams, Serves, after_streams}
+use Rattle.suite_course.specs.Streams.{Streams, Serves}
 use Rattle.suite_course.specs.Course.{Comes, Concludes, Finished, phase_after}
 use Rattle.suite_course.proofs.BoundLemmas.{called-last}
-use Rattle.suite_course.proofs.CourseLemmas.{turns-then, turns-as}
+use Rattle.suite_course.proofs.CourseLemmas.{turns-then, turns-as, unbegun-stays}
 use Rattle.suite_course.proofs.RanLemmas.{stays-turns}
 
 -- ---- A fault of a stream
 
--- it leaves the stage
-left-stage : (fault : SinkFault) (stage : CommitStage) → stage_of (left_by fault stage) ≡ stage
-left-stage Failed stage = refl
-left-stage NoMemory stage = refl
-
--- and an answer that is due
-fault-due : (runner : Runner) (fault : SinkFault) (answer : Answer) (told : Option Past) →
-    IfSome told (IsDue runner answer) → IfSome told (IsDue runner (after_fault fault answer))
-fault-due runner fault answer None due = tt
-fault-due runner Failed answer (Some past) due =
-    record { asked = due.asked; commits = due.commits; shown = tt }
-fault-due runner NoMemory answer (Some past) due =
-    record { asked = due.asked; commits = due.commits; shown = tt }
-
--- it says what its cause says
-fault-says : (asked : Question) (fault : SinkFault) (answer : Answer) →
-    Says asked (after_fault fault answer) (left_by fault (stage_of answer.outcome.cause))
-fault-says asked Failed answer = refl
-fault-says asked NoMemory answer = refl
-
--- it stopped the command
-left-stopped : (fault : SinkFault) (stage : CommitStage) → IsStopped (left_by fault stage)
-left-stopped Failed stage = tt
-left-stopped NoMemory stage = tt
-
--- so the session may give it
-fault-gives : (now : Moment) (runner : Runner) (fault : SinkFault) (answer : Answer) →
-    MayGive now runner answer → MayGive now runner (after_fault fault answer)
-fault-gives now runner fault answer may = record {
-  may_answer = may.may_answer;
-  gives = record {
-    says = fault-says runner.asked fault answer;
-    due = fault-due runner fault answer now.told may.gives.due;
-  };
-  left = λ goes_on. absurd (goes_on (left-stopped fault (stage_of answer.outcome.cause)));
-}
-
--- the state of an answer still stands
-state-stands : (now : Moment) (runner : Runner) (fault : SinkFault) (state : State) →
-    IsSome (given_in state) → StandsAs now runner state → StandsAs now runner (state_failed fault state)
-state-stands now runner fault (Answering answer) some stands =
-    fault-gives now runner fault answer stands
-state-stands now runner fault state some stands = absurd (cc some)
-
--- the session still stands as the streams left it
-pub streams-stand : (now : Moment) (put : Result (Unit {0}) SinkFault) (phase : Phase) →
-    IsSome (answer_of phase) → SessionStands now phase → SessionStands now (phase_after put phase)
-streams-stand now (Ok unit) phase some stands = stands
-streams-stand now (Err fault) (Waiting asked) some stands = absurd (cc some)
-streams-stand now (Err fault) (Begun runner state) some stands =
-    state-stands now runner fault state some stands
-streams-stand now (Err fault) (Over answer) some stands = tt
+-- the session stands as the streams left it
+pub streams-stand : (asked : Question) (entry now : Moment) (put : Result (Unit {0}) SinkFault)
+    (phase : Phase) → Comes asked entry now phase → SessionStands now (phase_after put phase)
+streams-stand asked entry now (Ok unit) (Waiting question) comes = tt
+streams-stand asked entry now (Err fault) (Waiting question) comes = tt
+streams-stand asked entry now (Ok unit) (Begun runner state) comes =
+    record { own = state; stands = comes.turns.stands.1; put = Ok unit; left = refl }
+streams-stand asked entry now (Err fault) (Begun runner state) comes =
+    record { own = state; stands = comes.turns.stands.1; put = Err fault; left = refl }
+streams-stand asked entry now (Ok unit) (Over answer) comes = tt
+streams-stand asked entry now (Err fault) (Over answer) comes = tt
 
 -- and has an answer
 state-answers : (fault : SinkFault) (state : State) → IsSome (given_in state) →
@@ -158,8 +111,9 @@ module _ (asked : Question) (entry between now : Moment) (was holds : Streams) (
                   same = comes.turns.stands.0;
                   same_token = refl;
                   fresh = comes.turns.stands.2;
-                  answered = subst (λ (one : Answer). IfSome now.told (HasAnswered runner one))
-                      (sym same) gave.answered;
+                  answered = subst (λ (one : Answer).
+                      IfSome now.told (HasAnswered runner given one.outcome.status)) (sym same)
+                      (gave given put comes.turns.stands.1 (sym same)).answered;
                   within = told-as now.told (λ past both. both.0) called;
                   backed = told-as now.told (λ past both. both.1) called;
                 }))
@@ -192,7 +146,9 @@ module _ (asked : Question) (entry between now : Moment) (was holds : Streams) (
             ends = is;
             token = [];
             made = comes.made + 0;
-            turns = turns-as entry now [] (comes.made + 0) (λ unit. inr comes.turns.stands)
+            turns = turns-as entry now [] (comes.made + 0)
+                (λ unit. inr
+                (unbegun-stays asked entry between now given turns.1.told comes.turns.stands))
                 (λ outside. risen-later entry.faults between.faults now.faults
                 comes.turns.never_falls (comes.turns.risen outside)
                 (omega (arith, turns.1.faults)))

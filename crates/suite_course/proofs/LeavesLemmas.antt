@@ -1,12 +1,9 @@
 -- Claim: a session that answered, and was alone since a moment, leaves its lock alone and free, no intent
--- where its tool decided, and backups of what it changed (`leaves-alone`); one that a fault or want of
--- memory stopped owes nothing (`stopped-leaves`).
+-- where its tool decided, and backups of what it changed (`leaves-alone`).
 -- Way: what it has left by its own events (`HasLeft`, `BackedUpChanges`) is so in the folder, as nobody
 -- else touched that (AloneLocks, AloneBackups).
-use Rattle.std.proofs.Common.{◌≡◌, refl, sym, ap, subst, ◌∙◌, [], ◌∷◌, ℕ, inl, inr, Option, Some, None, Result, Ok, Err}
+use Rattle.std.proofs.Common.{◌≡◌, refl, sym, ap, subst, ◌∙◌, [], ◌∷◌, ℕ, Option, Some, None}
 use Rattle.acct_outside.specs.declared.Name.TheVariants.{Table, Defs}
-use Rattle.acct_outside.specs.declared.streams.SinkFault.{SinkFault}
-use Rattle.acct_outside.specs.declared.streams.SinkFault.TheVariants.{Failed, Memory as NoMemory}
 use Rattle.acct_outside.specs.Tokens.{Token}
 use Rattle.acct_outside.specs.Folder.{Folder}
 use Rattle.acct_outside.specs.History.{History}
@@ -27,8 +24,7 @@ use Rattle.suite_session.specs.Backing.{BackedUpChanges}
 use Rattle.suite_session.specs.Deeds.{AreOfTools}
 use Rattle.suite_session.specs.Moment.{commit_at}
 use Rattle.suite_session.specs.Stands.{HasLeft, IsDecided, IsStopped}
-use Rattle.suite_course.specs.Streams.{after_streams}
-use Rattle.suite_course.specs.Top.{HasNoToken, IsAlone, IsShownAt, Leaves}
+use Rattle.suite_course.specs.Top.{IsAlone, IsShownAt, Leaves}
 use Rattle.suite_course.proofs.AloneLocks.{alone-lock, alone-intent-none}
 use Rattle.suite_course.proofs.AloneBackups.{alone-backups}
 
@@ -75,7 +71,7 @@ module _ (deeds : SuiteDeeds) (asked : Question) (first : Folder) (past : Past) 
   was-keeper (TooLarge (File Defs)) decided commits shown = (shown.number, shown.kept)
   was-keeper cause decided commits shown = absurd decided
 
-  -- the first claim
+  -- the claim
   pub leaves-alone : AreOfTools deeds → (old : History) → IsAlone token old past.history →
       (cause : Cause) → (standing token past.history).commit ≡ commit_at (stage_of cause) →
       IsShownAt deeds asked first past.history token given cause →
@@ -92,20 +88,3 @@ module _ (deeds : SuiteDeeds) (asked : Question) (first : Folder) (past : Past) 
     backups = λ is. alone-backups deeds ours first past.history lawful token old alone
         (commits ∙ ap (λ (one : Cause). commit_at (stage_of one)) is) backed;
   }
-
--- the second
-pub stopped-leaves : (first : Folder) (old new : History) (token : Token) (cause : Cause) →
-    IsStopped cause → Leaves first old new token cause
-stopped-leaves first old new token cause stopped = record {
-  lock = λ quiet. absurd (quiet stopped);
-  intent = λ decided. absurd (decided-quiet cause decided stopped);
-  backups = λ is. absurd (subst IsStopped is stopped);
-}
-
--- a session whose begin gave no token was stopped, whatever the streams did
-pub unbegun-stopped : (put : Result (Unit {0}) SinkFault) (given : Answer) → HasNoToken given →
-    IsStopped (after_streams put given).outcome.cause
-unbegun-stopped (Ok unit) given (inl is) = subst IsStopped (sym is) tt
-unbegun-stopped (Ok unit) given (inr is) = subst IsStopped (sym is) tt
-unbegun-stopped (Err Failed) given none = tt
-unbegun-stopped (Err NoMemory) given none = tt

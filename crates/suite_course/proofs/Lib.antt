@@ -17,4 +17,6 @@ mod OpenLemmas
 mod SuccessLemmas
 mod PlaceLemmas
 pub mod RanLemmas
+mod StreamsLemmas
+pub mod SuppliesLemmas
 mod TurnedLemmas

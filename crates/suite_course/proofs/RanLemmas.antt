@@ -1,23 +1,25 @@
 -- Claim: a session that finished ran as the top call says (`finished-ran`).
 -- Way: its turns keep a history lawful, so it settles to the fold; its last event is the answer, and
--- PlaceLemmas has what the history shows of that.
+-- PlaceLemmas has what the history shows of that; or its begin gave no token, and told that.
 use Rattle.std.proofs.Common.{◌≡◌, refl, sym, ap, subst, ◌∙◌, ◌⊎◌, ◌++◌, ◌∷◌, [], ◌≤◌, ◌+◌, ℕ, inl, inr, Option, Some, None, IfSome, Result, Ok, Err}
 use Rattle.acct_outside.specs.declared.CommitStage.TheVariants.{Before}
+use Rattle.acct_outside.specs.declared.FolderFault.TheVariants.{Memory as NoFolderMemory}
 use Rattle.acct_outside.specs.declared.streams.SinkFault.{SinkFault}
 use Rattle.acct_outside.specs.declared.streams.SinkFault.TheVariants.{Failed, Memory as NoMemory}
 use Rattle.acct_outside.specs.Tokens.{Token}
+use Rattle.acct_outside.specs.Faults.{HasRisen}
 use Rattle.acct_outside.specs.Folder.{Folder}
-use Rattle.acct_outside.specs.Calls.{answers, done}
-use Rattle.acct_outside.specs.History.{Event, History}
-use Rattle.acct_outside.specs.Others.{Admission}
-use Rattle.acct_outside.specs.Contract.{Past, Narrows, WhereTold}
+use Rattle.acct_outside.specs.Calls.{Command, answers, done}
+use Rattle.acct_outside.specs.History.{Event, History, own_events}
+use Rattle.acct_outside.specs.Others.{Admission, none_came}
+use Rattle.acct_outside.specs.Contract.{Past, Narrows, TellsBegin, WhereTold}
 use Rattle.suite_rules.specs.Deeds.{SuiteDeeds}
 use Rattle.suite_rules.specs.Lawful.{Lawful}
 use Rattle.suite_rules.specs.Steps.{LawfulOthers, StaysLawful}
 use Rattle.suite_rules.proofs.Cut.{lawful-prefix}
 use Rattle.suite_rules.proofs.Settles.{lawful-settles}
 use Rattle.suite_answers.specs.declared.cause.Cause.{Cause}
-use Rattle.suite_answers.specs.declared.cause.Cause.TheVariants.{DiskFault, Memory}
+use Rattle.suite_answers.specs.declared.cause.Cause.TheVariants.{DiskFault}
 use Rattle.suite_answers.specs.declared.cause.Outcome.{Outcome}
 use Rattle.suite_answers.specs.declared.answer.Answer.{Answer}
 use Rattle.suite_answers.specs.Reasons.{stage_of}
@@ -25,31 +27,31 @@ use Rattle.suite_session.specs.Runner.{Question, Runner}
 use Rattle.suite_session.specs.Moment.{Moment, commit_at}
 use Rattle.suite_session.specs.Deeds.{AreOfTools}
 use Rattle.suite_session.specs.Session.{HasAnswered, IsNew, IsUnbegun}
-use Rattle.suite_session.specs.Answers.{memory_answer}
+use Rattle.suite_session.specs.Answers.{after_streams, memory_answer}
 use Rattle.suite_session.specs.Grows.{Grew, Grows}
 use Rattle.suite_session.specs.Backing.{BackedUpChanges}
-use Rattle.suite_session.specs.Stands.{Extends, HasLeft, IsDiskFault, IsOutside, IsStopped, StaysOurs, TurnsTo}
+use Rattle.suite_session.specs.Stands.{Extends, IsDiskFault, IsOutside, StaysOurs, TurnsTo}
 use Rattle.suite_session.proofs.GrowsLemmas.{grew-extends, grew-nothing}
-use Rattle.suite_course.specs.Bound.{IsBounded, IsWithin}
-use Rattle.suite_course.specs.Streams.{Streams, Serves, after_streams}
+use Rattle.suite_course.specs.Bound.{IsWithin}
+use Rattle.suite_course.specs.Streams.{Streams, Serves}
 use Rattle.suite_course.specs.Course.{AnsweredAs, Finished}
-use Rattle.suite_course.specs.Top.{Answered, BegunOrNone, ExtendsLawfully, HasNoToken, IsAlone, IsAlwaysSettled, IsShownAt, Leaves, Ran}
+use Rattle.suite_course.specs.Top.{Answered, ExtendsLawfully, HasRun, IfLawful, IsAlwaysSettled, IsShownAt, Ran, RunsOrNot}
 use Rattle.suite_course.proofs.PlaceLemmas.{shown-at}
 use Rattle.suite_course.proofs.CompleteLemmas.{ran-complete}
-use Rattle.suite_course.proofs.LeavesLemmas.{leaves-alone, stopped-leaves, unbegun-stopped}
-use Rattle.suite_course.proofs.CourseLemmas.{new-from, turns-as, turns-none, turns-then}
+use Rattle.suite_course.proofs.LeavesLemmas.{leaves-alone}
+use Rattle.suite_course.proofs.CourseLemmas.{turns-as, turns-none, turns-then, unbegun-from}
 
--- a fault of the folder lies outside the session
+-- a stream that failed leaves the stage
+stage-left : (put : Result (Unit {0}) SinkFault) (given : Answer) →
+    stage_of (after_streams put given).outcome.cause ≡ stage_of given.outcome.cause
+stage-left (Ok unit) given = refl
+stage-left (Err Failed) given = refl
+stage-left (Err NoMemory) given = refl
+
+-- of what lies outside a session its answer tells of the folder alone
 disk-outside : (cause : Cause) → IsDiskFault cause → IsOutside cause
 disk-outside (DiskFault stage) fault = tt
 disk-outside cause fault = absurd fault
-
--- and an outcome that tells of one is that of the answer
-fault-outside : (put : Result (Unit {0}) SinkFault) (given : Answer) →
-    IsDiskFault (after_streams put given).outcome.cause → IsOutside given.outcome.cause
-fault-outside (Ok unit) given fault = disk-outside given.outcome.cause fault
-fault-outside (Err Failed) given fault = absurd fault
-fault-outside (Err NoMemory) given fault = absurd fault
 
 module _ (asked : Question) (entry now : Moment) where
   -- what follows of a lawful history follows where all is lawful
@@ -57,8 +59,8 @@ module _ (asked : Question) (entry now : Moment) where
       ((deeds : SuiteDeeds) (first : Folder) (old new : History) → Lawful deeds first new →
       (newer : History) → new ≡ newer ++ old → P deeds first old new) →
       (was told : Option Past) → Extends was told → StaysOurs entry.admits was told →
-      WhereTold was told (λ first old new. (deeds : SuiteDeeds) → AreOfTools deeds →
-      LawfulOthers deeds entry.admits first → Lawful deeds first old → P deeds first old new)
+      WhereTold was told (λ first old new. IfLawful entry.admits first old
+      (λ deeds. P deeds first old new))
   where-lawful P follows None None extends stays = tt
   where-lawful P follows (Some was) (Some past) extends stays = (
     extends.0,
@@ -76,12 +78,12 @@ module _ (asked : Question) (entry now : Moment) where
 
   module _ (outcome : Outcome) (given : Answer) (put : Result (Unit {0}) SinkFault)
       (ends : outcome ≡ (after_streams put given).outcome) where
-    abbrev final : Answer
-    final = after_streams put given
+    abbrev last_status : ℕ
+    last_status = (after_streams put given).outcome.status
 
     -- the last event is the outcome's answer
     answered-as : (runner : Runner) (past : Past) → runner.asked ≡ asked →
-        HasAnswered runner final past → Answered asked outcome runner.token past.history
+        HasAnswered runner given last_status past → Answered asked outcome runner.token past.history
     answered-as runner past same answered = record {
       older = answered.older;
       last = answered.last ∙ ap (λ (one : Outcome). let event : Event = record {
@@ -90,208 +92,75 @@ module _ (asked : Question) (entry now : Moment) where
         result = done tt;
       } in event ∷ answered.older) (sym ends);
       began = answered.due.asked ∙ ap (λ (one : Question). Some one.command) same;
-      commits = answered.due.commits
+      commits = answered.due.commits ∙ ap commit_at (sym (stage-left put given))
           ∙ ap (λ (one : Outcome). commit_at (stage_of one.cause)) (sym ends);
     }
 
-    -- it answered, or its begin gave no token
-    ran-answered : (by : Token) → AnsweredAs asked entry now by final ⊎ IsUnbegun asked given →
-        (was : Option Past) → ((token : Token) → IsNew entry.told token → IsNew was token) →
-        Extends was now.told → WhereTold was now.told (BegunOrNone asked outcome given)
-    ran-answered by stands was fresh extends =
-        by-told stands was now.told fresh extends (λ runner same answered. answered)
-      where
-        by-told : AnsweredAs asked entry now by final ⊎ IsUnbegun asked given →
-            (was told : Option Past) → ((token : Token) → IsNew entry.told token → IsNew was token) →
-            Extends was told → ((runner : Runner) → runner.asked ≡ asked →
-            IfSome now.told (HasAnswered runner final) → IfSome told (HasAnswered runner final)) →
-            WhereTold was told (BegunOrNone asked outcome given)
-        by-told stands None None fresh extends same = tt
-        by-told (inl gave) (Some was) (Some past) fresh extends same = (
-          extends.0,
-          inl (
-            gave.runner.token,
-            answered-as gave.runner past gave.same
-                (same gave.runner gave.same gave.answered),
-            fresh gave.runner.token gave.fresh,
-          ),
-        )
-        by-told (inr unbegun) (Some was) (Some past) fresh extends same =
-            (extends.0, inr unbegun.plain)
-        by-told stands None (Some past) fresh extends same = absurd extends
-        by-told stands (Some was) None fresh extends same = absurd extends
-
-    -- its events are within the bound
-    ran-bounded : (by : Token) (made : ℕ) → AnsweredAs asked entry now by final ⊎ IsUnbegun asked given →
-        (was : Option Past) → Grew entry.admits by made was now.told →
-        WhereTold was now.told (λ first old new. ((token : Token)
-        × Answered asked outcome token new × IsBounded entry.admits token old new)
-        ⊎ HasNoToken given)
-    ran-bounded by made stands was grew =
-        by-told stands was now.told grew (λ runner answered. answered) (λ runner within. within)
-      where
-        by-told : AnsweredAs asked entry now by final ⊎ IsUnbegun asked given → (was told : Option Past) →
-            Grew entry.admits by made was told → ((runner : Runner) →
-            IfSome now.told (HasAnswered runner final) → IfSome told (HasAnswered runner final)) →
-            ((runner : Runner) → IfSome now.told (λ past. IsWithin runner.token past.history) →
-            IfSome told (λ past. IsWithin runner.token past.history)) →
-            WhereTold was told (λ first old new. ((token : Token)
-            × Answered asked outcome token new × IsBounded entry.admits token old new)
-            ⊎ HasNoToken given)
-        by-told stands None None grew same within = tt
-        by-told (inl gave) (Some was) (Some past) grew same within = (
-          grew.0,
-          inl (
-            gave.runner.token,
-            answered-as gave.runner past gave.same (same gave.runner gave.answered),
-            record {
-              made = made;
-              grows = subst (λ (token : Token).
-                  Grows entry.admits token was.history made past.history) (sym gave.same_token)
-                  grew.1;
-              within = within gave.runner gave.within;
-            },
-          ),
-        )
-        by-told (inr unbegun) (Some was) (Some past) grew same within = (grew.0, inr unbegun.plain)
-        by-told stands None (Some past) grew same within = absurd grew
-        by-told stands (Some was) None grew same within = absurd grew
-
-    -- an answer that tells of a fault before any token shows nothing more
-    unbegun-shown : (deeds : SuiteDeeds) (first : Folder) (new : History) (token : Token) →
-        HasNoToken given → IsShownAt deeds asked first new token final outcome.cause
-    unbegun-shown deeds first new token none =
-        subst (λ (one : Outcome). IsShownAt deeds asked first new token final one.cause) (sym ends)
-        (by-put put none)
-      where
-        by-cause : (cause : Cause) (one : Answer) →
-            (cause ≡ DiskFault Before) ⊎ (cause ≡ Memory Before) →
-            IsShownAt deeds asked first new token one cause
-        by-cause cause one (inl is) =
-            subst (λ (other : Cause). IsShownAt deeds asked first new token one other) (sym is) tt
-        by-cause cause one (inr is) =
-            subst (λ (other : Cause). IsShownAt deeds asked first new token one other) (sym is) tt
-
-        by-put : (result : Result (Unit {0}) SinkFault) → HasNoToken given →
-            IsShownAt deeds asked first new token final
-            (after_streams result given).outcome.cause
-        by-put (Ok unit) is = by-cause given.outcome.cause final is
-        by-put (Err Failed) is = tt
-        by-put (Err NoMemory) is = tt
-
-    -- one session made the last event
-    last-token : (runner : Runner) (past : Past) → HasAnswered runner final past →
-        (token : Token) → Answered asked outcome token past.history → token ≡ runner.token
-    last-token runner past answered token claimed = heads claimed.last answered.last
-      where
-        heads : {one other : Event} {older earlier : History} →
-            past.history ≡ one ∷ older → past.history ≡ other ∷ earlier → one.token ≡ other.token
-        heads {one} {other} {older} {earlier} is was =
-            let both : one ∷ older ≡ other ∷ earlier = sym is ∙ was in
-            ap (λ (event : Event). event.token) (let same : one ≡ other = cc in same)
-
-    -- what the history shows of the session that answered
+    -- what a lawful history shows of the session that answered
     answered-shown : (runner : Runner) (past : Past) → runner.asked ≡ asked →
-        HasAnswered runner final past → (deeds : SuiteDeeds) (first : Folder) →
-        Lawful deeds first past.history → (token : Token) →
-        Answered asked outcome token past.history →
-        IsShownAt deeds asked first past.history token final outcome.cause
-    answered-shown runner past same answered deeds first lawful token claimed =
-        let is = last-token runner past answered token claimed in
-        subst (λ (one : Token). IsShownAt deeds asked first past.history one final outcome.cause)
-        (sym is)
-        (subst (λ (one : Outcome).
-        IsShownAt deeds asked first past.history runner.token final one.cause) (sym ends)
-        (shown-at deeds first past.history lawful asked runner final same
+        HasAnswered runner given last_status past → (deeds : SuiteDeeds) (first : Folder) →
+        Lawful deeds first past.history →
+        IsShownAt deeds asked first past.history runner.token given given.outcome.cause
+    answered-shown runner past same answered deeds first lawful =
+        shown-at deeds first past.history lawful asked runner given same
         (answered.due.asked ∙ ap (λ (one : Question). Some one.command) same)
-        final.outcome.cause refl answered.due.commits answered.due.shown))
+        given.outcome.cause refl answered.due.commits answered.due.shown
 
-    -- what the history shows of either
-    ran-shown : (by : Token) → AnsweredAs asked entry now by final ⊎ IsUnbegun asked given →
-        (was : Option Past) → Extends was now.told → StaysOurs entry.admits was now.told →
-        WhereTold was now.told (λ first old new. (deeds : SuiteDeeds) → AreOfTools deeds →
-        LawfulOthers deeds entry.admits first → Lawful deeds first old →
-        (token : Token) → Answered asked outcome token new →
-        IsShownAt deeds asked first new token final outcome.cause)
-    ran-shown by stands was extends stays =
-        by-told stands was now.told extends stays (λ runner answered. answered)
-      where
-        by-told : AnsweredAs asked entry now by final ⊎ IsUnbegun asked given →
-            (was told : Option Past) →
-            Extends was told → StaysOurs entry.admits was told → ((runner : Runner) →
-            IfSome now.told (HasAnswered runner final) → IfSome told (HasAnswered runner final)) →
-            WhereTold was told (λ first old new. (deeds : SuiteDeeds) → AreOfTools deeds →
-            LawfulOthers deeds entry.admits first → Lawful deeds first old →
-            (token : Token) → Answered asked outcome token new →
-            IsShownAt deeds asked first new token final outcome.cause)
-        by-told stands None None extends stays same = tt
-        by-told (inl gave) (Some was) (Some past) extends stays same = (
-          extends.0,
-          λ deeds ours others lawful token claimed. answered-shown gave.runner past gave.same
-              (same gave.runner gave.answered) deeds was.first ((stays deeds ours).1 others lawful)
-              token claimed,
-        )
-        by-told (inr unbegun) (Some was) (Some past) extends stays same = (
-          extends.0,
-          λ deeds ours others lawful token claimed.
-              unbegun-shown deeds was.first past.history token unbegun.plain,
-        )
-        by-told stands None (Some past) extends stays same = absurd extends
-        by-told stands (Some was) None extends stays same = absurd extends
+    -- the session that answered has run
+    has-run : (runner : Runner) (was past : Past) (made : ℕ) → runner.asked ≡ asked →
+        own_events runner.token was.history ≡ [] → HasAnswered runner given last_status past →
+        Grows entry.admits runner.token was.history made past.history →
+        IsWithin runner.token past.history → BackedUpChanges runner.token past.history →
+        ((deeds : SuiteDeeds) → AreOfTools deeds → LawfulOthers deeds entry.admits was.first →
+        Lawful deeds was.first was.history → Lawful deeds was.first past.history) →
+        HasRun asked entry.admits given outcome was.first was.history past.history runner.token
+    has-run runner was past made same fresh answered grows within backed stays = record {
+      answered = answered-as runner past same answered;
+      fresh = fresh;
+      bounded = record { made = made; grows = grows; within = within };
+      shown = λ deeds ours others lawful. answered-shown runner past same answered deeds was.first
+          (stays deeds ours others lawful);
+      leaves = λ deeds ours others lawful earlier alone.
+          let lawful_now = stays deeds ours others lawful in
+          leaves-alone deeds asked was.first past runner.token given lawful_now ours earlier alone
+          given.outcome.cause answered.due.commits
+          (answered-shown runner past same answered deeds was.first lawful_now) answered.left backed;
+    }
 
-    -- what the session that answered leaves, where it was alone
-    answered-leaves : (runner : Runner) (past : Past) → runner.asked ≡ asked →
-        HasAnswered runner final past → BackedUpChanges runner.token past.history →
-        (deeds : SuiteDeeds) → AreOfTools deeds → (first : Folder) (old : History) →
-        Lawful deeds first past.history → (token : Token) →
-        Answered asked outcome token past.history → IsAlone token old past.history →
-        Leaves first old past.history token outcome.cause
-    answered-leaves runner past same answered backed deeds ours first old lawful token claimed
-        alone =
-        let is = last-token runner past answered token claimed in
-        leaves-alone deeds asked first past token final lawful ours old alone outcome.cause
-        claimed.commits
-        (answered-shown runner past same answered deeds first lawful token claimed)
-        (subst (λ (one : Token). (IsStopped outcome.cause → ⊥) → HasLeft one outcome.cause past)
-        (sym is)
-        (subst (λ (one : Outcome). (IsStopped one.cause → ⊥) → HasLeft runner.token one.cause past)
-        (sym ends) answered.left))
-        (subst (λ (one : Token). BackedUpChanges one past.history) (sym is) backed)
-
-    -- what either leaves
-    ran-leaves : (by : Token) → AnsweredAs asked entry now by final ⊎ IsUnbegun asked given →
-        (was : Option Past) → Extends was now.told → StaysOurs entry.admits was now.told →
-        WhereTold was now.told (λ first old new. (deeds : SuiteDeeds) → AreOfTools deeds →
-        LawfulOthers deeds entry.admits first → Lawful deeds first old →
-        (token : Token) → Answered asked outcome token new → IsAlone token old new →
-        Leaves first old new token outcome.cause)
-    ran-leaves by stands was extends stays =
-        by-told stands was now.told extends stays (λ P holds. holds)
-      where
-        by-told : AnsweredAs asked entry now by final ⊎ IsUnbegun asked given →
-            (was told : Option Past) → Extends was told → StaysOurs entry.admits was told →
-            ((P : Past → Type 0) → IfSome now.told P → IfSome told P) →
-            WhereTold was told (λ first old new. (deeds : SuiteDeeds) → AreOfTools deeds →
-            LawfulOthers deeds entry.admits first → Lawful deeds first old →
-            (token : Token) → Answered asked outcome token new → IsAlone token old new →
-            Leaves first old new token outcome.cause)
-        by-told stands None None extends stays same = tt
-        by-told (inl gave) (Some was) (Some past) extends stays same = (
-          extends.0,
-          λ deeds ours others lawful token claimed. answered-leaves gave.runner past gave.same
-              (same (HasAnswered gave.runner final) gave.answered)
-              (same (λ one. BackedUpChanges gave.runner.token one.history) gave.backed)
-              deeds ours was.first was.history ((stays deeds ours).1 others lawful) token claimed,
+    -- it has run, or its begin gave no token
+    runs-or-not : (by : Token) (made : ℕ) (was told : Option Past) → was ≡ entry.told →
+        told ≡ now.told → AnsweredAs asked entry now by given last_status ⊎ IsUnbegun asked entry now given →
+        Grew entry.admits by made was told → StaysOurs entry.admits was told →
+        WhereTold was told (RunsOrNot asked entry.admits given outcome)
+    runs-or-not by made None None was_is told_is stands grew stays = tt
+    runs-or-not by made (Some was) (Some past) was_is told_is (inl gave) grew stays = (
+      grew.0,
+      inl (
+        gave.runner.token,
+        has-run gave.runner was past made gave.same
+            (subst (λ (one : Option Past). IsNew one gave.runner.token) (sym was_is) gave.fresh)
+            (subst (λ (one : Option Past). IfSome one (HasAnswered gave.runner given last_status))
+            (sym told_is) gave.answered)
+            (subst (λ (token : Token). Grows entry.admits token was.history made past.history)
+            (sym gave.same_token) grew.1)
+            (subst (λ (one : Option Past). IfSome one (λ past. IsWithin gave.runner.token past.history))
+            (sym told_is) gave.within)
+            (subst (λ (one : Option Past).
+            IfSome one (λ past. BackedUpChanges gave.runner.token past.history)) (sym told_is)
+            gave.backed)
+            (λ deeds ours. (stays deeds ours).1),
+      ),
+    )
+    runs-or-not by made (Some was) (Some past) was_is told_is (inr unbegun) grew stays =
+        let begin = subst (λ (one : Option Past). WhereTold one (Some past)
+        (TellsBegin entry.admits asked.command (Err unbegun.fault))) (sym was_is)
+        (subst (λ (one : Option Past). WhereTold entry.told one
+        (TellsBegin entry.admits asked.command (Err unbegun.fault))) (sym told_is) unbegun.begin) in (
+          grew.0,
+          inr (record { fault = unbegun.fault; begin = begin.1; tells = unbegun.tells }),
         )
-        by-told (inr unbegun) (Some was) (Some past) extends stays same = (
-          extends.0,
-          λ deeds ours others lawful token claimed alone.
-              stopped-leaves was.first was.history past.history token outcome.cause
-              (subst (λ (one : Outcome). IsStopped one.cause) (sym ends)
-              (unbegun-stopped put given unbegun.plain)),
-        )
-        by-told stands None (Some past) extends stays same = absurd extends
-        by-told stands (Some was) None extends stays same = absurd extends
+    runs-or-not by made None (Some past) was_is told_is stands grew stays = absurd grew
+    runs-or-not by made (Some was) None was_is told_is stands grew stays = absurd grew
 
 -- the claim
 pub finished-ran : (asked : Question) (entry now : Moment) (was holds : Streams)
@@ -305,35 +174,26 @@ finished-ran asked entry now was holds outcome finished =
     (λ deeds first old new lawful newer parts.
     record { newer = newer; parts = parts; lawful = lawful })
     entry.told now.told extends turns.lawful in
-    let begun = ran-answered asked entry now outcome finished.given finished.put finished.ends
-    finished.token turns.stands entry.told (λ token new. new) extends in
-    let shown = ran-shown asked entry now outcome finished.given finished.put finished.ends
-    finished.token turns.stands entry.told extends turns.lawful in
+    let session = runs-or-not asked entry now outcome finished.given finished.put finished.ends
+    finished.token finished.made entry.told now.told refl refl turns.stands turns.grew turns.lawful in
+    let failed : IsDiskFault finished.given.outcome.cause → HasRisen entry.faults now.faults =
+    λ fault. turns.risen (disk-outside finished.given.outcome.cause fault) in
     record {
+      narrows = turns.narrows;
+      never_falls = turns.never_falls;
       given = finished.given;
-      says = finished.says;
-      put = finished.put;
-      served = finished.served;
-      ends = finished.ends;
-      outside = turns.risen;
-      failed = λ fault. turns.risen (fault-outside finished.put finished.given
-          (subst (λ (one : Outcome). IsDiskFault one.cause) finished.ends fault));
+      session = session;
       lawful = lawful;
       settles = where-lawful asked entry now
           (λ deeds first old new. IsAlwaysSettled deeds first new)
           (λ deeds first old new lawful newer parts.
           settles asked entry now deeds first new lawful)
           entry.told now.told extends turns.lawful;
-      answered = begun;
-      shown = shown;
-      leaves = ran-leaves asked entry now outcome finished.given finished.put finished.ends
-          finished.token turns.stands entry.told extends turns.lawful;
+      says = finished.says;
+      failed = failed;
+      ends = record { put = finished.put; served = finished.served; left = finished.ends };
       complete = ran-complete asked entry now was holds outcome finished.given finished.says
-          turns.risen finished.put finished.served finished.ends lawful begun shown;
-      bounded = ran-bounded asked entry now outcome finished.given finished.put finished.ends
-          finished.token finished.made turns.stands entry.told turns.grew;
-      narrows = turns.narrows;
-      never_falls = turns.never_falls;
+          failed finished.put finished.served finished.ends lawful session;
     }
 
 -- ---- A command that finished, from its entry
@@ -358,26 +218,29 @@ stays-turns entry now token told narrows never_falls stands none = record {
     still-lawful deeds admits None = tt
     still-lawful deeds admits (Some was) = (refl, λ others lawful. lawful)
 
--- a token that is new since a later moment is so since the entry
-answered-from : (asked : Question) (entry between now : Moment) (by : Token) (one given : Answer) →
-    Extends entry.told between.told → AnsweredAs asked between now by one ⊎ IsUnbegun asked given →
-    AnsweredAs asked entry now by one ⊎ IsUnbegun asked given
-answered-from asked entry between now by one given extends (inl gave) = inl (record {
+-- a token that is new since a later moment, at which no more was told, is so since the entry
+answered-from : (asked : Question) (entry between now : Moment) (by : Token) (given : Answer)
+    (status : ℕ) → between.told ≡ entry.told → Narrows entry.admits between.admits →
+    AnsweredAs asked between now by given status ⊎ IsUnbegun asked between now given →
+    AnsweredAs asked entry now by given status ⊎ IsUnbegun asked entry now given
+answered-from asked entry between now by given status told narrows (inl gave) = inl (record {
   runner = gave.runner;
   same = gave.same;
   same_token = gave.same_token;
-  fresh = new-from gave.runner.token entry.told between.told extends gave.fresh;
+  fresh = subst (λ (one : Option Past). IsNew one gave.runner.token) told gave.fresh;
   answered = gave.answered;
   within = gave.within;
   backed = gave.backed;
 })
-answered-from asked entry between now by one given extends (inr unbegun) = inr unbegun
+answered-from asked entry between now by given status told narrows (inr unbegun) =
+    inr (unbegun-from asked entry between now given told narrows unbegun)
 
 -- one that finished from a later moment finished from its entry
 pub finished-from : (asked : Question) (entry between now : Moment) (was holds : Streams)
-    (outcome : Outcome) (token : Token) {S T : Type 0} → TurnsTo entry between token 0 S T →
-    Finished asked between now was holds outcome → Finished asked entry now was holds outcome
-finished-from asked entry between now was holds outcome token first finished =
+    (outcome : Outcome) (token : Token) {S T : Type 0} → between.told ≡ entry.told →
+    TurnsTo entry between token 0 S T → Finished asked between now was holds outcome →
+    Finished asked entry now was holds outcome
+finished-from asked entry between now was holds outcome token told first finished =
     let none = turns-none entry between token finished.token first in
     let whole = turns-then entry between now finished.token 0 finished.made none finished.turns in
     record {
@@ -389,11 +252,16 @@ finished-from asked entry between now was holds outcome token first finished =
       token = finished.token;
       made = 0 + finished.made;
       turns = turns-as entry now finished.token (0 + finished.made)
-          (answered-from asked entry between now finished.token
-          (after_streams finished.put finished.given) finished.given
-          (grew-extends entry.admits finished.token 0 entry.told between.told none.grew))
+          (answered-from asked entry between now finished.token finished.given
+          (after_streams finished.put finished.given).outcome.status told first.narrows)
           whole.risen whole;
     }
+
+-- as much is told as if there had been no memory for the begin
+untold-begin : (admits : Admission) (command : Command) (told : Option Past) →
+    WhereTold told told (TellsBegin admits command (Err NoFolderMemory))
+untold-begin admits command None = tt
+untold-begin admits command (Some past) = (refl, none_came)
 
 -- one that found no memory before its begin
 pub unbegun-finished : (asked : Question) (entry now : Moment) (was holds : Streams)
@@ -411,6 +279,13 @@ unbegun-finished asked entry now was holds outcome put told narrows never_falls 
   token = [];
   made = 0;
   turns = stays-turns entry now [] told narrows never_falls
-      (inr (record { says = refl; plain = inr refl }))
+      (inr (record {
+        fault = NoFolderMemory;
+        begin = subst (λ (one : Option Past).
+            WhereTold entry.told one (TellsBegin entry.admits asked.command (Err NoFolderMemory)))
+            (sym told) (untold-begin entry.admits asked.command entry.told);
+        tells = inl refl;
+        says = refl;
+      }))
       (λ outside. outside);
 }

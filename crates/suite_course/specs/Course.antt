@@ -9,18 +9,19 @@ use Rattle.suite_session.specs.declared.session.Phase.TheVariants.{Waiting, Begu
 use Rattle.suite_session.specs.Runner.{Question, Runner}
 use Rattle.suite_session.specs.Backing.{BackedUpChanges}
 use Rattle.suite_session.specs.Moment.{Moment}
-use Rattle.suite_session.specs.Answers.{Says}
+use Rattle.suite_session.specs.Answers.{Says, after_streams}
 use Rattle.suite_session.specs.Session.{HasAnswered, IsNew, IsUnbegun, SessionTurns, outcome_of, output_failed, phase_token}
 use Rattle.suite_session.specs.Stands.{IsOutside, StandsAs, TellsOutside, TurnsTo}
 use Rattle.suite_course.specs.Bound.{IsWithin, PhaseCalled}
-use Rattle.suite_course.specs.Streams.{Streams, Serves, after_streams}
+use Rattle.suite_course.specs.Streams.{Streams, Serves}
 
--- the session, which was asked this, stands so before its last call; its token is new since its entry
+-- The session, which was asked this, stands so before its last call. Until its begin the folder tells
+-- what it told at the entry; its token is new since then.
 abbrev pub Reached : Question → Moment → Moment → Phase → Type 0
-Reached asked entry now (Waiting question) = question ≡ asked
+Reached asked entry now (Waiting question) = (question ≡ asked) × (now.told ≡ entry.told)
 Reached asked entry now (Begun runner state) =
     (runner.asked ≡ asked) × StandsAs now runner state × IsNew entry.told runner.token
-Reached asked entry now (Over answer) = IsUnbegun asked answer
+Reached asked entry now (Over answer) = IsUnbegun asked entry now answer
 
 -- the session tells of a fault of what lies outside it
 abbrev pub PhaseTells : Phase → Type 0
@@ -51,15 +52,16 @@ pub record Concludes (before now : Moment) (phase : Phase) (outcome : Outcome) :
   pub turns : SessionTurns before now phase last
   pub ends : outcome_of last ≡ Some outcome
 
--- The session of the token, which is new since its entry, was asked this, and answered so with its
--- last event. Its events are within the bound, and it has backed up tables that it was to change alone.
-pub record AnsweredAs (asked : Question) (entry now : Moment) (token : Token) (final : Answer)
-    : Type 0 where
+-- The session of the token, which is new since its entry, was asked this, had this answer to give, and
+-- answered with the status by its last event. Its events are within the bound, and it has backed up
+-- tables that it was to change alone.
+pub record AnsweredAs (asked : Question) (entry now : Moment) (token : Token) (given : Answer)
+    (status : ℕ) : Type 0 where
   pub runner : Runner
   pub same : runner.asked ≡ asked
   pub same_token : runner.token ≡ token
   pub fresh : IsNew entry.told runner.token
-  pub answered : IfSome now.told (HasAnswered runner final)
+  pub answered : IfSome now.told (HasAnswered runner given status)
   pub within : IfSome now.told (λ past. IsWithin runner.token past.history)
   pub backed : IfSome now.told (λ past. BackedUpChanges runner.token past.history)
 
@@ -75,5 +77,6 @@ pub record Finished (asked : Question) (entry now : Moment) (was holds : Streams
   pub token : Token
   pub made : ℕ
   pub turns : TurnsTo entry now token made
-      (AnsweredAs asked entry now token (after_streams put given) ⊎ IsUnbegun asked given)
+      (AnsweredAs asked entry now token given (after_streams put given).outcome.status
+      ⊎ IsUnbegun asked entry now given)
       (IsOutside given.outcome.cause)

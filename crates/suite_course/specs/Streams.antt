@@ -1,5 +1,5 @@
--- What the streams hold after an answer, and how an answer is left by a stream that failed.
-use Rattle.std.specs.Prelude.{◌≡◌, ◌⊎◌, ℕ, ◌≤◌, Option, Some, None, Result, Ok, Err}
+-- What the streams hold after an answer, and what tells that one of them failed.
+use Rattle.std.specs.Prelude.{◌≡◌, ◌≢◌, ◌⊎◌, [], ℕ, ◌≤◌, Option, Some, None, Result, Err}
 use Rattle.acct_text.specs.Bytes.{Bytes}
 use Rattle.acct_outside.specs.declared.CommitStage.{CommitStage}
 use Rattle.acct_outside.specs.declared.streams.SinkFault.{SinkFault}
@@ -12,7 +12,6 @@ use Rattle.suite_answers.specs.declared.cause.Cause.TheVariants.{Memory}
 use Rattle.suite_answers.specs.declared.answer.Answer.{Answer}
 use Rattle.suite_answers.specs.Reasons.{memory_message}
 use Rattle.suite_answers.specs.Fronts.{PutsFront}
-use Rattle.suite_session.specs.Answers.{after_fault}
 
 -- what both streams hold where they tell it, and how often they have failed
 pub record Streams : Type 0 where
@@ -38,18 +37,18 @@ text_of tool answer = elim (memory_stage answer.outcome.cause) [
   | None ↦ answer.err
 ]
 
--- Output and message came whole; or where a stream failed or found no memory, a front of each. No count
--- of faults falls.
+-- a stream failed that was to take this text: its count of faults rose, and there was something to put
+pub record FailsAt (text : Bytes) (before now : ℕ) : Type 0 where
+  pub rose : HasRisen before now
+  pub some : text ≢ []
+
+-- Output and message came whole; or where a stream failed or found no memory, a front of each. One that
+-- failed had a text to take. No count of faults falls.
 pub record Serves (tool : Option Tool) (answer : Answer) (before now : Streams)
     (result : Result (Unit {0}) SinkFault) : Type 0 where
   pub output : WhereBytesTold before.out now.out (PutsFront answer.out result)
   pub message : WhereBytesTold before.err now.err (PutsFront (text_of tool answer) result)
-  pub failed : result ≡ Err Failed → HasRisen before.out_faults now.out_faults
-      ⊎ HasRisen before.err_faults now.err_faults
+  pub failed : result ≡ Err Failed → FailsAt answer.out before.out_faults now.out_faults
+      ⊎ FailsAt (text_of tool answer) before.err_faults now.err_faults
   pub out_counts : before.out_faults ≤ now.out_faults
   pub err_counts : before.err_faults ≤ now.err_faults
-
--- the answer as the streams left it
-abbrev pub after_streams : Result (Unit {0}) SinkFault → Answer → Answer
-after_streams (Ok unit) answer = answer
-after_streams (Err fault) answer = after_fault fault answer

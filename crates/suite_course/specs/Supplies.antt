@@ -64,11 +64,11 @@ TakesAll (Err (TooLarge Input)) before now = IsTooMuch before now
 TakesAll (Err cause) before now = (came : Bytes) × Came came before now
 
 -- the causes of a command that got no input
-abbrev pub LacksInput : Cause → Type 0
-LacksInput (TooLarge Input) = ⊤
-LacksInput InputFault = ⊤
-LacksInput (Memory Before) = ⊤
-LacksInput cause = ⊥
+abbrev pub IsOfInput : Cause → Type 0
+IsOfInput (TooLarge Input) = ⊤
+IsOfInput InputFault = ⊤
+IsOfInput (Memory Before) = ⊤
+IsOfInput cause = ⊥
 
 -- The command has this input and this day: all that the source had left, for a tool that reads it, and
 -- the day that the clock gave.
@@ -79,15 +79,38 @@ pub record AreSupplied (tool : Tool) (before now : Supplies) (input : Bytes) (da
   pub on_day : now.gave ≡ Some day
   pub counts : CountsSupplies before now
 
+-- the clock wasn't asked
+pub record ClockStays (before now : Supplies) : Type 0 where
+  pub gave : now.gave ≡ before.gave
+  pub faults : now.clock_faults ≡ before.clock_faults
+
+-- some bytes may have come, and the rest is left
+abbrev pub SomeCame : Bytes → Bytes → Type 0
+SomeCame before now = (came : Bytes) × Came came before now
+
+-- a whole input came, and nothing is left
+abbrev pub AllCame : Bytes → Bytes → Type 0
+AllCame before now = (length before ≤ table_limit) × (now ≡ [])
+
+-- The source failed or had too much, or there was no memory: no day was asked for after that.
+abbrev pub LacksInput : Supplies → Supplies → (Bytes → Bytes → Type 0) → Type 0
+LacksInput before now P = ClockStays before now × WhereBytesTold before.left now.left P
+
+-- The clock failed, and gave no day. Before it was asked the whole input came, where the tool reads one.
+pub record LacksDay (tool : Tool) (before now : Supplies) : Type 0 where
+  pub rose : HasRisen before.clock_faults now.clock_faults
+  pub gave : now.gave ≡ before.gave
+  pub all_input : reads_input tool ≡ true → WhereBytesTold before.left now.left AllCame
+
 -- why the command has no input or no day: the source or the clock failed, more came than an input may
 -- have, or there was no memory
 abbrev pub IsUnsupplied : Tool → Supplies → Supplies → Cause → Type 0
-IsUnsupplied tool before now InputFault =
-    (reads_input tool ≡ true) × HasRisen before.input_faults now.input_faults
+IsUnsupplied tool before now InputFault = (reads_input tool ≡ true)
+    × HasRisen before.input_faults now.input_faults × LacksInput before now SomeCame
 IsUnsupplied tool before now (TooLarge Input) =
-    (reads_input tool ≡ true) × WhereBytesTold before.left now.left IsTooMuch
-IsUnsupplied tool before now ClockFault = HasRisen before.clock_faults now.clock_faults
-IsUnsupplied tool before now (Memory Before) = ⊤
+    (reads_input tool ≡ true) × LacksInput before now IsTooMuch
+IsUnsupplied tool before now ClockFault = LacksDay tool before now
+IsUnsupplied tool before now (Memory Before) = LacksInput before now SomeCame
 IsUnsupplied tool before now cause = ⊥
 
 -- nothing lacks: no fault of the source or of the clock was counted, and what the source had left, where

@@ -1,6 +1,6 @@
 -- What the top call answers: how a command ends that asks for nothing, and what the history of a
 -- folder shows of one that ran.
-use Rattle.std.specs.Prelude.{◌≡◌, ◌≢◌, ◌⊎◌, ◌∷◌, ◌++◌, [], ℕ, ◌≤◌, Some, None, Option, List, slice_get, Result}
+use Rattle.std.specs.Prelude.{◌≡◌, ◌≢◌, ◌⊎◌, ◌∷◌, ◌++◌, [], ℕ, ◌≤◌, Some, None, Option, List, slice_get, Result, Err}
 use Rattle.std.specs.List.{AllByRecursion}
 use Rattle.acct_text.specs.declared.Tab.{Tab}
 use Rattle.acct_outside.specs.declared.Name.TheVariants.{Table, Backup, Intent, Lock, Defs}
@@ -12,7 +12,9 @@ use Rattle.acct_outside.specs.Faults.{HasRisen}
 use Rattle.acct_outside.specs.Folder.{Folder, settings_file}
 use Rattle.acct_outside.specs.Calls.{answers, done}
 use Rattle.acct_outside.specs.History.{History, after, own_events}
-use Rattle.acct_outside.specs.Contract.{Narrows, WhereTold}
+use Rattle.acct_outside.specs.Others.{Admission}
+use Rattle.acct_outside.specs.Contract.{Narrows, TellsBegin, WhereTold}
+use Rattle.acct_outside.specs.declared.FolderFault.{FolderFault}
 use Rattle.account_model.specs.declared.tool.Tool.{Tool}
 use Rattle.account_model.specs.Options.{Word}
 use Rattle.account_model.specs.Words.{tool_named}
@@ -26,30 +28,34 @@ use Rattle.suite_rules.specs.Steps.{LawfulOthers}
 use Rattle.suite_answers.specs.declared.cause.Outcome.{Outcome}
 use Rattle.suite_answers.specs.declared.cause.Which.TheVariants.{File}
 use Rattle.suite_answers.specs.declared.cause.Cause.{Cause}
-use Rattle.suite_answers.specs.declared.cause.Cause.TheVariants.{Changed, Same, Refused, Outrun, TooLarge, NoTable, BadSetting, DiskFault, Memory}
+use Rattle.suite_answers.specs.declared.cause.Cause.TheVariants.{Changed, Same, Refused, Outrun, TooLarge, NoTable, BadSetting, Memory}
 use Rattle.suite_answers.specs.declared.answer.Answer.{Answer}
 use Rattle.suite_answers.specs.Reasons.{stage_of}
 use Rattle.suite_answers.specs.Answers.{told}
 use Rattle.suite_session.specs.Runner.{Question}
 use Rattle.suite_session.specs.Moment.{Moment, commit_at}
-use Rattle.suite_session.specs.Answers.{IsAnswerOn, memory_answer, Says}
+use Rattle.suite_session.specs.Answers.{IsAnswerOn, IsTold, Says, after_streams, memory_answer}
 use Rattle.suite_session.specs.Causes.{HasMet, MetGreater}
 use Rattle.suite_session.specs.Deeds.{AreOfTools, files_of}
-use Rattle.suite_session.specs.Stands.{IsDecided, IsDiskFault, IsOutside, IsStopped}
+use Rattle.suite_session.specs.Stands.{IsDecided, IsDiskFault, IsStopped}
+use Rattle.suite_session.specs.Locking.{cause_of_fault}
 use Rattle.suite_course.specs.Bound.{IsBounded}
 use Rattle.suite_course.specs.Open.{StandsOpen}
-use Rattle.suite_course.specs.Streams.{Streams, Serves, after_streams}
+use Rattle.suite_course.specs.Streams.{Streams, Serves}
 use Rattle.suite_course.specs.Supplies.{Supplies, CountsSupplies, IsUnsupplied, LacksNothing}
 
 -- ---- What the history shows
 
--- for the deeds of the tools, and where all that the folder admits is lawful, a history that was
--- lawful before has this now
+-- for the deeds of the tools, where a history was lawful and all that the folder admits is so
+abbrev pub IfLawful : Admission → Folder → History → (SuiteDeeds → Type 0) → Type 0
+IfLawful admits first old P = (deeds : SuiteDeeds) → AreOfTools deeds →
+    LawfulOthers deeds admits first → Lawful deeds first old → P deeds
+
+-- a history that was lawful before has this now
 abbrev pub WhereLawful : Moment → Moment →
     (SuiteDeeds → (first : Folder) → (old new : History) → Type 0) → Type 0
 WhereLawful before now P = WhereTold before.told now.told (λ first old new.
-    (deeds : SuiteDeeds) → AreOfTools deeds → LawfulOthers deeds before.admits first →
-    Lawful deeds first old → P deeds first old new)
+    IfLawful before.admits first old (λ deeds. P deeds first old new))
 
 -- the history is a longer one, and lawful
 pub record ExtendsLawfully (deeds : SuiteDeeds) (first : Folder) (old new : History) : Type 0 where
@@ -67,8 +73,8 @@ abbrev pub IsAnswerAt : SuiteDeeds → Question → Folder → History → ℕ �
 IsAnswerAt deeds asked first history number given = IsAnswerOn asked
     (files_of (folded deeds first (place number (committed history)))) (settings_file first) given
 
--- the session of this token, which was asked this, answered with its last event; its own commit came
--- as far as the outcome's cause says
+-- the session of this token, which began with what was asked, answered with its last event; its own
+-- commit came as far as the outcome's cause says
 pub record Answered (asked : Question) (outcome : Outcome) (token : Token) (history : History)
     : Type 0 where
   pub older : History
@@ -167,16 +173,38 @@ AnswersOnOld deeds asked first old new token given =
     ((stage : CommitStage) × (given.outcome.cause ≡ Memory stage))
     ⊎ IsAnswerOnOld deeds asked first old new token given
 
--- the begin gave no token: the folder failed, or there was no memory, before any commit
-abbrev pub HasNoToken : Answer → Type 0
-HasNoToken given =
-    (given.outcome.cause ≡ DiskFault Before) ⊎ (given.outcome.cause ≡ Memory Before)
+-- ---- What became of the command in the folder
 
--- a session that began in this call, between the two moments, answered so; or its begin gave no token
-abbrev pub BegunOrNone : Question → Outcome → Answer → Folder → History → History → Type 0
-BegunOrNone asked outcome given first old new =
-    ((token : Token) × Answered asked outcome token new × (own_events token old ≡ []))
-    ⊎ HasNoToken given
+-- A session of this token began in this call, between the two moments, with what was asked, and its
+-- last event is its answer. New events were admitted from others or are its own, which are within the
+-- bound. In a lawful history it has met what the cause of its answer says; and where it was alone since
+-- an earlier moment it leaves the locks, the intent and the backups as it must with that cause.
+pub record HasRun (asked : Question) (admits : Admission) (given : Answer) (outcome : Outcome)
+    (first : Folder) (old new : History) (token : Token) : Type 0 where
+  pub answered : Answered asked outcome token new
+  pub fresh : own_events token old ≡ []
+  pub bounded : IsBounded admits token old new
+  pub shown : IfLawful admits first old
+      (λ deeds. IsShownAt deeds asked first new token given given.outcome.cause)
+  pub leaves : IfLawful admits first old (λ deeds. (earlier : History) →
+      IsAlone token earlier new → Leaves first earlier new token given.outcome.cause)
+
+-- No session began in this call: new events were admitted from others, and then at most the one begin
+-- of what was asked, which failed. The answer tells that fault, or that there was no memory, be it for
+-- the begin or to tell its fault.
+pub record HasNotRun (asked : Question) (admits : Admission) (given : Answer) (first : Folder)
+    (old new : History) : Type 0 where
+  pub fault : FolderFault
+  pub begin : TellsBegin admits asked.command (Err fault) first old new
+  pub tells : IsTold asked.request.tool (cause_of_fault Before fault) given
+
+-- the one or the other
+abbrev pub RunsOrNot : Question → Admission → Answer → Outcome → Folder → History → History → Type 0
+RunsOrNot asked admits given outcome first old new =
+    ((token : Token) × HasRun asked admits given outcome first old new token)
+    ⊎ HasNotRun asked admits given first old new
+
+-- ---- The whole call
 
 -- the tool that the first word names
 abbrev pub named_tool : List Word → Option Tool
@@ -213,38 +241,25 @@ pub record EndsUnsupplied (tool : Tool) (before now : Supplies) (was holds : Str
   pub complete : LacksNothing tool before now → StreamsServe was holds →
       outcome.cause ≡ Memory Before
 
--- The command ran. Its session gave an answer, which the streams left so, and the outcome is that. A
--- fault of the folder is told only where its count rose. A lawful history stays lawful, and always
--- settles to the fold of its commitments. The session began in this call, its last event is its
--- answer, and the history shows what the cause of that says. New events are of others, or the
--- session's own within the bound. A session that was alone leaves the locks, the intent and the backups
--- as it must; and where nothing stood in its way it gives the tool's answer, or finds no memory. From
--- then on the folder admits no more than before, and its count of faults hasn't fallen, so that the
--- clauses of a later command in the same folder go on from here.
+-- The command ran, in the order of its course. The folder admits no more than before and its count of
+-- faults doesn't fall, so that a later command in it goes on from here. A session of this command ran
+-- there, or its begin gave none. A lawful history stays lawful, and always settles to the fold of its
+-- commitments. The answer that was come to says what its cause says, and of what lies outside it tells
+-- of a fault of the folder alone, whose count then rose. The streams got that answer, and the outcome is
+-- what they left of it. Of a session that was alone, in whose way nothing stood, it is the tool's
+-- answer, or there was no memory.
 pub record Ran (asked : Question) (before now : Moment) (was holds : Streams) (outcome : Outcome)
     : Type 0 where
+  pub narrows : Narrows before.admits now.admits
+  pub never_falls : before.faults ≤ now.faults
   pub given : Answer
-  pub says : Says asked given given.outcome.cause
-  pub put : Result (Unit {0}) SinkFault
-  pub served : Serves (Some asked.request.tool) given was holds put
-  pub ends : outcome ≡ (after_streams put given).outcome
-  pub outside : IsOutside given.outcome.cause → HasRisen before.faults now.faults
-  pub failed : IsDiskFault outcome.cause → HasRisen before.faults now.faults
+  pub session : WhereTold before.told now.told (RunsOrNot asked before.admits given outcome)
   pub lawful : WhereLawful before now ExtendsLawfully
   pub settles : WhereLawful before now (λ deeds first old new. IsAlwaysSettled deeds first new)
-  pub answered : WhereTold before.told now.told (BegunOrNone asked outcome given)
-  pub shown : WhereLawful before now (λ deeds first old new.
-      (token : Token) → Answered asked outcome token new →
-      IsShownAt deeds asked first new token (after_streams put given) outcome.cause)
-  pub leaves : WhereLawful before now (λ deeds first old new.
-      (token : Token) → Answered asked outcome token new → IsAlone token old new →
-      Leaves first old new token outcome.cause)
-  pub bounded : WhereTold before.told now.told (λ first old new. ((token : Token)
-      × Answered asked outcome token new × IsBounded before.admits token old new)
-      ⊎ HasNoToken given)
+  pub says : Says asked given given.outcome.cause
+  pub failed : IsDiskFault given.outcome.cause → HasRisen before.faults now.faults
+  pub ends : Ends (Some asked.request.tool) given was holds outcome
   pub complete : (HasRisen before.faults now.faults → ⊥) → StreamsServe was holds →
       WhereLawful before now (λ deeds first old new. (token : Token) → IsAlone token old new →
       StandsOpen (after first old) token new →
-      AnswersOnOld deeds asked first old new token (after_streams put given))
-  pub narrows : Narrows before.admits now.admits
-  pub never_falls : before.faults ≤ now.faults
+      AnswersOnOld deeds asked first old new token (after_streams ends.put given))

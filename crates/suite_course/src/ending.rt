@@ -3,8 +3,8 @@ ghost use Rattle.std.specs.Prelude.{◌≡◌, ◌⊎◌, Some};
 ghost use Rattle.account_model.specs.declared.word_fault.WordFault.{WordFault as Fault};
 ghost use Rattle.suite_answers.specs.declared.answer.Answer.{Answer as Given};
 ghost use Rattle.suite_answers.specs.Answers.{told, told_words};
-ghost use Rattle.suite_session.specs.Answers.{memory_answer};
-ghost use Rattle.suite_course.specs.Streams.{after_streams, streams};
+ghost use Rattle.suite_session.specs.Answers.{after_streams, memory_answer};
+ghost use Rattle.suite_course.specs.Streams.{streams};
 ghost use Rattle.suite_course.specs.Top.{Ends, EndsEarly, named_tool};
 
 use crate::streams::serve;

@@ -1,5 +1,5 @@
 // What an answer puts on the streams: the whole output, then the whole message.
-ghost use Rattle.std.specs.Prelude.{◌≡◌};
+ghost use Rattle.std.specs.Prelude.{◌≡◌, ◌≢◌, [], Err};
 ghost use Rattle.acct_outside.specs.Faults.{CountsFailure};
 ghost use Rattle.acct_outside.specs.Streams.{WhereBytesTold};
 ghost use Rattle.suite_answers.specs.Fronts.{PutsFront};
@@ -28,9 +28,11 @@ pub(crate) fn serve<O: Sink, E: Sink>(
 }
 
 /// Puts the message of an answer.
+#[tactic(auto, using(crate::proofs::StreamsLemmas::memory_message_some))]
 fn put_message<E: Sink>(tool: Option<Tool>, answer: &Answer, err: &mut E) -> Result<(), SinkFault>
     ensures holds { WhereBytesTold (E.holds err.old) (E.holds err.new)
         (PutsFront (text_of tool answer.now) result) }
+    ensures some { result ≡ Err SinkFault.Failed → text_of tool answer.now ≢ [] }
     ensures faults { CountsFailure SinkFault.Failed (E.fault_count err.old) (E.fault_count err.new)
         result }
 {
@@ -53,6 +55,7 @@ fn memory_stage(answer: &Answer) -> Option<CommitStage>
 /// Puts the text in one piece, and none where it is empty.
 fn put_text<S: Sink>(sink: &mut S, text: &[u8]) -> Result<(), SinkFault>
     ensures holds { WhereBytesTold (S.holds sink.old) (S.holds sink.new) (PutsFront text.now result) }
+    ensures some { result ≡ Err SinkFault.Failed → text.now ≢ [] }
     ensures faults { CountsFailure SinkFault.Failed (S.fault_count sink.old) (S.fault_count sink.new)
         result }
 {

@@ -3,7 +3,7 @@ ghost use Rattle.std.specs.Prelude.{◌≡◌, ◌≤◌, true, false, [], lengt
 ghost use Rattle.acct_text.specs.Limits.{last_day, table_limit};
 ghost use Rattle.acct_outside.specs.Faults.{CountsFailure};
 ghost use Rattle.acct_outside.specs.Streams.{WhereBytesTold};
-ghost use Rattle.suite_course.specs.Supplies.{AreSupplied, CountsSupplies, IsUnsupplied, LacksInput, TakesAll, cause_of_source, reads_input, supplies};
+ghost use Rattle.suite_course.specs.Supplies.{AreSupplied, CountsSupplies, IsOfInput, IsUnsupplied, TakesAll, cause_of_source, reads_input, supplies};
 
 use acct_outside::{Clock, CommitStage, Source, SourceFault};
 use acct_text::Bytes;
@@ -65,7 +65,7 @@ fn input_of<S: Source>(alloc: Global, tool: Tool, source: &mut S) -> Result<Byte
         WhereBytesTold (S.left source.old) (S.left source.new) (TakesAll result) }
     ensures no_input { reads_input tool ≡ false → IfOk result (λ input. input ≡ []) }
     ensures within { IfOk result (λ input. length input ≤ table_limit) }
-    ensures lacks { IfErr result (λ cause. (reads_input tool ≡ true) × LacksInput cause) }
+    ensures lacks { IfErr result (λ cause. (reads_input tool ≡ true) × IsOfInput cause) }
     ensures faults { CountsFailure Cause.InputFault (S.fault_count source.old)
         (S.fault_count source.new) result }
     ensures untouched { reads_input tool ≡ false → source.new ≡ source.old }
@@ -94,7 +94,7 @@ fn reads_input(tool: Tool) -> bool
 fn take_all<S: Source>(alloc: Global, source: &mut S) -> Result<Bytes, Cause>
     ensures taken { WhereBytesTold (S.left source.old) (S.left source.new) (TakesAll result) }
     ensures within { IfOk result (λ input. length input ≤ table_limit) }
-    ensures lacks { IfErr result LacksInput }
+    ensures lacks { IfErr result IsOfInput }
     ensures faults { CountsFailure Cause.InputFault (S.fault_count source.old)
         (S.fault_count source.new) result }
 {

@@ -16,5 +16,6 @@ pub mod OthersLemmas
 mod RecoveringTurns
 mod RuleLemmas
 mod SessionTurns
+mod StreamLemmas
 mod TurnLemmas
 mod UnlockingTurns

@@ -287,7 +287,12 @@ pub others-stand : (before now : Moment) (old new : Phase) → SessionTurns befo
     OthersStand before now old new
 others-stand before now old new turns (Begun runner state) stands apart =
     let leaves = turn-leaves before now old new turns in
-    state-stays before now runner (turn_token old new) leaves.most apart leaves.narrows leaves.grew
-    state stands
+    record {
+      own = stands.own;
+      stands = state-stays before now runner (turn_token old new) leaves.most apart leaves.narrows
+          leaves.grew stands.own stands.stands;
+      put = stands.put;
+      left = stands.left;
+    }
 others-stand before now old new turns (Waiting asked) stands apart = tt
 others-stand before now old new turns (Over answer) stands apart = tt

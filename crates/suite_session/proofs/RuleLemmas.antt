@@ -1,27 +1,30 @@
 -- Claim: the answer of a session is one that the rules permit (`rule-of`), for the deeds of the
--- tools.
+-- tools, also as the streams left it (`rule-left`).
 -- Way: a cause that is no tool's answer has a status of its own (`lock-some` and the others); a
 -- change comes after the own commit; and what else has status 0 is an answer on files that the
 -- session saw.
-use Rattle.std.proofs.Common.{◌≡◌, refl, sym, ap, ◌∙◌, ◌==◌, ◌&&◌, not, Bool, true, false, Some, Ok, rules}
+use Rattle.std.proofs.Common.{◌≡◌, refl, sym, ap, ◌∙◌, ◌==◌, ◌&&◌, not, ℕ, Bool, true, false, Some, Result, Ok, Err, rules}
 use Rattle.acct_text.specs.Files.{table_of}
+use Rattle.acct_outside.specs.declared.streams.SinkFault.{SinkFault}
+use Rattle.acct_outside.specs.declared.streams.SinkFault.TheVariants.{Failed, Memory as NoMemory}
 use Rattle.acct_outside.specs.History.{History}
 use Rattle.account_model.specs.declared.tool.Tool.{Tool}
 use Rattle.account_model.specs.declared.tool.Tool.TheVariants.{Useradd, Usermod, Userdel, Groupadd, Groupmod, Groupdel, Gpasswd, Chage, Chpasswd, Pwck, Grpck, Getsubids}
 use Rattle.account_model.specs.Answer.{AnswerCause, Unusable, Refused as ModelRefused, Same as ModelSame, Changed as ModelChanged}
-use Rattle.account_model.specs.Failures.{lock_status, update_status}
+use Rattle.account_model.specs.Failures.{lock_status, memory_status, output_fault_status, update_status}
 use Rattle.account_model.specs.Statuses.{file_status}
 use Rattle.account_model.specs.Words.{request_of}
 use Rattle.suite_rules.specs.Deeds.{SuiteDeeds}
 use Rattle.suite_rules.specs.Standing.{Standing, standing}
 use Rattle.suite_rules.specs.Rules.{AnswerRule, answers_refusal, answers_changed, answers_same}
+use Rattle.suite_answers.specs.declared.cause.Which.TheVariants.{Input, File}
 use Rattle.suite_answers.specs.declared.cause.Cause.{Cause}
 use Rattle.suite_answers.specs.declared.cause.Cause.TheVariants.{Changed, Same, Refused, Syntax, Held, Gone, Raced, Outrun, LockDamaged, Exhausted, IntentDamaged, TooLarge, NoTable, BadSetting, DiskFault, InputFault, OutputFault, ClockFault, Memory}
 use Rattle.suite_answers.specs.declared.answer.Answer.{Answer}
 use Rattle.suite_answers.specs.Reasons.{stage_of}
 use Rattle.suite_session.specs.Runner.{Runner}
 use Rattle.suite_session.specs.Moment.{commit_at}
-use Rattle.suite_session.specs.Answers.{answer_on, cause_of_answer, given_for, Says}
+use Rattle.suite_session.specs.Answers.{after_streams, answer_on, cause_of_answer, given_for, Says}
 use Rattle.suite_session.specs.Deeds.{AreOfTools, is_change, tools_answer_same}
 use Rattle.suite_session.specs.Due.{AnswersAll, IsShown}
 
@@ -99,8 +102,11 @@ module _ (deeds : SuiteDeeds) (ours : AreOfTools deeds) (runner : Runner) (answe
   Permitted = AnswerRule deeds stood answer.outcome.status
 
   -- one with another status may come
+  other-status : (status : ℕ) → (status == 0) ≡ false → AnswerRule deeds stood status
+  other-status status is = answers_refusal (λ none. search (rules, is, none))
+
   other-rule : (answer.outcome.status == 0) ≡ false → Permitted
-  other-rule is = answers_refusal (λ none. search (rules, is, none))
+  other-rule is = other-status answer.outcome.status is
 
   -- the answer on what it has seen has status 0 and changes nothing
   same-here : (all : AnswersAll runner answer stood) → (answer.outcome.status == 0) ≡ true →
@@ -154,19 +160,31 @@ module _ (deeds : SuiteDeeds) (ours : AreOfTools deeds) (runner : Runner) (answe
   by-cause Exhausted is says shown commits = told-rule Exhausted says (lock-some _)
   by-cause (IntentDamaged part) is says shown commits =
       told-rule (IntentDamaged part) says (update-some _)
-  by-cause (TooLarge which) is says shown commits = told-rule (TooLarge which) says (file-some _)
+  by-cause (TooLarge Input) is says shown commits = absurd says
+  by-cause (TooLarge (File name)) is says shown commits =
+      told-rule (TooLarge (File name)) says (file-some _)
   by-cause (NoTable table) is says shown commits = told-rule (NoTable table) says (file-some _)
   by-cause (BadSetting line) is says shown commits =
       told-rule (BadSetting line) says (file-some _)
   by-cause (DiskFault stage) is says shown commits =
       told-rule (DiskFault stage) says (update-some _)
-  by-cause InputFault is says shown commits = told-rule InputFault says refl
-  by-cause (OutputFault stage) is says shown commits = other-rule (ap (λ status. status == 0) says)
-  by-cause ClockFault is says shown commits = told-rule ClockFault says refl
-  by-cause (Memory stage) is says shown commits = other-rule (ap (λ status. status == 0) says)
+  by-cause InputFault is says shown commits = absurd says
+  by-cause (OutputFault stage) is says shown commits = absurd says
+  by-cause ClockFault is says shown commits = absurd says
+  by-cause (Memory stage) is says shown commits = told-rule (Memory stage) says refl
 
   -- whatever its cause
   pub rule-of : Says runner.asked answer answer.outcome.cause →
       IsShown runner answer history answer.outcome.cause →
       stood.commit ≡ commit_at (stage_of answer.outcome.cause) → Permitted
   rule-of says shown commits = by-cause answer.outcome.cause refl says shown commits
+
+  -- so may the one that the streams left of it
+  pub rule-left : (put : Result (Unit {0}) SinkFault) →
+      Says runner.asked answer answer.outcome.cause →
+      IsShown runner answer history answer.outcome.cause →
+      stood.commit ≡ commit_at (stage_of answer.outcome.cause) →
+      AnswerRule deeds stood (after_streams put answer).outcome.status
+  rule-left (Ok unit) says shown commits = rule-of says shown commits
+  rule-left (Err Failed) says shown commits = other-status output_fault_status refl
+  rule-left (Err NoMemory) says shown commits = other-status memory_status refl

@@ -9,6 +9,7 @@ use Rattle.acct_text.specs.Bytes.{Bytes}
 use Rattle.acct_outside.specs.declared.FolderFault.{FolderFault}
 use Rattle.acct_outside.specs.declared.FolderFault.TheVariants.{Failed, Memory as NoMemory}
 use Rattle.acct_outside.specs.declared.CommitStage.TheVariants.{Before}
+use Rattle.acct_outside.specs.declared.streams.SinkFault.{SinkFault}
 use Rattle.acct_outside.specs.Tokens.{Token}
 use Rattle.acct_outside.specs.Calls.{Command, Call, begins, answers, done}
 use Rattle.acct_outside.specs.History.{Event, History, is_of, own_events}
@@ -34,21 +35,22 @@ use Rattle.suite_session.specs.declared.state.State.{State}
 use Rattle.suite_session.specs.declared.state.State.TheVariants.{Looking, Answering}
 use Rattle.suite_session.specs.Runner.{Question, Runner}
 use Rattle.suite_session.specs.Moment.{Moment, Runs, At}
-use Rattle.suite_session.specs.Answers.{memory_answer, IsTold, Says}
+use Rattle.suite_session.specs.Answers.{after_streams, memory_answer, IsTold, Says}
 use Rattle.suite_session.specs.Deeds.{AreOfTools}
 use Rattle.suite_session.specs.Due.{IsDue}
 use Rattle.suite_session.specs.Counts.{CountsFrom, begun_event}
 use Rattle.suite_session.specs.Grows.{Grew}
 use Rattle.suite_session.specs.Left.{calls_left, most_calls}
 use Rattle.suite_session.specs.Locking.{cause_of_fault}
-use Rattle.suite_session.specs.Session.{IsFirst, HasAnswered, Gave, IsNew, IsUnbegun}
+use Rattle.suite_session.specs.Session.{IsFirst, GaveLeft, HasAnswered, IsNew, IsUnbegun, StandsLeft}
 use Rattle.suite_session.specs.Stands.{Extends, HasLeft, MayGive, IsOutside, IsStopped, StandsAs, TellsOutside, TurnsTo, Turns}
 use Rattle.suite_session.proofs.LeavingLemmas.{left-same}
 use Rattle.suite_session.proofs.TurnLemmas.{told-says, told-cause}
 use Rattle.suite_session.proofs.GrowsLemmas.{grew-extends, others-extend, second-empty, tells-grow}
 use Rattle.suite_session.proofs.DueLemmas.{shown-stays}
 use Rattle.suite_session.proofs.UnlockingTurns.{fault-plain, fault-failed}
-use Rattle.suite_session.proofs.RuleLemmas.{rule-of}
+use Rattle.suite_session.proofs.RuleLemmas.{rule-left}
+use Rattle.suite_session.proofs.StreamLemmas.{left-given}
 
 -- ---- The begin
 
@@ -237,17 +239,6 @@ module _ (before now : Moment) where
       (tells : WhereTold before.told now.told (TellsBegin before.admits asked.command (Err fault)))
       (answer : FinalAnswer)
       (told : IsTold asked.request.tool (cause_of_fault Before fault) answer) where
-    -- the cause of a begin that gave no token
-    unbegun-plain : (one : FolderFault) →
-        IsTold asked.request.tool (cause_of_fault Before one) answer →
-        (answer.outcome.cause ≡ DiskFault Before) ⊎ (answer.outcome.cause ≡ Memory Before)
-    unbegun-plain Failed is = told-cause asked.request.tool (DiskFault Before) answer is
-    unbegun-plain NoMemory is =
-        inr (elim (told-cause asked.request.tool (Memory Before) answer is) [
-          | inl same ↦ same
-          | inr same ↦ same
-        ])
-
     -- it tells of a fault of the folder only where that failed
     unbegun-failed : IsOutside answer.outcome.cause → fault ≡ Failed
     unbegun-failed is =
@@ -259,11 +250,14 @@ module _ (before now : Moment) where
     -- it is told as a fault, and nothing is left to call
     pub unbegun : Narrows before.admits now.admits → before.faults ≤ now.faults →
         (fault ≡ Failed → HasRisen before.faults now.faults) →
-        TurnsTo before now [] 1 (IsUnbegun asked answer) (IsOutside answer.outcome.cause)
+        TurnsTo before now [] 1 (IsUnbegun asked before now answer)
+        (IsOutside answer.outcome.cause)
     unbegun narrows never_falls risen = record {
       stands = record {
+        fault = fault;
+        begin = tells;
+        tells = told;
         says = told-says asked (cause_of_fault Before fault) answer (fault-plain Before fault) told;
-        plain = unbegun-plain fault told;
       };
       grew = begin-grows before.admits asked.command (Err fault) before.told now.told tells;
       lawful = λ deeds ours. begin-lawful deeds before.admits asked.command (Err fault)
@@ -293,23 +287,24 @@ answer-knows : (status : ℕ) (stood : Standing) →
     (standing_step (answers status) (done tt) stood).knows ≡ stood.knows
 answer-knows status stood = part-left stood.own _ _ stood.knows refl
 
-module _ (before now : Moment) (runner : Runner) (answer : FinalAnswer) where
+module _ (before now : Moment) (runner : Runner) (status : ℕ) where
   abbrev call : Call
-  call = answers answer.outcome.status
+  call = answers status
 
-  -- the answer is due after it too, and what was left is so
-  answered-due : (was told : Option Past) → MayAnswer before.admits was runner.token →
+  -- an answer that was due is so after it too, and what was left is so
+  answered-due : (answer : FinalAnswer) (was told : Option Past) →
+      MayAnswer before.admits was runner.token →
       Tells before.admits was told runner.token call (Ok tt) → Extends was told →
       IfSome was (IsDue runner answer) → ((IsStopped answer.outcome.cause → ⊥) →
       IfSome was (HasLeft runner.token answer.outcome.cause)) →
-      IfSome told (HasAnswered runner answer)
-  answered-due None None may tells extends due left = tt
-  answered-due (Some was) (Some past) may tells extends due left =
+      IfSome told (HasAnswered runner answer status)
+  answered-due answer None None may tells extends due left = tt
+  answered-due answer (Some was) (Some past) may tells extends due left =
       let step = stepped before.admits runner.token may.own call (done tt) _
       was.history past.history tells.1 in
       let stood = standing runner.token was.history in
       let knows = ap (λ (one : Standing). one.knows) step.next_standing
-      ∙ answer-knows answer.outcome.status stood in
+      ∙ answer-knows status stood in
       record {
         older = tells.1.others_then.between;
         last = tells.1.others_then.last;
@@ -324,22 +319,24 @@ module _ (before now : Moment) (runner : Runner) (answer : FinalAnswer) where
             (ap (λ (one : Standing). one.own) step.next_standing)
             (ap (λ (one : Standing). one.listing) step.next_standing) knows (left goes_on);
       }
-  answered-due None (Some past) may tells extends due left = absurd tells
-  answered-due (Some was) None may tells extends due left = absurd tells
+  answered-due answer None (Some past) may tells extends due left = absurd tells
+  answered-due answer (Some was) None may tells extends due left = absurd tells
 
   -- it keeps a history lawful, for the deeds of the tools
   answered-lawful : request_of runner.asked.command.words ≡ Ok runner.asked.request →
-      (deeds : SuiteDeeds) → AreOfTools deeds → (was told : Option Past) →
-      MayAnswer before.admits was runner.token →
+      (deeds : SuiteDeeds) → AreOfTools deeds → (answer : FinalAnswer)
+      (put : Result (Unit {0}) SinkFault) → status ≡ (after_streams put answer).outcome.status →
+      (was told : Option Past) → MayAnswer before.admits was runner.token →
       Tells before.admits was told runner.token call (Ok tt) →
       Says runner.asked answer answer.outcome.cause → IfSome was (IsDue runner answer) →
       StaysLawful deeds before.admits was told
-  answered-lawful read deeds ours None None may tells says due = tt
-  answered-lawful read deeds ours (Some was) (Some past) may tells says due =
+  answered-lawful read deeds ours answer put is None None may tells says due = tt
+  answered-lawful read deeds ours answer put is (Some was) (Some past) may tells says due =
       let came = tells.1.others_then in
       let stay = stayed before.admits runner.token may.own was.history came.between came.others in
-      let rule = rule-of deeds ours runner answer was.history read due.asked says due.shown
-      due.commits in (
+      let rule = subst (AnswerRule deeds (standing runner.token was.history)) (sym is)
+      (rule-left deeds ours runner answer was.history read due.asked put says due.shown
+      due.commits) in (
         tells.0,
         λ others lawful. subst (Lawful deeds was.first) (sym came.last)
             (goes_on _ came.between
@@ -347,37 +344,41 @@ module _ (before now : Moment) (runner : Runner) (answer : FinalAnswer) where
             lawful)
             (record {
               keeps = record {
-                life_rule = answer-may _ answer.outcome.status (ap runs_in stay.same_life ∙ may.runs);
-                permitted = answer_rule answer.outcome.status
-                    (subst (λ (stood : Standing). AnswerRule deeds stood answer.outcome.status)
+                life_rule = answer-may _ status (ap runs_in stay.same_life ∙ may.runs);
+                permitted = answer_rule status
+                    (subst (λ (stood : Standing). AnswerRule deeds stood status)
                     (sym stay.same_standing) rule);
               };
               gives = tells.1.given;
             })),
       )
-  answered-lawful read deeds ours None (Some past) may tells says due = absurd tells
-  answered-lawful read deeds ours (Some was) None may tells says due = absurd tells
+  answered-lawful read deeds ours answer put is None (Some past) may tells says due = absurd tells
+  answered-lawful read deeds ours answer put is (Some was) None may tells says due = absurd tells
 
-  -- the session has given its answer
-  pub answers-turn : request_of runner.asked.command.words ≡ Ok runner.asked.request →
-      MayGive before runner answer →
-      Tells before.admits before.told now.told runner.token call (Ok tt) →
-      Narrows before.admits now.admits → before.faults ≤ now.faults →
-      TurnsTo before now runner.token 1 (Gave now runner answer) ⊥
-  answers-turn read gives tells narrows never_falls =
-      let grew = tells-grow before.admits runner.token call (Ok tt) before.told now.told
-      (λ past is between others. tt) tells in
-      record {
-        stands = record {
-          says = gives.gives.says;
-          answered = answered-due before.told now.told gives.may_answer tells
-              (grew-extends before.admits runner.token 1 before.told now.told grew)
-              gives.gives.due gives.left;
-        };
-        grew = grew;
-        lawful = λ deeds ours. answered-lawful read deeds ours before.told now.told
-            gives.may_answer tells gives.gives.says gives.gives.due;
-        narrows = narrows;
-        never_falls = never_falls;
-        risen = λ fault. absurd fault;
-      }
+-- the session has given its answer
+pub answers-turn : (before now : Moment) (runner : Runner) (answer : FinalAnswer) →
+    request_of runner.asked.command.words ≡ Ok runner.asked.request →
+    StandsLeft before runner (Answering answer) →
+    Tells before.admits before.told now.told runner.token (answers answer.outcome.status) (Ok tt) →
+    Narrows before.admits now.admits → before.faults ≤ now.faults →
+    TurnsTo before now runner.token 1 (GaveLeft before now runner answer) ⊥
+answers-turn before now runner answer read stood tells narrows never_falls =
+    let status = answer.outcome.status in
+    let had = left-given before runner answer stood in
+    let grew = tells-grow before.admits runner.token (answers status) (Ok tt) before.told now.told
+    (λ past is between others. tt) tells in
+    record {
+      stands = λ given put may left. record {
+        says = may.gives.says;
+        answered = answered-due before now runner status given before.told now.told may.may_answer
+            tells (grew-extends before.admits runner.token 1 before.told now.told grew)
+            may.gives.due may.left;
+      };
+      grew = grew;
+      lawful = λ deeds ours. answered-lawful before now runner status read deeds ours had.given
+          had.put (ap (λ (one : FinalAnswer). one.outcome.status) had.left) before.told now.told
+          had.may.may_answer tells had.may.gives.says had.may.gives.due;
+      narrows = narrows;
+      never_falls = never_falls;
+      risen = λ fault. absurd fault;
+    }

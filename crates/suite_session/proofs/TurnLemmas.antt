@@ -18,7 +18,7 @@ use Rattle.lock_steps.specs.Stands.{Keeps, KnowsAnything}
 use Rattle.suite_rules.specs.Steps.{OwnCommand, own_command}
 use Rattle.account_model.specs.declared.tool.Tool.{Tool}
 use Rattle.acct_outside.specs.declared.Name.TheVariants.{Table, Defs}
-use Rattle.suite_answers.specs.declared.cause.Which.TheVariants.{File}
+use Rattle.suite_answers.specs.declared.cause.Which.TheVariants.{Input, File}
 use Rattle.suite_answers.specs.declared.cause.Cause.{Cause}
 use Rattle.suite_answers.specs.declared.cause.Cause.TheVariants.{Changed, Same, Refused, Syntax, Held, Gone, Raced, Outrun, LockDamaged, Exhausted, IntentDamaged, TooLarge, NoTable, BadSetting, DiskFault, InputFault, OutputFault, ClockFault, Memory}
 use Rattle.suite_answers.specs.declared.answer.Answer.{Answer as FinalAnswer}
@@ -94,8 +94,12 @@ IsPlain (Refused refusal) = ⊥
 IsPlain (Syntax fault) = ⊥
 IsPlain (BadSetting line) = ⊥
 IsPlain (NoTable table) = ⊥
+IsPlain (TooLarge Input) = ⊥
 IsPlain (TooLarge (File (Table table))) = ⊥
 IsPlain (TooLarge (File Defs)) = ⊥
+IsPlain InputFault = ⊥
+IsPlain (OutputFault stage) = ⊥
+IsPlain ClockFault = ⊥
 IsPlain cause = Unit {0}
 
 -- so no tool decided it
@@ -119,14 +123,13 @@ plain-says asked answer (Outrun number greater) plain is = is
 plain-says asked answer (LockDamaged number) plain is = is
 plain-says asked answer Exhausted plain is = is
 plain-says asked answer (IntentDamaged part) plain is = is
-plain-says asked answer (TooLarge which) plain is = is
+plain-says asked answer (TooLarge Input) plain is = absurd plain
+plain-says asked answer (TooLarge (File name)) plain is = is
 plain-says asked answer (DiskFault stage) plain is = is
-plain-says asked answer InputFault plain is = is
-plain-says asked answer (OutputFault stage) plain is =
-    ap (λ (given : FinalAnswer). given.outcome.status) is
-plain-says asked answer ClockFault plain is = is
-plain-says asked answer (Memory stage) plain is =
-    ap (λ (given : FinalAnswer). given.outcome.status) is
+plain-says asked answer InputFault plain is = absurd plain
+plain-says asked answer (OutputFault stage) plain is = absurd plain
+plain-says asked answer ClockFault plain is = absurd plain
+plain-says asked answer (Memory stage) plain is = is
 plain-says asked answer Changed plain is = absurd plain
 plain-says asked answer Same plain is = absurd plain
 plain-says asked answer (Refused refusal) plain is = absurd plain
@@ -143,6 +146,7 @@ plain-shown runner answer history (Refused refusal) plain met = absurd plain
 plain-shown runner answer history (Syntax fault) plain met = absurd plain
 plain-shown runner answer history (BadSetting line) plain met = absurd plain
 plain-shown runner answer history (NoTable table) plain met = absurd plain
+plain-shown runner answer history (TooLarge Input) plain met = absurd plain
 plain-shown runner answer history (TooLarge (File (Table table))) plain met = absurd plain
 plain-shown runner answer history (TooLarge (File Defs)) plain met = absurd plain
 plain-shown runner answer history cause plain met = met
@@ -176,8 +180,7 @@ told-says asked cause answer plain (inl is) =
     (plain-says asked answer cause plain is)
 told-says asked cause answer plain (inr is) =
     subst (λ one. Says asked answer one)
-    (sym (ap (λ (given : FinalAnswer). given.outcome.cause) is))
-    (ap (λ (given : FinalAnswer). given.outcome.status) is)
+    (sym (ap (λ (given : FinalAnswer). given.outcome.cause) is)) is
 
 -- a state that answers with a cause tells of a fault of the folder where the cause is one
 pub answers-fault : (tool : Tool) (cause : Cause) (state : State) → AnswersWith tool cause state →

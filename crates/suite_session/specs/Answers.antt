@@ -1,14 +1,14 @@
 -- What a tool answers on files, as the answer of a session tells it (account_model/specs/Answer).
-use Rattle.std.specs.Prelude.{◌≡◌, ◌⊎◌, ℕ, [], Option}
+use Rattle.std.specs.Prelude.{◌≡◌, ◌⊎◌, ℕ, [], Option, Result, Ok, Err}
 use Rattle.acct_text.specs.Bytes.{Bytes}
 use Rattle.acct_text.specs.declared.files.Files.{Files}
 use Rattle.acct_outside.specs.declared.Name.TheVariants.{Table, Defs}
 use Rattle.acct_outside.specs.declared.streams.SinkFault.{SinkFault}
 use Rattle.acct_outside.specs.declared.streams.SinkFault.TheVariants.{Failed, Memory as NoMemory}
 use Rattle.account_model.specs.Answer.{FileProblem, TableTooLarge, SettingsTooLarge, TableAbsent, BadSettingAt, AnswerCause, Unusable, Refused, Same, Changed, Answer as ToolAnswer, answer}
-use Rattle.suite_answers.specs.declared.cause.Which.TheVariants.{File}
+use Rattle.suite_answers.specs.declared.cause.Which.TheVariants.{Input, File}
 use Rattle.suite_answers.specs.declared.cause.Cause.{Cause}
-use Rattle.suite_answers.specs.declared.cause.Cause.TheVariants.{Changed as IsChanged, Same as IsSame, Refused as IsRefused, Syntax, TooLarge, NoTable, BadSetting, OutputFault, Memory}
+use Rattle.suite_answers.specs.declared.cause.Cause.TheVariants.{Changed as IsChanged, Same as IsSame, Refused as IsRefused, Syntax, TooLarge, NoTable, BadSetting, InputFault, OutputFault, ClockFault, Memory}
 use Rattle.suite_answers.specs.declared.answer.Answer.{Answer}
 use Rattle.suite_answers.specs.Reasons.{stage_of}
 use Rattle.suite_answers.specs.Answers.{told, says}
@@ -66,16 +66,18 @@ abbrev pub IsTold : Tool → Cause → Answer → Type 0
 IsTold tool cause given =
     (given ≡ given_for tool cause) ⊎ (given ≡ memory_answer (stage_of cause))
 
--- What an answer with this cause says: what the tool says on some files, or what tells the cause.
--- After a fault of a stream its texts are those of the answer before it. A session that has words
--- that ask for something tells of no fault of words.
+-- What an answer with this cause says to which a session came by its calls: what the tool says on
+-- some files, or what tells the cause. It has words that ask for something and all its input, and no
+-- call of the folder fails at a stream or at the clock, so it tells of none of these.
 abbrev pub Says : Question → Answer → Cause → Type 0
 Says asked given IsChanged = IsOfSome asked given
 Says asked given IsSame = IsOfSome asked given
 Says asked given (IsRefused refusal) = IsOfSome asked given
 Says asked given (Syntax fault) = ⊥
-Says asked given (OutputFault stage) = given.outcome.status ≡ output_fault_status
-Says asked given (Memory stage) = given.outcome.status ≡ memory_status
+Says asked given (TooLarge Input) = ⊥
+Says asked given InputFault = ⊥
+Says asked given (OutputFault stage) = ⊥
+Says asked given ClockFault = ⊥
 Says asked given cause = given ≡ given_for asked.request.tool cause
 
 -- ---- After a fault of a stream
@@ -98,3 +100,8 @@ after_fault fault answer = record answer {
     cause = left_by fault (stage_of answer.outcome.cause);
   };
 }
+
+-- the answer as the streams left it
+abbrev pub after_streams : Result (Unit {0}) SinkFault → Answer → Answer
+after_streams (Ok unit) answer = answer
+after_streams (Err fault) answer = after_fault fault answer

@@ -1,15 +1,14 @@
 -- A session: how it stands at a moment, and what one turn of it does.
-use Rattle.std.specs.Prelude.{◌≡◌, ◌⊎◌, ⊤, [], ◌∷◌, ℕ, Option, Some, None, IfSome}
+use Rattle.std.specs.Prelude.{◌≡◌, ⊤, [], ◌∷◌, ℕ, Option, Some, None, IfSome, Result, Ok, Err}
 use Rattle.acct_outside.specs.Calls.{Command, answers, done}
 use Rattle.acct_outside.specs.Tokens.{Token}
 use Rattle.acct_outside.specs.History.{History, own_events}
-use Rattle.acct_outside.specs.Contract.{Past, Narrows}
+use Rattle.acct_outside.specs.Contract.{Past, Narrows, TellsBegin, WhereTold}
+use Rattle.acct_outside.specs.declared.FolderFault.{FolderFault}
 use Rattle.account_model.specs.Words.{Asks}
 use Rattle.acct_outside.specs.declared.CommitStage.TheVariants.{Before}
-use Rattle.suite_answers.specs.declared.cause.Cause.TheVariants.{DiskFault, Memory}
 use Rattle.acct_outside.specs.declared.streams.SinkFault.{SinkFault}
 use Rattle.suite_answers.specs.declared.cause.Outcome.{Outcome}
-use Rattle.suite_session.specs.Answers.{after_fault}
 use Rattle.suite_answers.specs.declared.answer.Answer.{Answer}
 use Rattle.suite_session.specs.declared.state.State.{State}
 use Rattle.suite_session.specs.declared.state.State.TheVariants.{Looking, Answering}
@@ -17,10 +16,11 @@ use Rattle.suite_session.specs.declared.session.Phase.{Phase}
 use Rattle.suite_session.specs.declared.session.Phase.TheVariants.{Waiting, Begun, Over}
 use Rattle.suite_session.specs.Runner.{Question, Runner}
 use Rattle.suite_session.specs.Moment.{Moment}
-use Rattle.suite_session.specs.Answers.{Says, memory_answer}
+use Rattle.suite_session.specs.Answers.{IsTold, Says, after_fault, after_streams, memory_answer}
 use Rattle.suite_session.specs.Due.{IsDue}
 use Rattle.suite_session.specs.Left.{ranked, turns_left}
-use Rattle.suite_session.specs.Stands.{HasLeft, IsOutside, IsStopped, StandsAs, TurnsTo, Turns}
+use Rattle.suite_session.specs.Locking.{cause_of_fault}
+use Rattle.suite_session.specs.Stands.{HasLeft, IsOutside, IsStopped, MayGive, StandsAs, TurnsTo, Turns}
 
 -- the session hasn't begun, and was asked this by words that ask for something
 abbrev pub IsStarted : Command → Phase → Type 0
@@ -53,6 +53,11 @@ abbrev pub state_failed : SinkFault → State → State
 state_failed fault (Answering answer) = Answering (after_fault fault answer)
 state_failed fault state = state
 
+-- the state as the streams left it
+abbrev pub state_after : Result (Unit {0}) SinkFault → State → State
+state_after (Ok unit) state = state
+state_after (Err fault) state = state_failed fault state
+
 -- the session after a fault of a stream
 abbrev pub output_failed : SinkFault → Phase → Phase
 output_failed fault (Waiting asked) = Waiting asked
@@ -71,33 +76,50 @@ IsFirst runner (Looking looking) = looking ≡ runner.token
 IsFirst runner (Answering answer) = answer ≡ memory_answer Before
 IsFirst runner state = ⊥
 
+-- the runner stands in the state, or in one of which a stream that failed left this
+pub record StandsLeft (now : Moment) (runner : Runner) (state : State) : Type 0 where
+  pub own : State
+  pub stands : StandsAs now runner own
+  pub put : Result (Unit {0}) SinkFault
+  pub left : state ≡ state_after put own
+
 -- the session stands so at the moment
 abbrev pub SessionStands : Moment → Phase → Type 0
-SessionStands now (Begun runner state) = StandsAs now runner state
+SessionStands now (Begun runner state) = StandsLeft now runner state
 SessionStands now phase = ⊤
 
--- the last event of the history is the session's answer, which is due; it has left the locks and the
--- intent as it must, unless a fault or want of memory stopped it
-pub record HasAnswered (runner : Runner) (answer : Answer) (past : Past) : Type 0 where
+-- The last event of the history is the session's answer, with this status. What it had to give is due,
+-- and it has left the locks and the intent as it must with that, unless a fault or want of memory
+-- stopped it.
+pub record HasAnswered (runner : Runner) (given : Answer) (status : ℕ) (past : Past) : Type 0 where
   pub older : History
   pub last : past.history ≡ record {
     token = runner.token;
-    call = answers answer.outcome.status;
+    call = answers status;
     result = done tt;
   } ∷ older
-  pub due : IsDue runner answer past
-  pub left : (IsStopped answer.outcome.cause → ⊥) →
-      HasLeft runner.token answer.outcome.cause past
+  pub due : IsDue runner given past
+  pub left : (IsStopped given.outcome.cause → ⊥) →
+      HasLeft runner.token given.outcome.cause past
 
--- the session has given this answer
-pub record Gave (now : Moment) (runner : Runner) (answer : Answer) : Type 0 where
-  pub says : Says runner.asked answer answer.outcome.cause
-  pub answered : IfSome now.told (HasAnswered runner answer)
+-- the session had this answer to give, and has answered with the status
+pub record Gave (now : Moment) (runner : Runner) (given : Answer) (status : ℕ) : Type 0 where
+  pub says : Says runner.asked given given.outcome.cause
+  pub answered : IfSome now.told (HasAnswered runner given status)
 
--- a begin that gave no token: the folder failed, or there was no memory
-pub record IsUnbegun (asked : Question) (answer : Answer) : Type 0 where
+-- whichever answer it had to give, of which the streams left this one
+abbrev pub GaveLeft : Moment → Moment → Runner → Answer → Type 0
+GaveLeft before now runner answer = (given : Answer) (put : Result (Unit {0}) SinkFault) →
+    MayGive before runner given → answer ≡ after_streams put given →
+    Gave now runner given answer.outcome.status
+
+-- The begin gave no token. The folder told it as one that failed, and of no session; or there was no
+-- memory, and it has no event. The answer tells that, or that there was no memory to tell it.
+pub record IsUnbegun (asked : Question) (before now : Moment) (answer : Answer) : Type 0 where
+  pub fault : FolderFault
+  pub begin : WhereTold before.told now.told (TellsBegin before.admits asked.command (Err fault))
+  pub tells : IsTold asked.request.tool (cause_of_fault Before fault) answer
   pub says : Says asked answer answer.outcome.cause
-  pub plain : (answer.outcome.cause ≡ DiskFault Before) ⊎ (answer.outcome.cause ≡ Memory Before)
 
 -- the folder tells what it told
 pub record Stays (before now : Moment) : Type 0 where
@@ -115,11 +137,12 @@ abbrev pub SessionTurns : Moment → Moment → Phase → Phase → Type 0
 SessionTurns before now (Waiting asked) (Begun runner state) =
     (runner.asked ≡ asked) × Turns before now runner state × IsNew before.told runner.token
 SessionTurns before now (Waiting asked) (Over answer) =
-    TurnsTo before now [] 1 (IsUnbegun asked answer) (IsOutside answer.outcome.cause)
+    TurnsTo before now [] 1 (IsUnbegun asked before now answer) (IsOutside answer.outcome.cause)
 SessionTurns before now (Begun runner state) (Begun same next) =
     (same ≡ runner) × Turns before now runner next
 SessionTurns before now (Begun runner state) (Over answer) =
-    (state ≡ Answering answer) × TurnsTo before now runner.token 1 (Gave now runner answer) ⊥
+    (state ≡ Answering answer)
+    × TurnsTo before now runner.token 1 (GaveLeft before now runner answer) ⊥
 SessionTurns before now (Over answer) (Over same) = (same ≡ answer) × Stays before now
 SessionTurns before now old new = ⊥
 

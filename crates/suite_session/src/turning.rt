@@ -6,7 +6,7 @@ ghost use Rattle.suite_session.specs.Locking.{cause_of_fault};
 ghost use Rattle.suite_session.specs.Moment.{moment};
 ghost use Rattle.suite_session.specs.Counts.{CountsTo, SessionCounts};
 ghost use Rattle.suite_session.specs.Left.{turns_left};
-ghost use Rattle.suite_session.specs.Session.{IsFirst, SessionStands, SessionTurns, answer_of, given_in, outcome_of, phase_left};
+ghost use Rattle.suite_session.specs.Session.{IsFirst, SessionStands, SessionTurns, StandsLeft, answer_of, given_in, outcome_of, phase_left};
 ghost use Rattle.suite_session.specs.Stands.{StandsAs, Turns};
 
 use crate::committing::{back_up, commit, install};
@@ -50,7 +50,7 @@ fn stepped<T: Tools, F: Folder>(
     state: State,
     folder: &mut F,
 ) -> Phase
-    requires { StandsAs
+    requires { StandsLeft
         (moment (F.admits folder.old) (F.told folder.old) (F.fault_count folder.old))
         runner state }
     ensures turns { SessionTurns
@@ -153,7 +153,7 @@ fn go_on<T: Tools, F: Folder>(alloc: Global, runner: &Runner, state: State, fold
 
 /// Gives the answer, the session's last call.
 fn answered<F: Folder>(runner: Runner, answer: Answer, folder: &mut F) -> Phase
-    requires { StandsAs
+    requires { StandsLeft
         (moment (F.admits folder.old) (F.told folder.old) (F.fault_count folder.old))
         runner (State.Answering answer) }
     ensures turns { SessionTurns

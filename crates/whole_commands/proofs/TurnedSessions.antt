@@ -2,7 +2,7 @@
 -- Way: each turn says so of the state that it leads to.
 -- Claim: where no history is told, it stands whatever others do (`waiting-untold`, `turned-untold`).
 -- Way: the one thing that a state then knows of the folder is a history that isn't told.
-use Rattle.std.proofs.Common.{ℕ, None, sym, subst}
+use Rattle.std.proofs.Common.{ℕ, None, Ok, refl, sym, subst}
 use Rattle.acct_outside.specs.Memory.{no_others}
 use Rattle.suite_answers.specs.declared.answer.Answer.{Answer}
 use Rattle.suite_session.specs.declared.state.State.{State}
@@ -20,11 +20,18 @@ waiting-stands now (Waiting asked) is = tt
 waiting-stands now (Begun runner state) is = absurd is
 waiting-stands now (Over answer) is = absurd is
 
+-- a state to which a turn led stands as no stream changed it
+stands-so : (now : Moment) (runner : Runner) (state : State) → StandsAs now runner state →
+    SessionStands now (Begun runner state)
+stands-so now runner state stands =
+    record { own = state; stands = stands; put = Ok tt; left = refl }
+
 pub turned-stands : (before now : Moment) (old new : Phase) → SessionTurns before now old new →
     SessionStands now new
-turned-stands before now (Waiting asked) (Begun runner state) turns = turns.1.stands
-turned-stands before now (Begun runner state) (Begun same next) turns =
-    subst (λ (one : Runner). StandsAs now one next) (sym turns.0) turns.1.stands
+turned-stands before now (Waiting asked) (Begun runner state) turns =
+    stands-so now runner state turns.1.stands
+turned-stands before now (Begun runner state) (Begun same next) turns = stands-so now same next
+    (subst (λ (one : Runner). StandsAs now one next) (sym turns.0) turns.1.stands)
 turned-stands before now (Over answer) (Begun runner state) turns = absurd turns
 turned-stands before now old (Waiting asked) turns = tt
 turned-stands before now old (Over answer) turns = tt
@@ -74,7 +81,12 @@ untold-state one other runner state is = is
 untold-session : (one other : ℕ) (session : Phase)
     → SessionStands (moment no_others None one) session
     → SessionStands (moment no_others None other) session
-untold-session one other (Begun runner state) is = untold-state one other runner state is
+untold-session one other (Begun runner state) is = record {
+  own = is.own;
+  stands = untold-state one other runner is.own is.stands;
+  put = is.put;
+  left = is.left;
+}
 untold-session one other (Waiting asked) is = tt
 untold-session one other (Over answer) is = tt
 

@@ -14,6 +14,7 @@ use Rattle.suite_course.specs.Supplies.{AreSupplied, reads_input, supplies}
 use Rattle.suite_course.specs.Top.{EndsEarly, EndsUnsupplied, Ran}
 use Rattle.suite_course.proofs.CompleteLemmas.{ends-unsupplied}
 use Rattle.suite_course.proofs.RanLemmas.{finished-ran}
+use Rattle.suite_course.proofs.SuppliesLemmas.{none-came}
 use Rattle.suite_core.proofs.TopLemmas.{named-asked, no-fault, one-request}
 use Rattle.suite_core.proofs.top.run_suite.Goals as goal
 
@@ -43,7 +44,8 @@ returns-in-Err-clause-ran g c = λ request asks.
     ] in
     inl (
       refl,
-      ends-unsupplied request.tool _ _ was holds c.refuse_words.result (Memory Before) tt
+      ends-unsupplied request.tool _ _ was holds c.refuse_words.result (Memory Before)
+          (record { gave = refl; faults = refl }, none-came (g.S.Source.left c.args.input.now))
           (record { source = omega arith; clock = omega arith })
           (subst (λ (one : Option Tool).
           EndsEarly one (told request.tool (Memory Before)) was holds c.refuse_words.result)

@@ -3,7 +3,7 @@ use Rattle.suite_session.specs.declared.session.Phase.{Phase}
 use Rattle.suite_session.specs.Moment.{moment}
 use Rattle.suite_session.specs.Session.{SessionStands, answer_of}
 use Rattle.suite_course.specs.Streams.{streams}
-use Rattle.suite_course.proofs.CourseLemmas.{comes-stands, waiting-is}
+use Rattle.suite_course.proofs.CourseLemmas.{waiting-is}
 use Rattle.suite_course.proofs.FinishLemmas.{finishes, streams-answer, streams-stand}
 use Rattle.suite_course.proofs.course.finish.Goals as goal
 
@@ -16,12 +16,10 @@ conclude-requires g c =
     (g.F.Folder.fault_count c.to_answer-session.new.folder) in
     let session = c.to_answer-session.result in
     let waits = waiting-is c.args.session c.requires in
-    let stands = comes-stands waits.0 entry between session
-    (c.to_answer-session.ensures.comes waits.0 waits.1) in
     record {
       stands = subst (λ (one : Phase). SessionStands between one) (sym c.after_streams.ensures)
-          (streams-stand between c.put_answer-put.result session
-          c.to_answer-session.ensures.answers stands);
+          (streams-stand waits.0 entry between c.put_answer-put.result session
+          (c.to_answer-session.ensures.comes waits.0 waits.1));
       answers = subst (λ (one : Phase). IsSome (answer_of one)) (sym c.after_streams.ensures)
           (streams-answer c.put_answer-put.result session c.to_answer-session.ensures.answers);
     }

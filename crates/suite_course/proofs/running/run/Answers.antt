@@ -3,7 +3,8 @@ use Rattle.option_words.specs.Parsed.{request_in}
 use Rattle.suite_answers.specs.declared.answer.Answer.{Answer}
 use Rattle.suite_session.specs.Moment.{moment}
 use Rattle.suite_session.specs.Runner.{Question, question}
-use Rattle.suite_course.specs.Streams.{Serves, after_streams, streams}
+use Rattle.suite_session.specs.Answers.{after_streams}
+use Rattle.suite_course.specs.Streams.{Serves, streams}
 use Rattle.suite_course.proofs.RanLemmas.{finished-from, stays-turns, unbegun-finished}
 use Rattle.suite_course.proofs.running.run.Goals as goal
 
@@ -21,7 +22,7 @@ returns-in-Ok g c =
     (g.E.Sink.holds c.finish.new.err) (g.E.Sink.fault_count c.finish.new.err) in
     let asked : Question = question c.args.words.now (request_in c.args.parsed)
     c.args.supplied.input c.args.supplied.day in
-    finished-from asked entry between now was holds c.finish.result []
+    finished-from asked entry between now was holds c.finish.result [] c.enter.ensures.told
     (stays-turns entry between [] {S = Unit {0}} {T = ⊥} c.enter.ensures.told c.enter.ensures.narrows
     c.enter.ensures.never_falls tt (λ none. none))
     (c.finish.ensures asked c.in-Ok.ensures.session refl)
