@@ -2,6 +2,7 @@ pub mod Counted
 pub mod NamesCut
 pub mod NamesJoined
 pub mod Read
+pub mod Taken
 pub mod PasswdFields
 pub mod GroupFields
 pub mod GshadowFields

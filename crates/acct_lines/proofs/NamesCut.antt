@@ -1,5 +1,6 @@
 -- Claim: the first separator ends the first piece (`cut-at_first`), and a text without one is one
--- piece (`cut-at_none`). Way: the bytes before the first place that passes the test don't pass it.
+-- piece (`cut-at_none`); a name is listed where it is the first piece (`listed-here`) or among those
+-- behind it (`listed-behind`). Way: the bytes before the first place that passes the test don't pass it.
 use Rattle.std.proofs.Common.{◌≡◌, ℕ, ◌+◌, ◌<◌, Bool, true, false, List, ◌∷◌, [], ◌++◌, length, take, drop, slice_index, get_or, All, Some, None, refl, append_assoc, ap, sym, ◌∙◌, arith, inl, inr, subst}
 use Rattle.std.proofs.lemmas.Grind.{common_steps}
 use Rattle.std.proofs.lemmas.Bool.{cases_Bool}
@@ -8,7 +9,8 @@ use Rattle.std.proofs.lemmas.List.Elements.{All-from_get_or}
 use Rattle.std.proofs.lemmas.List.Splits.{slice_split_at, slice_split_none}
 use Rattle.memchr.specs.Find.{is_byte, Passes, Nowhere, IsFirstByte}
 use Rattle.acct_text.specs.Pieces.{cut_at}
-use Rattle.account_model.specs.Text.{nonempty}
+use Rattle.std.specs.Prelude.{◌||◌, bytes_eq}
+use Rattle.account_model.specs.Text.{is_listed, nonempty}
 
 -- a test that isn't passed is failed
 failed : (passed : Bool) → ¬ (passed ≡ true) → passed ≡ false
@@ -55,3 +57,36 @@ pub pushed-piece :
     → new ++ nonempty pieces ≡ names ++ nonempty (piece ∷ pieces)
 pushed-piece names new [] pieces push = rw push (rw append-nil refl)
 pushed-piece names new (byte ∷ piece) pieces push = rw push (append_assoc names ((byte ∷ piece) ∷ []) (nonempty pieces))
+
+-- nothing more
+or-false : (b : Bool) → (b || false) ≡ b
+or-false true = refl
+or-false false = refl
+
+-- a name is among the pieces where it is the first or among the others
+pub listed-first :
+    (name piece : List ℕ) (pieces : List (List ℕ))
+    → is_listed name (nonempty (piece ∷ pieces))
+    ≡ (is_listed name (nonempty (piece ∷ [])) || is_listed name (nonempty pieces))
+listed-first name [] pieces = refl
+listed-first name (byte ∷ piece) pieces =
+    ap (λ first. first || is_listed name (nonempty pieces))
+    (sym (or-false (bytes_eq name (byte ∷ piece))))
+
+-- it is the first
+pub listed-here :
+    (name piece : List ℕ) (pieces : List (List ℕ))
+    → is_listed name (nonempty (piece ∷ [])) ≡ true
+    → is_listed name (nonempty (piece ∷ pieces)) ≡ true
+listed-here name piece pieces here =
+    listed-first name piece pieces
+    ∙ ap (λ first. first || is_listed name (nonempty pieces)) here
+
+-- it is among the others, if anywhere
+pub listed-behind :
+    (name piece : List ℕ) (pieces : List (List ℕ))
+    → is_listed name (nonempty (piece ∷ [])) ≡ false
+    → is_listed name (nonempty pieces) ≡ is_listed name (nonempty (piece ∷ pieces))
+listed-behind name piece pieces other =
+    sym (listed-first name piece pieces
+    ∙ ap (λ first. first || is_listed name (nonempty pieces)) other)

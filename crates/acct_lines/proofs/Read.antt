@@ -1,12 +1,13 @@
--- What a field that was read, or wasn't, tells of the text that it was read from, and what `?`
--- makes of a fault.
-use Rattle.std.proofs.Common.{◌≡◌, Option, Result, Ok, Err, Some, None, refl, sym, subst}
-use Rattle.std.specs.Prelude.{IsErrAnd}
+-- What a field that was read, or wasn't, tells of the text that it was read from; what `?` makes of a
+-- fault (`told-first`), and what a reading tells of the fault of its text (`fault-told`).
+use Rattle.std.proofs.Common.{◌≡◌, ℕ, true, List, ◌∙◌, ap, Option, Result, Ok, Err, Some, None, refl, sym, subst}
+use Rattle.std.specs.Result.{result_err}
+use Rattle.std.specs.Prelude.{IsErrAnd, MatchResult, is_some, is_none, if◌then◌else◌}
 use Rattle.std.specs.Option.{ok_or}
 use Rattle.account_model.specs.declared.fault.LineFault.{LineFault}
-use Rattle.acct_lines.specs.declared.record.ReadFault.{ReadFault}
-use Rattle.acct_lines.specs.declared.record.ReadFault.TheVariants.{Line, Memory}
-use Rattle.acct_lines.specs.Reading.{MatchRead}
+use Rattle.account_model.specs.declared.fault.LineFault.TheVariants.{BadNumber}
+use Rattle.account_model.specs.Format.{Format}
+use Rattle.account_model.specs.LineFormat.{IsLineFormat}
 
 -- a value that was read is there
 pub read-some :
@@ -32,28 +33,33 @@ pub read-fault :
 read-fault None fault first read = cc
 read-fault (Some y) fault first read = absurd cc
 
--- what `?` makes of the fault of a line tells that fault
-pub told-fault :
-    {X : Type 0} (result : Result X ReadFault) (first : LineFault)
+-- what `?` passes on tells the first fault
+pub told-first :
+    {X : Type 0} (result : Result X LineFault) (first : LineFault)
     (Good : X → Type 0) (Bad : LineFault → Type 0)
-    → IsErrAnd result (λ fault. fault ≡ Line first)
+    → IsErrAnd result (λ fault. fault ≡ first)
     → Bad first
-    → MatchRead result Good Bad
-told-fault (Ok x) first Good Bad told bad = absurd told
-told-fault (Err (Line fault)) first Good Bad told bad =
-    let same : fault ≡ first = cc in subst Bad (sym same) bad
-told-fault (Err Memory) first Good Bad told bad = tt
+    → MatchResult result Good Bad
+told-first (Ok x) first Good Bad told bad = absurd told
+told-first (Err fault) first Good Bad told bad = subst Bad (sym told) bad
 
--- what `?` passes on of a reading that failed
-pub passed-on :
-    {X Y : Type 0} (result : Result X ReadFault) (error : ReadFault)
-    (Read : Y → Type 0) (Unread : LineFault → Type 0) (Good : X → Type 0) (Bad : LineFault → Type 0)
-    → IsErrAnd result (λ fault. fault ≡ error)
-    → MatchRead {X = Y} (Err error) Read Unread
-    → ((first : LineFault) → Unread first → Bad first)
-    → MatchRead result Good Bad
-passed-on result (Line first) Read Unread Good Bad told unread bad =
-    told-fault result first Good Bad told (bad first unread)
-passed-on (Ok x) Memory Read Unread Good Bad told unread bad = absurd told
-passed-on (Err (Line first)) Memory Read Unread Good Bad told unread bad = absurd cc
-passed-on (Err Memory) Memory Read Unread Good Bad told unread bad = tt
+-- the fault of a number that is there or not
+abbrev pub number_fault : {X : Type 0} → ℕ → Option X → Option LineFault
+number_fault place read = if is_some read then None else Some (BadNumber place)
+
+-- what isn't there is none
+first-none : (found : Option LineFault) → is_none found ≡ true → None ≡ found
+first-none None none = refl
+first-none (Some fault) none = absurd cc
+
+-- what a reading of a text tells of its fault
+pub fault-told :
+    {R X : Type 0} (format : Format R) (fault : List ℕ → Option LineFault) (text : List ℕ)
+    (shown : X → R) (result : Result X LineFault)
+    → IsLineFormat format fault
+    → MatchResult result (λ x. format.read text ≡ Some (shown x)) (λ first. fault text ≡ Some first)
+    → result_err result ≡ fault text
+fault-told format fault text shown (Ok x) is_format read =
+    let none : is_none (fault text) ≡ true = sym (is_format.faulted text) ∙ ap is_some read in
+    first-none (fault text) none
+fault-told format fault text shown (Err first) is_format bad = sym bad

@@ -1,8 +1,8 @@
--- Claim: the first number that couldn't be read is the fault of the line (`bad-minimum` and its
+-- Claim: the first number that couldn't be read is the fault of the line (`bad-last_change` and its
 -- likes), and else the empty name (`no-name`). Way: the fault is the first of those of the
 -- numbers and the name (`fault-by`), each of which computes from what was read.
 use Rattle.std.proofs.Common.{◌≡◌, ℕ, List, [], ◌∷◌, refl, ◌∙◌, ap, Ok, Err}
-use Rattle.std.specs.Prelude.{Option, Some, None, is_some, if◌then◌else◌}
+use Rattle.std.specs.Prelude.{Option, Some, None, if◌then◌else◌}
 use Rattle.std.specs.Option.{ok_or}
 use Rattle.account_model.specs.declared.fault.LineFault.{LineFault}
 use Rattle.account_model.specs.declared.fault.LineFault.TheVariants.{BadNumber, EmptyName}
@@ -11,11 +11,7 @@ use Rattle.account_model.specs.Text.{first_some}
 use Rattle.account_model.specs.Records.{read_days}
 use Rattle.account_model.specs.Faults.{field_at, shadow_fault}
 use Rattle.acct_lines.specs.Fields.{AreFields, IsUnnamed}
-use Rattle.acct_lines.proofs.Read.{read-some, read-none, read-fault}
-
--- the fault of a number that is there or not
-abbrev pub number_fault : ℕ → Option (Option ℕ) → Option LineFault
-number_fault place read = if is_some read then None else Some (BadNumber place)
+use Rattle.acct_lines.proofs.Read.{number_fault, read-some, read-none, read-fault}
 
 -- what was read of a field
 abbrev IsRead : List (List ℕ) → ℕ → Option ℕ → Type 0
@@ -42,7 +38,14 @@ module _ (line : List ℕ) (fields : List (List ℕ)) (are : AreFields 9 line fi
   fault-by a b c d e f is_a is_b is_c is_d is_e is_f =
       rw (← are.cut, are.counted, is_a, is_b, is_c, is_d, is_e, is_f) refl
 
-  -- the minimum is the first number that couldn't be read
+  -- the last change is the first number that couldn't be read
+  pub bad-last_change :
+      (fault : LineFault) → IsUnread fields 3 fault → shadow_fault line ≡ Some fault
+  bad-last_change fault bad =
+      fault-by None _ _ _ _ _ (read-none _ _ _ bad) refl refl refl refl refl
+      ∙ ap Some (read-fault _ _ _ bad)
+
+  -- the minimum is
   pub bad-minimum :
       (a : Option ℕ) (fault : LineFault)
       → IsRead fields 3 a
@@ -119,7 +122,7 @@ module _ (line : List ℕ) (fields : List (List ℕ)) (are : AreFields 9 line fi
       → IsRead fields 7 e
       → IsRead fields 8 f
       → (fault : LineFault)
-      → IsUnnamed fields fault
+      → IsUnnamed (field_at 1 fields) fault
       → shadow_fault line ≡ Some fault
   no-name a b c d e f is_a is_b is_c is_d is_e is_f fault unnamed =
       fault-by (Some a) (Some b) (Some c) (Some d) (Some e) (Some f) (read-some _ _ _ is_a)

@@ -1,4 +1,5 @@
 pub mod Reading
 pub mod Fields
+pub mod Shown
 pub mod Naming
 pub mod NamingLaws

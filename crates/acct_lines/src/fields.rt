@@ -1,16 +1,16 @@
-// A line cut into its fields, and what each kind of field holds. Fields are counted from 1.
-ghost use Rattle.std.specs.Prelude.{◌≡◌, ◌<◌, ◌++◌, [], ◌∷◌, IfOk, OnOk};
+// A line cut into its fields where they stand, and what each kind of field holds. Fields are counted
+// from 1.
+ghost use Rattle.std.specs.Prelude.{◌≡◌, ◌<◌, ◌+◌, ◌++◌, [], ◌∷◌, IfOk, IfSome, MatchOption, MatchResult, OnOk, length};
 ghost use Rattle.std.specs.Option.{ok_or};
-ghost use Rattle.account_model.specs.Text.{nonempty};
-ghost use Rattle.acct_text.specs.Numbers.{number_within};
-ghost use Rattle.account_model.specs.Faults.{field_at};
 ghost use Rattle.account_model.specs.Records.{read_days, read_names};
-ghost use Rattle.acct_lines.specs.Fields.{AreFields, IsMiscount, IsFirstName, IsUnnamed};
+ghost use Rattle.account_model.specs.Text.{is_listed, nonempty};
+ghost use Rattle.acct_text.specs.Numbers.{number_within};
+ghost use Rattle.acct_text.specs.Pieces.{cut_at};
+ghost use Rattle.acct_lines.specs.Fields.{AreFields, IsMiscount, IsNameIn, IsUnnamed};
 ghost use Rattle.acct_lines.specs.Naming.{first_field as first_of};
-ghost use Rattle.acct_lines.specs.Reading.{MatchRead};
 
-use crate::{LineFault, ReadFault};
-use acct_text::{Bytes, Names, fields, read_decimal};
+use crate::LineFault;
+use acct_text::{Names, read_decimal};
 use memchr::{memchr, memchr_iter};
 use std::alloc::{AllocError, Global};
 use std::marker::Model;
@@ -21,100 +21,109 @@ pub(crate) const GREATEST_ID: u32 = 4294967294;
 // The greatest day, and the greatest number of days.
 const GREATEST_DAYS: u32 = 2147483647;
 
-/// The fields of a line.
+/// The fields of a line that are still to be taken, each a part of the line.
 #[derive(Drop)]
 pub(crate) struct Fields<'a> {
-    line: &'a [u8],
-    places: Vec<(usize, usize)>,
+    // the line behind the last field that was taken, and none behind the last of all
+    rest: Option<&'a [u8]>,
 }
 
 impl<'a> Model for Fields<'a> {
-    ghost use Rattle.std.specs.Prelude.{ℕ, List, map, All};
-    ghost use Rattle.acct_text.specs.Bytes.{part_of, IsWithin};
+    ghost use Rattle.std.specs.Prelude.{ℕ, List};
+    ghost use Rattle.acct_text.specs.Pieces.{cut_at};
+    ghost use Rattle.acct_lines.specs.Fields.{fields_left};
 
     ghost Value = { List (List ℕ) };
 
-    ghost view = { λ f. map (part_of f.line.now) f.places.items };
-
-    ghost invariant = { λ f. All (IsWithin f.line.now) f.places.items };
+    ghost view = { λ f. fields_left f.rest };
 }
 
 impl<'a> Fields<'a> {
     /// The fields of a line that has this number of them.
-    pub(crate) fn of(alloc: Global, line: &'a [u8], count: usize) -> Result<Self, ReadFault>
-        ensures { MatchRead result (AreFields count line.now) (IsMiscount count line.now) }
+    ///
+    /// `FieldCount` with their number comes where the line has more or fewer.
+    pub(crate) fn of(line: &'a [u8], count: usize) -> Result<Self, LineFault>
+        ensures { MatchResult result (AreFields count line.now) (IsMiscount count line.now) }
     {
         let found = memchr_iter(b':', line).count() + 1;
         if found != count {
-            return Err(ReadFault::Line(LineFault::FieldCount(found)));
+            return Err(LineFault::FieldCount(found));
         }
-        Ok(Fields {
-            line,
-            places: fields(alloc, line)?,
-        })
+        Ok(Fields { rest: Some(line) })
     }
 
-    /// The text of a field, and an empty one past the last field.
-    pub(crate) fn at(&self, place: usize) -> &'a [u8]
-        requires { 0 < place }
-        ensures { result.now ≡ field_at place self.now }
+    /// Takes the next field.
+    pub(crate) fn take(&mut self) -> &'a [u8]
+        requires { 0 < length self.old }
+        ensures taken { self.old ≡ result.now ∷ self.new }
+        ensures left { length self.old ≡ length self.new + 1 }
     {
-        match self.places.get(place - 1) {
-            Some((start, end)) => &self.line[*start..*end],
-            None => &[],
-        }
-    }
-
-    /// The number that a field is, of at most `greatest`.
-    pub(crate) fn number(&self, place: usize, greatest: u32) -> Result<u32, LineFault>
-        requires { 0 < place }
-        ensures { result ≡ ok_or (number_within greatest (field_at place self.now))
-            (LineFault.BadNumber place) }
-    {
-        match read_decimal(self.at(place), u64::from(greatest)) {
-            Ok(number) => Ok(number as u32),
-            Err(_) => Err(LineFault::BadNumber(place)),
+        let Some(rest) = self.rest else {
+            return &[];
+        };
+        match cut_once(b':', rest) {
+            Some(cut) => {
+                self.rest = Some(cut.behind);
+                cut.before
+            }
+            None => {
+                self.rest = None;
+                rest
+            }
         }
     }
+}
 
-    /// The number of days that a field is: none where it is empty or `-1` (shadow(5)).
-    pub(crate) fn days(&self, place: usize) -> Result<Option<u32>, LineFault>
-        requires { 0 < place }
-        ensures { result ≡ ok_or (read_days (field_at place self.now)) (LineFault.BadNumber place) }
-    {
-        let text = self.at(place);
-        if text.is_empty() || text == b"-1".as_slice() {
-            return Ok(None);
-        }
-        Ok(Some(self.number(place, GREATEST_DAYS)?))
-    }
+// A text in front of a separator and behind it.
+#[derive(Clone, Copy)]
+struct Cut<'a> {
+    before: &'a [u8],
+    behind: &'a [u8],
+}
 
-    /// A copy of the first field, which may not be empty.
-    pub(crate) fn name(&self, alloc: Global) -> Result<Bytes, ReadFault>
-        ensures { MatchRead result (IsFirstName self.now) (IsUnnamed self.now) }
-    {
-        let name = self.at(1);
-        if name.is_empty() {
-            return Err(ReadFault::Line(LineFault::EmptyName));
-        }
-        Ok(Bytes::of(alloc, name)?)
+// The text cut at its first separator; none where it has none.
+fn cut_once(separator: u8, text: &[u8]) -> Option<Cut<'_>>
+    ensures cut { MatchOption result (cut_at separator text.now ≡ text.now ∷ [])
+        (λ cut. cut_at separator text.now ≡ cut.before.now ∷ cut_at separator cut.behind.now) }
+    ensures shorter { IfSome result (λ cut. length cut.behind.now < length text.now) }
+{
+    match memchr(separator, text) {
+        Some(end) => Some(Cut {
+            before: &text[..end],
+            behind: &text[end + 1..],
+        }),
+        None => None,
     }
+}
 
-    /// A copy of a field.
-    pub(crate) fn text(&self, alloc: Global, place: usize) -> Result<Bytes, AllocError>
-        requires { 0 < place }
-        ensures { IfOk result (λ text. text ≡ field_at place self.now) }
-    {
-        Bytes::of(alloc, self.at(place))
+/// The number, of at most `greatest`, that the field at a place is.
+pub(crate) fn number(place: usize, field: &[u8], greatest: u32) -> Result<u32, LineFault>
+    ensures { result ≡ ok_or (number_within greatest field.now) (LineFault.BadNumber place) }
+{
+    match read_decimal(field, u64::from(greatest)) {
+        Ok(number) => Ok(number as u32),
+        Err(_) => Err(LineFault::BadNumber(place)),
     }
+}
 
-    /// The names of a list between commas; empty ones are left out.
-    pub(crate) fn names(&self, alloc: Global, place: usize) -> Result<Names, AllocError>
-        requires { 0 < place }
-        ensures { IfOk result (λ names. names ≡ read_names (field_at place self.now)) }
-    {
-        cut_names(alloc, self.at(place))
+/// The number of days that the field at a place is: none where it is empty or `-1` (shadow(5)).
+pub(crate) fn days(place: usize, field: &[u8]) -> Result<Option<u32>, LineFault>
+    ensures { result ≡ ok_or (read_days field.now) (LineFault.BadNumber place) }
+{
+    if field.is_empty() || field == b"-1".as_slice() {
+        return Ok(None);
     }
+    Ok(Some(number(place, field, GREATEST_DAYS)?))
+}
+
+/// The first field as a name, which may not be empty.
+pub(crate) fn name(field: &[u8]) -> Result<&[u8], LineFault>
+    ensures { MatchResult result (λ name. IsNameIn field.now name.now) (IsUnnamed field.now) }
+{
+    if field.is_empty() {
+        return Err(LineFault::EmptyName);
+    }
+    Ok(field)
 }
 
 /// The text in front of the first colon of a line, and the whole line where it has none. Where the
@@ -122,8 +131,8 @@ impl<'a> Fields<'a> {
 pub fn first_field(line: &[u8]) -> &[u8]
     ensures { result.now ≡ first_of line.now }
 {
-    match memchr(b':', line) {
-        Some(end) => &line[..end],
+    match cut_once(b':', line) {
+        Some(cut) => cut.before,
         None => line,
     }
 }
@@ -134,9 +143,9 @@ pub fn cut_names(alloc: Global, text: &[u8]) -> Result<Names, AllocError>
 {
     let mut names = Names::new(alloc);
     let mut rest = text;
-    'names: while let Some(end) = memchr(b',', rest) {
-        push_name(&mut names, &rest[..end])?;
-        rest = &rest[end + 1..];
+    'names: while let Some(cut) = cut_once(b',', rest) {
+        push_name(&mut names, cut.before)?;
+        rest = cut.behind;
     }
     push_name(&mut names, rest)?;
     Ok(names)
@@ -150,4 +159,26 @@ fn push_name(names: &mut Names, name: &[u8]) -> Result<(), AllocError>
         names.push(name)?;
     }
     Ok(())
+}
+
+/// Whether the name is one of those between the commas of a text (group(5), gshadow(5)). It takes no
+/// memory.
+pub fn lists(text: &[u8], name: &[u8]) -> bool
+    ensures { result ≡ is_listed name.now (read_names text.now) }
+{
+    let mut rest = text;
+    'names: while let Some(cut) = cut_once(b',', rest) {
+        if is_name(cut.before, name) {
+            return true;
+        }
+        rest = cut.behind;
+    }
+    is_name(rest, name)
+}
+
+// Whether a piece of a list, which may be empty, is the name.
+fn is_name(piece: &[u8], name: &[u8]) -> bool
+    ensures { result ≡ is_listed name.now (nonempty (piece.now ∷ [])) }
+{
+    !piece.is_empty() && name == piece
 }

@@ -1,8 +1,63 @@
 // The records of group (group(5)).
-use crate::fields::{Fields, GREATEST_ID};
-use crate::{GroupRecord, ReadFault, TableRecord, parts};
+ghost use Rattle.std.specs.Prelude.{◌≡◌, Some, IfOk, MatchResult};
+ghost use Rattle.account_model.specs.Faults.{group_fault};
+ghost use Rattle.account_model.specs.Records.{group_format};
+
+use crate::fields::{self, Fields, GREATEST_ID};
+use crate::{GroupRecord, LineFault, ReadFault, TableRecord, cut_names, parts};
 use acct_text::{Bytes, Names, join_fields};
 use std::alloc::{AllocError, Global};
+
+/// A line of group, read where it stands: its texts are parts of the line.
+#[derive(Clone, Copy)]
+pub struct GroupLine<'a> {
+    /// The name of the group.
+    pub name: &'a [u8],
+    /// The password field.
+    pub password: &'a [u8],
+    /// The GID.
+    pub gid: u32,
+    /// The members, with commas between them.
+    pub members: &'a [u8],
+}
+
+impl<'a> GroupLine<'a> {
+    ghost use Rattle.acct_lines.specs.Shown.{group_shown};
+
+    /// The record that the line is, without its newline. It takes no memory, and its faults come in
+    /// the order of `LineFault`.
+    pub fn read(line: &'a [u8]) -> Result<Self, LineFault>
+        ensures { MatchResult result
+            (λ shown. group_format.read line.now ≡ Some (group_shown shown))
+            (λ first. group_fault line.now ≡ Some first) }
+    {
+        let mut fields = Fields::of(line, 4)?;
+        let name = fields.take();
+        let password = fields.take();
+        let gid = fields.take();
+        let members = fields.take();
+        let gid = fields::number(3, gid, GREATEST_ID)?;
+        let name = fields::name(name)?;
+        Ok(GroupLine {
+            name,
+            password,
+            gid,
+            members,
+        })
+    }
+
+    /// A copy of the record that the line shows.
+    pub fn copied(&self, alloc: Global) -> Result<GroupRecord, AllocError>
+        ensures { IfOk result (λ copy. copy ≡ group_shown self.now) }
+    {
+        Ok(GroupRecord {
+            name: Bytes::of(alloc, self.name)?,
+            password: Bytes::of(alloc, self.password)?,
+            gid: self.gid,
+            members: cut_names(alloc, self.members)?,
+        })
+    }
+}
 
 impl TableRecord for GroupRecord {
     ghost use Rattle.account_model.specs.Records.{group_format};
@@ -15,14 +70,11 @@ impl TableRecord for GroupRecord {
     ghost fault = { group_fault };
 
     fn read(alloc: Global, line: &[u8]) -> Result<Self, ReadFault> {
-        let fields = Fields::of(alloc, line, 4)?;
-        let gid = fields.number(3, GREATEST_ID)?;
-        Ok(GroupRecord {
-            name: fields.name(alloc)?,
-            password: fields.text(alloc, 2)?,
-            gid,
-            members: fields.names(alloc, 4)?,
-        })
+        Ok(GroupLine::read(line)?.copied(alloc)?)
+    }
+
+    fn fault(line: &[u8]) -> Option<LineFault> {
+        GroupLine::read(line).err()
     }
 
     fn print(&self, alloc: Global) -> Result<Bytes, AllocError> {

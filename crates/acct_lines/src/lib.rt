@@ -2,8 +2,9 @@
 //! printed as its canonical line (passwd(5), shadow(5), group(5), gshadow(5), subuid(5),
 //! subgid(5)).
 //!
-//! `TableRecord` is what the five records share. `fields` cuts a line and reads its fields,
-//! `parts` prints them, and each record has a file of its own.
+//! `TableRecord` is what the five records share. `PasswdLine` and its likes show the record of a line
+//! where it stands, without memory. `fields` cuts a line and reads its fields, `parts` prints them,
+//! and each record has a file of its own.
 #![tactic(auto)]
 
 mod fields;
@@ -19,6 +20,11 @@ mod subid;
 pub use account_model::{
     GroupRecord, GshadowRecord, LineFault, PasswdRecord, ShadowRecord, SubidRecord,
 };
-pub use fields::{cut_names, first_field};
+pub use fields::{cut_names, first_field, lists};
+pub use group::GroupLine;
+pub use gshadow::GshadowLine;
 pub use names::{is_digits, is_valid_name};
+pub use passwd::PasswdLine;
 pub use record::{ReadFault, TableRecord};
+pub use shadow::ShadowLine;
+pub use subid::SubidLine;

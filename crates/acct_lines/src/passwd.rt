@@ -1,8 +1,79 @@
 // The records of passwd (passwd(5)).
-use crate::fields::{Fields, GREATEST_ID};
-use crate::{PasswdRecord, ReadFault, TableRecord, parts};
+ghost use Rattle.std.specs.Prelude.{◌≡◌, Some, IfOk, MatchResult};
+ghost use Rattle.account_model.specs.Faults.{passwd_fault};
+ghost use Rattle.account_model.specs.Records.{passwd_format};
+
+use crate::fields::{self, Fields, GREATEST_ID};
+use crate::{LineFault, PasswdRecord, ReadFault, TableRecord, parts};
 use acct_text::{Bytes, Names, join_fields};
 use std::alloc::{AllocError, Global};
+
+/// A line of passwd, read where it stands: its texts are parts of the line.
+#[derive(Clone, Copy)]
+pub struct PasswdLine<'a> {
+    /// The name of the user.
+    pub name: &'a [u8],
+    /// The password field, mostly `x`.
+    pub password: &'a [u8],
+    /// The UID.
+    pub uid: u32,
+    /// The GID of the primary group.
+    pub gid: u32,
+    /// The comment, which is mostly the full name.
+    pub comment: &'a [u8],
+    /// The home folder.
+    pub home: &'a [u8],
+    /// The shell, or empty.
+    pub shell: &'a [u8],
+}
+
+impl<'a> PasswdLine<'a> {
+    ghost use Rattle.acct_lines.specs.Shown.{passwd_shown};
+
+    /// The record that the line is, without its newline. It takes no memory, and its faults come in
+    /// the order of `LineFault`.
+    pub fn read(line: &'a [u8]) -> Result<Self, LineFault>
+        ensures { MatchResult result
+            (λ shown. passwd_format.read line.now ≡ Some (passwd_shown shown))
+            (λ first. passwd_fault line.now ≡ Some first) }
+    {
+        let mut fields = Fields::of(line, 7)?;
+        let name = fields.take();
+        let password = fields.take();
+        let uid = fields.take();
+        let gid = fields.take();
+        let comment = fields.take();
+        let home = fields.take();
+        let shell = fields.take();
+        let uid = fields::number(3, uid, GREATEST_ID)?;
+        let gid = fields::number(4, gid, GREATEST_ID)?;
+        let name = fields::name(name)?;
+        Ok(PasswdLine {
+            name,
+            password,
+            uid,
+            gid,
+            comment,
+            home,
+            shell,
+        })
+    }
+
+    /// A copy of the record that the line shows.
+    pub fn copied(&self, alloc: Global) -> Result<PasswdRecord, AllocError>
+        ensures { IfOk result (λ copy. copy ≡ passwd_shown self.now) }
+    {
+        Ok(PasswdRecord {
+            name: Bytes::of(alloc, self.name)?,
+            password: Bytes::of(alloc, self.password)?,
+            uid: self.uid,
+            gid: self.gid,
+            comment: Bytes::of(alloc, self.comment)?,
+            home: Bytes::of(alloc, self.home)?,
+            shell: Bytes::of(alloc, self.shell)?,
+        })
+    }
+}
 
 impl TableRecord for PasswdRecord {
     ghost use Rattle.account_model.specs.Records.{passwd_format};
@@ -15,18 +86,11 @@ impl TableRecord for PasswdRecord {
     ghost fault = { passwd_fault };
 
     fn read(alloc: Global, line: &[u8]) -> Result<Self, ReadFault> {
-        let fields = Fields::of(alloc, line, 7)?;
-        let uid = fields.number(3, GREATEST_ID)?;
-        let gid = fields.number(4, GREATEST_ID)?;
-        Ok(PasswdRecord {
-            name: fields.name(alloc)?,
-            password: fields.text(alloc, 2)?,
-            uid,
-            gid,
-            comment: fields.text(alloc, 5)?,
-            home: fields.text(alloc, 6)?,
-            shell: fields.text(alloc, 7)?,
-        })
+        Ok(PasswdLine::read(line)?.copied(alloc)?)
+    }
+
+    fn fault(line: &[u8]) -> Option<LineFault> {
+        PasswdLine::read(line).err()
     }
 
     fn print(&self, alloc: Global) -> Result<Bytes, AllocError> {

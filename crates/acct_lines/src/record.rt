@@ -63,6 +63,11 @@ pub trait TableRecord: Sized {
             (λ first. fault line.now ≡ Some first) }
         ensures written { Lacks newline line.now → IfOk result (IsWritten format) };
 
+    /// The first fault of a line that is no record of the table; none where it is one. It takes no
+    /// memory.
+    fn fault(line: &[u8]) -> Option<LineFault>
+        ensures { result ≡ fault line.now };
+
     /// The canonical line of the record, without a newline: numbers have no leading zeros, and an
     /// empty number of shadow(5) is empty.
     fn print(&self, alloc: Global) -> Result<Bytes, AllocError>

@@ -1,14 +1,66 @@
 // The records of subuid and subgid (subuid(5), subgid(5)).
-ghost use Rattle.std.specs.Prelude.{◌≡◌};
-ghost use Rattle.account_model.specs.Records.{is_bad_range};
+ghost use Rattle.std.specs.Prelude.{◌≡◌, Some, IfOk, MatchResult};
+ghost use Rattle.account_model.specs.Faults.{subid_fault};
+ghost use Rattle.account_model.specs.Records.{is_bad_range, subid_format};
 
-use crate::fields::{Fields, GREATEST_ID};
+use crate::fields::{self, Fields, GREATEST_ID};
 use crate::{LineFault, ReadFault, SubidRecord, TableRecord, parts};
 use acct_text::{Bytes, Names, join_fields};
 use std::alloc::{AllocError, Global};
 
 // The greatest number that a count may be before the range is tested.
 const GREATEST_COUNT: u32 = GREATEST_ID + 1;
+
+/// A line of subuid or subgid, read where it stands: its owner is a part of the line, who holds
+/// `count` IDs from `first` on.
+#[derive(Clone, Copy)]
+pub struct SubidLine<'a> {
+    /// The name or the UID of the owner.
+    pub owner: &'a [u8],
+    /// The first ID.
+    pub first: u32,
+    /// The number of IDs, at least 1.
+    pub count: u32,
+}
+
+impl<'a> SubidLine<'a> {
+    ghost use Rattle.acct_lines.specs.Shown.{subid_shown};
+
+    /// The record that the line is, without its newline. It takes no memory, and its faults come in
+    /// the order of `LineFault`.
+    pub fn read(line: &'a [u8]) -> Result<Self, LineFault>
+        ensures { MatchResult result
+            (λ shown. subid_format.read line.now ≡ Some (subid_shown shown))
+            (λ first. subid_fault line.now ≡ Some first) }
+    {
+        let mut fields = Fields::of(line, 3)?;
+        let owner = fields.take();
+        let first = fields.take();
+        let count = fields.take();
+        let first = fields::number(2, first, GREATEST_ID)?;
+        let count = fields::number(3, count, GREATEST_COUNT)?;
+        let owner = fields::name(owner)?;
+        if is_bad_range(first, count) {
+            return Err(LineFault::BadRange);
+        }
+        Ok(SubidLine {
+            owner,
+            first,
+            count,
+        })
+    }
+
+    /// A copy of the record that the line shows.
+    pub fn copied(&self, alloc: Global) -> Result<SubidRecord, AllocError>
+        ensures { IfOk result (λ copy. copy ≡ subid_shown self.now) }
+    {
+        Ok(SubidRecord {
+            owner: Bytes::of(alloc, self.owner)?,
+            first: self.first,
+            count: self.count,
+        })
+    }
+}
 
 impl TableRecord for SubidRecord {
     ghost use Rattle.account_model.specs.Records.{subid_format};
@@ -21,18 +73,11 @@ impl TableRecord for SubidRecord {
     ghost fault = { subid_fault };
 
     fn read(alloc: Global, line: &[u8]) -> Result<Self, ReadFault> {
-        let fields = Fields::of(alloc, line, 3)?;
-        let first = fields.number(2, GREATEST_ID)?;
-        let count = fields.number(3, GREATEST_COUNT)?;
-        let owner = fields.name(alloc)?;
-        if is_bad_range(first, count) {
-            return Err(ReadFault::Line(LineFault::BadRange));
-        }
-        Ok(SubidRecord {
-            owner,
-            first,
-            count,
-        })
+        Ok(SubidLine::read(line)?.copied(alloc)?)
+    }
+
+    fn fault(line: &[u8]) -> Option<LineFault> {
+        SubidLine::read(line).err()
     }
 
     fn print(&self, alloc: Global) -> Result<Bytes, AllocError> {

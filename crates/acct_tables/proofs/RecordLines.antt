@@ -2,7 +2,7 @@
 -- (`records-from`), so what is found and counted among the records is found and counted line by
 -- line (`find-met`, `find-passed`, `count-met`, `count-passed`), or place by place (`find-named`,
 -- `find-unnamed`).
-use Rattle.std.proofs.Common.{◌≡◌, ℕ, ◌+◌, ◌<◌, Bool, true, false, List, [], ◌∷◌, length, take, drop, get_or, zero, suc, refl, sym, ◌∙◌, ap, zero-add, add-one}
+use Rattle.std.proofs.Common.{◌≡◌, ℕ, ◌+◌, ◌<◌, ◌≤◌, arith, Bool, true, false, List, [], ◌∷◌, length, take, drop, get_or, zero, suc, refl, sym, ◌∙◌, ap, zero-add, add-one}
 use Rattle.std.specs.Prelude.{Option, Some, None, if◌then◌else◌}
 use Rattle.std.specs.List.{cons_option}
 use Rattle.std.proofs.lemmas.List.{drop_more, take-append-drop}
@@ -10,7 +10,7 @@ use Rattle.std.proofs.lemmas.List.Sums.{sum_by-cons, sum_by-append}
 use Rattle.std.proofs.lemmas.List.Elements.{filter_map-append}
 use Rattle.acct_text.specs.Lines.{Line}
 use Rattle.account_model.specs.Format.{Format, records_of, is_named, find_named, count_named}
-use Rattle.acct_tables.specs.TableLines.{line_is_named, named_at}
+use Rattle.acct_tables.specs.TableLines.{is_named_at, line_is_named, named_at}
 
 -- the lines from a place on begin with the line there
 pub lines-from :
@@ -161,6 +161,49 @@ module _ {R : Type 0} (format : Format R) (name : List ℕ) where
       ∙ ap (λ first. found_first first (find_named format name (records_of format (drop (suc place) lines))))
       (sym unnamed)
       ∙ ap (λ n. find_named format name (records_of format (drop n lines))) (sym (add-one place))
+
+  -- one line, by what it reads as
+  counted-by :
+      (kept : Option R) (rest : List R)
+      → count_named format name (cons_option kept rest)
+      ≡ (if (elim kept [ None ↦ false | Some r ↦ is_named format name r ]) then 1 else 0)
+      + count_named format name rest
+  counted-by None rest = sym (zero-add (count_named format name rest))
+  counted-by (Some r) rest = sum_by-cons (λ x. if is_named format name x then 1 else 0) r rest
+
+  -- the records from a place on are counted with the one there, where it has the name
+  counted-at :
+      (lines : List Line) (place : ℕ)
+      → count_named format name (records_of format (drop place lines))
+      ≡ (if is_named_at format name lines place then 1 else 0)
+      + count_named format name (records_of format (drop (suc place) lines))
+  counted-at [] zero = refl
+  counted-at [] (suc place) = refl
+  counted-at (line ∷ lines) zero = counted-by (format.read line.text) (records_of format lines)
+  counted-at (line ∷ lines) (suc place) = counted-at lines place
+
+  -- so many more as the place has, by whether it has one
+  pub counted-as :
+      (lines : List Line) (place : ℕ) (named : Bool)
+      → is_named_at format name lines place ≡ named
+      → count_named format name (records_of format (drop place lines))
+      ≡ (if named then 1 else 0) + count_named format name (records_of format (drop (place + 1) lines))
+  counted-as lines place named is =
+      counted-at lines place
+      ∙ ap (λ test. (if test then 1 else 0)
+      + count_named format name (records_of format (drop (suc place) lines))) is
+      ∙ ap (λ n. (if named then 1 else 0) + count_named format name (records_of format (drop n lines)))
+      (sym (add-one place))
+
+  -- behind the last line there is none
+  pub counted-past :
+      (lines : List Line) (place : ℕ)
+      → length lines ≤ place
+      → count_named format name (records_of format (drop place lines)) ≡ 0
+  counted-past [] zero past = refl
+  counted-past [] (suc place) past = refl
+  counted-past (line ∷ lines) zero past = absurd (omega arith)
+  counted-past (line ∷ lines) (suc place) past = counted-past lines place (omega arith)
 
   -- records before a place and from it on are all
   pub count-cut :

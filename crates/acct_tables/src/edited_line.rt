@@ -9,7 +9,7 @@ ghost use Rattle.acct_tables.specs.EditedTexts.{text_of};
 ghost use Rattle.acct_tables.specs.Kept.{is_printed_as};
 ghost use Rattle.acct_tables.specs.TableLines.{line_is_named, with_record};
 
-use crate::line::read_record;
+use crate::line::{is_record, read_record};
 use acct_lines::{TableRecord, first_field};
 use acct_text::Bytes;
 use std::alloc::{AllocError, Global};
@@ -88,19 +88,18 @@ impl<'a> EditedLine<'a> {
         read_record(alloc, self.text.as_slice())
     }
 
-    /// Whether the line is a record of the name.
-    pub(crate) fn is_named<R: TableRecord + Drop>(
-        &self,
-        alloc: Global,
-        name: &[u8],
-    ) -> Result<bool, AllocError>
-        ensures { IfOk result (λ named. named ≡ line_is_named R.format name.now self.now) }
+    /// The bytes of the line, without its newline.
+    pub(crate) fn text(&self) -> &[u8]
+        ensures { result.now ≡ self.now.text }
     {
-        if first_field(self.text.as_slice()) != name {
-            return Ok(false);
-        }
-        let found: Option<R> = self.record(alloc)?;
-        Ok(found.is_some())
+        self.text.as_slice()
+    }
+
+    /// Whether the line is a record of the name.
+    pub(crate) fn is_named<R: TableRecord>(&self, name: &[u8]) -> bool
+        ensures { result ≡ line_is_named R.format name.now self.now }
+    {
+        first_field(self.text()) == name && is_record::<R>(self.text())
     }
 
     /// Gives the line an end.

@@ -4,6 +4,7 @@ ghost use Rattle.std.specs.List.{remove};
 ghost use Rattle.acct_text.specs.Lines.{lines_of, file_bytes};
 ghost use Rattle.account_model.specs.Edits.{as_ended, with_line};
 ghost use Rattle.account_model.specs.Written.{IsWritten};
+ghost use Rattle.acct_tables.specs.Order.{text_at};
 ghost use Rattle.acct_tables.specs.TableLines.{changed_at, is_named_at, record_at, with_record, with_record_at};
 
 use crate::edited_line::EditedLine;
@@ -62,18 +63,24 @@ impl<'a> EditedLines<'a> {
         }
     }
 
-    /// Whether a record of the name stands at the place. Only a line that begins with the name is
-    /// read.
-    pub fn is_named_at<R: TableRecord + Drop>(
-        &self,
-        place: usize,
-        name: &[u8],
-    ) -> Result<bool, AllocError>
-        ensures { IfOk result (λ named. named ≡ is_named_at R.format name.now self.now place) }
+    /// The text of the line at a place, counted from 0 over all lines, without its newline; empty
+    /// past the end.
+    pub fn text_at(&self, place: usize) -> &[u8]
+        ensures { result.now ≡ text_at self.now place }
     {
         match self.lines.get(place) {
-            Some(line) => line.is_named::<R>(self.allocator(), name),
-            None => Ok(false),
+            Some(line) => line.text(),
+            None => &[],
+        }
+    }
+
+    /// Whether a record of the name stands at the place. It takes no memory.
+    pub fn is_named_at<R: TableRecord>(&self, place: usize, name: &[u8]) -> bool
+        ensures { result ≡ is_named_at R.format name.now self.now place }
+    {
+        match self.lines.get(place) {
+            Some(line) => line.is_named::<R>(name),
+            None => false,
         }
     }
 

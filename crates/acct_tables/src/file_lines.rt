@@ -1,13 +1,13 @@
 // The lines of a table's file, where they stand in its bytes.
-ghost use Rattle.std.specs.Prelude.{◌≡◌, length, IfOk, IfSome, option_map};
+ghost use Rattle.std.specs.Prelude.{◌≡◌, length, is_some, nat_le, IfOk, IfSome, option_map};
 ghost use Rattle.std.specs.Option.{option_copied};
 ghost use Rattle.acct_text.specs.Lines.{lines_of};
-ghost use Rattle.account_model.specs.Format.{records_of, find_named};
+ghost use Rattle.account_model.specs.Format.{count_named, records_of, find_named};
 ghost use Rattle.account_model.specs.Written.{IsWritten};
 ghost use Rattle.acct_tables.specs.Order.{text_at};
-ghost use Rattle.acct_tables.specs.TableLines.{named_at, record_at};
+ghost use Rattle.acct_tables.specs.TableLines.{is_named_at, named_at, record_at};
 
-use crate::line::read_record;
+use crate::line::{is_record, read_record};
 use acct_lines::{TableRecord, first_field};
 use acct_text::lines;
 use std::alloc::{AllocError, Global};
@@ -78,20 +78,43 @@ impl<'a> FileLines<'a> {
         read_record(alloc, self.text_at(place))
     }
 
-    /// The name of the record at a place; none past the end and at other text.
-    pub fn name_at<R: TableRecord + Drop>(
-        &self,
-        alloc: Global,
-        place: usize,
-    ) -> Result<Option<&'a [u8]>, AllocError>
-        ensures { IfOk result (λ name. option_copied name
-            ≡ option_map R.format.name (record_at R.format self.now place)) }
+    /// Whether a record stands at the place. It takes no memory.
+    pub fn is_record_at<R: TableRecord>(&self, place: usize) -> bool
+        ensures { result ≡ is_some (record_at R.format self.now place) }
     {
-        let found: Option<R> = self.record_at(alloc, place)?;
-        if found.is_none() {
-            return Ok(None);
+        place < self.places.len() && is_record::<R>(self.text_at(place))
+    }
+
+    /// The name of the record at a place; none past the end and at other text. It takes no memory.
+    pub fn name_at<R: TableRecord>(&self, place: usize) -> Option<&'a [u8]>
+        ensures { option_copied result
+            ≡ option_map R.format.name (record_at R.format self.now place) }
+    {
+        if !self.is_record_at::<R>(place) {
+            return None;
         }
-        Ok(Some(first_field(self.text_at(place))))
+        Some(first_field(self.text_at(place)))
+    }
+
+    /// Whether a record of the name stands at the place. It takes no memory.
+    pub fn is_named_at<R: TableRecord>(&self, place: usize, name: &[u8]) -> bool
+        ensures { result ≡ is_named_at R.format name.now self.now place }
+    {
+        first_field(self.text_at(place)) == name && self.is_record_at::<R>(place)
+    }
+
+    /// Whether several records have the name. It takes no memory, and a pass over the lines.
+    pub fn has_several<R: TableRecord>(&self, name: &[u8]) -> bool
+        ensures { result ≡
+            nat_le 2 (count_named R.format name.now (records_of R.format self.now)) }
+    {
+        let mut records = 0usize;
+        for place in 0..self.len() {
+            if self.is_named_at::<R>(place, name) {
+                records += 1;
+            }
+        }
+        records >= 2
     }
 
     /// The first record of the name; none where no record has it. Only lines that begin with the

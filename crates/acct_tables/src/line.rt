@@ -29,6 +29,13 @@ pub fn read_record<R: TableRecord>(alloc: Global, line: &[u8]) -> Result<Option<
     }
 }
 
+/// Whether the line is a record. It takes no memory.
+pub fn is_record<R: TableRecord>(line: &[u8]) -> bool
+    ensures { result ≡ is_some (R.format.read line.now) }
+{
+    R::fault(line).is_none()
+}
+
 /// A line of a table, which keeps its bytes until another record is put into it.
 #[derive(Drop)]
 pub(crate) struct TableLine<R: TableRecord> {

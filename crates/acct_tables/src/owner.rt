@@ -3,6 +3,7 @@ ghost use Rattle.std.specs.Prelude.{◌≡◌, ◌≤◌, bytes_eq};
 ghost use Rattle.std.specs.Fmt.{decimal};
 ghost use Rattle.acct_text.specs.Numbers.{number_of};
 ghost use Rattle.account_model.specs.Records.{greatest_id, last_id, subid_format};
+ghost use Rattle.account_model.specs.declared.records.SubidRecord.{SubidRecord};
 ghost use Rattle.account_model.specs.SubidOwner.{is_owned};
 ghost use Rattle.account_model.specs.Written.{IsWritten};
 ghost use Rattle.acct_tables.specs.DecimalTexts.{has_leading_zero, is_number};
@@ -23,7 +24,13 @@ pub fn last_id(range: &SubidRecord) -> u32
 pub fn is_owned(range: &SubidRecord, name: &[u8], uid: Option<u32>) -> bool
     ensures { result ≡ is_owned name.now uid range.now }
 {
-    let owner = range.name();
+    is_owner(range.name(), name, uid)
+}
+
+/// Whether an owner, as a range has it, is the name, or the decimal text of the UID.
+pub fn is_owner(owner: &[u8], name: &[u8], uid: Option<u32>) -> bool
+    ensures { (r : SubidRecord) → r.owner ≡ owner.now → result ≡ is_owned name.now uid r }
+{
     owner == name
         || match uid {
             Some(uid) => is_decimal(owner, uid),

@@ -35,8 +35,7 @@ impl<'a> NameSet<'a> {
         let lines = &file_lines(alloc, file)?;
         let mut names = NameSet::new(alloc);
         for place in 0..lines.len() {
-            let found = lines.name_at::<R>(alloc, place)?;
-            if let Some(name) = found {
+            if let Some(name) = lines.name_at::<R>(place) {
                 names.add(name)?;
             }
         }

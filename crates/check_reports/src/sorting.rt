@@ -64,8 +64,7 @@ impl<'a> ByPlace<'a> {
             count: 0,
         };
         for place in 0..lines.len() {
-            let found = lines.name_at::<M>(alloc, place)?;
-            if let Some(name) = found {
+            if let Some(name) = lines.name_at::<M>(place) {
                 order.add(name)?;
             }
         }

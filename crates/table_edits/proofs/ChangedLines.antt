@@ -1,4 +1,4 @@
--- Claim: what is done with the line at a place is what the record there becomes (`change-other`, `change-stays`,
+-- Claim: what is done with the line at a place is what the record there becomes (`change-other`, `change-left`, `change-stays`,
 -- `change-sets`, `change-goes`, `change-splits`). Way: the line at the place reads as the record that was found there
 -- (`record-here`), so the line becomes what `line_becomes` says of it (`becomes-read`).
 use Rattle.std.proofs.Common.{◌≡◌, ℕ, ◌+◌, ◌<◌, Bool, true, false, List, [], ◌∷◌, ◌++◌, length, map, take, drop, get_or, refl, sym, ◌∙◌, ap}
@@ -10,7 +10,9 @@ use Rattle.acct_text.specs.Lines.{Line}
 use Rattle.account_model.specs.Format.{Format}
 use Rattle.account_model.specs.Edits.{becomes, line_becomes, printed_line}
 use Rattle.account_model.specs.RecordEdits.{TellsSame}
+use Rattle.acct_tables.specs.Order.{text_at}
 use Rattle.acct_tables.specs.TableLines.{record_at, changed_at, with_record}
+use Rattle.table_edits.specs.Naming.{Leaves}
 use Rattle.table_edits.specs.Places.{spliced_at}
 use Rattle.table_edits.proofs.Splices.{blank_line, spliced-is, spliced-same, spliced-one, spliced-none}
 
@@ -27,6 +29,16 @@ module _ {R : Type 0} (format : Format R) where
   record-here lines place inside =
       ap (λ found. elim found [ None ↦ None | Some line ↦ format.read line.text ])
       (slice_get-get_or lines place blank_line inside)
+
+  -- its text reads as the record there
+  pub read-here :
+      (lines : List Line) (place : ℕ)
+      → place < length lines
+      → format.read (text_at lines place) ≡ record_at format lines place
+  read-here lines place inside =
+      ap (λ found. format.read (elim found [ None ↦ [] | Some line ↦ line.text ]))
+      (slice_get-get_or lines place blank_line inside)
+      ∙ sym (record-here lines place inside)
 
   -- a line of which the record becomes others
   becomes-read :
@@ -81,6 +93,29 @@ module _ {R : Type 0} (format : Format R) where
         sym (spliced-same (becomes format f) lines place line from-here
         (ap (λ kept. elim kept [ None ↦ line ∷ [] | Some r ↦ line_becomes format line r (f r) ])
         (sym (record-here lines place inside) ∙ none)))
+
+    -- a line that is left stays
+    left-by :
+        (found : Option R)
+        → record_at format lines place ≡ found
+        → TellsSame format
+        → ((r : R) → found ≡ Some r → f r ≡ r ∷ [])
+        → lines ≡ spliced_at (becomes format f) place lines
+    left-by None is tells left = change-other is
+    left-by (Some r) is tells left =
+        let line = line_here lines place in
+        sym (spliced-same (becomes format f) lines place line from-here
+        (becomes-read f line (format.read line.text) r (sym (record-here lines place inside) ∙ is)
+        ∙ ap (line_becomes format line r) (left r refl)
+        ∙ stays line r (format.same r r) ((tells r r).1 refl)))
+
+    pub change-left :
+        TellsSame format
+        → Leaves format f (text_at lines place)
+        → lines ≡ spliced_at (becomes format f) place lines
+    change-left tells left =
+        left-by (record_at format lines place) refl tells
+        (λ r is. left r (read-here lines place inside ∙ is))
 
     module _ (r : R) (found : record_at format lines place ≡ Some r) where
       -- the line becomes what its record becomes

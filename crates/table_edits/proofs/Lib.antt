@@ -7,6 +7,7 @@ pub mod RecordLemmas
 pub mod DecidingLemmas
 pub mod ActingLemmas
 pub mod RepeatLemmas
+pub mod LeftLemmas
 pub mod NamedLemmas
 pub mod AddedNames
 pub mod ToldPlaces

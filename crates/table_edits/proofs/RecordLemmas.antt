@@ -1,5 +1,5 @@
 -- Claim: the records of the lines from a place on begin with the record there (`records-from`), so
--- a table is searched place by place (`find-met`, `find-passed`, `find-other`), and its IDs are
+-- a table is searched place by place (`find-accepted`, `find-refused`), and its IDs are
 -- gathered so (`ids-more`, `ids-other`, `ids-end`); and a name is that of a record (`record-named`).
 use Rattle.std.proofs.Common.{◌≡◌, ℕ, zero, suc, ◌+◌, ◌<◌, ◌≤◌, Bool, true, false, List, [], ◌∷◌, length, drop, map, refl, sym, ◌∙◌, ap, arith, add-one}
 use Rattle.std.specs.Prelude.{Option, Some, None, option_map, find, ◌||◌, ◌==◌}
@@ -10,6 +10,7 @@ use Rattle.account_model.specs.Format.{Format, records_of}
 use Rattle.account_model.specs.Ids.{is_used}
 use Rattle.acct_tables.specs.TableLines.{record_at}
 use Rattle.id_choice.specs.Used.{AreThoseOf}
+use Rattle.table_edits.specs.Accepting.{is_accepted}
 
 -- what was found is a record of this name
 pub record IsRecordOf {R : Type 0} (format : Format R) (found : Option R) (name : List ℕ)
@@ -66,7 +67,7 @@ module _ {R : Type 0} (format : Format R) (lines : List Line) (place : ℕ)
       ∙ ap (λ found. cons_option found (records_of format (drop (place + 1) lines))) is
 
   -- a record that passes is the first that is found
-  pub find-met :
+  find-met :
       (test : R → Bool) (r : R)
       → record_at format lines place ≡ Some r
       → test r ≡ true
@@ -74,7 +75,7 @@ module _ {R : Type 0} (format : Format R) (lines : List Line) (place : ℕ)
   find-met test r is passes = ap (find test) (records-by (Some r) is) ∙ rw passes refl
 
   -- one that doesn't isn't
-  pub find-passed :
+  find-passed :
       (test : R → Bool) (r : R)
       → record_at format lines place ≡ Some r
       → test r ≡ false
@@ -83,12 +84,33 @@ module _ {R : Type 0} (format : Format R) (lines : List Line) (place : ℕ)
   find-passed test r is fails = sym (ap (find test) (records-by (Some r) is) ∙ rw fails refl)
 
   -- and other text isn't
-  pub find-other :
+  find-other :
       (test : R → Bool)
       → record_at format lines place ≡ None
       → find test (records_of format (drop (place + 1) lines))
       ≡ find test (records_of format (drop place lines))
   find-other test is = sym (ap (find test) (records-by None is))
+
+module _ {R : Type 0} (format : Format R) (lines : List Line) (place : ℕ)
+    (inside : place < length lines) (test : R → Bool) where
+  -- a record that is accepted is the first that is found
+  pub find-accepted :
+      (found : Option R)
+      → record_at format lines place ≡ found
+      → is_accepted test found ≡ true
+      → find test (records_of format (drop place lines)) ≡ found
+  find-accepted None is accepted = absurd cc
+  find-accepted (Some r) is accepted = find-met format lines place inside test r is accepted
+
+  -- and else the first is one behind it
+  pub find-refused :
+      (found : Option R)
+      → record_at format lines place ≡ found
+      → is_accepted test found ≡ false
+      → find test (records_of format (drop (place + 1) lines))
+      ≡ find test (records_of format (drop place lines))
+  find-refused None is refused = find-other format lines place inside test is
+  find-refused (Some r) is refused = find-passed format lines place inside test r is refused
 
 -- the tests of three parts in another order
 reordered :

@@ -1,23 +1,20 @@
 -- Claim: with one more line the records are told where its record is noted (`noted-more`), and at
--- other text as before (`told-other`); and a record is met where it is touched and its name is told
--- to be several (`met-touched`, `unmet`). Way: one more record makes several of one, and one of none
+-- other text as before (`told-other`). Way: one more record makes several of one, and one of none
 -- (`told-more`).
 use Rattle.std.proofs.Common.{◌≡◌, ℕ, zero, suc, ◌+◌, ◌<◌, Bool, true, false, List, [], ◌∷◌, ◌++◌, length, take, refl, sym, ◌∙◌, ap, arith, inl, inr, cond, if◌then◌else◌, append-nil}
-use Rattle.std.specs.Prelude.{◌&&◌, Option, Some, None, is_some, unwrap_or, bytes_eq, count_by, nat_le}
+use Rattle.std.specs.Prelude.{Option, Some, None, is_some, bytes_eq, count_by}
 use Rattle.std.specs.HashMap.{HashMap}
 use Rattle.std.specs.List.{cons_option}
-use Rattle.std.proofs.lemmas.Bool.{cases_Bool, le-leb}
+use Rattle.std.proofs.lemmas.Bool.{cases_Bool}
 use Rattle.std.proofs.lemmas.List.{take_more}
 use Rattle.std.proofs.lemmas.List.Sums.{sum_by-append}
 use Rattle.std.proofs.lemmas.List.Elements.{filter_map-append}
 use Rattle.std.proofs.lemmas.Slice.Eq.{bytes_eq-Decides}
 use denote.Ref.{Bor}
 use Rattle.acct_text.specs.Lines.{Line}
-use Rattle.account_model.specs.Edits.{Edit, is_multiple, touches}
 use Rattle.account_model.specs.Format.{Format, count_named, is_named, records_of}
 use Rattle.acct_tables.specs.TableLines.{record_at}
-use Rattle.table_edits.specs.Repeats.{IsNoted, TellsRepeats, is_repeated, told, told_of}
-use Rattle.table_edits.specs.Touching.{is_met}
+use Rattle.table_edits.specs.Repeats.{IsNoted, TellsRepeats, told, told_of}
 use Rattle.table_edits.proofs.ChangedLines.{line_here, record-here}
 use Rattle.table_edits.proofs.Splices.{blank_line}
 
@@ -42,12 +39,6 @@ told-more : (count : ℕ) → Some (is_some (told_of count)) ≡ told_of (suc co
 told-more zero = refl
 told-more (suc zero) = refl
 told-more (suc (suc more)) = refl
-
--- what is told of so many is whether they are several
-several : (count : ℕ) → unwrap_or (told_of count) false ≡ nat_le 2 count
-several zero = refl
-several (suc zero) = refl
-several (suc (suc more)) = sym (le-leb 2 (suc (suc more)) (omega arith))
 
 -- what is told after one more record, by whether it has the name
 told-by :
@@ -112,48 +103,3 @@ module _ {R : Type 0} (format : Format R) (lines : List Line) (place : ℕ)
       tells name
       ∙ ap (λ records. told_of (count_named format name records))
       (sym (records-more None is ∙ append-nil (records_of format (take place lines))))
-
--- the test of the map is that of the records
-pub repeated-is :
-    {R S : Type 0} (format : Format R) (records : List R)
-    (repeats : HashMap (Bor (List ℕ)) Bool S) (r : R)
-    → TellsRepeats format records repeats
-    → is_repeated repeats (format.name r) ≡ is_multiple format records r
-repeated-is format records repeats r tells =
-    ap (λ found. unwrap_or found false) (tells (format.name r))
-    ∙ several (count_named format (format.name r) records)
-
--- by whether several have the name, and whether the edits touch the record
-met-by :
-    (repeated touched : Bool) → repeated ≡ true → touched ≡ (touched && repeated)
-met-by true true is = refl
-met-by true false is = refl
-met-by false touched is = absurd cc
-
--- where the map tells that several have the name, a record is met that is touched
-pub met-touched :
-    {R S : Type 0} (format : Format R) (edits : List (Edit R)) (records : List R)
-    (repeats : HashMap (Bor (List ℕ)) Bool S) (r : R)
-    → TellsRepeats format records repeats
-    → is_repeated repeats (format.name r) ≡ true
-    → touches format edits r ≡ is_met format edits records r
-met-touched format edits records repeats r tells is =
-    met-by (is_multiple format records r) (touches format edits r)
-    (sym (repeated-is format records repeats r tells) ∙ is)
-
--- none is met else
-unmet-by : (repeated touched : Bool) → repeated ≡ false → false ≡ (touched && repeated)
-unmet-by false true is = refl
-unmet-by false false is = refl
-unmet-by true touched is = absurd cc
-
--- where it doesn't, the record isn't met
-pub unmet :
-    {R S : Type 0} (format : Format R) (edits : List (Edit R)) (records : List R)
-    (repeats : HashMap (Bor (List ℕ)) Bool S) (r : R)
-    → TellsRepeats format records repeats
-    → is_repeated repeats (format.name r) ≡ false
-    → false ≡ is_met format edits records r
-unmet format edits records repeats r tells is =
-    unmet-by (is_multiple format records r) (touches format edits r)
-    (sym (repeated-is format records repeats r tells) ∙ is)

@@ -1,12 +1,14 @@
 -- Claim: the first record that is met among those from a place on is the one at the place, or else the first behind it
--- (`met-here`, `passed-here`); without edits none is (`none-met`). Way: by the line at the place.
+-- (`met-here`, `passed-here`); one whose name has no other isn't met (`met-single`); without edits none is (`none-met`).
+-- Way: by the line at the place.
 use Rattle.std.proofs.Common.{◌≡◌, ℕ, ◌+◌, ◌<◌, Bool, true, false, List, [], ◌∷◌, length, drop, refl, sym, ◌∙◌, ap}
-use Rattle.std.specs.Prelude.{Option, Some, None, option_map, find, if◌then◌else◌}
+use Rattle.std.specs.Prelude.{◌&&◌, Option, Some, None, option_map, find, if◌then◌else◌}
 use Rattle.std.specs.List.{cons_option}
 use Rattle.std.proofs.lemmas.List.{at_drop_more}
 use Rattle.acct_text.specs.Lines.{Line}
 use Rattle.account_model.specs.Format.{Format, records_of}
-use Rattle.account_model.specs.Edits.{Edit, first_multiple}
+use Rattle.account_model.specs.Edits.{Edit, first_multiple, is_multiple, touches}
+use Rattle.acct_tables.specs.TableLines.{record_at}
 use Rattle.table_edits.specs.Touching.{is_met, first_touched, met_at}
 use Rattle.table_edits.proofs.Splices.{blank_line}
 use Rattle.table_edits.proofs.ChangedLines.{line_here, record-here}
@@ -72,6 +74,25 @@ module _ {R : Type 0} (format : Format R) (edits : List (Edit R)) where
         → first_from place ≡ first_from (place + 1)
     passed-here place inside passed =
         step-here place inside ∙ ap (λ first. or_first first (first_from (place + 1))) passed
+
+-- one test of two that fails
+single-by : (touched several : Bool) → several ≡ false → (touched && several) ≡ false
+single-by true several single = single
+single-by false several single = refl
+
+-- a record whose name has no other isn't met
+pub met-single :
+    {R : Type 0} (format : Format R) (edits : List (Edit R)) (lines : List Line) (place : ℕ) (r : R)
+    → record_at format lines place ≡ Some r
+    → is_multiple format (records_of format lines) r ≡ false
+    → met_at format edits lines place ≡ None
+met-single format edits lines place r is single =
+    ap (λ found. elim found [
+      | None ↦ None
+      | Some r ↦ if is_met format edits (records_of format lines) r then Some (format.name r) else None
+    ]) is
+    ∙ ap (λ met. if met then Some (format.name r) else None)
+    (single-by (touches format edits r) (is_multiple format (records_of format lines) r) single)
 
 -- no edit touches a record
 pub none-met :

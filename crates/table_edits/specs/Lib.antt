@@ -15,6 +15,7 @@ pub mod HashChanges
 pub mod Memberships
 pub mod Repeats
 pub mod Naming
+pub mod Accepting
 pub mod NamePlaces
 pub mod NamedLines
 pub mod FirstRecords

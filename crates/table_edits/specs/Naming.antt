@@ -1,9 +1,13 @@
 -- Edits that each may touch the records of one name only, and leave their names (passwd(5),
 -- shadow(5)).
-use Rattle.std.specs.Prelude.{◌≡◌, ℕ, false, List, [], ◌∷◌, map}
+use Rattle.std.specs.Prelude.{◌≡◌, ℕ, false, List, [], ◌∷◌, map, Some}
 use Rattle.account_model.specs.Format.{Format, is_named}
 use Rattle.account_model.specs.Edits.{Edit}
 use Rattle.account_model.specs.Edits.Edit.{Become, AddMissing}
+
+-- f leaves the record that the text is, if it is one
+abbrev pub Leaves : {R : Type 0} → Format R → (R → List R) → List ℕ → Type 0
+Leaves {R = R} format f text = (r : R) → format.read text ≡ Some r → f r ≡ r ∷ []
 
 -- f touches only records of the name, and leaves the names of all
 pub record ChangesOnly {R : Type 0} (format : Format R) (f : R → List R) (name : List ℕ)

@@ -1,6 +1,6 @@
 -- Which edit touches a record, and the first record that is touched among several of its name (passwd(5), shadow(5),
 -- group(5), gshadow(5)).
-use Rattle.std.specs.Prelude.{ℕ, Bool, ◌&&◌, List, [], ◌∷◌, Option, Some, None, option_map, find, if◌then◌else◌}
+use Rattle.std.specs.Prelude.{◌≡◌, ℕ, Bool, ◌&&◌, List, [], ◌∷◌, Option, Some, None, option_map, find, if◌then◌else◌}
 use Rattle.acct_text.specs.Lines.{Line}
 use Rattle.account_model.specs.Format.{Format, records_of}
 use Rattle.account_model.specs.Edits.{Edit, touches, is_multiple}
@@ -9,6 +9,11 @@ use Rattle.acct_tables.specs.TableLines.{record_at}
 -- whether the edit touches a record of the old table, were it the only one
 abbrev pub touches_alone : {R : Type 0} → Format R → Edit R → R → Bool
 touches_alone format edit r = touches format (edit ∷ []) r
+
+-- the edit leaves the record to those behind it
+abbrev pub LeavesTo : {R : Type 0} → Format R → Edit R → R → Type 0
+LeavesTo {R = R} format edit r =
+    (edits : List (Edit R)) → touches format (edit ∷ edits) r ≡ touches format edits r
 
 -- whether the edits touch the record, and its name is multiple in the whole table
 abbrev pub is_met : {R : Type 0} → Format R → List (Edit R) → List R → R → Bool

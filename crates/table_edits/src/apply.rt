@@ -124,7 +124,7 @@ fn add_missing<R: EditedRecord + Drop>(
     requires { IsWritten R.format item.now }
     ensures { OnOk result (lines.new ≡ edited R.format lines.old (model.AddMissing item.now)) }
 {
-    match first_place::<R>(lines, item.name())? {
+    match first_place::<R>(lines, item.name()) {
         Some(_) => Ok(()),
         None => lines.append_any(item),
     }
@@ -135,26 +135,22 @@ fn put<R: EditedRecord + Drop>(lines: &mut EditedLines<'_>, item: &R) -> Result<
     requires { IsWritten R.format item.now }
     ensures { OnOk result (lines.new ≡ edited R.format lines.old (model.Put item.now)) }
 {
-    match first_place::<R>(lines, item.name())? {
+    match first_place::<R>(lines, item.name()) {
         Some(place) => lines.set_at(place, item),
         None => lines.append_any(item),
     }
 }
 
 // The place of the first record of the name.
-fn first_place<R: EditedRecord + Drop>(
-    lines: &EditedLines<'_>,
-    name: &[u8],
-) -> Result<Option<usize>, AllocError>
-    ensures { IfOk result (λ place.
-        place ≡ position_from (line_is_named R.format name.now) 0 lines.now) }
+fn first_place<R: EditedRecord>(lines: &EditedLines<'_>, name: &[u8]) -> Option<usize>
+    ensures { result ≡ position_from (line_is_named R.format name.now) 0 lines.now }
 {
     'places: for place in 0..lines.len() {
-        if lines.is_named_at::<R>(place, name)? {
-            return Ok(Some(place));
+        if lines.is_named_at::<R>(place, name) {
+            return Some(place);
         }
     }
-    Ok(None)
+    None
 }
 
 /// Puts in place of each record what becomes of it. The places go down, so that those to come stay.
@@ -175,7 +171,8 @@ pub(crate) fn change_each<R: EditedRecord + Drop>(
     Ok(())
 }
 
-/// Puts in place of the record at a place what becomes of it.
+/// Puts in place of the record at a place what becomes of it. A line that the change leaves isn't
+/// read.
 pub(crate) fn change_at<R: EditedRecord + Drop>(
     alloc: Global,
     lines: &mut EditedLines<'_>,
@@ -187,6 +184,9 @@ pub(crate) fn change_at<R: EditedRecord + Drop>(
     ensures { OnOk result (lines.new ≡
         spliced_at (becomes R.format (R.becomes change.now)) place lines.old) }
 {
+    if R::leaves(change, lines.text_at(place)) {
+        return Ok(());
+    }
     let Some(item) = lines.record_at::<R>(place)? else {
         return Ok(());
     };

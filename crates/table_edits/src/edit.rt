@@ -1,7 +1,7 @@
 // The edits of a table as data, and what a record has so that edits can be made of it.
-ghost use Rattle.std.specs.Prelude.{◌≡◌, List, IfOk, IfSome};
+ghost use Rattle.std.specs.Prelude.{◌≡◌, true, List, IfOk, IfSome};
 ghost use Rattle.account_model.specs.Written.{IsWritten};
-ghost use Rattle.table_edits.specs.Naming.{ChangesOnly};
+ghost use Rattle.table_edits.specs.Naming.{ChangesOnly, Leaves};
 ghost use Rattle.table_edits.specs.SeenEdits.{records_in};
 
 use acct_lines::TableRecord;
@@ -50,6 +50,11 @@ pub trait EditedRecord: TableRecord {
         requires { IsWritten Self.format self.now }
         ensures { IfOk result (λ becoming.
             records_in self.now becoming ≡ becomes change.now self.now) };
+
+    /// Whether the change surely leaves the record that the line is, if it is one, by what can be seen
+    /// without memory.
+    fn leaves(change: &Self::Change, line: &[u8]) -> bool
+        ensures { result ≡ true → Leaves Self.format (becomes change.now) line.now };
 
     /// The name of all records that the change may touch, where it leaves their names; none where
     /// it may touch others.

@@ -1,6 +1,8 @@
-// Fields of records that a tool sets, or leaves as they are.
-ghost use Rattle.std.specs.Prelude.{◌≡◌, IfOk, unwrap_or};
+// Fields of records that a tool sets or leaves as they are, and those of a line by which one is left.
+ghost use Rattle.std.specs.Prelude.{◌≡◌, not, bytes_eq, IfOk, unwrap_or};
+ghost use Rattle.acct_lines.specs.Naming.{first_field as first_of};
 
+use acct_lines::first_field;
 use acct_text::Bytes;
 use std::alloc::AllocError;
 
@@ -12,4 +14,11 @@ pub(crate) fn copy_or(new: &Option<Bytes>, old: &Bytes) -> Result<Bytes, AllocEr
         Some(text) => text.copy(),
         None => old.copy(),
     }
+}
+
+/// Whether the line begins with another name.
+pub(crate) fn has_other_name(line: &[u8], name: &[u8]) -> bool
+    ensures { result ≡ not (bytes_eq (first_of line.now) name.now) }
+{
+    first_field(line) != name
 }

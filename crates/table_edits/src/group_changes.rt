@@ -1,12 +1,15 @@
 // What the tools do with records of group (group(5)).
-ghost use Rattle.std.specs.Prelude.{◌≡◌, IfOk, OnOk};
+ghost use Rattle.std.specs.Prelude.{◌≡◌, true, Some, IfOk, OnOk};
+ghost use Rattle.account_model.specs.Records.{group_format};
+ghost use Rattle.account_model.specs.Text.{is_listed};
 ghost use Rattle.account_model.specs.declared.records.GroupRecord.{GroupRecord};
 ghost use Rattle.table_edits.specs.GroupChanges.{group_after};
 ghost use Rattle.table_edits.specs.Memberships.{group_by};
 
+use crate::fields::has_other_name;
 use crate::lists::{with_name, without_name};
 use crate::{Becoming, EditedRecord, Membership};
-use acct_lines::{GroupRecord, TableRecord};
+use acct_lines::{GroupLine, GroupRecord, TableRecord, lists};
 use acct_text::{Bytes, Names};
 use std::alloc::{AllocError, Global};
 
@@ -67,8 +70,41 @@ impl EditedRecord for GroupRecord {
         }
     }
 
+    fn leaves(change: &GroupChange, line: &[u8]) -> bool {
+        match change {
+            GroupChange::Named(name, _) => has_other_name(line, name.as_slice()),
+            GroupChange::All(act) => act_leaves(act, line),
+            GroupChange::Remove(name) => has_other_name(line, name.as_slice()),
+        }
+    }
+
     fn only_name(_change: &GroupChange) -> Option<&[u8]> {
         None
+    }
+}
+
+// Whether the act surely leaves the group that the line is, if it is one.
+fn act_leaves(act: &GroupAct, line: &[u8]) -> bool
+    ensures { result ≡ true → (group : GroupRecord)
+        → group_format.read line.now ≡ Some group → group_after act.now group ≡ group }
+{
+    match act {
+        GroupAct::RemoveMember(user) => !has_member(line, user.as_slice()),
+        GroupAct::SetMembership(membership) => {
+            membership.keeps_groups() && !has_member(line, membership.user.as_slice())
+        }
+        _ => false,
+    }
+}
+
+// Whether the line is a group that has the member.
+fn has_member(line: &[u8], user: &[u8]) -> bool
+    ensures { (group : GroupRecord) → group_format.read line.now ≡ Some group
+        → result ≡ is_listed user.now group.members }
+{
+    match GroupLine::read(line) {
+        Ok(group) => lists(group.members, user),
+        Err(_) => false,
     }
 }
 

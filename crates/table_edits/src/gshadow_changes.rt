@@ -1,11 +1,15 @@
 // What the tools do with records of gshadow (gshadow(5)).
-ghost use Rattle.std.specs.Prelude.{◌≡◌, IfOk, OnOk};
+ghost use Rattle.std.specs.Prelude.{◌≡◌, ◌||◌, true, Some, IfOk, OnOk};
+ghost use Rattle.account_model.specs.declared.records.GshadowRecord.{GshadowRecord};
+ghost use Rattle.account_model.specs.Records.{gshadow_format};
+ghost use Rattle.account_model.specs.Text.{is_listed};
 ghost use Rattle.table_edits.specs.GshadowChanges.{gshadow_after, without_user};
 ghost use Rattle.table_edits.specs.Memberships.{gshadow_by};
 
+use crate::fields::has_other_name;
 use crate::lists::{with_name, without_name};
 use crate::{Becoming, EditedRecord, Membership};
-use acct_lines::{GshadowRecord, TableRecord};
+use acct_lines::{GshadowLine, GshadowRecord, TableRecord, lists};
 use acct_text::{Bytes, Names};
 use std::alloc::{AllocError, Global};
 
@@ -72,8 +76,41 @@ impl EditedRecord for GshadowRecord {
         }
     }
 
+    fn leaves(change: &GshadowChange, line: &[u8]) -> bool {
+        match change {
+            GshadowChange::Named(name, _) => has_other_name(line, name.as_slice()),
+            GshadowChange::All(act) => act_leaves(act, line),
+            GshadowChange::Remove(name) => has_other_name(line, name.as_slice()),
+        }
+    }
+
     fn only_name(_change: &GshadowChange) -> Option<&[u8]> {
         None
+    }
+}
+
+// Whether the act surely leaves the group that the line is, if it is one.
+fn act_leaves(act: &GshadowAct, line: &[u8]) -> bool
+    ensures { result ≡ true → (group : GshadowRecord)
+        → gshadow_format.read line.now ≡ Some group → gshadow_after act.now group ≡ group }
+{
+    match act {
+        GshadowAct::RemoveUser(user) => !has_user(line, user.as_slice()),
+        GshadowAct::SetMembership(membership) => {
+            membership.keeps_groups() && !has_user(line, membership.user.as_slice())
+        }
+        _ => false,
+    }
+}
+
+// Whether the line is a group that has the administrator or member.
+fn has_user(line: &[u8], user: &[u8]) -> bool
+    ensures { (group : GshadowRecord) → gshadow_format.read line.now ≡ Some group
+        → result ≡ (is_listed user.now group.administrators || is_listed user.now group.members) }
+{
+    match GshadowLine::read(line) {
+        Ok(group) => lists(group.administrators, user) || lists(group.members, user),
+        Err(_) => false,
     }
 }
 

@@ -1,12 +1,10 @@
 // The IDs that users and groups have by their records (passwd(5), group(5)).
 ghost use Rattle.std.specs.Prelude.{◌≡◌, ℕ, map, option_map, IfOk};
 ghost use Rattle.account_model.specs.Tables.{table_records};
-ghost use Rattle.acct_tables.specs.TableLines.{record_at};
 ghost use Rattle.id_choice.specs.Used.{AreThoseOf};
 
 use crate::file_lines;
-use acct_lines::{GroupRecord, PasswdRecord, TableRecord};
-use acct_tables::FileLines;
+use acct_lines::{GroupLine, GroupRecord, PasswdLine, PasswdRecord, TableRecord};
 use acct_text::Bytes;
 use id_choice::UsedIds;
 use std::alloc::{AllocError, Global};
@@ -16,29 +14,35 @@ pub(crate) trait IdRecord: TableRecord {
     // its ID
     ghost id_of: { Self → ℕ };
 
-    /// The UID of a user, the GID of a group.
-    fn id(&self) -> u32
-        ensures { result ≡ id_of self.now };
+    /// The UID of the user or the GID of the group that the line is; none where it is other text.
+    fn id_in(line: &[u8]) -> Option<u32>
+        ensures { result ≡ option_map id_of (Self.format.read line.now) };
 }
 
 impl IdRecord for PasswdRecord {
     ghost id_of = { λ user. user.uid };
 
-    fn id(&self) -> u32 {
-        self.uid
+    fn id_in(line: &[u8]) -> Option<u32> {
+        match PasswdLine::read(line) {
+            Ok(user) => Some(user.uid),
+            Err(_) => None,
+        }
     }
 }
 
 impl IdRecord for GroupRecord {
     ghost id_of = { λ group. group.gid };
 
-    fn id(&self) -> u32 {
-        self.gid
+    fn id_in(line: &[u8]) -> Option<u32> {
+        match GroupLine::read(line) {
+            Ok(group) => Some(group.gid),
+            Err(_) => None,
+        }
     }
 }
 
 /// The IDs of all records of the file.
-pub(crate) fn used_ids<R: IdRecord + Drop>(
+pub(crate) fn used_ids<R: IdRecord>(
     alloc: Global,
     file: &Option<Bytes>,
 ) -> Result<UsedIds, AllocError>
@@ -48,23 +52,9 @@ pub(crate) fn used_ids<R: IdRecord + Drop>(
     let lines = &file_lines(alloc, file)?;
     let mut used = UsedIds::new(alloc);
     for place in 0..lines.len() {
-        if let Some(id) = id_at::<R>(alloc, lines, place)? {
+        if let Some(id) = R::id_in(lines.text_at(place)) {
             used.add(id)?;
         }
     }
     Ok(used)
-}
-
-// The ID of the record at a place, counted from 0 over all lines; none where no record is there.
-fn id_at<R: IdRecord + Drop>(
-    alloc: Global,
-    lines: &FileLines<'_>,
-    place: usize,
-) -> Result<Option<u32>, AllocError>
-    ensures { IfOk result (λ id. id ≡ option_map R.id_of (record_at R.format lines.now place)) }
-{
-    match lines.record_at::<R>(alloc, place)? {
-        Some(item) => Ok(Some(item.id())),
-        None => Ok(None),
-    }
 }

@@ -1,6 +1,6 @@
 // What becomes of a user in the lists of all groups (usermod(8), `-G`, `-a` and `-l`).
 ghost use Rattle.std.specs.Prelude.{◌≡◌, IfOk};
-ghost use Rattle.table_edits.specs.Memberships.{members_with};
+ghost use Rattle.table_edits.specs.Memberships.{keeps_groups, members_with};
 
 use crate::lists::{is_listed, with_name, without_name};
 use acct_tables::ListRecord;
@@ -30,6 +30,16 @@ pub enum UserGroups {
 }
 
 impl Membership {
+    /// Whether the user joins no group and leaves none.
+    pub(crate) fn keeps_groups(&self) -> bool
+        ensures { result ≡ keeps_groups self.now.groups }
+    {
+        match &self.groups {
+            UserGroups::Kept => true,
+            UserGroups::Also(_) | UserGroups::Only(_) => false,
+        }
+    }
+
     /// The members of a group once the user has joined or left it, by the name so far.
     pub(crate) fn members(
         &self,

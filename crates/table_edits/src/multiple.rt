@@ -1,21 +1,26 @@
 // Which records the edits of a table touch, and the first of them whose name has several records.
-ghost use Rattle.std.specs.Prelude.{◌≡◌, List, not, IfOk};
+ghost use Rattle.std.specs.Prelude.{◌≡◌, ◌≤◌, true, false, Some, None, not, nat_le, length, IfOk, IfSome};
 ghost use Rattle.std.specs.List.{AllByRecursion};
-ghost use Rattle.account_model.specs.Edits.{first_multiple, touches};
+ghost use Rattle.account_model.specs.Edits.{first_multiple, is_multiple, touches};
 ghost use Rattle.account_model.specs.Edits as model;
-ghost use Rattle.account_model.specs.Format.{records_of};
+ghost use Rattle.account_model.specs.Format.{count_named, records_of};
 ghost use Rattle.account_model.specs.RecordEdits.{IsWrittenEdit};
 ghost use Rattle.account_model.specs.Written.{IsWritten};
+ghost use Rattle.acct_tables.specs.TableLines.{record_at};
 ghost use Rattle.table_edits.specs.SeenEdits.{seen_edit, seen_edits};
 ghost use Rattle.table_edits.specs.Repeats.{TellsRepeats};
-ghost use Rattle.table_edits.specs.Touching.{is_met, met_at, touches_alone};
+ghost use Rattle.table_edits.specs.Touching.{LeavesTo, met_at, touches_alone};
 
+use crate::fields::has_other_name;
 use crate::repeats::{is_repeated, repeats};
 use crate::{Becoming, Edit, EditedRecord};
 use acct_tables::FileLines;
 use acct_text::Bytes;
 use std::alloc::{AllocError, Global};
 use std::collections::HashMap;
+
+// From so many edits, or so many lines that they may touch, it pays to note the names of all records.
+const MANY: usize = 8;
 
 /// The name of the first record that the edits touch and whose name has two or more records; none
 /// where there is no such record.
@@ -28,13 +33,42 @@ pub fn first_multiple<R: EditedRecord + Drop>(
     ensures { IfOk result (λ name. name ≡
         first_multiple R.format (seen_edits R.becomes edits.now) (records_of R.format lines.now)) }
 {
-    let repeats = repeats::<R>(alloc, lines)?;
+    let repeats = &repeats_for(alloc, lines, edits)?;
     'places: for place in 0..lines.len() {
-        if let Some(name) = met_at(alloc, lines, edits, &repeats, place)? {
+        if let Some(name) = met_at(alloc, lines, edits, repeats, place)? {
             return Ok(Some(name));
         }
     }
     Ok(None)
+}
+
+// For each name that a record has, whether several have it; none where the edits ask for few names,
+// of which each is counted then.
+fn repeats_for<'a, R: EditedRecord>(
+    alloc: Global,
+    lines: &FileLines<'a>,
+    edits: &[Edit<R, R::Change>],
+) -> Result<Option<HashMap<&'a [u8], bool>>, AllocError>
+    ensures { IfOk result (λ repeats.
+        IfSome repeats (TellsRepeats R.format (records_of R.format lines.now))) }
+{
+    if edits.len() < MANY && open_lines(lines, edits) < MANY {
+        return Ok(None);
+    }
+    Ok(Some(repeats::<R>(alloc, lines)?))
+}
+
+// The number of lines that the edits may touch.
+fn open_lines<R: EditedRecord>(lines: &FileLines<'_>, edits: &[Edit<R, R::Change>]) -> usize
+    ensures { result ≤ length lines.now }
+{
+    let mut open = 0usize;
+    for place in 0..lines.len() {
+        if !leave(edits, lines.text_at(place)) {
+            open += 1;
+        }
+    }
+    open
 }
 
 // The name of the record at a place, where its name has several records and the edits touch it.
@@ -42,40 +76,86 @@ fn met_at<R: EditedRecord + Drop>(
     alloc: Global,
     lines: &FileLines<'_>,
     edits: &[Edit<R, R::Change>],
-    repeats: &HashMap<&[u8], bool>,
+    repeats: &Option<HashMap<&[u8], bool>>,
     place: usize,
 ) -> Result<Option<Bytes>, AllocError>
     requires edits { AllByRecursion (IsWrittenEdit R.format) (seen_edits R.becomes edits.now) }
-    requires told { TellsRepeats R.format (records_of R.format lines.now) repeats.now }
+    requires told { IfSome repeats.now (TellsRepeats R.format (records_of R.format lines.now)) }
     ensures { IfOk result (λ name. name ≡
         met_at R.format (seen_edits R.becomes edits.now) lines.now place) }
 {
+    if !may_meet(lines, edits, repeats, place) {
+        return Ok(None);
+    }
     let Some(item) = lines.record_at::<R>(alloc, place)? else {
         return Ok(None);
     };
-    if !is_met(alloc, edits, repeats, &item)? {
+    if !is_touched(alloc, edits, &item)? {
         return Ok(None);
     }
     Ok(Some(Bytes::of(alloc, item.name())?))
 }
 
-// Whether the name of the record has several records, by what the file tells, and the edits touch
-// the record.
-fn is_met<R: EditedRecord + Drop>(
-    alloc: Global,
+// Whether a record stands at the place that the edits may touch, and whose name has several records.
+fn may_meet<R: EditedRecord>(
+    lines: &FileLines<'_>,
     edits: &[Edit<R, R::Change>],
-    repeats: &HashMap<&[u8], bool>,
-    item: &R,
-) -> Result<bool, AllocError>
-    requires edits { AllByRecursion (IsWrittenEdit R.format) (seen_edits R.becomes edits.now) }
-    requires written { IsWritten R.format item.now }
-    ensures { IfOk result (λ met. (records : List R) → TellsRepeats R.format records repeats.now
-        → met ≡ is_met R.format (seen_edits R.becomes edits.now) records item.now) }
+    repeats: &Option<HashMap<&[u8], bool>>,
+    place: usize,
+) -> bool
+    requires { IfSome repeats.now (TellsRepeats R.format (records_of R.format lines.now)) }
+    ensures passed { result ≡ false →
+        met_at R.format (seen_edits R.becomes edits.now) lines.now place ≡ None }
+    ensures several { result ≡ true → (r : R) → record_at R.format lines.now place ≡ Some r
+        → is_multiple R.format (records_of R.format lines.now) r ≡ true }
 {
-    if !is_repeated(repeats, item.name()) {
-        return Ok(false);
+    if repeats.is_none() && leave(edits, lines.text_at(place)) {
+        return false;
     }
-    is_touched(alloc, edits, item)
+    match lines.name_at::<R>(place) {
+        Some(name) => has_several::<R>(lines, repeats, name),
+        None => false,
+    }
+}
+
+// Whether several records have the name, by what is told or else by counting them.
+fn has_several<R: EditedRecord>(
+    lines: &FileLines<'_>,
+    repeats: &Option<HashMap<&[u8], bool>>,
+    name: &[u8],
+) -> bool
+    requires { IfSome repeats.now (TellsRepeats R.format (records_of R.format lines.now)) }
+    ensures { result ≡ nat_le 2 (count_named R.format name.now (records_of R.format lines.now)) }
+{
+    match repeats {
+        Some(repeats) => is_repeated(repeats, name),
+        None => lines.has_several::<R>(name),
+    }
+}
+
+// Whether the edits surely leave the record that the line is, if it is one.
+fn leave<R: EditedRecord>(edits: &[Edit<R, R::Change>], line: &[u8]) -> bool
+    ensures { result ≡ true → (r : R) → R.format.read line.now ≡ Some r
+        → touches R.format (seen_edits R.becomes edits.now) r ≡ false }
+{
+    'edits: for edit in edits {
+        if !leaves(edit, line) {
+            return false;
+        }
+    }
+    true
+}
+
+// Whether the edit surely leaves the record that the line is, if it is one.
+fn leaves<R: EditedRecord>(edit: &Edit<R, R::Change>, line: &[u8]) -> bool
+    ensures { result ≡ true → (r : R) → R.format.read line.now ≡ Some r
+        → LeavesTo R.format (seen_edit R.becomes edit.now) r }
+{
+    match edit {
+        Edit::Become(change) => R::leaves(change, line),
+        Edit::Put(item) => has_other_name(line, item.name()),
+        Edit::Add(_) | Edit::AddMissing(_) => true,
+    }
 }
 
 // Whether one of the edits touches the record.

@@ -20,7 +20,7 @@ pub(crate) enum NamePlace {
 }
 
 /// For each name that a record of the file has, where its records stand.
-pub(crate) fn name_places<'a, R: TableRecord + Drop>(
+pub(crate) fn name_places<'a, R: TableRecord>(
     alloc: Global,
     lines: &FileLines<'a>,
 ) -> Result<HashMap<&'a [u8], NamePlace>, AllocError>
@@ -30,14 +30,13 @@ pub(crate) fn name_places<'a, R: TableRecord + Drop>(
     let mut place = lines.len();
     'places: while place > 0 {
         place -= 1;
-        note_at::<R>(alloc, &mut places, lines, place)?;
+        note_at::<R>(&mut places, lines, place)?;
     }
     Ok(places)
 }
 
 // Notes the line at a place, in front of those behind it.
-fn note_at<'a, R: TableRecord + Drop>(
-    alloc: Global,
+fn note_at<'a, R: TableRecord>(
     places: &mut HashMap<&'a [u8], NamePlace>,
     lines: &FileLines<'a>,
     place: usize,
@@ -47,7 +46,7 @@ fn note_at<'a, R: TableRecord + Drop>(
         TellsPlaces (place + 1) (line_names R.format (drop (place + 1) lines.now)) places.old
         → TellsPlaces place (line_names R.format (drop place lines.now)) places.new) }
 {
-    match lines.name_at::<R>(alloc, place)? {
+    match lines.name_at::<R>(place) {
         Some(name) => note(places, name, place),
         None => Ok(()),
     }

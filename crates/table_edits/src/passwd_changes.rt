@@ -2,7 +2,7 @@
 ghost use Rattle.std.specs.Prelude.{◌≡◌, IfOk};
 ghost use Rattle.table_edits.specs.PasswdChanges.{keeps_user_name, passwd_after, with_user_fields};
 
-use crate::fields::copy_or;
+use crate::fields::{copy_or, has_other_name};
 use crate::{Becoming, EditedRecord, HashChange};
 use acct_lines::{PasswdRecord, TableRecord};
 use acct_text::Bytes;
@@ -78,6 +78,14 @@ impl EditedRecord for PasswdRecord {
             }
             PasswdChange::Remove(name) if self.name() == name.as_slice() => Ok(Becoming::Goes),
             _ => Ok(Becoming::Stays),
+        }
+    }
+
+    fn leaves(change: &PasswdChange, line: &[u8]) -> bool {
+        match change {
+            PasswdChange::Named(name, _) => has_other_name(line, name.as_slice()),
+            PasswdChange::OfGroup(..) => false,
+            PasswdChange::Remove(name) => has_other_name(line, name.as_slice()),
         }
     }
 

@@ -9,7 +9,7 @@ use std::alloc::{AllocError, Global};
 use std::collections::HashMap;
 
 /// For each name that a record of the file has, whether several records have it.
-pub(crate) fn repeats<'a, R: TableRecord + Drop>(
+pub(crate) fn repeats<'a, R: TableRecord>(
     alloc: Global,
     lines: &FileLines<'a>,
 ) -> Result<HashMap<&'a [u8], bool>, AllocError>
@@ -17,7 +17,7 @@ pub(crate) fn repeats<'a, R: TableRecord + Drop>(
 {
     let mut repeats = HashMap::new(alloc);
     'places: for place in 0..lines.len() {
-        if let Some(name) = lines.name_at::<R>(alloc, place)? {
+        if let Some(name) = lines.name_at::<R>(place) {
             note(&mut repeats, name)?;
         }
     }

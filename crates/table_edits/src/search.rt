@@ -1,21 +1,22 @@
 // The lines of a table, and the first record among them that passes a test.
 ghost use Rattle.std.specs.Prelude.{◌≡◌, Bool, find, IfOk};
 ghost use Rattle.account_model.specs.Tables.{table_records};
+ghost use Rattle.table_edits.specs.Accepting.{is_accepted};
 ghost use Rattle.table_edits.specs.TablesOfLines.{lines_in};
 
-use acct_lines::{GroupRecord, PasswdRecord, TableRecord};
+use acct_lines::{GroupLine, GroupRecord, PasswdLine, PasswdRecord, TableRecord};
 use acct_tables::FileLines;
 use acct_text::Bytes;
 use std::alloc::{AllocError, Global};
 
-/// A test of the records R.
-pub trait RecordTest<R> {
+/// A test of the records R, made on a line where it stands.
+pub trait RecordTest<R: TableRecord> {
     // whether a record passes
     ghost accepts: { Self → R → Bool };
 
-    /// Whether the record passes.
-    fn passes(&self, item: &R) -> bool
-        ensures { result ≡ accepts self.now item.now };
+    /// Whether the line is a record that passes. It takes no memory.
+    fn passes(&self, line: &[u8]) -> bool
+        ensures { result ≡ is_accepted (accepts self.now) (R.format.read line.now) };
 }
 
 /// That a user or a group has the GID.
@@ -29,8 +30,11 @@ impl RecordTest<PasswdRecord> for OfGid {
 
     ghost accepts = { λ test user. user.gid == test.gid };
 
-    fn passes(&self, user: &PasswdRecord) -> bool {
-        user.gid == self.gid
+    fn passes(&self, line: &[u8]) -> bool {
+        match PasswdLine::read(line) {
+            Ok(user) => user.gid == self.gid,
+            Err(_) => false,
+        }
     }
 }
 
@@ -39,8 +43,11 @@ impl RecordTest<GroupRecord> for OfGid {
 
     ghost accepts = { λ test group. group.gid == test.gid };
 
-    fn passes(&self, group: &GroupRecord) -> bool {
-        group.gid == self.gid
+    fn passes(&self, line: &[u8]) -> bool {
+        match GroupLine::read(line) {
+            Ok(group) => group.gid == self.gid,
+            Err(_) => false,
+        }
     }
 }
 
@@ -65,10 +72,8 @@ pub fn first_passing<R: TableRecord + Drop, T: RecordTest<R>>(
 {
     let lines = &file_lines(alloc, file)?;
     for place in 0..lines.len() {
-        if let Some(item) = lines.record_at::<R>(alloc, place)? {
-            if test.passes(&item) {
-                return Ok(Some(item));
-            }
+        if test.passes(lines.text_at(place)) {
+            return lines.record_at(alloc, place);
         }
     }
     Ok(None)

@@ -2,7 +2,7 @@
 ghost use Rattle.std.specs.Prelude.{◌≡◌, None, IfOk};
 ghost use Rattle.table_edits.specs.ShadowChanges.{keeps_shadow_name, shadow_after, with_shadow_fields};
 
-use crate::fields::copy_or;
+use crate::fields::{copy_or, has_other_name};
 use crate::{Becoming, EditedRecord, HashChange};
 use acct_lines::{ShadowRecord, TableRecord};
 use acct_text::Bytes;
@@ -103,6 +103,13 @@ impl EditedRecord for ShadowRecord {
             }
             ShadowChange::Remove(name) if self.name() == name.as_slice() => Ok(Becoming::Goes),
             _ => Ok(Becoming::Stays),
+        }
+    }
+
+    fn leaves(change: &ShadowChange, line: &[u8]) -> bool {
+        match change {
+            ShadowChange::Named(name, _) => has_other_name(line, name.as_slice()),
+            ShadowChange::Remove(name) => has_other_name(line, name.as_slice()),
         }
     }
 

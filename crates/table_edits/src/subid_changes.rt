@@ -6,9 +6,10 @@ ghost use Rattle.account_model.specs.SubidOwner.{left_above, left_below, left_wi
 ghost use Rattle.account_model.specs.Written.{IsWritten};
 ghost use Rattle.table_edits.specs.SeenEdits.{records_in};
 
+use crate::fields::has_other_name;
 use crate::{Becoming, EditedRecord};
-use acct_lines::{SubidRecord, TableRecord};
-use acct_tables::{is_owned, last_id};
+use acct_lines::{SubidRecord, TableRecord, first_field};
+use acct_tables::{is_owned, is_owner, last_id};
 use acct_text::Bytes;
 use std::alloc::{AllocError, Global};
 
@@ -67,6 +68,16 @@ impl EditedRecord for SubidRecord {
                 left_without(self, cut.first, cut.last)
             }
             _ => Ok(Becoming::Stays),
+        }
+    }
+
+    fn leaves(change: &SubidChange, line: &[u8]) -> bool {
+        match change {
+            SubidChange::Rename(old, _) => has_other_name(line, old.as_slice()),
+            SubidChange::Remove(user, uid) => {
+                !is_owner(first_field(line), user.as_slice(), *uid)
+            }
+            SubidChange::Cut(cut) => { !is_owner(first_field(line), cut.owner.as_slice(), cut.uid) }
         }
     }
 

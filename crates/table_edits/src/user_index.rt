@@ -78,7 +78,7 @@ impl<'a> UserIndex<'a> {
 
 // The line of the first record of each name of a file. The places go down, so that the first comes
 // last.
-fn first_lines<'a, R: TableRecord + Drop>(
+fn first_lines<'a, R: TableRecord>(
     alloc: Global,
     file: &'a Option<Bytes>,
 ) -> Result<HashMap<&'a [u8], &'a [u8]>, AllocError>
@@ -89,14 +89,13 @@ fn first_lines<'a, R: TableRecord + Drop>(
     let mut place = lines.len();
     'places: while place > 0 {
         place -= 1;
-        note_at::<R>(alloc, &mut first, lines, place)?;
+        note_at::<R>(&mut first, lines, place)?;
     }
     Ok(first)
 }
 
 // Notes the line at a place, in front of those behind it.
-fn note_at<'a, R: TableRecord + Drop>(
-    alloc: Global,
+fn note_at<'a, R: TableRecord>(
     first: &mut HashMap<&'a [u8], &'a [u8]>,
     lines: &FileLines<'a>,
     place: usize,
@@ -106,14 +105,14 @@ fn note_at<'a, R: TableRecord + Drop>(
         TellsFirst R.format (records_of R.format (drop (place + 1) lines.now)) first.old
         → TellsFirst R.format (records_of R.format (drop place lines.now)) first.new) }
 {
-    match lines.name_at::<R>(alloc, place)? {
+    match lines.name_at::<R>(place) {
         Some(name) => note::<R>(first, name, lines.text_at(place)),
         None => Ok(()),
     }
 }
 
 // Notes the line of a record, in place of one of its name.
-fn note<'a, R: TableRecord + Drop>(
+fn note<'a, R: TableRecord>(
     first: &mut HashMap<&'a [u8], &'a [u8]>,
     name: &'a [u8],
     line: &'a [u8],

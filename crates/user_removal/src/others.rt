@@ -1,10 +1,11 @@
 // Users with another name that a user shares an ID with (userdel(8)).
 ghost use Rattle.std.specs.Prelude.{◌≡◌, IfOk, find};
 ghost use Rattle.account_model.specs.Users.{other_users};
+ghost use Rattle.acct_lines.specs.Shown.{passwd_shown};
 ghost use Rattle.user_removal.specs.Others.{has_id};
 
 use account_model::PasswdRecord;
-use acct_lines::TableRecord;
+use acct_lines::PasswdLine;
 use std::alloc::{AllocError, Global};
 use table_edits::{RecordTest, Tables, first_passing};
 
@@ -42,14 +43,17 @@ impl<'a> RecordTest<PasswdRecord> for OtherWith<'a> {
 
     ghost accepts = { λ test user. is_other_with test.name.now test.id user };
 
-    fn passes(&self, user: &PasswdRecord) -> bool {
-        user.name() != self.name && has_id(user, self.id)
+    fn passes(&self, line: &[u8]) -> bool {
+        match PasswdLine::read(line) {
+            Ok(user) => user.name != self.name && has_id(&user, self.id),
+            Err(_) => false,
+        }
     }
 }
 
 // Whether the user has the ID.
-fn has_id(user: &PasswdRecord, id: AccountId) -> bool
-    ensures { result ≡ has_id id user.now }
+fn has_id(user: &PasswdLine<'_>, id: AccountId) -> bool
+    ensures { result ≡ has_id id (passwd_shown user.now) }
 {
     match id {
         AccountId::Uid(uid) => user.uid == uid,

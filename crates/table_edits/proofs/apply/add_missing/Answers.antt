@@ -10,7 +10,7 @@ returns-in-Some g c =
     let format = g.R.TableRecord.format in
     let lines = c.args.lines.now in
     let found = ap (λ name. position_from (line_is_named format name) 0 lines) (sym c.name.ensures)
-    ∙ sym c.in_ok-first_place.ensures ∙ c.in-Some.is in
+    ∙ sym c.first_place.ensures ∙ c.in-Some.is in
     found-stays format c.args.item.now lines c.in-Some.field-0 found
 
 pub returns-in-None : goal.returns-in-None
@@ -18,7 +18,7 @@ returns-in-None g c =
     let format = g.R.TableRecord.format in
     let lines = c.args.lines.now in
     let none = ap (λ name. position_from (line_is_named format name) 0 lines) (sym c.name.ensures)
-    ∙ sym c.in_ok-first_place.ensures ∙ c.in-None.is in
+    ∙ sym c.first_place.ensures ∙ c.in-None.is in
     on_ok_weaker c.append_any.result
     (λ appended. appended ∙ missing-added format c.args.item.now lines none)
     c.append_any.ensures.appended

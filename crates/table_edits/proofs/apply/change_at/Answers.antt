@@ -1,8 +1,17 @@
-use Rattle.std.proofs.Common.{◌∙◌, sym, ap}
+use Rattle.std.proofs.Common.{◌∙◌, sym, ap, subst}
 use Rattle.std.proofs.lemmas.Result.{on_ok_weaker}
+use Rattle.table_edits.specs.Naming.{Leaves}
 use Rattle.table_edits.specs.SeenEdits.{records_in}
-use Rattle.table_edits.proofs.ChangedLines.{change-other, change-stays, change-sets, change-goes, change-splits}
+use Rattle.table_edits.proofs.ChangedLines.{change-left, change-other, change-stays, change-sets, change-goes, change-splits}
 use Rattle.table_edits.proofs.apply.change_at.Goals as goal
+
+pub returns-then-leaves : goal.returns-then-leaves
+returns-then-leaves g c =
+    let format = g.R.TableRecord.format in
+    let change = g.R.EditedRecord.becomes c.args.change.now in
+    change-left format change c.args.lines.now c.args.place c.requires.inside
+    g.met.R.TableRecord.is_line_format.same
+    (subst (Leaves format change) c.text_at.ensures (c.leaves.ensures c.if-leaves.true))
 
 pub returns-in_default : goal.returns-in_default
 returns-in_default g c =

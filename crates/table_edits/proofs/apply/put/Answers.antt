@@ -10,7 +10,7 @@ set_at-requires-clause-inside g c =
     let format = g.R.TableRecord.format in
     let lines = c.args.lines.now in
     let found = ap (λ name. position_from (line_is_named format name) 0 lines) (sym c.name.ensures)
-    ∙ sym c.in_ok-place.ensures ∙ c.in-Some.is in
+    ∙ sym c.first_place.ensures ∙ c.in-Some.is in
     put-inside format c.args.item.now lines c.in-Some.place found
 
 pub returns-in-Some : goal.returns-in-Some
@@ -18,7 +18,7 @@ returns-in-Some g c =
     let format = g.R.TableRecord.format in
     let lines = c.args.lines.now in
     let found = ap (λ name. position_from (line_is_named format name) 0 lines) (sym c.name.ensures)
-    ∙ sym c.in_ok-place.ensures ∙ c.in-Some.is in
+    ∙ sym c.first_place.ensures ∙ c.in-Some.is in
     on_ok_weaker c.set_at.result
     (λ set. set ∙ put-sets format c.args.item.now lines c.in-Some.place found)
     c.set_at.ensures.set
@@ -28,7 +28,7 @@ returns-in-None g c =
     let format = g.R.TableRecord.format in
     let lines = c.args.lines.now in
     let none = ap (λ name. position_from (line_is_named format name) 0 lines) (sym c.name.ensures)
-    ∙ sym c.in_ok-place.ensures ∙ c.in-None.is in
+    ∙ sym c.first_place.ensures ∙ c.in-None.is in
     on_ok_weaker c.append_any.result
     (λ appended. appended ∙ put-adds format c.args.item.now lines none)
     c.append_any.ensures.appended

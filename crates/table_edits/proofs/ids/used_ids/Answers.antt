@@ -1,5 +1,7 @@
 use Rattle.std.proofs.Common.{◌∙◌, ◌+◌, ◌<◌, ◌≤◌, ℕ, List, length, map, sym, ap, subst, arith}
+use Rattle.std.specs.Prelude.{option_map}
 use Rattle.account_model.specs.Ids.{is_used}
+use Rattle.table_edits.proofs.ChangedLines.{read-here}
 use Rattle.table_edits.proofs.FileLemmas.{records-in}
 use Rattle.table_edits.proofs.RecordLemmas.{Gathers, ids-end, ids-more, ids-other}
 use Rattle.table_edits.proofs.ids.used_ids.Goals as goal
@@ -14,14 +16,15 @@ loop-place-preserved g c =
     let old = c.loop-place.used in
     let inside : place < length lines = omega arith in
     let Next : List ℕ → Type 0 = λ used. Gathers format number lines used (place + 1) in
-    elim c.match-branch-3.branch [
+    let here = ap (λ text. option_map number (format.read text)) c.text_at.ensures
+    ∙ ap (option_map number) (read-here format lines place inside) in
+    elim c.match-id_in.branch [
       | in-Some+in_ok-add w ↦ subst Next (sym w.used-is)
           (ids-more format number lines old w.add.new.self place w.in-Some.id inside
-          (sym w.in-Some.is ∙ c.in_ok-id.ensures) w.in_ok-add.ensures.added
-          c.loop-place.invariant)
+          (w.in-Some.ensures ∙ here) w.in_ok-add.ensures.added c.loop-place.invariant)
       | in_default w ↦ subst Next (sym w.used-is)
-          (ids-other format number lines old place inside
-          (sym w.in_default.is ∙ c.in_ok-id.ensures) c.loop-place.invariant)
+          (ids-other format number lines old place inside (w.in_default.ensures ∙ here)
+          c.loop-place.invariant)
     ]
 
 pub returns : goal.returns

@@ -1,5 +1,4 @@
-use Rattle.std.proofs.Common.{◌∙◌, sym, ap, subst}
-use Rattle.std.specs.Option.{option_copied}
+use Rattle.std.proofs.Common.{sym, subst}
 use Rattle.std.proofs.lemmas.Result.{on_ok_weaker}
 use Rattle.acct_tables.specs.TableLines.{record_at}
 use Rattle.table_edits.specs.NamePlaces.{IsPlaceNoted}
@@ -15,7 +14,7 @@ returns-in-Some g c =
     let old = c.args.places.now in
     let new = c.note.new.places in
     let here = record-named format (record_at format lines place) c.in-Some.name.now
-    (sym (ap option_copied c.in-Some.is) ∙ c.in_ok-name.ensures) in
+    c.in-Some.ensures in
     on_ok_weaker c.note.result
     (λ noted told.
     noted-here format lines place c.requires here.item old new here.is told
@@ -28,4 +27,4 @@ returns-in-None g c = λ told.
     let lines = c.args.lines.now in
     places-other format lines c.args.place c.requires c.args.places.now
     (none-named format (record_at format lines c.args.place)
-    (sym (ap option_copied c.in-None.is) ∙ c.in_ok-name.ensures)) told
+    c.in-None.ensures) told

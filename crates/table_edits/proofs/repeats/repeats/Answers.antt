@@ -1,5 +1,4 @@
-use Rattle.std.proofs.Common.{◌+◌, ◌∙◌, take, sym, ap, subst, arith}
-use Rattle.std.specs.Option.{option_copied}
+use Rattle.std.proofs.Common.{◌+◌, take, sym, subst, arith}
 use Rattle.account_model.specs.Format.{records_of}
 use Rattle.acct_tables.specs.TableLines.{record_at}
 use Rattle.table_edits.specs.Repeats.{IsNoted, TellsRepeats}
@@ -15,11 +14,11 @@ places-preserved g c =
     let place = c.places.place in
     let old = c.places.repeats in
     let records = records_of format (take (place + 1) lines) in
-    elim c.match-branch-2.branch [
+    elim c.match-name_at.branch [
       | in-Some+in_ok-note w ↦
           let new = w.note.new.repeats in
           let here = record-named format (record_at format lines place) w.in-Some.name.now
-          (sym (ap option_copied w.in-Some.is) ∙ c.in_ok-name.ensures) in
+          w.in-Some.ensures in
           let noted = subst (λ name. IsNoted name old new) (sym here.named) w.in_ok-note.ensures in
           subst (TellsRepeats format records) (sym w.repeats-is)
           (noted-more format lines place (omega arith) here.item old new here.is
@@ -28,5 +27,5 @@ places-preserved g c =
           subst (TellsRepeats format records) (sym w.repeats-is)
           (told-other format lines place (omega arith) old
           (none-named format (record_at format lines place)
-          (sym (ap option_copied w.in_default.is) ∙ c.in_ok-name.ensures)) c.places.invariant)
+          w.in_default.ensures) c.places.invariant)
     ]

@@ -1,5 +1,4 @@
 use Rattle.std.proofs.Common.{◌∙◌, sym, ap}
-use Rattle.std.specs.Option.{option_copied}
 use Rattle.std.proofs.lemmas.Result.{on_ok_weaker}
 use Rattle.acct_tables.specs.TableLines.{record_at}
 use Rattle.table_edits.proofs.FirstLemmas.{first-here, first-other, text-reads}
@@ -12,7 +11,7 @@ returns-in-Some g c =
     let lines = c.args.lines.now in
     let place = c.args.place in
     let here = record-named format (record_at format lines place) c.in-Some.name.now
-    (sym (ap option_copied c.in-Some.is) ∙ c.in_ok-name.ensures) in
+    c.in-Some.ensures in
     let reads = ap format.read c.text_at.ensures
     ∙ text-reads format lines place here.item here.is in
     on_ok_weaker c.note.result
@@ -27,4 +26,4 @@ returns-in-None g c = λ told.
     let lines = c.args.lines.now in
     first-other format lines c.args.place c.requires c.args.first.now told
     (none-named format (record_at format lines c.args.place)
-    (sym (ap option_copied c.in-None.is) ∙ c.in_ok-name.ensures))
+    c.in-None.ensures)

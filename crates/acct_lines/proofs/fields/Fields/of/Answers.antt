@@ -1,4 +1,4 @@
-use Rattle.std.proofs.Common.{length, ap, sym, ◌∙◌}
+use Rattle.std.proofs.Common.{refl, ap, sym, ◌∙◌}
 use Rattle.account_model.specs.declared.fault.LineFault.TheVariants.{FieldCount}
 use Rattle.acct_text.specs.Bytes.{colon}
 use Rattle.acct_lines.proofs.Counted.{pieces-counted}
@@ -18,6 +18,6 @@ returns c =
     let counted = pieces-counted colon c.args.line.now c.count-found.result c.memchr_iter.result
     c.count-found.ensures c.memchr_iter.ensures.value
     in record {
-      cut = c.in_ok-fields.ensures.texts;
-      counted = ap length c.in_ok-fields.ensures.texts ∙ sym counted ∙ c.if-found-count.false;
+      cut = refl;
+      counted = sym counted ∙ c.if-found-count.false;
     }

@@ -1,12 +1,9 @@
+use Rattle.std.proofs.Common.{ap, ◌∙◌, sym, Some}
 use Rattle.account_model.proofs.FormatLaws.{gshadow-is_format}
-use Rattle.acct_lines.proofs.GshadowFields.{gshadow-read}
 use Rattle.acct_lines.proofs.gshadow.GshadowRecordTableRecord.read.Goals as goal
 
 pub returns-clause-reads : goal.returns-clause-reads
-returns-clause-reads c =
-    gshadow-read c.args.line.now c.in_ok-fields.fields _ c.in_ok-fields.ensures
-    c.in_ok-name.ensures.first c.in_ok-name.ensures.some c.in_ok-text.ensures
-    c.in_ok-names.ensures c.in_ok-names-2.ensures
+returns-clause-reads c = c.in_ok-read.ensures ∙ ap Some (sym c.in_ok-copied.ensures)
 
 pub returns-clause-written : goal.returns-clause-written
 returns-clause-written c =

@@ -1,5 +1,4 @@
-use Rattle.std.proofs.Common.{◌∙◌, ◌<◌, length, refl, sym, ap, arith}
-use Rattle.std.specs.Option.{option_copied}
+use Rattle.std.proofs.Common.{◌∙◌, ◌<◌, length, refl, ap, arith}
 use Rattle.std.specs.Prelude.{None, Some}
 use Rattle.account_model.specs.Format.{has_named}
 use Rattle.check_reports.specs.Names.{has_name}
@@ -17,16 +16,16 @@ loop-place-preserved g c =
     let place = c.loop-place.place in
     let inside : place < length lines = omega arith in
     let found = record_at format lines place in
-    elim c.match-found.branch [
+    elim c.match-name_at.branch [
       | in-Some+in_ok-add w ↦
           names-more format lines place found (Some w.in-Some.name.now) c.loop-place.names
-          c.match-found.names inside refl
-          (sym (ap option_copied w.in-Some.is) ∙ c.in_ok-found.ensures)
+          c.match-name_at.names inside refl
+          w.in-Some.ensures
           c.loop-place.invariant
           (λ other. ap (λ names. has_name names other) w.names-is ∙ w.in_ok-add.ensures other)
       | in_default w ↦
-          names-more format lines place found None c.loop-place.names c.match-found.names inside refl
-          (sym (ap option_copied w.in_default.is) ∙ c.in_ok-found.ensures)
+          names-more format lines place found None c.loop-place.names c.match-name_at.names inside refl
+          w.in_default.ensures
           c.loop-place.invariant
           (λ other. ap (λ names. has_name names other) w.names-is)
     ]

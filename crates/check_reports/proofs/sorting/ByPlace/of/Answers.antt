@@ -1,6 +1,5 @@
-use Rattle.std.proofs.Common.{◌≡◌, ◌∙◌, ◌<◌, ◌+◌, length, sym, ap, arith}
+use Rattle.std.proofs.Common.{◌≡◌, ◌∙◌, ◌<◌, ◌+◌, length, ap, arith}
 use Rattle.std.specs.Prelude.{None, Some}
-use Rattle.std.specs.Option.{option_copied}
 use Rattle.check_reports.specs.Sorted.{kept_places}
 use Rattle.check_reports.proofs.PlaceLemmas.{order-more}
 use Rattle.check_reports.proofs.sorting.ByPlace.of.Goals as goal
@@ -13,16 +12,16 @@ loop-place-preserved g c =
     let place = c.loop-place.place in
     let inside : place < length lines = omega arith in
     let before = c.loop-place.order in
-    let after = c.match-found.order in
+    let after = c.match-name_at.order in
     let so_far = c.loop-place.invariant.so_far in
     let small = c.loop-place.invariant.small in
-    elim c.match-found.branch [
+    elim c.match-name_at.branch [
       | in-Some+in_ok-add w ↦
           let counted : after.count ≡ before.count + 1 =
           ap (λ order. order.count) w.order-is ∙ w.in_ok-add.ensures.counted in
           record {
             so_far = order-more format lines place (Some w.in-Some.name.now) before after inside
-                (sym (ap option_copied w.in-Some.is) ∙ c.in_ok-found.ensures)
+                w.in-Some.ensures
                 so_far
                 (λ other. ap (λ order. kept_places order other) w.order-is
                 ∙ w.in_ok-add.ensures.first other)
@@ -33,7 +32,7 @@ loop-place-preserved g c =
           let counted : after.count ≡ before.count = ap (λ order. order.count) w.order-is in
           record {
             so_far = order-more format lines place None before after inside
-                (sym (ap option_copied w.in_default.is) ∙ c.in_ok-found.ensures)
+                w.in_default.ensures
                 so_far
                 (λ other. ap (λ order. kept_places order other) w.order-is)
                 counted;

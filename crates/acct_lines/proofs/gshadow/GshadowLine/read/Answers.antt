@@ -1,0 +1,19 @@
+use Rattle.std.proofs.Common.{refl}
+use Rattle.acct_lines.proofs.GshadowFields.{gshadow-read, no-name}
+use Rattle.acct_lines.proofs.Read.{told-first}
+use Rattle.acct_lines.proofs.Taken.{four-taken}
+use Rattle.acct_lines.proofs.gshadow.GshadowLine.read.Goals as goal
+
+pub returns : goal.returns
+returns c =
+    gshadow-read c.args.line.now _ _
+    (four-taken c.in_ok-fields.ensures c.take-name.ensures.taken c.take-password.ensures.taken
+    c.take-administrators.ensures.taken c.take-members.ensures.taken)
+    c.in_ok-name.ensures.whole c.in_ok-name.ensures.some refl refl refl
+
+pub returns-in_err-name : goal.returns-in_err-name
+returns-in_err-name c =
+    told-first _ _ _ _ c.from_residual-in_err-name.ensures.1 (no-name c.args.line.now _ _
+    (four-taken c.in_ok-fields.ensures c.take-name.ensures.taken c.take-password.ensures.taken
+    c.take-administrators.ensures.taken c.take-members.ensures.taken)
+    c.in_err-name.ensures)

@@ -1,0 +1,41 @@
+-- Claim: a line that begins with another name isn't a record of the name (`other-name`), and a list
+-- without a user stays without it (`without-unlisted`); so changes leave such lines. Way: the name
+-- of a record is the first field of its line.
+use Rattle.std.proofs.Common.{◌≡◌, ℕ, true, false, Bool, List, [], ◌∷◌, refl, sym, ◌∙◌, ap}
+use Rattle.std.specs.Prelude.{◌||◌, not, bytes_eq, Some}
+use Rattle.account_model.specs.Format.{Format, is_named}
+use Rattle.account_model.specs.Members.{without_name}
+use Rattle.account_model.specs.Text.{is_listed}
+use Rattle.account_model.proofs.RenamingLaws.{flipped}
+use Rattle.acct_lines.specs.Naming.{NamesFirst, first_field}
+
+-- what isn't so is false
+pub isn't : (test : Bool) → not test ≡ true → test ≡ false
+isn't true other = absurd cc
+isn't false other = refl
+
+-- a line that begins with another name isn't a record of the name
+pub other-name :
+    {R : Type 0} (format : Format R) (text name : List ℕ) (r : R)
+    → NamesFirst format
+    → not (bytes_eq (first_field text) name) ≡ true
+    → format.read text ≡ Some r
+    → is_named format name r ≡ false
+other-name format text name r first other read =
+    ap (λ found. bytes_eq found name) (sym (first text r read))
+    ∙ isn't (bytes_eq (first_field text) name) other
+
+-- neither of two tests
+pub neither : (one other : Bool) → (one || other) ≡ false → (one ≡ false) × (other ≡ false)
+neither true other none = absurd cc
+neither false other none = (refl, none)
+
+-- names without one that isn't among them are the same
+pub without-unlisted :
+    (name : List ℕ) (names : List (List ℕ))
+    → is_listed name names ≡ false
+    → without_name name names ≡ names
+without-unlisted name [] unlisted = refl
+without-unlisted name (other ∷ names) unlisted =
+    let both = neither (bytes_eq name other) (is_listed name names) unlisted in
+    rw (flipped name other both.0) (ap (λ rest. other ∷ rest) (without-unlisted name names both.1))
