@@ -28,7 +28,7 @@ use Rattle.suite_session.specs.declared.session.Phase.{Phase}
 use Rattle.suite_session.specs.declared.session.Phase.TheVariants.{Waiting, Begun, Over}
 use Rattle.suite_session.specs.Moment.{Moment}
 use Rattle.suite_session.specs.Runner.{Runner}
-use Rattle.suite_session.specs.Session.{IsWaiting, OthersStand, SessionStands, SessionTurns, answer_of, outcome_of, phase_left, turn_token}
+use Rattle.suite_session.specs.Session.{IsWaiting, RemembersNow, OthersStand, SessionStands, SessionTurns, answer_of, outcome_of, phase_left, turn_token}
 use Rattle.suite_session.specs.Stands.{StandsAs, StaysOurs}
 use Rattle.suite_clients.specs.Alone.{IsLawful}
 use Rattle.suite_clients.specs.Together.{AreApart, IsFoldOfCommitted, KeepsOthers, StandTogether, StandsLawfully, TurnsTo, moment_of}
@@ -125,10 +125,19 @@ module _ (before now : MemoryFolder) where
   pub new-stands : (old new : Phase) → SessionTurns (moment_of before) (moment_of now) old new →
       SessionStands (moment_of now) new
   new-stands (Waiting asked) (Begun runner state) turns =
-      record { own = state; stands = turns.1.stands; put = Ok tt; left = refl }
+      record {
+        own = state;
+        stands = turns.1.turns.stands;
+        remembers = turns.1.remembers;
+        put = Ok tt;
+        left = refl;
+      }
   new-stands (Begun runner state) (Begun same next) turns = record {
     own = next;
-    stands = subst (λ (one : Runner). StandsAs (moment_of now) one next) (sym turns.0) turns.1.stands;
+    stands = subst (λ (one : Runner). StandsAs (moment_of now) one next) (sym turns.0)
+        turns.1.turns.stands;
+    remembers = subst (λ (one : Runner). RemembersNow (moment_of now) one next) (sym turns.0)
+        turns.1.remembers;
     put = Ok tt;
     left = refl;
   }
@@ -150,9 +159,9 @@ module _ (before now : MemoryFolder) where
   -- a turn keeps the history lawful
   new-lawful : (old new : Phase) → SessionTurns (moment_of before) (moment_of now) old new →
       IsLawful (past_of before) → IsLawful (past_of now)
-  new-lawful (Waiting asked) (Begun runner state) turns = stays-lawful turns.1.lawful
+  new-lawful (Waiting asked) (Begun runner state) turns = stays-lawful turns.1.turns.lawful
   new-lawful (Waiting asked) (Over answer) turns = stays-lawful turns.lawful
-  new-lawful (Begun runner state) (Begun same next) turns = stays-lawful turns.1.lawful
+  new-lawful (Begun runner state) (Begun same next) turns = stays-lawful turns.1.turns.lawful
   new-lawful (Begun runner state) (Over answer) turns = stays-lawful turns.1.lawful
   new-lawful (Over answer) (Over same) turns = subst IsLawful
       (let same_past : Some (past_of before) ≡ Some (past_of now) = sym turns.1.told in cc)

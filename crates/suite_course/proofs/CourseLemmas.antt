@@ -20,7 +20,7 @@ use Rattle.suite_session.specs.declared.session.Phase.{Phase}
 use Rattle.suite_session.specs.declared.session.Phase.TheVariants.{Waiting, Begun, Over}
 use Rattle.suite_session.specs.Runner.{Question, Runner}
 use Rattle.suite_session.specs.Moment.{Moment}
-use Rattle.suite_session.specs.Session.{IsNew, IsWaiting, SessionStands, SessionTurns, IsUnbegun, answer_of, given_in, phase_left}
+use Rattle.suite_session.specs.Session.{RemembersNow, IsNew, IsWaiting, SessionStands, SessionTurns, IsUnbegun, answer_of, given_in, phase_left}
 use Rattle.suite_session.specs.Stands.{Extends, StandsAs, TellsOutside, TurnsTo}
 use Rattle.suite_session.specs.Counts.{SessionCounts}
 use Rattle.suite_session.proofs.OthersLemmas.{state-own}
@@ -197,7 +197,7 @@ pub comes-turn : (asked : Question) (entry between now : Moment) (old new : Phas
     phase_left new < phase_left old → SessionCounts now.told old new → Comes asked entry now new
 comes-turn asked entry between now (Waiting question) (Begun runner state) comes none turns nearer counts =
     let first = turns-none entry between [] runner.token comes.turns in
-    let both = turns-then entry between now runner.token 0 1 first turns.1 in
+    let both = turns-then entry between now runner.token 0 1 first turns.1.turns in
     record {
       made = 1;
       turns = turns-as entry now runner.token 1
@@ -206,6 +206,7 @@ comes-turn asked entry between now (Waiting question) (Begun runner state) comes
             stands,
             new-from runner.token entry.told between.told
                 (grew-extends entry.admits runner.token 0 entry.told between.told first.grew) turns.2,
+            turns.1.remembers,
           )) both.risen both;
       called = called-first runner state now.told counts;
     }
@@ -220,7 +221,7 @@ comes-turn asked entry between now (Waiting question) (Over answer) comes none t
       called = told-any now.told;
     }
 comes-turn asked entry between now (Begun runner state) (Begun same next) comes none turns nearer counts =
-    let both = turns-then entry between now runner.token comes.made 1 comes.turns turns.1 in
+    let both = turns-then entry between now runner.token comes.made 1 comes.turns turns.1.turns in
     record {
       made = comes.made + 1;
       turns = subst (λ (one : Runner). TurnsTo entry now one.token (comes.made + 1)
@@ -230,11 +231,12 @@ comes-turn asked entry between now (Begun runner state) (Begun same next) comes 
             ap (λ (one : Runner). one.asked) turns.0 ∙ comes.turns.stands.0,
             subst (λ (one : Runner). StandsAs now one next) (sym turns.0) stands,
             subst (λ (one : Runner). IsNew entry.told one.token) (sym turns.0) comes.turns.stands.2,
+            subst (λ (one : Runner). RemembersNow now one next) (sym turns.0) turns.1.remembers,
           )) both.risen both);
       called = subst (λ (one : Runner). IfSome now.told (PhaseCalled (Begun one next)))
           (sym turns.0)
           (called-then between.admits runner next state between.told now.told nearer counts
-          turns.1.grew (state-own between runner state comes.turns.stands.1) comes.called);
+          turns.1.turns.grew (state-own between runner state comes.turns.stands.1) comes.called);
     }
 comes-turn asked entry between now (Begun runner state) (Over answer) comes none turns nearer counts =
     let has : given_in state ≡ Some answer = ap given_in turns.0 in
@@ -256,7 +258,13 @@ pub comes-stands : (asked : Question) (entry now : Moment) (phase : Phase) →
     Comes asked entry now phase → SessionStands now phase
 comes-stands asked entry now (Waiting question) comes = tt
 comes-stands asked entry now (Begun runner state) comes =
-    record { own = state; stands = comes.turns.stands.1; put = Ok tt; left = refl }
+    record {
+      own = state;
+      stands = comes.turns.stands.1;
+      remembers = comes.turns.stands.3;
+      put = Ok tt;
+      left = refl;
+    }
 comes-stands asked entry now (Over answer) comes = tt
 
 -- at its entry it has come to where it is

@@ -2,7 +2,7 @@
 -- call, finished (`finishes`).
 -- Way: the session stands as the streams left it (`streams-stand`); its last call leads to its end
 -- alone (`ends-begun`).
-use Rattle.std.proofs.Common.{◌≡◌, ℕ, ◌+◌, ◌≤◌, [], inl, inr, refl, sym, ap, subst, ◌∙◌, Option, Some, None, IfSome, IsSome, Result, Ok, Err, arith}
+use Rattle.std.proofs.Common.{◌≡◌, ℕ, ◌+◌, ◌≤◌, [], inl, inr, refl, sym, ap, subst, ◌∙◌, Some, IfSome, IsSome, Result, Ok, Err, arith}
 use Rattle.std.proofs.lemmas.Bool.{cases_lt}
 use Rattle.acct_outside.specs.declared.streams.SinkFault.{SinkFault}
 use Rattle.acct_outside.specs.Faults.{HasRisen, last_count}
@@ -33,9 +33,21 @@ pub streams-stand : (asked : Question) (entry now : Moment) (put : Result (Unit 
 streams-stand asked entry now (Ok unit) (Waiting question) comes = tt
 streams-stand asked entry now (Err fault) (Waiting question) comes = tt
 streams-stand asked entry now (Ok unit) (Begun runner state) comes =
-    record { own = state; stands = comes.turns.stands.1; put = Ok unit; left = refl }
+    record {
+      own = state;
+      stands = comes.turns.stands.1;
+      remembers = comes.turns.stands.3;
+      put = Ok unit;
+      left = refl;
+    }
 streams-stand asked entry now (Err fault) (Begun runner state) comes =
-    record { own = state; stands = comes.turns.stands.1; put = Err fault; left = refl }
+    record {
+      own = state;
+      stands = comes.turns.stands.1;
+      remembers = comes.turns.stands.3;
+      put = Err fault;
+      left = refl;
+    }
 streams-stand asked entry now (Ok unit) (Over answer) comes = tt
 streams-stand asked entry now (Err fault) (Over answer) comes = tt
 
@@ -113,7 +125,7 @@ module _ (asked : Question) (entry between now : Moment) (was holds : Streams) (
                   fresh = comes.turns.stands.2;
                   answered = subst (λ (one : Answer).
                       IfSome now.told (HasAnswered runner given one.outcome.status)) (sym same)
-                      (gave given put comes.turns.stands.1 (sym same)).answered;
+                      (gave given put comes.turns.stands.1 comes.turns.stands.3 (sym same)).answered;
                   within = told-as now.told (λ past both. both.0) called;
                   backed = told-as now.told (λ past both. both.1) called;
                 }))

@@ -32,8 +32,8 @@ use Rattle.suite_rules.proofs.Effects.{bytes-stand}
 use Rattle.suite_rules.proofs.Numbers.{greatest-stands, has-most}
 use Rattle.suite_rules.proofs.Settles.{uncalled-before}
 use Rattle.suite_rules.proofs.Whole.{invariant}
-use Rattle.lock_steps.specs.Stands.{HasNoLock, HasListed, HasLooked, HasJudged, WasOvertaken}
-use Rattle.suite_session.specs.Causes.{Met, HasKept, IsNoLockText, MetLast, MetNoLock, MetDamage, MetHolder, MetNext, MetGreater, MetBadIntent, MetLargeIntent, lister}
+use Rattle.lock_steps.specs.Stands.{HasListed, HasLooked, HasJudged, WasOvertaken}
+use Rattle.suite_session.specs.Causes.{Met, HasKept, HasListedNone, IsNoLockText, MetLast, MetNoLock, MetDamage, MetHolder, MetNext, MetGreater, MetBadIntent, MetLargeIntent, lister}
 use Rattle.suite_session.proofs.GrowsLemmas.{second-empty}
 use Rattle.suite_course.specs.Open.{LetsPass, NeverToldAlive, StandsOpen}
 use Rattle.suite_course.specs.Top.{IsAlone}
@@ -227,8 +227,9 @@ module _ (deeds : SuiteDeeds) (first : Folder) (old new : History) (token : Toke
   -- the greatest lock doesn't have the last number
   pub never-last : MetLast token new → ⊥
   never-last met =
-      let call = faced lists met.0 HasNoLock met.2 in
-      let locks = locks-then lists met.0 HasNoLock met.2.older call lock_uncalled call.stood in
+      let call = faced lists met.0 HasListedNone met.2 in
+      let locks = locks-then lists met.0 HasListedNone met.2.older call lock_uncalled
+      call.stood.owns in
       let is : greatest met.0 ≡ top entry = ap greatest call.next.gives ∙ ap top locks.0 in
       let last = met.1 in
       let below = opened.not_last in

@@ -120,6 +120,7 @@ module _ (asked : Question) (entry now : Moment) where
       bounded = record { made = made; grows = grows; within = within };
       shown = λ deeds ours others lawful. answered-shown runner past same answered deeds was.first
           (stays deeds ours others lawful);
+      drops_nothing = answered.drops_nothing;
       leaves = λ deeds ours others lawful earlier alone.
           let lawful_now = stays deeds ours others lawful in
           leaves-alone deeds asked was.first past runner.token given lawful_now ours earlier alone

@@ -10,17 +10,18 @@ use Rattle.suite_session.specs.Runner.{Question, Runner}
 use Rattle.suite_session.specs.Backing.{BackedUpChanges}
 use Rattle.suite_session.specs.Moment.{Moment}
 use Rattle.suite_session.specs.Answers.{Says, after_streams}
-use Rattle.suite_session.specs.Session.{HasAnswered, IsNew, IsUnbegun, SessionTurns, outcome_of, output_failed, phase_token}
+use Rattle.suite_session.specs.Session.{HasAnswered, IsNew, IsUnbegun, RemembersNow, SessionTurns, outcome_of, output_failed, phase_token}
 use Rattle.suite_session.specs.Stands.{IsOutside, StandsAs, TellsOutside, TurnsTo}
 use Rattle.suite_course.specs.Bound.{IsWithin, PhaseCalled}
 use Rattle.suite_course.specs.Streams.{Streams, Serves}
 
--- The session, which was asked this, stands so before its last call. Until its begin the folder tells
--- what it told at the entry; its token is new since then.
+-- The session, which was asked this, stands so before its last call, and drops nothing that it has met.
+-- Until its begin the folder tells what it told at the entry; its token is new since then.
 abbrev pub Reached : Question → Moment → Moment → Phase → Type 0
 Reached asked entry now (Waiting question) = (question ≡ asked) × (now.told ≡ entry.told)
 Reached asked entry now (Begun runner state) =
     (runner.asked ≡ asked) × StandsAs now runner state × IsNew entry.told runner.token
+    × RemembersNow now runner state
 Reached asked entry now (Over answer) = IsUnbegun asked entry now answer
 
 -- the session tells of a fault of what lies outside it

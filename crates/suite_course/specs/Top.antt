@@ -37,6 +37,7 @@ use Rattle.suite_session.specs.Moment.{Moment, commit_at}
 use Rattle.suite_session.specs.Answers.{IsAnswerOn, IsTold, Says, after_streams, memory_answer}
 use Rattle.suite_session.specs.Causes.{HasMet, MetGreater}
 use Rattle.suite_session.specs.Deeds.{AreOfTools, files_of}
+use Rattle.suite_session.specs.Telling.{DropsNothing}
 use Rattle.suite_session.specs.Stands.{IsDecided, IsDiskFault, IsStopped}
 use Rattle.suite_session.specs.Locking.{cause_of_fault}
 use Rattle.suite_course.specs.Bound.{IsBounded}
@@ -177,8 +178,9 @@ AnswersOnOld deeds asked first old new token given =
 
 -- A session of this token began in this call, between the two moments, with what was asked, and its
 -- last event is its answer. New events were admitted from others or are its own, which are within the
--- bound. In a lawful history it has met what the cause of its answer says; and where it was alone since
--- an earlier moment it leaves the locks, the intent and the backups as it must with that cause.
+-- bound. In a lawful history it has met what the cause of its answer says; of all that it has met the
+-- answer drops nothing; and where it was alone since an earlier moment it leaves the locks, the intent
+-- and the backups as it must with that cause.
 pub record HasRun (asked : Question) (admits : Admission) (given : Answer) (outcome : Outcome)
     (first : Folder) (old new : History) (token : Token) : Type 0 where
   pub answered : Answered asked outcome token new
@@ -186,6 +188,7 @@ pub record HasRun (asked : Question) (admits : Admission) (given : Answer) (outc
   pub bounded : IsBounded admits token old new
   pub shown : IfLawful admits first old
       (λ deeds. IsShownAt deeds asked first new token given given.outcome.cause)
+  pub drops_nothing : DropsNothing token given.outcome.cause new
   pub leaves : IfLawful admits first old (λ deeds. (earlier : History) →
       IsAlone token earlier new → Leaves first earlier new token given.outcome.cause)
 

@@ -31,10 +31,9 @@ use Rattle.suite_rules.proofs.StepLemmas.{stands-left, stands-weaker}
 use Rattle.lock_steps.specs.States.{Kept}
 use Rattle.lock_steps.specs.Stands.{Keeps, KnowsAnything}
 use Rattle.commit_steps.specs.States.{Change, Walker, old_files, new_files, changed, step_on, steps_left, walk_of}
-use Rattle.commit_steps.specs.Stands.{BacksUp, HasStagedIntent, HasCleared, Installs, IsDeed, StandsUnsure}
+use Rattle.commit_steps.specs.Stands.{BacksUp, HasStagedIntent, HasCleared, Installs, IsDeed, StandsUnsure, commit_at as commit_for}
 use Rattle.commit_steps.specs.Outcomes.{backup_call, install_call}
 use Rattle.commit_steps.specs.Walks.{token_of}
-use Rattle.commit_steps.specs.Stands.{commit_at as commit_for}
 use Rattle.commit_steps.proofs.TablesLemmas.{place-within}
 use Rattle.suite_answers.specs.declared.cause.Cause.{Cause}
 use Rattle.suite_answers.specs.declared.cause.Cause.TheVariants.{Changed}
@@ -52,10 +51,10 @@ use Rattle.suite_session.specs.Left.{most_steps, ranked}
 use Rattle.suite_session.specs.Locking.{cause_of_fault}
 use Rattle.suite_session.specs.Stands.{AnswersWith, IsOutside, IsOfChange, Gives, Extends, StandsAs, StandsChanging, StandsInstalling, StandsUnlocking}
 use Rattle.suite_session.proofs.BackingLemmas.{IsTurnCall, is-to-change, made-deed}
-use Rattle.suite_session.proofs.LeavingLemmas.{clean-known}
-use Rattle.suite_session.proofs.TurnLemmas.{goes-on, extended, told-left, told-met, told-stage, told-plain, told-says, plain-shown}
-use Rattle.suite_session.proofs.MetLemmas.{fault-shows}
-use Rattle.suite_session.proofs.UnlockingTurns.{fault-left, fault-stage, fault-plain}
+use Rattle.suite_session.proofs.LeavingLemmas.{fault-stopped, clean-known}
+use Rattle.suite_session.proofs.CauseLemmas.{IsMetAs, fault-stage, told-met, told-stage, told-plain, told-says, plain-shown, fault-plain}
+use Rattle.suite_session.proofs.MeetingLemmas.{IsQuiet}
+use Rattle.suite_session.proofs.TurnLemmas.{HasMetNow, goes-on, extended, told-left}
 use Rattle.suite_session.proofs.LeadsLemmas.{leads-on, leads-fault}
 use Rattle.suite_session.proofs.DueLemmas.{earlier-stays}
 use Rattle.suite_session.proofs.GrowsLemmas.{grew-extends, tells-grow}
@@ -77,6 +76,17 @@ commit-failed next answer fault shown told =
     let came = leads-fault next at_commit answer fault shown in
     came.1 ∙ commit-cause came.0 (subst (λ (one : StageFault).
     IsOutside (cause_of_fault one.stage one.fault)) came.1 told)
+
+-- it came of that fault of the call
+commit-same : (came : FolderFault) → (at_commit came).fault ≡ came
+commit-same Failed = refl
+commit-same NoMemory = refl
+
+pub commit-ended : {A State : Type 0} (next : State) (answer : Result A FolderFault)
+    (fault : StageFault) → LeadsTo next at_commit answer (Err fault) → answer ≡ Err fault.fault
+commit-ended next (Err came) fault shown =
+    ap Err (sym (ap (λ (one : StageFault). one.fault) shown ∙ commit-same came))
+commit-ended next (Ok answer) fault shown = absurd shown
 
 -- ---- Calls for a table at the place
 
@@ -111,6 +121,14 @@ backup-quiet walker next = cases walker.is_staged
     cases true result stood = refl
     cases false result stood = refl
 
+-- nor does its answer show anything
+pub backup-shows : (walker : Walker) (next : NewTable) → IsQuiet (backup_call walker next)
+backup-shows walker next = cases walker.is_staged
+  where
+    cases : (staged : Bool) → IsQuiet (backup_call (record walker { is_staged = staged }) next)
+    cases true given stood met shows = shows
+    cases false given stood met shows = shows
+
 -- nor does one of an installation, which backs up nothing
 pub install-calls : (Stood : Standing → Type 0) (walker : Walker) (next : NewTable) →
     IsTurnCall Stood (install_call walker next)
@@ -133,6 +151,13 @@ install-quiet walker next = cases walker.is_staged
         result stood) ≡ own_command stood
     cases true result stood = refl
     cases false result stood = refl
+
+pub install-shows : (walker : Walker) (next : NewTable) → IsQuiet (install_call walker next)
+install-shows walker next = cases walker.is_staged
+  where
+    cases : (staged : Bool) → IsQuiet (install_call (record walker { is_staged = staged }) next)
+    cases true given stood met shows = shows
+    cases false given stood met shows = shows
 
 -- where a step is left, there is a table at the place
 next-there : (walker : Walker) → 0 < steps_left walker →
@@ -386,9 +411,11 @@ module _ (before now : Moment) (runner : Runner) (answer : FinalAnswer) where
           StandsIn before.admits was runner.token
           (Runs runner commit_uncalled (HasStagedIntent change)) →
           StandsUnsure told runner.token fault → Leaves asked_of runner.token was told →
+          IfSome told (λ past.
+          IsMetAs runner.token past.history (cause_of_fault fault.stage fault.fault)) →
           IfSome told (IsDue runner given)
-      unsure-due fault given says None None held unsure kept = tt
-      unsure-due fault given says (Some was) (Some past) held unsure kept = record {
+      unsure-due fault given says None None held unsure kept met = tt
+      unsure-due fault given says (Some was) (Some past) held unsure kept met = record {
         asked = kept.1 ∙ held.holds.asked;
         commits = unsure ∙ (same-commit fault.stage ∙ ap commit_at (sym (told-stage
             runner.asked.request.tool (cause_of_fault fault.stage fault.fault) given says
@@ -397,15 +424,16 @@ module _ (before now : Moment) (runner : Runner) (answer : FinalAnswer) where
             (told-plain runner.asked (cause_of_fault fault.stage fault.fault) given
             (fault-plain fault.stage fault.fault) says)
             (told-met runner.asked (cause_of_fault fault.stage fault.fault) given runner.token
-            past.history says (fault-shows fault.stage fault.fault runner.token past.history));
+            past.history says met);
       }
-      unsure-due fault given says None (Some past) held unsure kept = absurd kept
-      unsure-due fault given says (Some was) None held unsure kept = absurd kept
+      unsure-due fault given says None (Some past) held unsure kept met = absurd kept
+      unsure-due fault given says (Some was) None held unsure kept met = absurd kept
 
       pub unsure-stands : (fault : StageFault) (state : State) →
           AnswersWith runner.asked.request.tool (cause_of_fault fault.stage fault.fault) state →
-          StandsUnsure now.told change.inputs.keeper.token fault → StandsAs now runner state
-      unsure-stands fault (Answering given) says unsure = record {
+          StandsUnsure now.told change.inputs.keeper.token fault →
+          HasMetNow now runner (cause_of_fault fault.stage fault.fault) → StandsAs now runner state
+      unsure-stands fault (Answering given) says unsure met = record {
         may_answer = subst (λ (token : Token). MayAnswer now.admits now.told token) stood.same
             made.may_answer;
         gives = record {
@@ -413,12 +441,12 @@ module _ (before now : Moment) (runner : Runner) (answer : FinalAnswer) where
               (fault-plain fault.stage fault.fault) says;
           due = unsure-due fault given says before.told now.told stood.stands
               (subst (λ (token : Token). StandsUnsure now.told token fault) stood.same unsure)
-              left-asked;
+              left-asked met;
         };
         left = told-left now runner (cause_of_fault fault.stage fault.fault) given says
-            (fault-left now runner fault.stage fault.fault);
+            (λ goes_on. absurd (goes_on (fault-stopped fault.stage fault.fault)));
       }
-      unsure-stands fault state says unsure = absurd says
+      unsure-stands fault state says unsure met = absurd says
 
   module _ (walker : Walker) (stood : StandsInstalling before runner walker answer) where
     -- after the commit the answer stays due

@@ -14,11 +14,11 @@ use Rattle.suite_rules.specs.Standing.{Commit, Standing, standing}
 use Rattle.suite_rules.specs.Steps.{Work, work, StandsIn, Leaves}
 use Rattle.suite_answers.specs.declared.cause.Which.TheVariants.{File}
 use Rattle.suite_answers.specs.declared.cause.Cause.{Cause}
-use Rattle.suite_answers.specs.declared.cause.Cause.TheVariants.{Changed, Same, Refused, Held, Gone, Raced, Outrun, LockDamaged, Exhausted, IntentDamaged, TooLarge, NoTable, BadSetting}
+use Rattle.suite_answers.specs.declared.cause.Cause.TheVariants.{Changed, Same, Refused, Held, Gone, Raced, Outrun, LockDamaged, Exhausted, IntentDamaged, TooLarge, NoTable, BadSetting, DiskFault}
 use Rattle.suite_answers.specs.declared.answer.Answer.{Answer}
 use Rattle.suite_session.specs.Runner.{Runner}
 use Rattle.suite_session.specs.Moment.{Moment, Runs, At}
-use Rattle.suite_session.specs.Causes.{Met, HasMet}
+use Rattle.suite_session.specs.Causes.{Met, HasMet, HasYielded}
 use Rattle.suite_session.specs.Due.{AnswersAll, AnswersSome, AnsweredAll, WasKeeper, ShowsAll, ShowsLarge, IsShown, IsDue}
 use Rattle.suite_session.specs.Stands.{Extends, Gives}
 
@@ -80,24 +80,39 @@ module _ (runner : Runner) (answer : Answer) where
   met-stays : (old new newer : History) → new ≡ newer ++ old → (cause : Cause) →
       HasMet runner.token old cause → HasMet runner.token new cause
   met-stays old new newer parts (Held token) met =
-      (met.0, met-later _ _ _ _ old new newer parts met.1)
+      (met.0, met-later _ _ _ _ old new newer parts met.1, met.2)
   met-stays old new newer parts (Gone number) met =
-      (met.0, met-later _ _ _ _ old new newer parts met.1)
+      (met.0, met-later _ _ _ _ old new newer parts met.1, met.2)
   met-stays old new newer parts (Raced number) met =
       (met.0, met.1, met-later _ _ _ _ old new newer parts met.2)
-  met-stays old new newer parts (Outrun number greater) (inl met) =
-      inl (met.0, met-later _ _ _ _ old new newer parts met.1)
-  met-stays old new newer parts (Outrun number greater) (inr met) =
-      inr (met.0, met.1, met.2, met-later _ _ _ _ old new newer parts met.3)
+  met-stays old new newer parts (Outrun number other) met =
+      (met.0, met.1, met.2, met-later _ _ _ _ old new newer parts met.3)
   met-stays old new newer parts (LockDamaged number) met =
-      (met.0, met.1, met-later _ _ _ _ old new newer parts met.2)
+      (met.0, met.1, met-later _ _ _ _ old new newer parts met.2, met.3)
   met-stays old new newer parts Exhausted met =
       (met.0, met.1, met-later _ _ _ _ old new newer parts met.2)
   met-stays old new newer parts (IntentDamaged part) met =
       (met.0, met.1, met-later _ _ _ _ old new newer parts met.2)
   met-stays old new newer parts (TooLarge (File Intent)) met =
       met-later _ _ _ _ old new newer parts met
+  met-stays old new newer parts (DiskFault stage) met = record {
+    newer = newer ++ met.newer;
+    older = met.older;
+    call = met.call;
+    no_answer = met.no_answer;
+    effect = met.effect;
+    parts = parts ∙ (ap (λ (history : History). newer ++ history) met.parts
+        ∙ sym (append_assoc newer met.newer _));
+  }
   met-stays old new newer parts cause met = met
+
+  -- so it is where it yielded its lock
+  yielded-stays : (old new newer : History) → new ≡ newer ++ old → (number other : ℕ) →
+      HasYielded runner.token number other old → HasYielded runner.token number other new
+  yielded-stays old new newer parts number other (inl met) =
+      inl (met.0, met-later _ _ _ _ old new newer parts met.1)
+  yielded-stays old new newer parts number other (inr met) =
+      inr (met.0, met.1, met.2, met-later _ _ _ _ old new newer parts met.3)
 
   -- who was keeper earlier was so
   keeper-stays : (old new newer : History) → new ≡ newer ++ old → WasKeeper runner.token old →
@@ -153,6 +168,8 @@ module _ (runner : Runner) (answer : Answer) where
       large-stays old new newer parts kept knows (Table table) shown
   shown-stays old new newer parts kept knows (TooLarge (File Defs)) shown =
       large-stays old new newer parts kept knows Defs shown
+  shown-stays old new newer parts kept knows (Outrun number other) shown =
+      yielded-stays old new newer parts number other shown
   shown-stays old new newer parts kept knows cause shown =
       met-stays old new newer parts cause shown
 

@@ -9,7 +9,7 @@ use Rattle.acct_outside.specs.declared.StageFault.{StageFault}
 use Rattle.suite_rules.specs.Outcomes.{LeadsTo, at_stage}
 use Rattle.suite_session.specs.Locking.{cause_of_fault}
 use Rattle.suite_session.specs.Stands.{IsOutside}
-use Rattle.suite_session.proofs.UnlockingTurns.{fault-failed}
+use Rattle.suite_session.proofs.CauseLemmas.{fault-failed}
 
 -- a done one has the next state
 pub leads-on : {A State : Type 0} (next : State) (staged : FolderFault → StageFault)

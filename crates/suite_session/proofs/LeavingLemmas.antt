@@ -22,12 +22,13 @@ use Rattle.suite_rules.specs.OwnLock.{OwnLock, lock_made, lock_kept, kept_number
 use Rattle.suite_rules.specs.Standing.{Standing, standing}
 use Rattle.suite_rules.specs.Steps.{Work, work, StandsIn, Leaves}
 use Rattle.lock_steps.specs.States.{Lister, Asker, Maker, Overtaken}
-use Rattle.lock_steps.specs.Stands.{HasNoLock, HasLooked, HasReadHeld, HasJudged, HasMade, WasOvertaken, KnowsNone, HasFreed}
+use Rattle.lock_steps.specs.Stands.{HasLooked, HasReadHeld, HasJudged, HasMade, WasOvertaken, KnowsNone, HasFreed}
 use Rattle.lock_steps.specs.declared.LockRefusal.TheVariants.{Outrun}
 use Rattle.lock_steps.specs.declared.LockEnd.{LockEnd}
 use Rattle.lock_steps.specs.declared.LockEnd.TheVariants.{Refused, Folder}
 use Rattle.lock_steps.specs.Outcomes.{Looks, Reads, Asks, Claims, Confirms, Withdraws}
 use Rattle.suite_answers.specs.declared.cause.Cause.{Cause}
+use Rattle.suite_session.specs.Causes.{HasListedNone}
 use Rattle.suite_session.specs.Locking.{cause_of_end, cause_of_fault}
 use Rattle.suite_session.specs.Stands.{IsStopped, IsDecided, KnowsDecided, HasLeft}
 
@@ -136,11 +137,11 @@ kept_after numbers own = kept_number (confirm_step (greatest numbers) own)
 -- the first listing
 pub look-unkept : (looking : Token) (answer : Result (List ℕ) FolderFault) (end : LockEnd) →
     Looks looking answer (Err end) → (IsStopped (cause_of_end end) → ⊥) →
-    LeavesUnkept lists answer HasNoLock
+    LeavesUnkept lists answer HasListedNone
 look-unkept looking (Ok numbers) end shown goes_on = record {
   given = numbers;
   is = refl;
-  unkept = λ stood none. ap (kept_after numbers) none;
+  unkept = λ stood none. ap (kept_after numbers) none.owns;
 }
 look-unkept looking (Err fault) (Folder came) shown goes_on =
     absurd (goes_on (fault-stopped Before came))

@@ -7,11 +7,12 @@ use Rattle.std.proofs.Common.{◌≡◌, refl, sym, ap, subst, ◌∙◌, ◌<�
 use Rattle.acct_text.specs.declared.Tab.{Tab}
 use Rattle.acct_text.specs.declared.Tab.TheVariants.{Passwd, Shadow, Group, Gshadow, Subuid, Subgid}
 use Rattle.acct_text.specs.Bytes.{Bytes}
+use Rattle.acct_outside.specs.declared.StageFault.{StageFault}
 use Rattle.acct_outside.specs.declared.FolderFault.{FolderFault}
 use Rattle.acct_outside.specs.declared.FolderFault.TheVariants.{Failed}
 use Rattle.acct_outside.specs.declared.CommitStage.TheVariants.{Before}
 use Rattle.acct_outside.specs.declared.Name.{Name}
-use Rattle.acct_outside.specs.Calls.{Found, found_too_large, reads}
+use Rattle.acct_outside.specs.Calls.{Found, found_absent, found_bytes, found_too_large, reads}
 use Rattle.acct_outside.specs.History.{History}
 use Rattle.acct_outside.specs.Contract.{Past}
 use Rattle.account_model.specs.declared.tool.Tool.{Tool}
@@ -32,7 +33,7 @@ use Rattle.commit_steps.specs.declared.LoadEnd.{LoadEnd}
 use Rattle.commit_steps.specs.declared.LoadEnd.TheVariants.{Fault, TooLarge, NoTable}
 use Rattle.commit_steps.specs.States.{AreSound, Reader, Inputs, Walker, next_name, steps_left, table_after, walk_of}
 use Rattle.commit_steps.specs.Stands.{BacksUp, HasRead, HasLoaded, HasMissed, StandsLoading, StandsEnded}
-use Rattle.commit_steps.specs.Outcomes.{Loads, is_missing}
+use Rattle.commit_steps.specs.Outcomes.{Loads, LoadsContent, is_missing}
 use Rattle.commit_steps.proofs.BackupLemmas.{starts-backing}
 use Rattle.suite_answers.specs.declared.cause.Which.TheVariants.{File}
 use Rattle.suite_answers.specs.declared.cause.Cause.TheVariants.{TooLarge as IsTooLarge, NoTable as HasNoTable, Memory}
@@ -52,12 +53,53 @@ use Rattle.suite_session.specs.Loading.{DecidesOn, DecidesTo, EndsAt, LoadsTo}
 use Rattle.suite_session.specs.Locking.{cause_of_fault}
 use Rattle.suite_session.specs.Stands.{IsOutside, LeavesWith, StandsAs, StandsChanging, StandsUnlocking, TellsOutside}
 use Rattle.suite_session.specs.Causes.{Met}
-use Rattle.suite_session.proofs.LeavingLemmas.{clean-known}
+use Rattle.suite_session.proofs.CauseLemmas.{answers-fault, fault-failed, fault-plain, fault-stage, leaves-fault}
+use Rattle.suite_session.proofs.LeavingLemmas.{clean-known, fault-stopped}
+use Rattle.suite_session.proofs.MeetingLemmas.{MeetsBy, fault-ends, quiet-on, reads-quiet}
+use Rattle.suite_session.proofs.TurnLemmas.{ended, goes-on, got, answers-turn, memory-met}
 use Rattle.suite_session.proofs.LoadingLemmas.{more-shown, done-keeper, missing-shown, large-shown, fault-before}
-use Rattle.suite_session.proofs.TurnLemmas.{goes-on, got, answers-turn, answers-fault, leaves-fault}
-use Rattle.suite_session.proofs.UnlockingTurns.{fault-met, fault-left, fault-stage, fault-plain, fault-failed}
 use Rattle.suite_session.proofs.LeftLemmas.{rank-drops, steps-drop, answer-drops, answers-left, leaves-left}
 use Rattle.suite_session.proofs.AnswerLemmas.{answer-says, answer-quiet, stay-stage, stay-shown, missed-shown}
+
+-- ---- What the read shows
+
+-- what was read comes to no fault
+no-fault : (reader : Reader) (next : Option Tab) (content : Option Bytes) (fault : StageFault) →
+    LoadsContent reader next content (Err (Fault fault)) → ⊥
+no-fault reader None content fault shown = shown
+no-fault reader (Some table) content fault shown = shown
+
+-- nothing is to be told of a read that was done
+pub load-on : (reader : Reader) (answer : Result Found FolderFault) (loading : Loaded) →
+    Loads reader answer (Ok loading) → (state : State) →
+    MeetsBy (reads (next_name reader.next)) answer (HasRead reader) state
+load-on reader (Ok found) loading shown state =
+    quiet-on (reads (next_name reader.next)) (reads-quiet reader.next) (Ok found) found
+    (HasRead reader) state refl
+load-on reader (Err fault) loading shown state = absurd shown
+
+-- one that came to a fault has that fault
+pub load-came : (reader : Reader) (answer : Result Found FolderFault) (fault : StageFault) →
+    Loads reader answer (Err (Fault fault)) → answer ≡ Err fault.fault
+load-came reader (Err came) fault shown =
+    ap Err (sym (ap (λ (one : StageFault). one.fault) shown))
+load-came reader (Ok found_absent) fault shown = absurd (no-fault reader reader.next None fault shown)
+load-came reader (Ok (found_bytes bytes)) fault shown =
+    absurd (no-fault reader reader.next (Some bytes) fault shown)
+load-came reader (Ok found_too_large) fault shown = absurd shown
+
+-- so it is to tell that
+pub load-ends : (tool : Tool) (reader : Reader) (answer : Result Found FolderFault) (end : LoadEnd)
+    (state : State) → Loads reader answer (Err end) → EndsAt tool end state →
+    MeetsBy (reads (next_name reader.next)) answer (HasRead reader) state
+load-ends tool reader (Ok found) end state shown ends =
+    quiet-on (reads (next_name reader.next)) (reads-quiet reader.next) (Ok found) found
+    (HasRead reader) state refl
+load-ends tool reader (Err fault) (Fault came) state shown ends =
+    fault-ends tool came.stage came.fault state ends (reads (next_name reader.next)) (Err fault)
+    (HasRead reader) (load-came reader (Err fault) came shown)
+load-ends tool reader (Err fault) (TooLarge name kept) state shown ends = absurd shown
+load-ends tool reader (Err fault) (NoTable table kept) state shown ends = absurd shown
 
 -- ---- The standing after a read
 
@@ -159,8 +201,8 @@ module _ (before now : Moment) (runner : Runner) (reader : Reader)
     decided-stands inputs (Answering answer) decided token next =
         answers-turn before now runner commit_uncalled (HasRead reader) stands reader.keeper.token
         same (reads (next_name reader.next)) tt _ (λ result stood. refl) made (Memory Before)
-        (Answering answer) (inr decided) tt (fault-met now runner Before FolderFault.Memory)
-        (fault-left now runner Before FolderFault.Memory) refl
+        (Answering answer) (inr decided) tt (memory-met now runner Before)
+        (λ goes_on. absurd (goes_on tt)) refl
     decided-stands inputs state decided token next = absurd decided
 
   -- after a read that leads on
@@ -235,8 +277,8 @@ module _ (before now : Moment) (runner : Runner) (reader : Reader)
   missing-stands table kept (Answering answer) leaves made next =
       answers-turn before now runner commit_uncalled (HasRead reader) stands reader.keeper.token
       same (reads (next_name reader.next)) tt _ (λ result stood. refl) made (Memory Before)
-      (Answering answer) (inr leaves) tt (fault-met now runner Before FolderFault.Memory)
-      (fault-left now runner Before FolderFault.Memory) refl
+      (Answering answer) (inr leaves) tt (memory-met now runner Before)
+      (λ goes_on. absurd (goes_on tt)) refl
   missing-stands table kept state leaves made next = absurd leaves
 
   -- the answer that the next file is too large is due
@@ -293,8 +335,8 @@ module _ (before now : Moment) (runner : Runner) (reader : Reader)
   large-stands name kept (Answering answer) sound leaves made next =
       answers-turn before now runner commit_uncalled (HasRead reader) stands reader.keeper.token
       same (reads (next_name reader.next)) tt _ (λ result stood. refl) made (Memory Before)
-      (Answering answer) (inr leaves) tt (fault-met now runner Before FolderFault.Memory)
-      (fault-left now runner Before FolderFault.Memory) refl
+      (Answering answer) (inr leaves) tt (memory-met now runner Before)
+      (λ goes_on. absurd (goes_on tt)) refl
   large-stands name kept state sound leaves made next = absurd leaves
 
   -- after one that leads no further
@@ -307,7 +349,10 @@ module _ (before now : Moment) (runner : Runner) (reader : Reader)
       answers-turn before now runner commit_uncalled (HasRead reader) stands reader.keeper.token
       same (reads (next_name reader.next)) tt _ (λ result stood. refl) made
       (cause_of_fault fault.stage fault.fault) state ends (fault-plain fault.stage fault.fault)
-      (fault-met now runner fault.stage fault.fault) (fault-left now runner fault.stage fault.fault)
+      (ended before now runner commit_uncalled (HasRead reader) stands reader.keeper.token same
+      (reads (next_name reader.next)) tt _ (λ result stood. refl) made fault.stage fault.fault
+      (load-came reader made.answer fault made.shown))
+      (λ goes_on. absurd (goes_on (fault-stopped fault.stage fault.fault)))
       (ap commit_at (sym (fault-stage fault.stage fault.fault
       ∙ fault-before reader fault made.answer made.shown)))
   ended-stands (TooLarge name kept) state sound ends made next =

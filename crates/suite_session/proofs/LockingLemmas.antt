@@ -1,11 +1,12 @@
 -- Claim: an end of a step on the way to the lock is told as a cause before the commit, and as a fault
 -- of the folder where that failed.
-use Rattle.std.proofs.Common.{◌≡◌, refl, sym, ap, subst, ◌<◌, ℕ, List, Result, Ok, Err}
+use Rattle.std.proofs.Common.{◌≡◌, ◌≢◌, refl, sym, ap, subst, ◌<◌, ℕ, List, Result, Ok, Err}
 use Rattle.acct_outside.specs.declared.FolderFault.{FolderFault}
 use Rattle.acct_outside.specs.declared.Verdict.{Verdict}
 use Rattle.acct_outside.specs.declared.Verdict.TheVariants.{Alive, Dead}
 use Rattle.acct_outside.specs.declared.Created.{Created}
 use Rattle.acct_outside.specs.declared.Created.TheVariants.{Done, Exists}
+use Rattle.acct_outside.specs.Names.{greatest_lock}
 use Rattle.acct_outside.specs.Tokens.{Token}
 use Rattle.acct_outside.specs.Calls.{Found, found_absent, found_bytes, found_too_large}
 use Rattle.lock_steps.specs.States.{Lister, Asker, Maker, Overtaken, Kept}
@@ -20,7 +21,7 @@ use Rattle.lock_steps.specs.Outcomes.{folder_failed, Looks, Reads, Asks, Claims,
 use Rattle.suite_answers.specs.Reasons.{stage_of}
 use Rattle.suite_session.specs.Locking.{cause_of_end}
 use Rattle.suite_session.specs.Stands.{IsOutside}
-use Rattle.suite_session.proofs.TurnLemmas.{IsPlain}
+use Rattle.suite_session.proofs.CauseLemmas.{IsPlain}
 
 -- it comes before the commit
 pub end-stage : (end : LockEnd) → stage_of (cause_of_end end) ≡ Before
@@ -63,6 +64,13 @@ pub looks-token : (token : Token) (answer : Result (List ℕ) FolderFault) (seen
 looks-token token (Ok numbers) seen shown = ap (λ (lister : Lister). lister.token) shown.1
 looks-token token (Err fault) seen shown = absurd shown
 
+-- which shows that the greatest lock doesn't have the last number
+pub looks-last : (token : Token) (answer : Result (List ℕ) FolderFault) (seen : Lister) →
+    Looks token answer (Ok seen) → seen.greatest ≢ greatest_lock
+looks-last token (Ok numbers) seen shown =
+    subst (λ (one : Lister). one.greatest ≢ greatest_lock) (sym shown.1) shown.0
+looks-last token (Err fault) seen shown = absurd shown
+
 -- a read of a free lock
 pub reads-judged : (seen : Lister) (answer : Result Found FolderFault) (judged : Lister) →
     Reads seen answer (Ok (Judged judged)) → judged.token ≡ seen.token
@@ -80,6 +88,15 @@ reads-asking seen (Ok (found_bytes text)) asking shown =
 reads-asking seen (Ok found_absent) asking shown = absurd shown
 reads-asking seen (Ok found_too_large) asking shown = absurd shown
 reads-asking seen (Err fault) asking shown = absurd shown
+
+-- it keeps the number too
+pub reads-number : (seen : Lister) (answer : Result Found FolderFault) (asking : Asker) →
+    Reads seen answer (Ok (Ask asking)) → asking.greatest ≡ seen.greatest
+reads-number seen (Ok (found_bytes text)) asking shown =
+    ap (λ (asker : Asker). asker.greatest) shown.1
+reads-number seen (Ok found_absent) asking shown = absurd shown
+reads-number seen (Ok found_too_large) asking shown = absurd shown
+reads-number seen (Err fault) asking shown = absurd shown
 
 -- a verdict
 pub asks-token : (asking : Asker) (answer : Result Verdict FolderFault) (judged : Lister) →

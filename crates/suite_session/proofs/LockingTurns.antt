@@ -1,6 +1,7 @@
 -- Claim: after the read of the greatest lock, and after the second listing, the session stands in
 -- the state that these lead to (`read-stands`, `confirm-stands`).
-use Rattle.std.proofs.Common.{◌≡◌, refl, ◌∙◌, ◌==◌, Bool, true, false, if◌then◌else◌, Ok, rules, arith}
+use Rattle.std.proofs.Common.{◌≡◌, ◌≢◌, refl, sym, subst, ◌∙◌, ◌==◌, ℕ, Bool, true, false, if◌then◌else◌, Ok, rules, arith}
+use Rattle.acct_outside.specs.Names.{greatest_lock}
 use Rattle.acct_outside.specs.Tokens.{Token}
 use Rattle.acct_outside.specs.declared.Name.TheVariants.{Lock}
 use Rattle.acct_outside.specs.Calls.{lists, reads}
@@ -13,14 +14,15 @@ use Rattle.lock_steps.specs.declared.judging.Told.TheVariants.{Judged, Ask}
 use Rattle.lock_steps.specs.declared.claiming.Confirmed.{Confirmed}
 use Rattle.lock_steps.specs.declared.claiming.Confirmed.TheVariants.{Keeper, Loser}
 use Rattle.lock_steps.specs.Outcomes.{Looks, Reads, Confirms}
-use Rattle.lock_steps.specs.Stands.{HasNoLock, HasLooked, HasReadHeld, HasJudged, HasMade, WasOvertaken, Keeps, KnowsAnything, StandsTold, StandsConfirmed}
+use Rattle.lock_steps.specs.Stands.{HasLooked, HasReadHeld, HasJudged, HasMade, WasOvertaken, Keeps, KnowsAnything, StandsTold, StandsConfirmed}
+use Rattle.suite_session.specs.Causes.{HasListedNone}
 use Rattle.suite_session.specs.declared.state.State.TheVariants.{Claiming, Reading}
 use Rattle.suite_session.specs.Runner.{Runner}
 use Rattle.suite_session.specs.Moment.{Moment, At}
 use Rattle.suite_session.specs.Locking.{after_look, after_read, after_listing}
 use Rattle.suite_session.specs.Stands.{StandsAs, TellsOutside}
 use Rattle.suite_session.proofs.TurnLemmas.{goes-on}
-use Rattle.suite_session.proofs.LockingLemmas.{looks-token, reads-judged, reads-asking, confirms-keeper, confirms-less, confirms-loser}
+use Rattle.suite_session.proofs.LockingLemmas.{looks-last, looks-token, reads-number, reads-judged, reads-asking, confirms-keeper, confirms-less, confirms-loser}
 
 -- a session that looked and found no lock may make one
 none-judged : (seen : Lister) → seen.greatest ≡ 0 → (stood : Standing) → HasLooked seen stood →
@@ -34,7 +36,7 @@ none-judged seen none stood looked = record {
 }
 
 module _ (before now : Moment) (runner : Runner) where
-  module _ (looking : Token) (stands : At before runner commit_uncalled HasNoLock)
+  module _ (looking : Token) (stands : At before runner commit_uncalled HasListedNone)
       (same : looking ≡ runner.token) where
     -- after the first listing, by whether there is a lock
     looked : (seen : Lister) (is_none : Bool) → (seen.greatest == 0) ≡ is_none →
@@ -44,7 +46,7 @@ module _ (before now : Moment) (runner : Runner) where
         StandsAs now runner (if is_none then Claiming seen else Reading seen)
     looked seen true is made next = (
       looks-token _ _ _ made.shown ∙ same,
-      goes-on before now runner commit_uncalled HasNoLock stands looking same
+      goes-on before now runner commit_uncalled HasListedNone stands looking same
           lists tt _ (λ result stood. refl) made (HasJudged seen)
           (stands-weaker now.admits looking (HasLooked seen) (HasJudged seen)
           (none-judged seen (search (rules, is))) now.told next),
@@ -52,8 +54,9 @@ module _ (before now : Moment) (runner : Runner) where
     looked seen false is made next = (
       looks-token _ _ _ made.shown ∙ same,
       (search (rules, is, arith)),
-      goes-on before now runner commit_uncalled HasNoLock stands looking same
+      goes-on before now runner commit_uncalled HasListedNone stands looking same
           lists tt _ (λ result stood. refl) made (HasLooked seen) next,
+      looks-last _ _ _ made.shown,
     )
 
     pub look-stands : (seen : Lister) →
@@ -64,7 +67,7 @@ module _ (before now : Moment) (runner : Runner) where
     look-stands seen made next = looked seen _ refl made next
 
   module _ (seen : Lister) (stands : At before runner commit_uncalled (HasLooked seen))
-      (same : seen.token ≡ runner.token) where
+      (same : seen.token ≡ runner.token) (not_last : seen.greatest ≢ greatest_lock) where
     -- after the read
     pub read-stands : (told : Told) →
         MakesCall before.admits now.admits before.told now.told seen.token
@@ -79,6 +82,7 @@ module _ (before now : Moment) (runner : Runner) where
       reads-asking _ _ _ made.shown ∙ same,
       goes-on before now runner commit_uncalled (HasLooked seen) stands seen.token same
           (reads (Lock seen.greatest)) tt _ (λ result stood. refl) made (HasReadHeld asking) next,
+      subst (λ (number : ℕ). number ≢ greatest_lock) (sym (reads-number _ _ _ made.shown)) not_last,
     )
 
   module _ (claimed : Maker) (stands : At before runner commit_uncalled (HasMade claimed))

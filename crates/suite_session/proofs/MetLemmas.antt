@@ -2,16 +2,16 @@
 -- `read-met`, `ask-met`, `claim-met`, `confirm-met`, `withdraw-met`); so it did where the intent can't
 -- be read (`damaged-met`, `large-met`). Way: the refusal is that of the call's answer, and the session
 -- stood as its state says when it made the call.
-use Rattle.std.proofs.Common.{◌≡◌, ◌⊎◌, refl, sym, ap, subst, ◌+◌, ◌<◌, ℕ, List, inl, inr, Option, Some, None, IfSome, Result, Ok, Err}
-use Rattle.acct_outside.specs.declared.CommitStage.{CommitStage}
+use Rattle.std.proofs.Common.{◌≡◌, ◌≢◌, refl, sym, ap, subst, ◌+◌, ◌<◌, ℕ, List, inl, inr, Option, Some, None, IfSome, Result, Ok, Err}
 use Rattle.acct_outside.specs.declared.CommitStage.TheVariants.{Before}
 use Rattle.acct_outside.specs.declared.FolderFault.{FolderFault}
-use Rattle.acct_outside.specs.declared.FolderFault.TheVariants.{Failed, Memory as NoMemory}
+use Rattle.acct_outside.specs.declared.FolderFault.TheVariants.{Memory as NoMemory}
 use Rattle.acct_outside.specs.declared.Created.{Created}
 use Rattle.acct_outside.specs.declared.Created.TheVariants.{Exists}
 use Rattle.acct_outside.specs.declared.Verdict.{Verdict}
 use Rattle.acct_outside.specs.declared.Verdict.TheVariants.{Alive}
 use Rattle.acct_outside.specs.declared.Name.TheVariants.{Intent, Lock}
+use Rattle.acct_outside.specs.Names.{greatest_lock}
 use Rattle.acct_outside.specs.Tokens.{Token}
 use Rattle.acct_outside.specs.Calls.{Call, Answer, Found, lists, reads, asks, creates, removes, found_absent, found_bytes, found_too_large}
 use Rattle.acct_outside.specs.History.{History}
@@ -19,7 +19,7 @@ use Rattle.acct_outside.specs.Contract.{Past}
 use Rattle.suite_rules.specs.OwnLock.{kept_number}
 use Rattle.suite_rules.specs.Standing.{Standing}
 use Rattle.lock_steps.specs.States.{Lister, Asker, Maker, Overtaken, Kept}
-use Rattle.lock_steps.specs.Stands.{HasNoLock, HasLooked, HasReadHeld, HasJudged, HasMade, WasOvertaken, Keeps, KnowsAnything}
+use Rattle.lock_steps.specs.Stands.{HasLooked, HasReadHeld, HasJudged, HasMade, WasOvertaken, Keeps, KnowsAnything}
 use Rattle.lock_steps.specs.declared.LockRefusal.TheVariants.{Held, Gone, Raced, Outrun, Damaged, Exhausted}
 use Rattle.lock_steps.specs.declared.LockEnd.{LockEnd}
 use Rattle.lock_steps.specs.declared.LockEnd.TheVariants.{Refused, Folder}
@@ -30,24 +30,14 @@ use Rattle.suite_answers.specs.declared.cause.Which.TheVariants.{File}
 use Rattle.suite_answers.specs.declared.cause.Cause.{Cause}
 use Rattle.suite_answers.specs.declared.cause.Cause.TheVariants.{IntentDamaged, TooLarge}
 use Rattle.suite_session.specs.Locking.{cause_of_end, cause_of_fault}
-use Rattle.suite_session.specs.Causes.{Met, HasMet, HasKept, MetNoLock, MetDamage, MetHolder, MetNext, MetGreater, MetLoss}
+use Rattle.suite_session.specs.Causes.{Met, HasKept, HasListedNone, HasYielded, MetNoLock, MetDamage, MetHolder, MetNext}
+use Rattle.suite_session.proofs.CauseLemmas.{IsMetAs}
 
 -- what holds of a told history leads to what follows from it
 pub told-as : {P Q : Past → Type 0} (told : Option Past) → ((past : Past) → P past → Q past) →
     IfSome told P → IfSome told Q
 told-as None leads holds = tt
 told-as (Some past) leads holds = leads past holds
-
--- its own lock was outrun, or lost
-abbrev IsOutrun : Token → ℕ → ℕ → History → Type 0
-IsOutrun token number other history =
-    MetGreater token number other history ⊎ MetLoss token number other history
-
--- nothing more is met at a fault of the folder
-pub fault-shows : (stage : CommitStage) (fault : FolderFault) (token : Token) (history : History) →
-    HasMet token history (cause_of_fault stage fault)
-fault-shows stage Failed token history = tt
-fault-shows stage NoMemory token history = tt
 
 -- what was met of a session that stood so was met of one that stood in a weaker way
 pub met-weaker : (token : Token) (call : Call) (answer : Answer call)
@@ -67,89 +57,112 @@ module _ (token : Token) (told : Option Past) where
 
   -- and has met what leads to this cause
   abbrev Meets : Cause → Type 0
-  Meets cause = IfSome told (λ past. HasMet token past.history cause)
+  Meets cause = IfSome told (λ past. IsMetAs token past.history cause)
 
-  fault-meets : (stage : CommitStage) (fault : FolderFault) → Meets (cause_of_fault stage fault)
-  fault-meets stage fault = told-as {P = λ past. Unit {0}} told
-      (λ past unit. fault-shows stage fault token past.history) (units told)
+  -- where the call came to a fault, it has met that
+  abbrev Ended : (call : Call) → Result (Answer call) FolderFault → Type 0
+  Ended call answer =
+      (fault : FolderFault) → answer ≡ Err fault → Meets (cause_of_fault Before fault)
+
+  -- that its own call came to one
+  fault-meets : (call : Call) (came fault : FolderFault) → Ended call (Err fault) → came ≡ fault →
+      Meets (cause_of_end (Folder came))
+  fault-meets call came fault ended is = ended came (ap Err (sym is))
+
+  -- of want of memory nothing is to be met
+  memory-meets : Meets (cause_of_end (Folder NoMemory))
+  memory-meets = by-told told
     where
-      units : (some : Option Past) → IfSome some (λ past. Unit {0})
-      units None = tt
-      units (Some past) = tt
+      by-told : (some : Option Past) →
+          IfSome some (λ past. IsMetAs token past.history (cause_of_end (Folder NoMemory)))
+      by-told None = tt
+      by-told (Some past) = tt
 
   -- ---- On the way to the lock
 
   -- the first listing
   pub look-met : (looking : Token) (answer : Result (List ℕ) FolderFault) (end : LockEnd) →
       Looks looking answer (Err end) →
-      ((numbers : List ℕ) → answer ≡ Ok numbers → Got lists numbers HasNoLock) →
-      Meets (cause_of_end end)
-  look-met looking (Ok numbers) (Refused Exhausted) shown got =
+      ((numbers : List ℕ) → answer ≡ Ok numbers → Got lists numbers HasListedNone) →
+      Ended lists answer → Meets (cause_of_end end)
+  look-met looking (Ok numbers) (Refused Exhausted) shown got ended =
       told-as told (λ past met. (numbers, shown, met)) (got numbers refl)
-  look-met looking (Err fault) (Folder came) shown got = fault-meets Before came
-  look-met looking answer end shown got = absurd shown
+  look-met looking (Err fault) (Folder came) shown got ended =
+      fault-meets lists came fault ended shown
+  look-met looking answer end shown got ended = absurd shown
 
   -- the read of the greatest lock
   pub read-met : (seen : Lister) (answer : Result Found FolderFault) (end : LockEnd) →
-      0 < seen.greatest → Reads seen answer (Err end) → ((found : Found) → answer ≡ Ok found →
-      Got (reads (Lock seen.greatest)) found (HasLooked seen)) → Meets (cause_of_end end)
-  read-met seen (Ok found_absent) (Refused (Gone number)) some shown got = told-as told
-      (λ past met. subst (λ (one : ℕ). MetNoLock token one past.history) (sym shown) (some, met))
-      (got found_absent refl)
-  read-met seen (Ok found_too_large) (Refused (Damaged number)) some shown got = told-as told
-      (λ past met. subst (λ (one : ℕ). MetDamage token one past.history) (sym shown)
-      (found_too_large, tt, met)) (got found_too_large refl)
-  read-met seen (Ok (found_bytes text)) (Refused (Damaged number)) some shown got = told-as told
-      (λ past met. subst (λ (one : ℕ). MetDamage token one past.history) (sym shown.1)
-      (found_bytes text, shown.0, met)) (got (found_bytes text) refl)
-  read-met seen (Ok (found_bytes text)) (Folder NoMemory) some shown got =
-      fault-meets Before NoMemory
-  read-met seen (Err fault) (Folder came) some shown got = fault-meets Before came
-  read-met seen answer end some shown got = absurd shown
+      0 < seen.greatest → seen.greatest ≢ greatest_lock → Reads seen answer (Err end) →
+      ((found : Found) → answer ≡ Ok found →
+      Got (reads (Lock seen.greatest)) found (HasLooked seen)) →
+      Ended (reads (Lock seen.greatest)) answer → Meets (cause_of_end end)
+  read-met seen (Ok found_absent) (Refused (Gone number)) some not_last shown got ended =
+      told-as told (λ past met. subst (λ (one : ℕ). MetNoLock token one past.history) (sym shown)
+      (some, met, not_last)) (got found_absent refl)
+  read-met seen (Ok found_too_large) (Refused (Damaged number)) some not_last shown got ended =
+      told-as told (λ past met. subst (λ (one : ℕ). MetDamage token one past.history) (sym shown)
+      (found_too_large, tt, met, not_last)) (got found_too_large refl)
+  read-met seen (Ok (found_bytes text)) (Refused (Damaged number)) some not_last shown got ended =
+      told-as told (λ past met. subst (λ (one : ℕ). MetDamage token one past.history) (sym shown.1)
+      (found_bytes text, shown.0, met, not_last)) (got (found_bytes text) refl)
+  read-met seen (Ok (found_bytes text)) (Folder NoMemory) some not_last shown got ended =
+      memory-meets
+  read-met seen (Err fault) (Folder came) some not_last shown got ended =
+      fault-meets (reads (Lock seen.greatest)) came fault ended shown
+  read-met seen answer end some not_last shown got ended = absurd shown
 
   -- the verdict on its holder
   pub ask-met : (asking : Asker) (answer : Result Verdict FolderFault) (end : LockEnd) →
-      Asks asking answer (Err end) → ((verdict : Verdict) → answer ≡ Ok verdict →
-      Got (asks asking.asked) verdict (HasReadHeld asking)) → Meets (cause_of_end end)
-  ask-met asking (Ok Alive) (Refused (Held holder)) shown got = told-as told
+      asking.greatest ≢ greatest_lock → Asks asking answer (Err end) →
+      ((verdict : Verdict) → answer ≡ Ok verdict →
+      Got (asks asking.asked) verdict (HasReadHeld asking)) →
+      Ended (asks asking.asked) answer → Meets (cause_of_end end)
+  ask-met asking (Ok Alive) (Refused (Held holder)) not_last shown got ended = told-as told
       (λ past met. subst (λ (one : Token). MetHolder token one past.history) (sym shown)
-      (asking.greatest, met)) (got Alive refl)
-  ask-met asking (Err fault) (Folder came) shown got = fault-meets Before came
-  ask-met asking answer end shown got = absurd shown
+      (asking.greatest, met, not_last)) (got Alive refl)
+  ask-met asking (Err fault) (Folder came) not_last shown got ended =
+      fault-meets (asks asking.asked) came fault ended shown
+  ask-met asking answer end not_last shown got ended = absurd shown
 
   -- the create of the next lock
   pub claim-met : (judged : Lister) (answer : Result Created FolderFault) (end : LockEnd) →
       Claims judged answer (Err end) → ((created : Created) → answer ≡ Ok created →
-      Got (creates (judged.greatest + 1)) created (HasJudged judged)) → Meets (cause_of_end end)
-  claim-met judged (Ok Exists) (Refused (Raced number)) shown got = told-as told
+      Got (creates (judged.greatest + 1)) created (HasJudged judged)) →
+      Ended (creates (judged.greatest + 1)) answer → Meets (cause_of_end end)
+  claim-met judged (Ok Exists) (Refused (Raced number)) shown got ended = told-as told
       (λ past met. subst (λ (one : ℕ). MetNext token one past.history) (sym shown)
       (judged.greatest, refl, met)) (got Exists refl)
-  claim-met judged (Err fault) (Folder came) shown got = fault-meets Before came
-  claim-met judged answer end shown got = absurd shown
+  claim-met judged (Err fault) (Folder came) shown got ended =
+      fault-meets (creates (judged.greatest + 1)) came fault ended shown
+  claim-met judged answer end shown got ended = absurd shown
 
   -- the second listing
   pub confirm-met : (claimed : Maker) (answer : Result (List ℕ) FolderFault) (end : LockEnd) →
       Confirms claimed answer (Err end) →
       ((numbers : List ℕ) → answer ≡ Ok numbers → Got lists numbers (HasMade claimed)) →
-      Meets (cause_of_end end)
-  confirm-met claimed (Ok numbers) (Refused (Outrun number other)) shown got = told-as told
-      (λ past met. subst (λ (one : ℕ). IsOutrun token one other past.history) (sym shown.1)
-      (subst (λ (one : ℕ). IsOutrun token claimed.number one past.history) (sym shown.2)
+      Ended lists answer → Meets (cause_of_end end)
+  confirm-met claimed (Ok numbers) (Refused (Outrun number other)) shown got ended = told-as told
+      (λ past met. subst (λ (one : ℕ). HasYielded token one other past.history) (sym shown.1)
+      (subst (λ (one : ℕ). HasYielded token claimed.number one past.history) (sym shown.2)
       (inr (numbers, refl, shown.0, met)))) (got numbers refl)
-  confirm-met claimed (Err fault) (Folder came) shown got = fault-meets Before came
-  confirm-met claimed answer end shown got = absurd shown
+  confirm-met claimed (Err fault) (Folder came) shown got ended =
+      fault-meets lists came fault ended shown
+  confirm-met claimed answer end shown got ended = absurd shown
 
   -- the removal of a lock that was outrun
   pub withdraw-met : (loser : Overtaken) (answer : Result (Unit {0}) FolderFault) (end : LockEnd) →
       loser.number < loser.greatest → Withdraws loser answer end →
       ((unit : Unit {0}) → answer ≡ Ok unit →
-      Got (removes (Lock loser.number)) unit (WasOvertaken loser)) → Meets (cause_of_end end)
-  withdraw-met loser (Ok unit) (Refused (Outrun number other)) less shown got = told-as told
-      (λ past met. subst (λ (one : ℕ). IsOutrun token one other past.history) (sym shown.0)
-      (subst (λ (one : ℕ). IsOutrun token loser.number one past.history) (sym shown.1)
+      Got (removes (Lock loser.number)) unit (WasOvertaken loser)) →
+      Ended (removes (Lock loser.number)) answer → Meets (cause_of_end end)
+  withdraw-met loser (Ok unit) (Refused (Outrun number other)) less shown got ended = told-as told
+      (λ past met. subst (λ (one : ℕ). HasYielded token one other past.history) (sym shown.0)
+      (subst (λ (one : ℕ). HasYielded token loser.number one past.history) (sym shown.1)
       (inl (less, met)))) (got unit refl)
-  withdraw-met loser (Err fault) (Folder came) less shown got = fault-meets Before came
-  withdraw-met loser answer end less shown got = absurd shown
+  withdraw-met loser (Err fault) (Folder came) less shown got ended =
+      fault-meets (removes (Lock loser.number)) came fault ended shown
+  withdraw-met loser answer end less shown got ended = absurd shown
 
   -- ---- The intent
 

@@ -23,6 +23,8 @@ use Rattle.suite_session.specs.Due.{IsDue}
 use Rattle.suite_session.specs.Grows.{Grows, none_new, others_new, own_new, Grew}
 use Rattle.suite_session.specs.Stands.{Gives, HasLeft, KnowsDecided, StandsAs}
 use Rattle.suite_session.specs.Session.{OthersStand, SessionTurns, turn_token}
+use Rattle.suite_session.specs.Telling.{IsToTell, Remembers}
+use Rattle.suite_session.proofs.TellingLemmas.{tells-others}
 use Rattle.suite_session.proofs.DueLemmas.{shown-stays}
 use Rattle.suite_session.proofs.GrowsLemmas.{grew-nothing, grows-extends}
 use Rattle.suite_session.proofs.LeavingLemmas.{clean-same, left-same}
@@ -166,6 +168,20 @@ module _ (before now : Moment) (runner : Runner) (token : Token) (most : ℕ)
   found-still Holds stays None (Some past) grew own holds = absurd grew
   found-still Holds stays (Some was) None grew own holds = absurd grew
 
+  -- it drops nothing still
+  remembers-still : (state : State) (was told : Option Past) →
+      Grew before.admits token most was told →
+      IfSome was (λ past. NeverAdmits before.admits runner.token) →
+      IfSome was (λ past. Remembers runner.token state past.history) →
+      IfSome told (λ past. Remembers runner.token state past.history)
+  remembers-still state None None grew own remembers = tt
+  remembers-still state (Some was) (Some past) grew own remembers =
+      tells-others (IsToTell state) runner.token (with_own before.admits token) (never own)
+      was.history past.history
+      (all-others before.admits token was.history most past.history grew.1) remembers
+  remembers-still state None (Some past) grew own remembers = absurd grew
+  remembers-still state (Some was) None grew own remembers = absurd grew
+
   module _ (grew : Grew before.admits token most before.told now.told) where
     -- it stands at the next moment as it did
     at-stays : (commit : Commit) (Holds : Standing → Type 0) → At before runner commit Holds →
@@ -203,8 +219,9 @@ module _ (before now : Moment) (runner : Runner) (token : Token) (most : ℕ)
     -- in each state
     state-stays : (state : State) → StandsAs before runner state → StandsAs now runner state
     state-stays (Looking looking) stands = (stands.0, at-stays _ _ stands.1)
-    state-stays (Reading seen) stands = (stands.0, stands.1, at-stays _ _ stands.2)
-    state-stays (Asking asking) stands = (stands.0, at-stays _ _ stands.1)
+    state-stays (Reading seen) stands =
+        (stands.0, stands.1, at-stays _ _ stands.2, stands.3)
+    state-stays (Asking asking) stands = (stands.0, at-stays _ _ stands.1, stands.2)
     state-stays (Claiming judged) stands = (stands.0, at-stays _ _ stands.1)
     state-stays (Confirming claimed) stands = (stands.0, at-stays _ _ stands.1)
     state-stays (Withdrawing loser) stands = (stands.0, stands.1, at-stays _ _ stands.2)
@@ -264,11 +281,11 @@ record Left (before now : Moment) (token : Token) : Type 0 where
 turn-leaves : (before now : Moment) (old new : Phase) → SessionTurns before now old new →
     Left before now (turn_token old new)
 turn-leaves before now (Waiting asked) (Begun runner state) turns =
-    record { most = 1; grew = turns.1.grew; narrows = turns.1.narrows }
+    record { most = 1; grew = turns.1.turns.grew; narrows = turns.1.turns.narrows }
 turn-leaves before now (Waiting asked) (Over answer) turns =
     record { most = 1; grew = turns.grew; narrows = turns.narrows }
 turn-leaves before now (Begun runner state) (Begun same next) turns =
-    record { most = 1; grew = turns.1.grew; narrows = turns.1.narrows }
+    record { most = 1; grew = turns.1.turns.grew; narrows = turns.1.turns.narrows }
 turn-leaves before now (Begun runner state) (Over answer) turns =
     record { most = 1; grew = turns.1.grew; narrows = turns.1.narrows }
 turn-leaves before now (Over answer) (Over same) turns = record {
@@ -291,6 +308,9 @@ others-stand before now old new turns (Begun runner state) stands apart =
       own = stands.own;
       stands = state-stays before now runner (turn_token old new) leaves.most apart leaves.narrows
           leaves.grew stands.own stands.stands;
+      remembers = remembers-still before now runner (turn_token old new) leaves.most apart
+          leaves.narrows stands.own before.told now.told leaves.grew
+          (state-own before runner stands.own stands.stands) stands.remembers;
       put = stands.put;
       left = stands.left;
     }

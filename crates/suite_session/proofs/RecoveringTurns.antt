@@ -1,6 +1,6 @@
 -- Claim: each step of a recovery leads to the next state, and a read of the intent to the state that
 -- follows from what it found (`seen-stands`), or to the way out (`refused-turn`).
-use Rattle.std.proofs.Common.{◌≡◌, [], refl, sym, ap, ◌∙◌, ◌<◌, ◌∷◌, ℕ, List, length, slice_get, IfSome, Result, Ok, Err, rules, arith}
+use Rattle.std.proofs.Common.{◌≡◌, [], refl, sym, ap, subst, ◌∙◌, ◌<◌, ◌∷◌, ℕ, List, length, slice_get, IfSome, Result, Ok, Err, rules, arith}
 use Rattle.acct_outside.specs.declared.FolderFault.{FolderFault}
 use Rattle.acct_outside.specs.declared.CommitStage.TheVariants.{Before}
 use Rattle.acct_outside.specs.declared.StageFault.{StageFault}
@@ -10,33 +10,32 @@ use Rattle.suite_rules.specs.Standing.{commit_uncalled}
 use Rattle.suite_rules.specs.Steps.{MakesCall}
 use Rattle.intent_file.specs.Intent.{NewTable}
 use Rattle.lock_steps.specs.States.{Kept}
-use Rattle.lock_steps.specs.Stands.{Keeps, KnowsAnything}
+use Rattle.lock_steps.specs.Stands.{Keeps, KnowsAnything, KnowsNoneYet}
 use Rattle.recovery.specs.States.{Recoverer}
 use Rattle.recovery.specs.declared.IntentSeen.{IntentSeen}
 use Rattle.recovery.specs.declared.IntentSeen.TheVariants.{Clean, Listed}
 use Rattle.recovery.specs.declared.RecoveryEnd.{RecoveryEnd}
 use Rattle.recovery.specs.declared.RecoveryEnd.TheVariants.{Fault, Damaged, TooLarge}
 use Rattle.recovery.specs.Outcomes.{FindsIntent, failed_before}
-use Rattle.suite_session.specs.Moment.{Runs}
+use Rattle.suite_session.specs.Moment.{Runs, Moment, commit_at, At}
 use Rattle.commit_steps.specs.States.{start_of}
 use Rattle.commit_steps.specs.Stands.{HasRead}
 use Rattle.commit_steps.proofs.ReadsLemmas.{starts-reading}
 use Rattle.suite_rules.specs.Knowledge.{nothing_seen}
 use Rattle.suite_rules.proofs.StepLemmas.{stands-weaker}
-use Rattle.lock_steps.specs.Stands.{KnowsNoneYet}
 use Rattle.recovery.specs.Stands.{Recovers, StandsSeen, StandsRefused}
 use Rattle.account_model.specs.declared.tool.Tool.{Tool}
 use Rattle.suite_answers.specs.declared.cause.Which.TheVariants.{File}
 use Rattle.suite_answers.specs.declared.cause.Cause.TheVariants.{IntentDamaged, TooLarge as IsTooLarge}
 use Rattle.suite_session.specs.declared.state.State.{State}
 use Rattle.suite_session.specs.Runner.{Runner}
-use Rattle.suite_session.specs.Moment.{Moment, commit_at, At}
 use Rattle.suite_session.specs.Locking.{cause_of_fault}
 use Rattle.suite_session.specs.Recovering.{after_intent, Refuses}
 use Rattle.suite_session.specs.Stands.{StandsAs, TellsOutside}
+use Rattle.suite_session.proofs.CauseLemmas.{answers-fault, fault-failed, fault-plain, fault-stage, leaves-fault}
+use Rattle.suite_session.proofs.LeavingLemmas.{fault-stopped}
+use Rattle.suite_session.proofs.TurnLemmas.{HasMetNow, ended, goes-on, got, answers-turn, leaves-turn, memory-met}
 use Rattle.suite_session.proofs.MetLemmas.{damaged-met, large-met}
-use Rattle.suite_session.proofs.TurnLemmas.{goes-on, got, answers-turn, answers-fault, leaves-turn, leaves-fault}
-use Rattle.suite_session.proofs.UnlockingTurns.{fault-met, fault-left, fault-stage, fault-plain, fault-failed}
 
 -- ---- A read of the intent keeps the token
 
@@ -118,6 +117,20 @@ module _ (before now : Moment) (runner : Runner) (keeper : Kept)
         (reads Intent) tt _ (λ result stood. refl) made (Recovers recovering) next,
   )
 
+  -- one that came to a fault met that, and want of memory for the tables nothing
+  intent-fault-met : (answer : Result Found FolderFault) (fault : StageFault) →
+      FindsIntent keeper answer (Err (Fault fault)) → ((came : FolderFault) → answer ≡ Err came →
+      HasMetNow now runner (cause_of_fault fault.stage came)) →
+      HasMetNow now runner (cause_of_fault fault.stage fault.fault)
+  intent-fault-met (Err came) fault shown met =
+      subst (λ (one : FolderFault). HasMetNow now runner (cause_of_fault fault.stage one))
+      (sym (ap (λ (one : StageFault). one.fault) shown)) (met came refl)
+  intent-fault-met (Ok (found_bytes bytes)) fault shown met =
+      subst (λ (one : FolderFault). HasMetNow now runner (cause_of_fault fault.stage one))
+      (sym (ap (λ (one : StageFault). one.fault) shown)) (memory-met now runner fault.stage)
+  intent-fault-met (Ok found_absent) fault shown met = absurd shown
+  intent-fault-met (Ok found_too_large) fault shown met = absurd shown
+
   -- after one that leads no further
   pub refused-stands : (end : RecoveryEnd) (state : State) →
       Refuses runner.asked.request.tool end state →
@@ -127,8 +140,11 @@ module _ (before now : Moment) (runner : Runner) (keeper : Kept)
   refused-stands (Fault fault) state refuses made next =
       answers-turn before now runner commit_uncalled (Keeps keeper KnowsAnything) stands
       keeper.token same (reads Intent) tt _ (λ result stood. refl) made _ state refuses
-      (fault-plain fault.stage fault.fault) (fault-met now runner fault.stage fault.fault)
-      (fault-left now runner fault.stage fault.fault)
+      (fault-plain fault.stage fault.fault)
+      (intent-fault-met made.answer fault made.shown
+      (ended before now runner commit_uncalled (Keeps keeper KnowsAnything) stands keeper.token same
+      (reads Intent) tt _ (λ result stood. refl) made fault.stage))
+      (λ goes_on. absurd (goes_on (fault-stopped fault.stage fault.fault)))
       (ap commit_at (sym (fault-stage fault.stage fault.fault
       ∙ fault-before keeper made.answer fault made.shown)))
   refused-stands (Damaged part kept) state refuses made next =

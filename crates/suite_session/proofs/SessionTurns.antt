@@ -2,7 +2,7 @@
 -- and the answer of a session is its last event, which the rules permit (`answers-turn`).
 -- Way: a begin's event is the session's only one, and an answer's leaves its standing; both are
 -- events of their own after those of others.
-use Rattle.std.proofs.Common.{◌≡◌, ◌⊎◌, refl, sym, ap, subst, ◌∙◌, ℕ, ◌<◌, ◌≤◌, Bool, true, false, List, [], ◌∷◌, inl, inr, Option, Some, None, IfSome, Result, Ok, Err, arith}
+use Rattle.std.proofs.Common.{◌≡◌, refl, sym, ap, subst, ◌∙◌, ℕ, ◌<◌, ◌≤◌, Bool, true, false, List, [], ◌∷◌, inl, inr, Option, Some, None, IfSome, Result, Ok, Err, arith}
 use Rattle.std.proofs.lemmas.List.Elements.{filter-append}
 use Rattle.std.proofs.lemmas.Slice.Eq.{bytes_eq-Decides}
 use Rattle.acct_text.specs.Bytes.{Bytes}
@@ -11,11 +11,11 @@ use Rattle.acct_outside.specs.declared.FolderFault.TheVariants.{Failed, Memory a
 use Rattle.acct_outside.specs.declared.CommitStage.TheVariants.{Before}
 use Rattle.acct_outside.specs.declared.streams.SinkFault.{SinkFault}
 use Rattle.acct_outside.specs.Tokens.{Token}
-use Rattle.acct_outside.specs.Calls.{Command, Call, begins, answers, done}
+use Rattle.acct_outside.specs.Calls.{Answer, Call, CallResult, Command, begins, answers, done}
 use Rattle.acct_outside.specs.History.{Event, History, is_of, own_events}
 use Rattle.acct_outside.specs.Life.{Life, runs_in, running, faulted, unbegun as not_begun, ended, MayCall}
 use Rattle.acct_outside.specs.Others.{Admission}
-use Rattle.acct_outside.specs.Contract.{Past, NeverAdmits, MayAnswer, WhereTold, Tells, TellsBegin, Narrows}
+use Rattle.acct_outside.specs.Contract.{Past, NeverAdmits, MayAnswer, WhereTold, Tells, TellsBegin, TellsEvent, Narrows}
 use Rattle.acct_outside.specs.Faults.{HasRisen}
 use Rattle.account_model.specs.Options.{Word}
 use Rattle.account_model.specs.Request.{Request}
@@ -28,8 +28,9 @@ use Rattle.suite_rules.specs.Rules.{AnswerRule, free_begin, answer_rule}
 use Rattle.suite_rules.specs.Lawful.{Lawful, goes_on}
 use Rattle.suite_rules.specs.Steps.{begun_with, StandsIn, StaysLawful}
 use Rattle.suite_rules.proofs.StepLemmas.{may-answer-now, stands-begun, stands-weaker, stayed, stepped, others-lawful}
-use Rattle.lock_steps.specs.Stands.{HasNoLock}
-use Rattle.suite_answers.specs.declared.cause.Cause.TheVariants.{DiskFault, Memory}
+use Rattle.suite_session.specs.Causes.{HasListedNone}
+use Rattle.suite_answers.specs.declared.cause.Cause.{Cause}
+use Rattle.suite_answers.specs.declared.cause.Cause.TheVariants.{DiskFault}
 use Rattle.suite_answers.specs.declared.answer.Answer.{Answer as FinalAnswer}
 use Rattle.suite_session.specs.declared.state.State.{State}
 use Rattle.suite_session.specs.declared.state.State.TheVariants.{Looking, Answering}
@@ -42,13 +43,14 @@ use Rattle.suite_session.specs.Counts.{CountsFrom, begun_event}
 use Rattle.suite_session.specs.Grows.{Grew}
 use Rattle.suite_session.specs.Left.{calls_left, most_calls}
 use Rattle.suite_session.specs.Locking.{cause_of_fault}
-use Rattle.suite_session.specs.Session.{IsFirst, GaveLeft, HasAnswered, IsNew, IsUnbegun, StandsLeft}
-use Rattle.suite_session.specs.Stands.{Extends, HasLeft, MayGive, IsOutside, IsStopped, StandsAs, TellsOutside, TurnsTo, Turns}
+use Rattle.suite_session.specs.Session.{IsFirst, GaveLeft, HasAnswered, IsNew, IsUnbegun, RemembersNow, StandsLeft, StepsTo}
+use Rattle.suite_session.specs.Stands.{Extends, FindsNoMemory, HasLeft, MakesOne, MayGive, IsOutside, IsStopped, StandsAs, StaysTold, TellsOutside, TurnsTo, Turns}
+use Rattle.suite_session.specs.Telling.{DropsNothing, IsToTell, MayFollow, Remembers, Tells as CauseTells}
+use Rattle.suite_session.proofs.TellingLemmas.{tells-nothing, tells-others, tells-own}
 use Rattle.suite_session.proofs.LeavingLemmas.{left-same}
-use Rattle.suite_session.proofs.TurnLemmas.{told-says, told-cause}
+use Rattle.suite_session.proofs.CauseLemmas.{told-says, told-cause, fault-failed, fault-plain}
 use Rattle.suite_session.proofs.GrowsLemmas.{grew-extends, others-extend, second-empty, tells-grow}
 use Rattle.suite_session.proofs.DueLemmas.{shown-stays}
-use Rattle.suite_session.proofs.UnlockingTurns.{fault-plain, fault-failed}
 use Rattle.suite_session.proofs.RuleLemmas.{rule-left}
 use Rattle.suite_session.proofs.StreamLemmas.{left-given}
 
@@ -83,23 +85,65 @@ begin-grows admits command result before now tells =
     tells-grow admits (begun_token result) (begins command) (begun_answer result) before now
     (λ past is between others. tt) (begin-tells admits command result before now tells)
 
+-- before its begin no event of the token came
+begin-first : (admits : Admission) (command : Command) (token : Token) (old new : History)
+    (gives : History → CallResult (Answer (begins command)) → Type 0)
+    (event : TellsEvent admits token (begins command) (done tt) gives old new) →
+    own_events token new ≡ record { token = token; call = begins command; result = done tt } ∷ [] →
+    own_events token event.others_then.between ≡ []
+begin-first admits command token old new gives event only =
+    let came = event.others_then in
+    let begun : Event = record { token = token; call = begins command; result = done tt } in
+    let first : own_events token (begun ∷ came.between) ≡ begun ∷ own_events token came.between =
+    rw ((bytes_eq-Decides token token).1 refl) refl in
+    let one : begun ∷ own_events token came.between ≡ begun ∷ [] =
+    sym first ∙ (ap (λ (past : History). own_events token past) (sym came.last) ∙ only) in
+    cc one
+
 -- its token is new
 pub begin-new : (admits : Admission) (command : Command) (token : Token) (before now : Option Past) →
     WhereTold before now (TellsBegin admits command (Ok token)) → IsNew before token
 begin-new admits command token None now tells = tt
 begin-new admits command token (Some before) (Some now) tells =
     let came = tells.1.0.others_then in
-    let event : Event = record { token = token; call = begins command; result = done tt } in
-    let first : own_events token (event ∷ came.between) ≡ event ∷ own_events token came.between =
-    rw ((bytes_eq-Decides token token).1 refl) refl in
-    let one : event ∷ own_events token came.between ≡ event ∷ [] =
-    sym first ∙ (ap (λ (past : History). own_events token past) (sym came.last) ∙ tells.1.1) in
-    let none : own_events token came.between ≡ [] = cc one in
+    let none = begin-first admits command token before.history now.history _ tells.1.0 tells.1.1 in
     let older = others-extend admits before.history came.between came.others in
     second-empty (own_events token older.0) (own_events token before.history)
     (sym (filter-append (is_of token) older.0 before.history)
     ∙ (ap (λ (past : History). own_events token past) (sym older.1) ∙ none))
 begin-new admits command token (Some before) None tells = absurd tells
+
+-- it is one event of it
+begin-one : (admits : Admission) (command : Command) (token : Token) (Otherwise : Type 0)
+    (before now : Option Past) → WhereTold before now (TellsBegin admits command (Ok token)) →
+    MakesOne before now token Otherwise
+begin-one admits command token Otherwise None None tells = tt
+begin-one admits command token Otherwise (Some before) (Some now) tells = (
+  tells.0,
+  inl (
+    _,
+    tells.1.1 ∙ ap (λ (older : History). let event : Event =
+        record { token = token; call = begins command; result = done tt } in event ∷ older)
+        (sym (begin-new admits command token (Some before) (Some now) tells)),
+  ),
+)
+begin-one admits command token Otherwise None (Some now) tells = absurd tells
+begin-one admits command token Otherwise (Some before) None tells = absurd tells
+
+-- which shows nothing that the session is to tell
+begin-remembers : (admits : Admission) (command : Command) (token : Token) (state : State)
+    (before now : Option Past) → WhereTold before now (TellsBegin admits command (Ok token)) →
+    IfSome now (λ past. Remembers token state past.history)
+begin-remembers admits command token state None None tells = tt
+begin-remembers admits command token state (Some before) (Some now) tells =
+    let came = tells.1.0.others_then in
+    subst (Remembers token state) (sym came.last)
+    (tells-own (λ met. ⊥) token (IsToTell state) _ came.between (λ met none. absurd none)
+    (λ met shows. absurd shows)
+    (tells-nothing token came.between
+    (begin-first admits command token before.history now.history _ tells.1.0 tells.1.1)))
+begin-remembers admits command token state None (Some now) tells = absurd tells
+begin-remembers admits command token state (Some before) None tells = tt
 
 -- it keeps a history lawful, for whatever deeds
 begin-lawful : (deeds : SuiteDeeds) (admits : Admission) (command : Command)
@@ -176,11 +220,14 @@ module _ (before now : Moment) where
       (TellsBegin before.admits runner.asked.command (Ok runner.token)))
       (own : NeverAdmits now.admits runner.token) where
     -- a session that has begun has no lock, and its command
-    begun-stands : At now runner commit_uncalled HasNoLock
+    begun-stands : At now runner commit_uncalled HasListedNone
     begun-stands = stands-weaker now.admits runner.token
-        (λ stood. stood ≡ begun_with runner.asked.command) (Runs runner commit_uncalled HasNoLock)
+        (λ stood. stood ≡ begun_with runner.asked.command) (Runs runner commit_uncalled HasListedNone)
         (λ stood is. record {
-          holds = ap (λ (one : Standing). one.own) is;
+          holds = record {
+            owns = ap (λ (one : Standing). one.own) is;
+            unlisted = ap (λ (one : Standing). one.listing) is;
+          };
           asked = ap (λ (one : Standing). one.command) is;
           commits = ap (λ (one : Standing). one.commit) is;
         })
@@ -190,7 +237,7 @@ module _ (before now : Moment) where
 
     -- want of memory is due then
     memory-due : (told : Option Past) →
-        StandsIn now.admits told runner.token (Runs runner commit_uncalled HasNoLock) →
+        StandsIn now.admits told runner.token (Runs runner commit_uncalled HasListedNone) →
         IfSome told (IsDue runner (memory_answer Before))
     memory-due None stands = tt
     memory-due (Some past) stands = record {
@@ -202,7 +249,7 @@ module _ (before now : Moment) where
     -- and may be told
     memory-given : MayGive now runner (memory_answer Before)
     memory-given = record {
-      may_answer = may-answer-now now.admits runner.token (Runs runner commit_uncalled HasNoLock)
+      may_answer = may-answer-now now.admits runner.token (Runs runner commit_uncalled HasListedNone)
           now.told begun-stands;
       gives = record { says = refl; due = memory-due now.told begun-stands };
       left = λ goes_on. absurd (goes_on tt);
@@ -223,16 +270,22 @@ module _ (before now : Moment) where
 
     -- a begin that gave a token leads there
     pub begins-turn : Narrows before.admits now.admits → before.faults ≤ now.faults →
-        (state : State) → IsFirst runner state → Turns before now runner state
+        (state : State) → IsFirst runner state → StepsTo before now runner state
     begins-turn narrows never_falls state is = record {
-      stands = first-stands state is;
-      grew = begin-grows before.admits runner.asked.command (Ok runner.token)
+      turns = record {
+        stands = first-stands state is;
+        grew = begin-grows before.admits runner.asked.command (Ok runner.token)
+            before.told now.told tells;
+        lawful = λ deeds ours. begin-lawful deeds before.admits runner.asked.command
+            (Ok runner.token) before.told now.told tells;
+        narrows = narrows;
+        never_falls = never_falls;
+        risen = λ fault. absurd (first-quiet state is fault);
+      };
+      remembers = begin-remembers before.admits runner.asked.command runner.token state before.told
+          now.told tells;
+      makes_one = begin-one before.admits runner.asked.command runner.token (FindsNoMemory state)
           before.told now.told tells;
-      lawful = λ deeds ours. begin-lawful deeds before.admits runner.asked.command
-          (Ok runner.token) before.told now.told tells;
-      narrows = narrows;
-      never_falls = never_falls;
-      risen = λ fault. absurd (first-quiet state is fault);
     }
 
   module _ (asked : Question) (fault : FolderFault)
@@ -267,6 +320,28 @@ module _ (before now : Moment) where
       risen = λ is. risen (unbegun-failed is);
     }
 
+-- ---- A step
+
+-- a state that the session is to tell from is one that it drops nothing in
+remembers-on : (token : Token) (old new : State) (was told : Option Past) →
+    StaysTold was told token old new → IfSome was (λ past. Remembers token old past.history) →
+    IfSome told (λ past. Remembers token new past.history)
+remembers-on token old new None None stays remembers = tt
+remembers-on token old new (Some was) (Some past) stays remembers = stays.1 remembers
+remembers-on token old new None (Some past) stays remembers = absurd stays
+remembers-on token old new (Some was) None stays remembers = tt
+
+-- a turn of a session that drops nothing leads to a state in which it does so
+pub steps-to : (before now : Moment) (runner : Runner) (old new : State) →
+    RemembersNow before runner old → Turns before now runner old new →
+    StepsTo before now runner new
+steps-to before now runner old new remembers turns = record {
+  turns = turns.turns;
+  remembers =
+      remembers-on runner.token old new before.told now.told turns.remembers remembers;
+  makes_one = turns.makes_one;
+}
+
 -- ---- The answer
 
 -- a session that runs may answer
@@ -287,6 +362,11 @@ answer-knows : (status : ℕ) (stood : Standing) →
     (standing_step (answers status) (done tt) stood).knows ≡ stood.knows
 answer-knows status stood = part-left stood.own _ _ stood.knows refl
 
+-- it may follow whatever was met
+answer-follows : (status : ℕ) (met : Cause) → MayFollow met (answers status)
+answer-follows status (DiskFault stage) = tt
+answer-follows status met = tt
+
 module _ (before now : Moment) (runner : Runner) (status : ℕ) where
   abbrev call : Call
   call = answers status
@@ -295,11 +375,12 @@ module _ (before now : Moment) (runner : Runner) (status : ℕ) where
   answered-due : (answer : FinalAnswer) (was told : Option Past) →
       MayAnswer before.admits was runner.token →
       Tells before.admits was told runner.token call (Ok tt) → Extends was told →
+      IfSome was (λ past. DropsNothing runner.token answer.outcome.cause past.history) →
       IfSome was (IsDue runner answer) → ((IsStopped answer.outcome.cause → ⊥) →
       IfSome was (HasLeft runner.token answer.outcome.cause)) →
       IfSome told (HasAnswered runner answer status)
-  answered-due answer None None may tells extends due left = tt
-  answered-due answer (Some was) (Some past) may tells extends due left =
+  answered-due answer None None may tells extends drops due left = tt
+  answered-due answer (Some was) (Some past) may tells extends drops due left =
       let step = stepped before.admits runner.token may.own call (done tt) _
       was.history past.history tells.1 in
       let stood = standing runner.token was.history in
@@ -315,12 +396,20 @@ module _ (before now : Moment) (runner : Runner) (status : ℕ) where
               (ap (λ (one : Standing). kept_number one.own) step.next_standing)
               knows answer.outcome.cause due.shown;
         };
+        drops_nothing = subst (DropsNothing runner.token answer.outcome.cause)
+            (sym tells.1.others_then.last)
+            (tells-own (CauseTells answer.outcome.cause) runner.token
+            (CauseTells answer.outcome.cause) _ tells.1.others_then.between
+            (λ met told. (told, answer-follows status met))
+            (λ met shows. absurd shows)
+            (tells-others (CauseTells answer.outcome.cause) runner.token before.admits may.own
+            was.history tells.1.others_then.between tells.1.others_then.others drops));
         left = λ goes_on. left-same runner.token answer.outcome.cause was past
             (ap (λ (one : Standing). one.own) step.next_standing)
             (ap (λ (one : Standing). one.listing) step.next_standing) knows (left goes_on);
       }
-  answered-due answer None (Some past) may tells extends due left = absurd tells
-  answered-due answer (Some was) None may tells extends due left = absurd tells
+  answered-due answer None (Some past) may tells extends drops due left = absurd tells
+  answered-due answer (Some was) None may tells extends drops due left = absurd tells
 
   -- it keeps a history lawful, for the deeds of the tools
   answered-lawful : request_of runner.asked.command.words ≡ Ok runner.asked.request →
@@ -355,6 +444,26 @@ module _ (before now : Moment) (runner : Runner) (status : ℕ) where
   answered-lawful read deeds ours answer put is None (Some past) may tells says due = absurd tells
   answered-lawful read deeds ours answer put is (Some was) None may tells says due = absurd tells
 
+  -- it is one event of the session
+  pub answer-one : MayAnswer before.admits before.told runner.token →
+      Tells before.admits before.told now.told runner.token call (Ok tt) →
+      MakesOne before.told now.told runner.token ⊥
+  answer-one = by-told before.told now.told
+    where
+      by-told : (was told : Option Past) → MayAnswer before.admits was runner.token →
+          Tells before.admits was told runner.token call (Ok tt) → MakesOne was told runner.token ⊥
+      by-told None None may tells = tt
+      by-told (Some was) (Some past) may tells = (
+        tells.0,
+        inl (
+          _,
+          (stepped before.admits runner.token may.own call (done tt) _ was.history past.history
+              tells.1).next_events,
+        ),
+      )
+      by-told None (Some past) may tells = absurd tells
+      by-told (Some was) None may tells = absurd tells
+
 -- the session has given its answer
 pub answers-turn : (before now : Moment) (runner : Runner) (answer : FinalAnswer) →
     request_of runner.asked.command.words ≡ Ok runner.asked.request →
@@ -368,11 +477,11 @@ answers-turn before now runner answer read stood tells narrows never_falls =
     let grew = tells-grow before.admits runner.token (answers status) (Ok tt) before.told now.told
     (λ past is between others. tt) tells in
     record {
-      stands = λ given put may left. record {
+      stands = λ given put may drops left. record {
         says = may.gives.says;
         answered = answered-due before now runner status given before.told now.told may.may_answer
             tells (grew-extends before.admits runner.token 1 before.told now.told grew)
-            may.gives.due may.left;
+            drops may.gives.due may.left;
       };
       grew = grew;
       lawful = λ deeds ours. answered-lawful before now runner status read deeds ours had.given

@@ -3,38 +3,40 @@
 -- (`stops`).
 -- Way: such a call leaves what the session was asked and how far its own commit is (`leaves` of
 -- suite_rules); the rest are the clauses of the typed step, by the session's token.
-use Rattle.std.proofs.Common.{◌≡◌, ◌⊎◌, refl, sym, ap, subst, ◌∙◌, ◌≤◌, [], inl, inr, Option, Some, None, IfSome, Result, Ok}
+use Rattle.std.proofs.Common.{◌≡◌, sym, ap, subst, ◌∙◌, ◌≤◌, [], inl, inr, Option, Some, None, IfSome, Result, Ok, Err}
+use Rattle.acct_outside.specs.declared.CommitStage.{CommitStage}
 use Rattle.acct_outside.specs.declared.FolderFault.{FolderFault}
+use Rattle.acct_outside.specs.declared.FolderFault.TheVariants.{Failed}
 use Rattle.acct_outside.specs.Tokens.{Token}
 use Rattle.acct_outside.specs.Calls.{Call, Answer, CallResult}
-use Rattle.acct_outside.specs.History.{History}
 use Rattle.acct_outside.specs.Contract.{Past, Tells as OutsideTells}
 use Rattle.acct_outside.specs.Faults.{HasRisen}
 use Rattle.suite_rules.specs.Standing.{Commit, Standing, standing_step}
-use Rattle.suite_rules.specs.Steps.{StandsIn, AlwaysStaysLawful, Leaves, MakesCall}
+use Rattle.suite_rules.specs.Steps.{OwnCommand, own_command, StandsIn, AlwaysStaysLawful, Leaves, MakesCall}
 use Rattle.suite_rules.proofs.StepLemmas.{IsNoAnswer, leaves, stands-done, stands-left, stands-weaker, stayed}
 use Rattle.lock_steps.specs.States.{Kept}
 use Rattle.lock_steps.specs.Stands.{Keeps, KnowsAnything}
-use Rattle.suite_rules.specs.Steps.{OwnCommand, own_command}
-use Rattle.account_model.specs.declared.tool.Tool.{Tool}
-use Rattle.acct_outside.specs.declared.Name.TheVariants.{Table, Defs}
-use Rattle.suite_answers.specs.declared.cause.Which.TheVariants.{Input, File}
 use Rattle.suite_answers.specs.declared.cause.Cause.{Cause}
-use Rattle.suite_answers.specs.declared.cause.Cause.TheVariants.{Changed, Same, Refused, Syntax, Held, Gone, Raced, Outrun, LockDamaged, Exhausted, IntentDamaged, TooLarge, NoTable, BadSetting, DiskFault, InputFault, OutputFault, ClockFault, Memory}
+use Rattle.suite_answers.specs.declared.cause.Cause.TheVariants.{Memory}
 use Rattle.suite_answers.specs.declared.answer.Answer.{Answer as FinalAnswer}
 use Rattle.suite_answers.specs.Reasons.{stage_of}
 use Rattle.suite_session.specs.declared.state.State.{State}
 use Rattle.suite_session.specs.declared.state.State.TheVariants.{Unlocking, Answering}
-use Rattle.suite_session.specs.Runner.{Question, Runner}
+use Rattle.suite_session.specs.Runner.{Runner}
 use Rattle.suite_session.specs.Moment.{Moment, commit_at, Runs, At}
-use Rattle.suite_session.specs.Answers.{given_for, IsTold, Says}
-use Rattle.suite_session.specs.Causes.{Met, HasMet}
+use Rattle.suite_session.specs.Answers.{IsTold}
+use Rattle.suite_session.specs.Causes.{Met}
 use Rattle.suite_session.specs.Due.{IsShown, IsDue}
 use Rattle.suite_session.specs.Grows.{Grew}
+use Rattle.suite_session.specs.Locking.{cause_of_fault}
+use Rattle.suite_session.specs.Telling.{IsToTell, MayFollow}
+use Rattle.suite_session.specs.Stands.{Extends, Gives, MayGive, HasLeft, StandsAs, AnswersWith, LeavesWith, IsOutside, IsStopped, TellsOutside, Turns}
 use Rattle.suite_session.proofs.BackingLemmas.{IsTurnCall, turn-no-answer, turn-backs-then}
+use Rattle.suite_session.proofs.CauseLemmas.{IsMetAs, IsPlain, answers-fault, fault-failed, fault-plain, fault-stage, given-cause, plain-shown, plain-undecided, told-cause, told-met, told-plain, told-says, told-stage}
 use Rattle.suite_session.proofs.GrowsLemmas.{tells-grow, grew-extends}
-use Rattle.suite_session.specs.Stands.{Extends, Gives, MayGive, HasLeft, StandsAs, AnswersWith, LeavesWith, IsDecided, IsOutside, IsStopped, TellsOutside, Turns}
-use Rattle.suite_session.proofs.LeavingLemmas.{KeepsNone, LeavesUnkept, clean-else, none-left}
+use Rattle.suite_session.proofs.LeavingLemmas.{KeepsNone, LeavesUnkept, clean-else, fault-stopped, none-left}
+use Rattle.suite_session.proofs.MeetingLemmas.{MeetsBy, fault-ends, fault-tells}
+use Rattle.suite_session.proofs.OwnCallLemmas.{fault-met, makes-one, stays-told}
 
 -- what the runner was asked, and this commit
 abbrev own_of : Runner → Commit → OwnCommand
@@ -49,159 +51,19 @@ may-step now runner commit Holds token same stands =
     now.told
     (subst (λ one. StandsIn now.admits now.told one (Runs runner commit Holds)) (sym same) stands)
 
--- the answer to a cause has it
-given-cause : (tool : Tool) (cause : Cause) → (given_for tool cause).outcome.cause ≡ cause
-given-cause tool Changed = refl
-given-cause tool Same = refl
-given-cause tool (Refused refusal) = refl
-given-cause tool (Syntax fault) = refl
-given-cause tool (Held token) = refl
-given-cause tool (Gone number) = refl
-given-cause tool (Raced number) = refl
-given-cause tool (Outrun number greater) = refl
-given-cause tool (LockDamaged number) = refl
-given-cause tool Exhausted = refl
-given-cause tool (IntentDamaged part) = refl
-given-cause tool (TooLarge which) = refl
-given-cause tool (NoTable table) = refl
-given-cause tool (BadSetting line) = refl
-given-cause tool (DiskFault stage) = refl
-given-cause tool InputFault = refl
-given-cause tool (OutputFault stage) = refl
-given-cause tool ClockFault = refl
-given-cause tool (Memory stage) = refl
-
--- an answer that tells a cause has it, or that there was no memory at its stage
-pub told-cause : (tool : Tool) (cause : Cause) (answer : FinalAnswer) → IsTold tool cause answer →
-    (answer.outcome.cause ≡ cause) ⊎ (answer.outcome.cause ≡ Memory (stage_of cause))
-told-cause tool cause answer (inl is) =
-    inl (ap (λ (given : FinalAnswer). given.outcome.cause) is ∙ given-cause tool cause)
-told-cause tool cause answer (inr is) = inr (ap (λ (given : FinalAnswer). given.outcome.cause) is)
-
--- it has its stage, also where there was no memory to tell it
-pub told-stage : (tool : Tool) (cause : Cause) (answer : FinalAnswer) → IsTold tool cause answer →
-    stage_of answer.outcome.cause ≡ stage_of cause
-told-stage tool cause answer told = elim (told-cause tool cause answer told) [
-  | inl is ↦ ap stage_of is
-  | inr is ↦ ap stage_of is
-]
-
--- nothing but its own call is to be shown of a cause that is no tool's answer
-abbrev pub IsPlain : Cause → Type 0
-IsPlain Changed = ⊥
-IsPlain Same = ⊥
-IsPlain (Refused refusal) = ⊥
-IsPlain (Syntax fault) = ⊥
-IsPlain (BadSetting line) = ⊥
-IsPlain (NoTable table) = ⊥
-IsPlain (TooLarge Input) = ⊥
-IsPlain (TooLarge (File (Table table))) = ⊥
-IsPlain (TooLarge (File Defs)) = ⊥
-IsPlain InputFault = ⊥
-IsPlain (OutputFault stage) = ⊥
-IsPlain ClockFault = ⊥
-IsPlain cause = Unit {0}
-
--- so no tool decided it
-plain-undecided : (cause : Cause) → IsPlain cause → IsDecided cause → ⊥
-plain-undecided Changed plain decided = plain
-plain-undecided Same plain decided = plain
-plain-undecided (Refused refusal) plain decided = plain
-plain-undecided (BadSetting line) plain decided = plain
-plain-undecided (NoTable table) plain decided = plain
-plain-undecided (TooLarge (File (Table table))) plain decided = plain
-plain-undecided (TooLarge (File Defs)) plain decided = plain
-plain-undecided cause plain decided = decided
-
--- it says what tells its cause
-plain-says : (asked : Question) (answer : FinalAnswer) (cause : Cause) → IsPlain cause →
-    answer ≡ given_for asked.request.tool cause → Says asked answer cause
-plain-says asked answer (Held token) plain is = is
-plain-says asked answer (Gone number) plain is = is
-plain-says asked answer (Raced number) plain is = is
-plain-says asked answer (Outrun number greater) plain is = is
-plain-says asked answer (LockDamaged number) plain is = is
-plain-says asked answer Exhausted plain is = is
-plain-says asked answer (IntentDamaged part) plain is = is
-plain-says asked answer (TooLarge Input) plain is = absurd plain
-plain-says asked answer (TooLarge (File name)) plain is = is
-plain-says asked answer (DiskFault stage) plain is = is
-plain-says asked answer InputFault plain is = absurd plain
-plain-says asked answer (OutputFault stage) plain is = absurd plain
-plain-says asked answer ClockFault plain is = absurd plain
-plain-says asked answer (Memory stage) plain is = is
-plain-says asked answer Changed plain is = absurd plain
-plain-says asked answer Same plain is = absurd plain
-plain-says asked answer (Refused refusal) plain is = absurd plain
-plain-says asked answer (Syntax fault) plain is = absurd plain
-plain-says asked answer (BadSetting line) plain is = absurd plain
-plain-says asked answer (NoTable table) plain is = absurd plain
-
--- and it is shown by what the session met
-pub plain-shown : (runner : Runner) (answer : FinalAnswer) (history : History) (cause : Cause) →
-    IsPlain cause → HasMet runner.token history cause → IsShown runner answer history cause
-plain-shown runner answer history Changed plain met = absurd plain
-plain-shown runner answer history Same plain met = absurd plain
-plain-shown runner answer history (Refused refusal) plain met = absurd plain
-plain-shown runner answer history (Syntax fault) plain met = absurd plain
-plain-shown runner answer history (BadSetting line) plain met = absurd plain
-plain-shown runner answer history (NoTable table) plain met = absurd plain
-plain-shown runner answer history (TooLarge Input) plain met = absurd plain
-plain-shown runner answer history (TooLarge (File (Table table))) plain met = absurd plain
-plain-shown runner answer history (TooLarge (File Defs)) plain met = absurd plain
-plain-shown runner answer history cause plain met = met
-
--- an answer that tells a plain cause has a plain one
-pub told-plain : (asked : Question) (cause : Cause) (answer : FinalAnswer) → IsPlain cause →
-    IsTold asked.request.tool cause answer → IsPlain answer.outcome.cause
-told-plain asked cause answer plain told =
-    elim (told-cause asked.request.tool cause answer told) [
-      | inl is ↦ subst IsPlain (sym is) plain
-      | inr is ↦ subst IsPlain (sym is) tt
-    ]
-
--- what the session met of a cause it met of the answer that tells it
-pub told-met : (asked : Question) (cause : Cause) (answer : FinalAnswer) (token : Token)
-    (history : History) → IsTold asked.request.tool cause answer → HasMet token history cause →
-    HasMet token history answer.outcome.cause
-told-met asked cause answer token history told met =
-    elim (told-cause asked.request.tool cause answer told) [
-      | inl is ↦ subst (HasMet token history) (sym is) met
-      | inr is ↦ subst (HasMet token history) (sym is) tt
-    ]
-
--- and says what tells it
-pub told-says : (asked : Question) (cause : Cause) (answer : FinalAnswer) → IsPlain cause →
-    IsTold asked.request.tool cause answer → Says asked answer answer.outcome.cause
-told-says asked cause answer plain (inl is) =
-    subst (λ one. Says asked answer one)
-    (sym (ap (λ (given : FinalAnswer). given.outcome.cause) is
-    ∙ given-cause asked.request.tool cause))
-    (plain-says asked answer cause plain is)
-told-says asked cause answer plain (inr is) =
-    subst (λ one. Says asked answer one)
-    (sym (ap (λ (given : FinalAnswer). given.outcome.cause) is)) is
-
--- a state that answers with a cause tells of a fault of the folder where the cause is one
-pub answers-fault : (tool : Tool) (cause : Cause) (state : State) → AnswersWith tool cause state →
-    TellsOutside state → IsOutside cause
-answers-fault tool cause (Answering answer) told fault = elim (told-cause tool cause answer told) [
-  | inl is ↦ subst IsOutside is fault
-  | inr is ↦ absurd (subst IsOutside is fault)
-]
-answers-fault tool cause state told fault = absurd told
-
--- one that leaves with a cause tells of a fault only where the cause is one
-pub leaves-fault : (tool : Tool) (keeper : Kept) (cause : Cause) (state : State) →
-    LeavesWith tool keeper cause state → TellsOutside state → IsOutside cause
-leaves-fault tool keeper cause (Answering answer) is fault =
-    absurd (subst IsOutside (ap (λ (given : FinalAnswer). given.outcome.cause) is) fault)
-leaves-fault tool keeper cause (Unlocking kept answer) is fault = absurd fault
-leaves-fault tool keeper cause state is fault = absurd is
-
 -- what the runner met of the cause, where the folder tells its history
 abbrev pub HasMetNow : Moment → Runner → Cause → Type 0
-HasMetNow now runner cause = IfSome now.told (λ past. HasMet runner.token past.history cause)
+HasMetNow now runner cause = IfSome now.told (λ past. IsMetAs runner.token past.history cause)
+
+-- of want of memory nothing
+pub memory-met : (now : Moment) (runner : Runner) (stage : CommitStage) →
+    HasMetNow now runner (Memory stage)
+memory-met now runner stage = by-told now.told
+  where
+    by-told : (told : Option Past) →
+        IfSome told (λ past. IsMetAs runner.token past.history (Memory stage))
+    by-told None = tt
+    by-told (Some past) = tt
 
 -- the runner has left what it must with the cause, unless that stopped it
 abbrev pub HasLeftNow : Moment → Runner → Cause → Type 0
@@ -221,7 +83,7 @@ told-left now runner cause answer told has_left =
 -- what the runner met of a cause shows the answer that tells it
 shown-now : (runner : Runner) (cause : Cause) (answer : FinalAnswer) (told : Option Past) →
     IsPlain cause → IsTold runner.asked.request.tool cause answer →
-    IfSome told (λ past. HasMet runner.token past.history cause) →
+    IfSome told (λ past. IsMetAs runner.token past.history cause) →
     IfSome told (λ past. IsShown runner answer past.history answer.outcome.cause)
 shown-now runner cause answer None plain tells met = tt
 shown-now runner cause answer (Some past) plain tells met =
@@ -295,6 +157,11 @@ module _ (before now : Moment) (runner : Runner) (commit : Commit) (Held : Stand
           }
       by-told None (Some past) stood tells = absurd tells
       by-told (Some was) None stood tells = absurd tells
+
+  -- what came to a fault, the session met as that
+  pub ended : (stage : CommitStage) (fault : FolderFault) → made.answer ≡ Err fault →
+      HasMetNow now runner (cause_of_fault stage fault)
+  ended = fault-met before now runner commit Held stands token same call no_answer Shows made
 
   -- the history got an event of the runner, or none, after those of others
   pub grown : Grew before.admits runner.token 1 before.told now.told
@@ -394,31 +261,56 @@ module _ (before now : Moment) (runner : Runner) (commit : Commit) (Held : Stand
   leaves-turn keeper cause state shown plain met quiet is owned next = absurd shown
 
   module _ (lawful : AlwaysStaysLawful before.admits before.told now.told)
-      (never_falls : before.faults ≤ now.faults) where
-    -- a turn to a state that tells of no fault
-    pub turns : (state : State) → StandsAs now runner state → (TellsOutside state → ⊥) →
-        Turns before now runner state
-    turns state stood quiet_state = record {
-      stands = stood;
-      grew = grown;
-      lawful = λ deeds ours. lawful deeds;
-      narrows = made.narrows;
-      never_falls = never_falls;
-      risen = λ fault. absurd (quiet_state fault);
+      (never_falls : before.faults ≤ now.faults) (old state : State)
+      (meets : MeetsBy call made.answer Held state)
+      (leads : (met : Cause) → IsToTell old met → IsToTell state met × MayFollow met call) where
+    -- a turn to a state, by how it stands there and of which faults it tells
+    pub turn-made : StandsAs now runner state →
+        (TellsOutside state → HasRisen before.faults now.faults) →
+        Turns before now runner old state
+    turn-made stood risen = record {
+      turns = record {
+        stands = stood;
+        grew = grown;
+        lawful = λ deeds ours. lawful deeds;
+        narrows = made.narrows;
+        never_falls = never_falls;
+        risen = risen;
+      };
+      makes_one = makes-one before now runner commit Held stands token same call no_answer Shows
+          made old state meets;
+      remembers = stays-told before now runner commit Held stands token same call no_answer Shows
+          made old state meets leads;
     }
 
+    -- a turn to a state that tells of no fault
+    pub turns : StandsAs now runner state → (TellsOutside state → ⊥) →
+        Turns before now runner old state
+    turns stood quiet_state =
+        turn-made stood (λ fault. absurd (quiet_state fault))
+
     -- a turn to the answer of a plain cause
-    pub stops : (cause : Cause) (state : State) →
-        AnswersWith runner.asked.request.tool cause state → IsPlain cause →
-        HasMetNow now runner cause → HasLeftNow now runner cause →
+    pub stops : (cause : Cause) → AnswersWith runner.asked.request.tool cause state →
+        IsPlain cause → HasMetNow now runner cause → HasLeftNow now runner cause →
         commit ≡ commit_at (stage_of cause) →
-        (IsOutside cause → HasRisen before.faults now.faults) → Turns before now runner state
-    stops cause state told plain met has_left is failed = record {
-      stands = answers-turn cause state told plain met has_left is;
-      grew = grown;
-      lawful = λ deeds ours. lawful deeds;
-      narrows = made.narrows;
-      never_falls = never_falls;
-      risen = λ fault.
-          failed (answers-fault runner.asked.request.tool cause state told fault);
-    }
+        (IsOutside cause → HasRisen before.faults now.faults) → Turns before now runner old state
+    stops cause told plain met has_left is failed =
+        turn-made (answers-turn cause state told plain met has_left is)
+        (λ fault. failed (answers-fault runner.asked.request.tool cause state told fault))
+
+  -- a turn to the answer of a call that came to a fault
+  pub faults : AlwaysStaysLawful before.admits before.told now.told → before.faults ≤ now.faults →
+      (old state : State) → ((met : Cause) → IsToTell old met → MayFollow met call) →
+      (stage : CommitStage) (fault : FolderFault) → made.answer ≡ Err fault →
+      AnswersWith runner.asked.request.tool (cause_of_fault stage fault) state →
+      commit ≡ commit_at stage → (fault ≡ Failed → HasRisen before.faults now.faults) →
+      Turns before now runner old state
+  faults lawful never_falls old state follow stage fault is told at risen =
+      let tool = runner.asked.request.tool in
+      stops lawful never_falls old state
+      (fault-ends tool stage fault state told call made.answer Held is)
+      (λ met is_told. (fault-tells tool stage fault state told met, follow met is_told))
+      (cause_of_fault stage fault) told (fault-plain stage fault) (ended stage fault is)
+      (λ goes_on. absurd (goes_on (fault-stopped stage fault)))
+      (at ∙ ap commit_at (sym (fault-stage stage fault)))
+      (λ outside. risen (fault-failed stage fault outside))

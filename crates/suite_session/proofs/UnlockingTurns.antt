@@ -1,14 +1,12 @@
 -- Claim: each step of a keeper on its way out leads to the next state of it with the same answer, or
--- to the answer of a fault (`lowers`, `stages`, `frees`, `fails`).
--- Way: the typed step gives the standing, and what it leaves of the standing keeps the answer due.
-use Rattle.std.proofs.Common.{◌≡◌, refl, ap, subst, ◌∙◌, ◌≤◌, ℕ, Option, Some, None, IfSome, Result, Ok, Err}
-use Rattle.acct_outside.specs.declared.CommitStage.{CommitStage}
+-- to the answer of a fault (`lowers`, `stages`, `frees`).
+-- Way: the typed step gives the standing, and what it leaves of the standing keeps the answer due. Each
+-- call may follow whatever the answer tells (`out-follows`).
+use Rattle.std.proofs.Common.{◌≡◌, refl, sym, ap, subst, ◌∙◌, ◌≤◌, ℕ, inl, Some, Result, Ok, Err}
 use Rattle.acct_outside.specs.declared.FolderFault.{FolderFault}
-use Rattle.acct_outside.specs.declared.FolderFault.TheVariants.{Failed, Memory as NoMemory}
 use Rattle.acct_outside.specs.declared.Name.TheVariants.{FreeStage, Lock}
 use Rattle.acct_outside.specs.Tokens.{Token, free_text}
-use Rattle.acct_outside.specs.Calls.{writes, renames, removes}
-use Rattle.acct_outside.specs.Contract.{Past}
+use Rattle.acct_outside.specs.Calls.{Call, writes, renames, removes}
 use Rattle.suite_rules.specs.OwnLock.{kept_number}
 use Rattle.suite_rules.specs.Standing.{Commit, Standing}
 use Rattle.suite_rules.specs.Steps.{StandsIn, AlwaysStaysLawful, Leaves, MakesCall, work}
@@ -16,17 +14,18 @@ use Rattle.lock_steps.specs.States.{Maker, Kept}
 use Rattle.lock_steps.specs.declared.keeping.Ended.{Ended}
 use Rattle.lock_steps.specs.Outcomes.{LeadsTo, cleaned_once, freeing_of, the_end}
 use Rattle.lock_steps.specs.Stands.{Keeps, KnowsAnything, HasStagedFree, HasFreed}
+use Rattle.suite_answers.specs.declared.cause.Cause.{Cause}
+use Rattle.suite_answers.specs.declared.cause.Cause.TheVariants.{DiskFault}
 use Rattle.suite_answers.specs.declared.answer.Answer.{Answer as FinalAnswer}
 use Rattle.suite_answers.specs.Reasons.{stage_of}
 use Rattle.suite_session.specs.declared.state.State.TheVariants.{Unlocking, Freeing, Answering}
 use Rattle.suite_session.specs.Runner.{Runner}
 use Rattle.suite_session.specs.Moment.{Moment, commit_at, Runs}
-use Rattle.suite_session.specs.Locking.{cause_of_fault}
+use Rattle.suite_session.specs.Telling.{IsLeavingCall, MayFollow}
 use Rattle.suite_session.specs.Stands.{IsOutside, StandsUnlocking, StandsFreeing, Turns}
-use Rattle.suite_session.specs.Causes.{HasMet}
-use Rattle.suite_session.proofs.MetLemmas.{fault-shows}
-use Rattle.suite_session.proofs.TurnLemmas.{HasMetNow, HasLeftNow, IsPlain, goes-on, extended, turns}
-use Rattle.suite_session.proofs.LeavingLemmas.{fault-stopped, clean-stays, freed-left}
+use Rattle.suite_session.proofs.TurnLemmas.{goes-on, extended, turns}
+use Rattle.suite_session.proofs.LeavingLemmas.{clean-stays, freed-left}
+use Rattle.suite_session.proofs.MeetingLemmas.{locks-done, quiet-on}
 use Rattle.suite_rules.proofs.StepLemmas.{may-answer-now}
 use Rattle.suite_session.proofs.DueLemmas.{gives-stay}
 
@@ -36,39 +35,16 @@ pub leads : {A State : Type 0} (next : State) (answer : Result A FolderFault) (s
 leads next (Ok answer) state shown = shown
 leads next (Err fault) state shown = absurd shown
 
--- ---- A fault of the folder
+-- ---- What is told on the way out
 
--- it is told with its stage
-pub fault-stage : (stage : CommitStage) (fault : FolderFault) →
-    stage_of (cause_of_fault stage fault) ≡ stage
-fault-stage stage Failed = refl
-fault-stage stage NoMemory = refl
-
--- it is no tool's answer
-pub fault-plain : (stage : CommitStage) (fault : FolderFault) → IsPlain (cause_of_fault stage fault)
-fault-plain stage Failed = tt
-fault-plain stage NoMemory = tt
-
--- and nothing more is met
-pub fault-met : (now : Moment) (runner : Runner) (stage : CommitStage) (fault : FolderFault) →
-    HasMetNow now runner (cause_of_fault stage fault)
-fault-met now runner stage fault = by-told now.told
+-- a call on the way out may follow whatever is to be told, which is no fault outside the session
+pub out-follows : (cause met : Cause) → cause ≡ met → (IsOutside cause → ⊥) → (call : Call) →
+    IsLeavingCall call → MayFollow met call
+out-follows cause met is quiet call leaving = by-met met (λ outside. quiet (subst IsOutside (sym is) outside))
   where
-    by-told : (told : Option Past) →
-        IfSome told (λ past. HasMet runner.token past.history (cause_of_fault stage fault))
-    by-told None = tt
-    by-told (Some past) = fault-shows stage fault runner.token past.history
-
--- and nothing more need be left
-pub fault-left : (now : Moment) (runner : Runner) (stage : CommitStage) (fault : FolderFault) →
-    HasLeftNow now runner (cause_of_fault stage fault)
-fault-left now runner stage fault goes_on = absurd (goes_on (fault-stopped stage fault))
-
--- it is told as a fault of the folder only where that failed
-pub fault-failed : (stage : CommitStage) (fault : FolderFault) →
-    IsOutside (cause_of_fault stage fault) → fault ≡ Failed
-fault-failed stage Failed told = refl
-fault-failed stage NoMemory told = absurd told
+    by-met : (one : Cause) → (IsOutside one → ⊥) → MayFollow one call
+    by-met (DiskFault stage) inside = absurd (inside tt)
+    by-met one inside = leaving
 
 -- a keeper's number is kept
 kept-number : (keeper : Kept) (stood : Standing) → Keeps keeper KnowsAnything stood →
@@ -97,7 +73,7 @@ module _ (before now : Moment) (runner : Runner) (answer : FinalAnswer) where
         StandsIn now.admits now.told keeper.token (Keeps kept KnowsAnything) →
         Leaves work keeper.token before.told now.told →
         AlwaysStaysLawful before.admits before.told now.told → before.faults ≤ now.faults →
-        Turns before now runner (Unlocking kept answer)
+        Turns before now runner (Unlocking keeper answer) (Unlocking kept answer)
     lowers number kept made next left lawful never_falls =
         let is = leads (cleaned_once keeper) made.answer kept made.shown in
         let call = removes (Lock number) in
@@ -107,7 +83,13 @@ module _ (before now : Moment) (runner : Runner) (answer : FinalAnswer) where
         let kept_work = subst (λ (token : Token). Leaves work token before.told now.told) stood.same
         left in
         turns before now runner commit (Keeps keeper KnowsAnything) stood.stands keeper.token
-        stood.same call tt _ (λ result stood. refl) made lawful never_falls (Unlocking kept answer)
+        stood.same call tt _ (λ result stood. refl) made lawful never_falls
+        (Unlocking keeper answer) (Unlocking kept answer)
+        (quiet-on call (λ given one met shows. shows) made.answer tt _ _ (locks-done _ _ _ made.shown).1)
+        (λ met is_told. (
+          is_told,
+          out-follows answer.outcome.cause met is_told stood.quiet call tt,
+        ))
         (record {
           same = ap (λ (one : Kept). one.token) is ∙ stood.same;
           stands = stands;
@@ -133,7 +115,7 @@ module _ (before now : Moment) (runner : Runner) (answer : FinalAnswer) where
         StandsIn now.admits now.told keeper.token (HasStagedFree freeing) →
         Leaves work keeper.token before.told now.told →
         AlwaysStaysLawful before.admits before.told now.told → before.faults ≤ now.faults →
-        Turns before now runner (Freeing freeing answer)
+        Turns before now runner (Unlocking keeper answer) (Freeing freeing answer)
     stages freeing made next left lawful never_falls =
         let is = leads (freeing_of keeper) made.answer freeing made.shown in
         let call = writes FreeStage free_text in
@@ -142,7 +124,13 @@ module _ (before now : Moment) (runner : Runner) (answer : FinalAnswer) where
         let kept_work = subst (λ (token : Token). Leaves work token before.told now.told) stood.same
         left in
         turns before now runner commit (Keeps keeper KnowsAnything) stood.stands keeper.token
-        stood.same call tt _ (λ result stood. refl) made lawful never_falls (Freeing freeing answer)
+        stood.same call tt _ (λ result stood. refl) made lawful never_falls
+        (Unlocking keeper answer) (Freeing freeing answer)
+        (quiet-on call (λ given one met shows. shows) made.answer tt _ _ (locks-done _ _ _ made.shown).1)
+        (λ met is_told. (
+          is_told,
+          out-follows answer.outcome.cause met is_told stood.quiet call tt,
+        ))
         (record {
           same = ap (λ (one : Maker). one.token) is ∙ stood.same;
           stands = stands;
@@ -169,7 +157,7 @@ module _ (before now : Moment) (runner : Runner) (answer : FinalAnswer) where
         StandsIn now.admits now.told freeing.token (HasFreed freeing.number) →
         Leaves work freeing.token before.told now.told →
         AlwaysStaysLawful before.admits before.told now.told → before.faults ≤ now.faults →
-        Turns before now runner (Answering answer)
+        Turns before now runner (Freeing freeing answer) (Answering answer)
     frees ended made next left lawful never_falls =
         let call = renames FreeStage (Lock freeing.number) in
         let stands = goes-on before now runner commit (HasStagedFree freeing) stood.stands
@@ -178,7 +166,13 @@ module _ (before now : Moment) (runner : Runner) (answer : FinalAnswer) where
         let kept_work = subst (λ (token : Token). Leaves work token before.told now.told) stood.same
         left in
         turns before now runner commit (HasStagedFree freeing) stood.stands freeing.token
-        stood.same call tt _ (λ result stood. refl) made lawful never_falls (Answering answer)
+        stood.same call tt _ (λ result stood. refl) made lawful never_falls
+        (Freeing freeing answer) (Answering answer)
+        (quiet-on call (λ given one met shows. shows) made.answer tt _ _ (locks-done _ _ _ made.shown).1)
+        (λ met is_told. (
+          inl is_told,
+          out-follows answer.outcome.cause met is_told stood.quiet call tt,
+        ))
         (record {
           may_answer = may-answer-now now.admits runner.token _ now.told stands;
           gives = gives-stay runner answer commit freeing.number (HasStagedFree freeing)

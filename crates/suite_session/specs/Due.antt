@@ -19,13 +19,13 @@ use Rattle.commit_steps.specs.States.{AreSound, Reader, next_name}
 use Rattle.commit_steps.specs.Stands.{HasRead}
 use Rattle.suite_answers.specs.declared.cause.Which.TheVariants.{File}
 use Rattle.suite_answers.specs.declared.cause.Cause.{Cause}
-use Rattle.suite_answers.specs.declared.cause.Cause.TheVariants.{Changed, Same, Refused, TooLarge, NoTable, BadSetting}
+use Rattle.suite_answers.specs.declared.cause.Cause.TheVariants.{Changed, Same, Refused, Outrun, TooLarge, NoTable, BadSetting}
 use Rattle.suite_answers.specs.declared.answer.Answer.{Answer}
 use Rattle.suite_answers.specs.Reasons.{stage_of}
 use Rattle.suite_session.specs.Runner.{Runner}
 use Rattle.suite_session.specs.Moment.{commit_at}
 use Rattle.suite_session.specs.Answers.{IsAnswerOn, given_for}
-use Rattle.suite_session.specs.Causes.{Met, HasMet}
+use Rattle.suite_session.specs.Causes.{Met, HasMet, HasYielded}
 
 -- the session has seen the six tables and login.defs
 pub record HasSeenAll (seen : Seen) (files : Files) (defs : Option Bytes) : Type 0 where
@@ -117,6 +117,8 @@ IsShown runner answer history (NoTable table) = ShowsSome runner answer history
 IsShown runner answer history (TooLarge (File (Table table))) =
     ShowsLarge runner answer history (Table table)
 IsShown runner answer history (TooLarge (File Defs)) = ShowsLarge runner answer history Defs
+IsShown runner answer history (Outrun number other) =
+    HasYielded runner.token number other history
 IsShown runner answer history cause = HasMet runner.token history cause
 
 -- the session was asked this, its own commit came as far as the answer's cause says, and its events

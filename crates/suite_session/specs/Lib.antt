@@ -5,6 +5,7 @@ pub mod Answers
 pub mod Deeds
 pub mod Causes
 pub mod Due
+pub mod Telling
 pub mod Backing
 pub mod Grows
 pub mod Stands

@@ -20,7 +20,8 @@ use Rattle.suite_session.specs.Answers.{IsTold, Says, after_fault, after_streams
 use Rattle.suite_session.specs.Due.{IsDue}
 use Rattle.suite_session.specs.Left.{ranked, turns_left}
 use Rattle.suite_session.specs.Locking.{cause_of_fault}
-use Rattle.suite_session.specs.Stands.{HasLeft, IsOutside, IsStopped, MayGive, StandsAs, TurnsTo, Turns}
+use Rattle.suite_session.specs.Telling.{DropsNothing, Remembers}
+use Rattle.suite_session.specs.Stands.{FindsNoMemory, HasLeft, IsOutside, IsStopped, MakesOne, MayGive, StandsAs, TellsOutside, TurnsTo}
 
 -- the session hasn't begun, and was asked this by words that ask for something
 abbrev pub IsStarted : Command → Phase → Type 0
@@ -76,10 +77,16 @@ IsFirst runner (Looking looking) = looking ≡ runner.token
 IsFirst runner (Answering answer) = answer ≡ memory_answer Before
 IsFirst runner state = ⊥
 
--- the runner stands in the state, or in one of which a stream that failed left this
+-- the runner drops nothing that it has met, where the folder tells its history
+abbrev pub RemembersNow : Moment → Runner → State → Type 0
+RemembersNow now runner state =
+    IfSome now.told (λ past. Remembers runner.token state past.history)
+
+-- the runner stands in the state and drops nothing that it has met, or in one of which a stream that failed left this
 pub record StandsLeft (now : Moment) (runner : Runner) (state : State) : Type 0 where
   pub own : State
   pub stands : StandsAs now runner own
+  pub remembers : RemembersNow now runner own
   pub put : Result (Unit {0}) SinkFault
   pub left : state ≡ state_after put own
 
@@ -88,8 +95,8 @@ abbrev pub SessionStands : Moment → Phase → Type 0
 SessionStands now (Begun runner state) = StandsLeft now runner state
 SessionStands now phase = ⊤
 
--- The last event of the history is the session's answer, with this status. What it had to give is due,
--- and it has left the locks and the intent as it must with that, unless a fault or want of memory
+-- The last event of the history is the session's answer, with this status. What it had to give is due
+-- and drops nothing that the session has met, and it has left the locks and the intent as it must with that, unless a fault or want of memory
 -- stopped it.
 pub record HasAnswered (runner : Runner) (given : Answer) (status : ℕ) (past : Past) : Type 0 where
   pub older : History
@@ -99,6 +106,7 @@ pub record HasAnswered (runner : Runner) (given : Answer) (status : ℕ) (past :
     result = done tt;
   } ∷ older
   pub due : IsDue runner given past
+  pub drops_nothing : DropsNothing runner.token given.outcome.cause past.history
   pub left : (IsStopped given.outcome.cause → ⊥) →
       HasLeft runner.token given.outcome.cause past
 
@@ -110,8 +118,9 @@ pub record Gave (now : Moment) (runner : Runner) (given : Answer) (status : ℕ)
 -- whichever answer it had to give, of which the streams left this one
 abbrev pub GaveLeft : Moment → Moment → Runner → Answer → Type 0
 GaveLeft before now runner answer = (given : Answer) (put : Result (Unit {0}) SinkFault) →
-    MayGive before runner given → answer ≡ after_streams put given →
-    Gave now runner given answer.outcome.status
+    MayGive before runner given →
+    IfSome before.told (λ past. DropsNothing runner.token given.outcome.cause past.history) →
+    answer ≡ after_streams put given → Gave now runner given answer.outcome.status
 
 -- The begin gave no token. The folder told it as one that failed, and of no session; or there was no
 -- memory, and it has no event. The answer tells that, or that there was no memory to tell it.
@@ -131,18 +140,25 @@ pub record Stays (before now : Moment) : Type 0 where
 abbrev pub IsNew : Option Past → Token → Type 0
 IsNew told token = IfSome told (λ past. own_events token past.history ≡ [])
 
+-- A turn of the session of a runner leads to this state, in which it stands and drops nothing that it has
+-- met. It makes one call, or none where there was no memory.
+pub record StepsTo (before now : Moment) (runner : Runner) (state : State) : Type 0 where
+  pub turns : TurnsTo before now runner.token 1 (StandsAs now runner state) (TellsOutside state)
+  pub remembers : RemembersNow now runner state
+  pub makes_one : MakesOne before.told now.told runner.token (FindsNoMemory state)
+
 -- One turn of a session: its begin, a step, or its answer. A begin gives a new token; one that gave
 -- none is told as a fault, and leaves nothing to call.
 abbrev pub SessionTurns : Moment → Moment → Phase → Phase → Type 0
 SessionTurns before now (Waiting asked) (Begun runner state) =
-    (runner.asked ≡ asked) × Turns before now runner state × IsNew before.told runner.token
+    (runner.asked ≡ asked) × StepsTo before now runner state × IsNew before.told runner.token
 SessionTurns before now (Waiting asked) (Over answer) =
     TurnsTo before now [] 1 (IsUnbegun asked before now answer) (IsOutside answer.outcome.cause)
 SessionTurns before now (Begun runner state) (Begun same next) =
-    (same ≡ runner) × Turns before now runner next
-SessionTurns before now (Begun runner state) (Over answer) =
-    (state ≡ Answering answer)
+    (same ≡ runner) × StepsTo before now runner next
+SessionTurns before now (Begun runner state) (Over answer) = (state ≡ Answering answer)
     × TurnsTo before now runner.token 1 (GaveLeft before now runner answer) ⊥
+    × MakesOne before.told now.told runner.token ⊥
 SessionTurns before now (Over answer) (Over same) = (same ≡ answer) × Stays before now
 SessionTurns before now old new = ⊥
 

@@ -1,9 +1,10 @@
 -- How a session stands in each of its states, by its own events, and what one turn of it does.
-use Rattle.std.specs.Prelude.{◌≡◌, ⊤, ℕ, ◌<◌, ◌≤◌, ◌++◌, length, Option, Some, IfSome}
+use Rattle.std.specs.Prelude.{◌≡◌, ◌≢◌, ◌⊎◌, ◌∷◌, ⊤, ℕ, ◌<◌, ◌≤◌, ◌++◌, length, Option, Some, IfSome}
 use Rattle.acct_outside.specs.Faults.{HasRisen}
 use Rattle.acct_outside.specs.declared.Name.TheVariants.{Table, Defs}
+use Rattle.acct_outside.specs.Names.{greatest_lock}
 use Rattle.acct_outside.specs.Tokens.{Token}
-use Rattle.acct_outside.specs.History.{History}
+use Rattle.acct_outside.specs.History.{Event, History, own_events}
 use Rattle.acct_outside.specs.Others.{Admission}
 use Rattle.acct_outside.specs.Contract.{Past, Narrows, MayAnswer, WhereTold}
 use Rattle.suite_rules.specs.OwnLock.{kept_number}
@@ -11,7 +12,7 @@ use Rattle.suite_rules.specs.Standing.{Standing, standing, commit_uncalled, comm
 use Rattle.lock_steps.specs.States.{Maker, Kept}
 use Rattle.suite_rules.specs.Deeds.{SuiteDeeds}
 use Rattle.suite_rules.specs.Steps.{StaysLawful}
-use Rattle.lock_steps.specs.Stands.{HasNoLock, HasLooked, HasReadHeld, HasJudged, HasMade, WasOvertaken, Keeps, KnowsAnything, KnowsNone, HasStagedFree, HasFreed}
+use Rattle.lock_steps.specs.Stands.{HasLooked, HasReadHeld, HasJudged, HasMade, WasOvertaken, Keeps, KnowsAnything, KnowsNone, HasStagedFree, HasFreed}
 use Rattle.recovery.specs.Stands.{Recovers, HasStagedNext}
 use Rattle.account_model.specs.declared.tool.Tool.{Tool}
 use Rattle.account_model.specs.Answer.{Changed as ChangedTo}
@@ -30,13 +31,20 @@ use Rattle.suite_session.specs.Runner.{Runner}
 use Rattle.suite_session.specs.Moment.{Moment, At, commit_at}
 use Rattle.suite_session.specs.Answers.{answer_on, IsAnswerOn, given_for, memory_answer, IsTold, Says}
 use Rattle.suite_session.specs.Deeds.{AreOfTools}
+use Rattle.suite_session.specs.Causes.{HasListedNone}
 use Rattle.suite_session.specs.Due.{IsDue}
+use Rattle.suite_session.specs.Telling.{Remembers}
 use Rattle.suite_session.specs.Grows.{Grew}
 
 -- the cause is a fault of the folder
 abbrev pub IsDiskFault : Cause → Type 0
 IsDiskFault (DiskFault stage) = ⊤
 IsDiskFault cause = ⊥
+
+-- the cause is want of memory
+abbrev pub IsMemory : Cause → Type 0
+IsMemory (Memory stage) = ⊤
+IsMemory cause = ⊥
 
 -- the cause is a fault of what lies outside the session: of the folder, or of the input, the streams or
 -- the clock, of which a session by itself tells none
@@ -137,11 +145,11 @@ pub record StandsFreeing (now : Moment) (runner : Runner) (freeing : Maker) (ans
 -- the runner stands in the state
 abbrev pub StandsAs : Moment → Runner → State → Type 0
 StandsAs now runner (Looking looking) =
-    (looking ≡ runner.token) × At now runner commit_uncalled HasNoLock
+    (looking ≡ runner.token) × At now runner commit_uncalled HasListedNone
 StandsAs now runner (Reading seen) = (seen.token ≡ runner.token) × (0 < seen.greatest)
-    × At now runner commit_uncalled (HasLooked seen)
-StandsAs now runner (Asking asking) =
-    (asking.token ≡ runner.token) × At now runner commit_uncalled (HasReadHeld asking)
+    × At now runner commit_uncalled (HasLooked seen) × (seen.greatest ≢ greatest_lock)
+StandsAs now runner (Asking asking) = (asking.token ≡ runner.token)
+    × At now runner commit_uncalled (HasReadHeld asking) × (asking.greatest ≢ greatest_lock)
 StandsAs now runner (Claiming judged) =
     (judged.token ≡ runner.token) × At now runner commit_uncalled (HasJudged judged)
 StandsAs now runner (Confirming claimed) =
@@ -182,6 +190,11 @@ abbrev pub TellsOutside : State → Type 0
 TellsOutside (Answering answer) = IsOutside answer.outcome.cause
 TellsOutside state = ⊥
 
+-- the state answers that there was no memory
+abbrev pub FindsNoMemory : State → Type 0
+FindsNoMemory (Answering answer) = IsMemory answer.outcome.cause
+FindsNoMemory state = ⊥
+
 -- the history is longer, where one is told
 abbrev pub Extends : Option Past → Option Past → Type 0
 Extends before now = WhereTold before now (λ first old new. (newer : History) × (new ≡ newer ++ old))
@@ -199,7 +212,20 @@ pub record TurnsTo (before now : Moment) (token : Token) (most : ℕ) (Stands Te
   pub never_falls : before.faults ≤ now.faults
   pub risen : TellsFault → HasRisen before.faults now.faults
 
--- one turn of the runner to a state: one event is its own, or none where there was no memory
-abbrev pub Turns : Moment → Moment → Runner → State → Type 0
-Turns before now runner state =
-    TurnsTo before now runner.token 1 (StandsAs now runner state) (TellsOutside state)
+-- the history has exactly one more event of the session; or none, where there was no memory
+abbrev pub MakesOne : Option Past → Option Past → Token → Type 0 → Type 0
+MakesOne before now token NoMemory = WhereTold before now (λ first old new.
+    ((event : Event) × (own_events token new ≡ event ∷ own_events token old))
+    ⊎ (NoMemory × (own_events token new ≡ own_events token old)))
+
+-- what the session has met is to be told in the one state, so what it has met since in the other
+abbrev pub StaysTold : Option Past → Option Past → Token → State → State → Type 0
+StaysTold before now token old new = WhereTold before now (λ first older newer.
+    Remembers token old older → Remembers token new newer)
+
+-- One turn of the runner from a state to another: it makes one call, or none where there was no memory,
+-- and drops nothing that it has met.
+pub record Turns (before now : Moment) (runner : Runner) (old new : State) : Type 0 where
+  pub turns : TurnsTo before now runner.token 1 (StandsAs now runner new) (TellsOutside new)
+  pub makes_one : MakesOne before.told now.told runner.token (FindsNoMemory new)
+  pub remembers : StaysTold before.told now.told runner.token old new

@@ -31,7 +31,7 @@ pub(crate) fn back_up<F: Folder>(
     ensures turns { Turns
         (moment (F.admits folder.old) (F.told folder.old) (F.fault_count folder.old))
         (moment (F.admits folder.new) (F.told folder.new) (F.fault_count folder.new))
-        runner.now result }
+        runner.now (State.BackingUp backing answer) result }
     ensures nearer { turns_left result < turns_left (State.BackingUp backing answer) }
     ensures counted { calls_left result < calls_left (State.BackingUp backing answer) }
 {
@@ -57,7 +57,7 @@ fn back_up_next<F: Folder>(
     ensures turns { Turns
         (moment (F.admits folder.old) (F.told folder.old) (F.fault_count folder.old))
         (moment (F.admits folder.new) (F.told folder.new) (F.fault_count folder.new))
-        runner.now result }
+        runner.now (State.BackingUp backing answer) result }
     ensures nearer { turns_left result < turns_left (State.BackingUp backing answer) }
     ensures counted { calls_left result < calls_left (State.BackingUp backing answer) }
 {
@@ -82,7 +82,7 @@ fn stage_intent<F: Folder>(
     ensures turns { Turns
         (moment (F.admits folder.old) (F.told folder.old) (F.fault_count folder.old))
         (moment (F.admits folder.new) (F.told folder.new) (F.fault_count folder.new))
-        runner.now result }
+        runner.now (State.BackingUp backing answer) result }
     ensures nearer { turns_left result < turns_left (State.BackingUp backing answer) }
     ensures counted { calls_left result < calls_left (State.BackingUp backing answer) }
 {
@@ -106,7 +106,7 @@ pub(crate) fn commit<F: Folder>(
     ensures turns { Turns
         (moment (F.admits folder.old) (F.told folder.old) (F.fault_count folder.old))
         (moment (F.admits folder.new) (F.told folder.new) (F.fault_count folder.new))
-        runner.now result }
+        runner.now (State.Committing staged answer) result }
     ensures nearer { turns_left result < turns_left (State.Committing staged answer) }
     ensures counted { calls_left result < calls_left (State.Committing staged answer) }
 {
@@ -130,7 +130,7 @@ pub(crate) fn install<F: Folder>(
     ensures turns { Turns
         (moment (F.admits folder.old) (F.told folder.old) (F.fault_count folder.old))
         (moment (F.admits folder.new) (F.told folder.new) (F.fault_count folder.new))
-        runner.now result }
+        runner.now (State.Installing installing answer) result }
     ensures nearer { turns_left result < turns_left (State.Installing installing answer) }
     ensures counted { calls_left result < calls_left (State.Installing installing answer) }
 {
@@ -156,7 +156,7 @@ fn install_next<F: Folder>(
     ensures turns { Turns
         (moment (F.admits folder.old) (F.told folder.old) (F.fault_count folder.old))
         (moment (F.admits folder.new) (F.told folder.new) (F.fault_count folder.new))
-        runner.now result }
+        runner.now (State.Installing installing answer) result }
     ensures nearer { turns_left result < turns_left (State.Installing installing answer) }
     ensures counted { calls_left result < calls_left (State.Installing installing answer) }
 {
@@ -181,7 +181,7 @@ fn clear<F: Folder>(
     ensures turns { Turns
         (moment (F.admits folder.old) (F.told folder.old) (F.fault_count folder.old))
         (moment (F.admits folder.new) (F.told folder.new) (F.fault_count folder.new))
-        runner.now result }
+        runner.now (State.Installing installing answer) result }
     ensures nearer { turns_left result < turns_left (State.Installing installing answer) }
     ensures counted { calls_left result < calls_left (State.Installing installing answer) }
 {

@@ -29,7 +29,7 @@ pub(crate) fn load<T: Tools, F: Folder>(
     ensures turns { Turns
         (moment (F.admits folder.old) (F.told folder.old) (F.fault_count folder.old))
         (moment (F.admits folder.new) (F.told folder.new) (F.fault_count folder.new))
-        runner.now result }
+        runner.now (State.Loading loader) result }
     ensures nearer { turns_left result < turns_left (State.Loading loader) }
     ensures counted { calls_left result < calls_left (State.Loading loader) }
 {

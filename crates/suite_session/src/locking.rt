@@ -28,7 +28,7 @@ pub(crate) fn look<F: Folder>(
     ensures turns { Turns
         (moment (F.admits folder.old) (F.told folder.old) (F.fault_count folder.old))
         (moment (F.admits folder.new) (F.told folder.new) (F.fault_count folder.new))
-        runner.now result }
+        runner.now (State.Looking looking) result }
     ensures nearer { turns_left result < turns_left (State.Looking looking) }
     ensures counted { calls_left result < calls_left (State.Looking looking) }
 {
@@ -57,7 +57,7 @@ pub(crate) fn read<F: Folder>(alloc: Global, runner: &Runner, seen: Seen, folder
     ensures turns { Turns
         (moment (F.admits folder.old) (F.told folder.old) (F.fault_count folder.old))
         (moment (F.admits folder.new) (F.told folder.new) (F.fault_count folder.new))
-        runner.now result }
+        runner.now (State.Reading seen) result }
     ensures nearer { turns_left result < turns_left (State.Reading seen) }
     ensures counted { calls_left result < calls_left (State.Reading seen) }
 {
@@ -90,7 +90,7 @@ pub(crate) fn ask<F: Folder>(
     ensures turns { Turns
         (moment (F.admits folder.old) (F.told folder.old) (F.fault_count folder.old))
         (moment (F.admits folder.new) (F.told folder.new) (F.fault_count folder.new))
-        runner.now result }
+        runner.now (State.Asking asking) result }
     ensures nearer { turns_left result < turns_left (State.Asking asking) }
     ensures counted { calls_left result < calls_left (State.Asking asking) }
 {
@@ -113,7 +113,7 @@ pub(crate) fn claim<F: Folder>(
     ensures turns { Turns
         (moment (F.admits folder.old) (F.told folder.old) (F.fault_count folder.old))
         (moment (F.admits folder.new) (F.told folder.new) (F.fault_count folder.new))
-        runner.now result }
+        runner.now (State.Claiming judged) result }
     ensures nearer { turns_left result < turns_left (State.Claiming judged) }
     ensures counted { calls_left result < calls_left (State.Claiming judged) }
 {
@@ -136,7 +136,7 @@ pub(crate) fn confirm<F: Folder>(
     ensures turns { Turns
         (moment (F.admits folder.old) (F.told folder.old) (F.fault_count folder.old))
         (moment (F.admits folder.new) (F.told folder.new) (F.fault_count folder.new))
-        runner.now result }
+        runner.now (State.Confirming claimed) result }
     ensures nearer { turns_left result < turns_left (State.Confirming claimed) }
     ensures counted { Listed (F.told folder.new) runner.now (State.Confirming claimed) result }
 {
@@ -169,7 +169,7 @@ pub(crate) fn withdraw<F: Folder>(
     ensures turns { Turns
         (moment (F.admits folder.old) (F.told folder.old) (F.fault_count folder.old))
         (moment (F.admits folder.new) (F.told folder.new) (F.fault_count folder.new))
-        runner.now result }
+        runner.now (State.Withdrawing loser) result }
     ensures nearer { turns_left result < turns_left (State.Withdrawing loser) }
     ensures counted { calls_left result < calls_left (State.Withdrawing loser) }
 {

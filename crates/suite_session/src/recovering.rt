@@ -29,7 +29,7 @@ pub(crate) fn read_intent<F: Folder>(
     ensures turns { Turns
         (moment (F.admits folder.old) (F.told folder.old) (F.fault_count folder.old))
         (moment (F.admits folder.new) (F.told folder.new) (F.fault_count folder.new))
-        runner.now result }
+        runner.now (State.ReadingIntent keeper) result }
     ensures nearer { turns_left result < turns_left (State.ReadingIntent keeper) }
     ensures counted { calls_left result < calls_left (State.ReadingIntent keeper) }
 {
@@ -82,7 +82,7 @@ pub(crate) fn recover<F: Folder>(
     ensures turns { Turns
         (moment (F.admits folder.old) (F.told folder.old) (F.fault_count folder.old))
         (moment (F.admits folder.new) (F.told folder.new) (F.fault_count folder.new))
-        runner.now result }
+        runner.now (State.Recovering recovering) result }
     ensures nearer { turns_left result < turns_left (State.Recovering recovering) }
     ensures counted { calls_left result < calls_left (State.Recovering recovering) }
 {
@@ -107,7 +107,7 @@ fn stage_table<F: Folder>(
     ensures turns { Turns
         (moment (F.admits folder.old) (F.told folder.old) (F.fault_count folder.old))
         (moment (F.admits folder.new) (F.told folder.new) (F.fault_count folder.new))
-        runner.now result }
+        runner.now (State.Recovering recovering) result }
     ensures nearer { turns_left result < turns_left (State.Recovering recovering) }
     ensures counted { calls_left result < calls_left (State.Recovering recovering) }
 {
@@ -131,7 +131,7 @@ fn remove_intent<F: Folder>(
     ensures turns { Turns
         (moment (F.admits folder.old) (F.told folder.old) (F.fault_count folder.old))
         (moment (F.admits folder.new) (F.told folder.new) (F.fault_count folder.new))
-        runner.now result }
+        runner.now (State.Recovering recovering) result }
     ensures nearer { turns_left result < turns_left (State.Recovering recovering) }
     ensures counted { calls_left result < calls_left (State.Recovering recovering) }
 {
@@ -154,7 +154,7 @@ pub(crate) fn move_table<F: Folder>(
     ensures turns { Turns
         (moment (F.admits folder.old) (F.told folder.old) (F.fault_count folder.old))
         (moment (F.admits folder.new) (F.told folder.new) (F.fault_count folder.new))
-        runner.now result }
+        runner.now (State.Moving moving) result }
     ensures nearer { turns_left result < turns_left (State.Moving moving) }
     ensures counted { calls_left result < calls_left (State.Moving moving) }
 {

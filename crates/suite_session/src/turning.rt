@@ -50,9 +50,9 @@ fn stepped<T: Tools, F: Folder>(
     state: State,
     folder: &mut F,
 ) -> Phase
-    requires { StandsLeft
+    requires { SessionStands
         (moment (F.admits folder.old) (F.told folder.old) (F.fault_count folder.old))
-        runner state }
+        (Phase.Begun runner state) }
     ensures turns { SessionTurns
         (moment (F.admits folder.old) (F.told folder.old) (F.fault_count folder.old))
         (moment (F.admits folder.new) (F.told folder.new) (F.fault_count folder.new))
@@ -125,7 +125,7 @@ fn go_on<T: Tools, F: Folder>(alloc: Global, runner: &Runner, state: State, fold
     ensures turns { Turns
         (moment (F.admits folder.old) (F.told folder.old) (F.fault_count folder.old))
         (moment (F.admits folder.new) (F.told folder.new) (F.fault_count folder.new))
-        runner.now result }
+        runner.now state result }
     ensures nearer { turns_left result < turns_left state }
     ensures counted { CountsTo (F.told folder.new) runner.now state result }
 {
@@ -153,9 +153,9 @@ fn go_on<T: Tools, F: Folder>(alloc: Global, runner: &Runner, state: State, fold
 
 /// Gives the answer, the session's last call.
 fn answered<F: Folder>(runner: Runner, answer: Answer, folder: &mut F) -> Phase
-    requires { StandsLeft
+    requires { SessionStands
         (moment (F.admits folder.old) (F.told folder.old) (F.fault_count folder.old))
-        runner (State.Answering answer) }
+        (Phase.Begun runner (State.Answering answer)) }
     ensures turns { SessionTurns
         (moment (F.admits folder.old) (F.told folder.old) (F.fault_count folder.old))
         (moment (F.admits folder.new) (F.told folder.new) (F.fault_count folder.new))

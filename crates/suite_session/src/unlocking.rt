@@ -33,7 +33,7 @@ pub(crate) fn unlock<F: Folder>(
     ensures turns { Turns
         (moment (F.admits folder.old) (F.told folder.old) (F.fault_count folder.old))
         (moment (F.admits folder.new) (F.told folder.new) (F.fault_count folder.new))
-        runner.now result }
+        runner.now (State.Unlocking keeper answer) result }
     ensures nearer { turns_left result < turns_left (State.Unlocking keeper answer) }
     ensures counted { calls_left result < calls_left (State.Unlocking keeper answer) }
 {
@@ -59,7 +59,7 @@ fn remove_lower<F: Folder>(
     ensures turns { Turns
         (moment (F.admits folder.old) (F.told folder.old) (F.fault_count folder.old))
         (moment (F.admits folder.new) (F.told folder.new) (F.fault_count folder.new))
-        runner.now result }
+        runner.now (State.Unlocking keeper answer) result }
     ensures nearer { turns_left result < turns_left (State.Unlocking keeper answer) }
     ensures counted { calls_left result < calls_left (State.Unlocking keeper answer) }
 {
@@ -84,7 +84,7 @@ fn stage_free<F: Folder>(
     ensures turns { Turns
         (moment (F.admits folder.old) (F.told folder.old) (F.fault_count folder.old))
         (moment (F.admits folder.new) (F.told folder.new) (F.fault_count folder.new))
-        runner.now result }
+        runner.now (State.Unlocking keeper answer) result }
     ensures nearer { turns_left result < turns_left (State.Unlocking keeper answer) }
     ensures counted { calls_left result < calls_left (State.Unlocking keeper answer) }
 {
@@ -108,7 +108,7 @@ pub(crate) fn free<F: Folder>(
     ensures turns { Turns
         (moment (F.admits folder.old) (F.told folder.old) (F.fault_count folder.old))
         (moment (F.admits folder.new) (F.told folder.new) (F.fault_count folder.new))
-        runner.now result }
+        runner.now (State.Freeing freeing answer) result }
     ensures nearer { turns_left result < turns_left (State.Freeing freeing answer) }
     ensures counted { calls_left result < calls_left (State.Freeing freeing answer) }
 {

@@ -11,7 +11,7 @@ use Rattle.suite_session.specs.declared.session.Phase.{Phase}
 use Rattle.suite_session.specs.declared.session.Phase.TheVariants.{Waiting, Begun, Over}
 use Rattle.suite_session.specs.Moment.{Moment, moment}
 use Rattle.suite_session.specs.Runner.{Runner}
-use Rattle.suite_session.specs.Session.{IsWaiting, SessionStands, SessionTurns}
+use Rattle.suite_session.specs.Session.{IsWaiting, RemembersNow, SessionStands, SessionTurns}
 use Rattle.suite_session.specs.Stands.{Gives, StandsAs}
 use Rattle.whole_commands.specs.Untold.{StandsUntold}
 
@@ -22,16 +22,17 @@ waiting-stands now (Over answer) is = absurd is
 
 -- a state to which a turn led stands as no stream changed it
 stands-so : (now : Moment) (runner : Runner) (state : State) → StandsAs now runner state →
-    SessionStands now (Begun runner state)
-stands-so now runner state stands =
-    record { own = state; stands = stands; put = Ok tt; left = refl }
+    RemembersNow now runner state → SessionStands now (Begun runner state)
+stands-so now runner state stands remembers =
+    record { own = state; stands = stands; remembers = remembers; put = Ok tt; left = refl }
 
 pub turned-stands : (before now : Moment) (old new : Phase) → SessionTurns before now old new →
     SessionStands now new
 turned-stands before now (Waiting asked) (Begun runner state) turns =
-    stands-so now runner state turns.1.stands
+    stands-so now runner state turns.1.turns.stands turns.1.remembers
 turned-stands before now (Begun runner state) (Begun same next) turns = stands-so now same next
-    (subst (λ (one : Runner). StandsAs now one next) (sym turns.0) turns.1.stands)
+    (subst (λ (one : Runner). StandsAs now one next) (sym turns.0) turns.1.turns.stands)
+    (subst (λ (one : Runner). RemembersNow now one next) (sym turns.0) turns.1.remembers)
 turned-stands before now (Over answer) (Begun runner state) turns = absurd turns
 turned-stands before now old (Waiting asked) turns = tt
 turned-stands before now old (Over answer) turns = tt
@@ -84,6 +85,7 @@ untold-session : (one other : ℕ) (session : Phase)
 untold-session one other (Begun runner state) is = record {
   own = is.own;
   stands = untold-state one other runner is.own is.stands;
+  remembers = tt;
   put = is.put;
   left = is.left;
 }

@@ -8,11 +8,11 @@ use Rattle.commit_steps.specs.Outcomes.{backup_call}
 use Rattle.suite_rules.specs.Outcomes.{before_commit}
 use Rattle.suite_session.specs.declared.state.State.TheVariants.{BackingUp}
 use Rattle.suite_session.specs.Moment.{moment, commit_at}
-use Rattle.suite_session.specs.Locking.{cause_of_fault}
-use Rattle.suite_session.proofs.TurnLemmas.{turns, stops}
-use Rattle.suite_session.proofs.UnlockingTurns.{fault-stage, fault-met, fault-left, fault-plain}
+use Rattle.suite_session.proofs.TurnLemmas.{turns, faults}
+use Rattle.suite_session.proofs.CauseLemmas.{fault-outside}
 use Rattle.suite_session.proofs.LeadsLemmas.{leads-on, leads-stage, leads-failed}
-use Rattle.suite_session.proofs.CommittingTurns.{at-place, backs-on, backup-calls, backup-quiet, walks-nearer}
+use Rattle.suite_session.proofs.CommittingTurns.{at-place, backup-shows, backs-on, backup-calls, backup-quiet, walks-nearer}
+use Rattle.suite_session.proofs.MeetingLemmas.{quiet-on, leads-done, leads-ended}
 use Rattle.suite_session.proofs.CallsLemmas.{answers-fewer, backed-calls, backing-some}
 use Rattle.suite_session.proofs.committing.back_up_next.Goals as goal
 
@@ -24,13 +24,17 @@ returns-in-Ok-clause-turns g c =
     (g.F.Folder.told c.back_up_next.new.folder)
     (g.F.Folder.fault_count c.back_up_next.new.folder) in
     let shown = at-place c.args.backing c.requires.left c.in-Ok.ensures.call in
+    let done = leads-done (step_on c.args.backing) before_commit _ c.in-Ok.backing shown.1.shown in
     turns before now c.args.runner.now commit_uncalled (BacksUp c.args.backing)
     c.requires.stands.stands (token_of c.args.backing) c.requires.stands.same
     (backup_call c.args.backing shown.0) (backup-calls c.args.runner.now c.args.answer
     c.args.backing shown.0 c.requires.stands.of_change shown.2) _
     (backup-quiet c.args.backing shown.0) shown.1
     c.back_up_next.ensures.lawful c.back_up_next.ensures.faults.never_falls
-    (BackingUp c.in-Ok.backing c.args.answer)
+    (BackingUp c.args.backing c.args.answer) (BackingUp c.in-Ok.backing c.args.answer)
+    (quiet-on (backup_call c.args.backing shown.0) (backup-shows c.args.backing shown.0) shown.1.answer
+    done.0 _ _ done.1)
+    (λ met none. absurd none)
     (backs-on before now c.args.runner.now c.args.answer c.args.backing c.requires.stands shown.0
     shown.2 c.in-Ok.backing shown.1 c.in-Ok.ensures.next)
     (λ fault. fault)
@@ -52,20 +56,18 @@ returns-in-Err-clause-turns g c =
     let shown = at-place c.args.backing c.requires.left c.in-Err.ensures.call in
     let fault = c.in-Err.fault in
     let stage = leads-stage (step_on c.args.backing) Before shown.1.answer fault shown.1.shown in
-    stops before now c.args.runner.now commit_uncalled (BacksUp c.args.backing)
+    faults before now c.args.runner.now commit_uncalled (BacksUp c.args.backing)
     c.requires.stands.stands (token_of c.args.backing) c.requires.stands.same
     (backup_call c.args.backing shown.0) (backup-calls c.args.runner.now c.args.answer
     c.args.backing shown.0 c.requires.stands.of_change shown.2) _
     (backup-quiet c.args.backing shown.0) shown.1
-    c.back_up_next.ensures.lawful c.back_up_next.ensures.faults.never_falls
-    (cause_of_fault fault.stage fault.fault) c.given_up.result c.given_up.ensures
-    (fault-plain fault.stage fault.fault)
-    (fault-met now c.args.runner.now fault.stage fault.fault)
-    (fault-left now c.args.runner.now fault.stage fault.fault)
-    (ap commit_at (sym (fault-stage fault.stage fault.fault ∙ stage)))
-    (λ told. c.back_up_next.ensures.faults.failed (c.in-Err.is
-    ∙ ap Err (leads-failed (step_on c.args.backing) Before shown.1.answer fault shown.1.shown
-    told)))
+    c.back_up_next.ensures.lawful c.back_up_next.ensures.faults.never_falls (BackingUp c.args.backing c.args.answer) c.given_up.result
+    (λ met none. absurd none) fault.stage fault.fault
+    (leads-ended (step_on c.args.backing) Before _ fault shown.1.shown) c.given_up.ensures
+    (ap commit_at (sym stage))
+    (λ failed. c.back_up_next.ensures.faults.failed (c.in-Err.is ∙ ap Err
+    (leads-failed (step_on c.args.backing) Before _ fault shown.1.shown
+    (fault-outside fault.stage fault.fault failed))))
 
 pub returns-in-Ok-clause-counted : goal.returns-in-Ok-clause-counted
 returns-in-Ok-clause-counted g c =

@@ -7,14 +7,14 @@ use Rattle.suite_rules.specs.Outcomes.{after_commit}
 use Rattle.lock_steps.specs.States.{Kept}
 use Rattle.commit_steps.specs.Walks.{token_of}
 use Rattle.commit_steps.specs.Stands.{Installs}
-use Rattle.suite_session.specs.declared.state.State.TheVariants.{Unlocking}
+use Rattle.suite_session.specs.declared.state.State.TheVariants.{Installing, Unlocking}
 use Rattle.suite_session.specs.Stands.{Turns}
 use Rattle.suite_session.specs.Moment.{moment, commit_at}
-use Rattle.suite_session.specs.Locking.{cause_of_fault}
-use Rattle.suite_session.proofs.TurnLemmas.{turns, stops}
-use Rattle.suite_session.proofs.UnlockingTurns.{fault-stage, fault-met, fault-left, fault-plain}
+use Rattle.suite_session.proofs.TurnLemmas.{turns, faults}
+use Rattle.suite_session.proofs.CauseLemmas.{fault-outside}
 use Rattle.suite_session.proofs.LeadsLemmas.{leads-on, leads-stage, leads-failed}
 use Rattle.suite_session.proofs.CommittingTurns.{clears}
+use Rattle.suite_session.proofs.MeetingLemmas.{quiet-on, leads-done, leads-ended}
 use Rattle.suite_session.proofs.CallsLemmas.{answers-fewer, cleared-calls, installing-some}
 use Rattle.suite_session.proofs.committing.clear.Goals as goal
 
@@ -24,13 +24,19 @@ returns-in-Ok-clause-turns g c =
     (g.F.Folder.fault_count c.args.folder.now) in
     let now = moment (g.F.Folder.admits c.clear.new.folder) (g.F.Folder.told c.clear.new.folder)
     (g.F.Folder.fault_count c.clear.new.folder) in
-    subst (λ (kept : Kept). Turns before now c.args.runner.now (Unlocking kept c.args.answer))
+    let done = leads-done c.args.installing.change.inputs.keeper after_commit _ c.in-Ok.cleared
+    c.in-Ok.ensures.call.shown in
+    subst (λ (kept : Kept). Turns before now c.args.runner.now
+    (Installing c.args.installing c.args.answer) (Unlocking kept c.args.answer))
     (sym (c.forget.ensures ∙ c.release.ensures))
     (turns before now c.args.runner.now commit_done (Installs c.args.installing)
     c.requires.stands.stands (token_of c.args.installing) c.requires.stands.same
     (removes Intent) tt _ (λ result stood. refl) c.in-Ok.ensures.call
     c.clear.ensures.lawful c.clear.ensures.faults.never_falls
-    (Unlocking c.in-Ok.cleared c.args.answer)
+    (Installing c.args.installing c.args.answer) (Unlocking c.in-Ok.cleared c.args.answer)
+    (quiet-on (removes Intent) (λ given one met shows. shows) c.in-Ok.ensures.call.answer done.0 _ _
+    done.1)
+    (λ met none. absurd none)
     (clears before now c.args.runner.now c.args.answer c.args.installing c.requires.stands
     (removes Intent) tt _ (λ result stood. refl) c.in-Ok.ensures.call c.in-Ok.cleared
     (leads-on c.args.installing.change.inputs.keeper after_commit c.in-Ok.ensures.call.answer
@@ -46,19 +52,17 @@ returns-in-Err-clause-turns g c =
     let fault = c.in-Err.fault in
     let stage = leads-stage (c.args.installing.change.inputs.keeper) Committed
     c.in-Err.ensures.call.answer fault c.in-Err.ensures.call.shown in
-    stops before now c.args.runner.now commit_done (Installs c.args.installing)
+    faults before now c.args.runner.now commit_done (Installs c.args.installing)
     c.requires.stands.stands (token_of c.args.installing) c.requires.stands.same (removes Intent)
     tt _
     (λ result stood. refl) c.in-Err.ensures.call
-    c.clear.ensures.lawful c.clear.ensures.faults.never_falls
-    (cause_of_fault fault.stage fault.fault) c.given_up.result c.given_up.ensures
-    (fault-plain fault.stage fault.fault)
-    (fault-met now c.args.runner.now fault.stage fault.fault)
-    (fault-left now c.args.runner.now fault.stage fault.fault)
-    (ap commit_at (sym (fault-stage fault.stage fault.fault ∙ stage)))
-    (λ told. c.clear.ensures.faults.failed (c.in-Err.is
-    ∙ ap Err (leads-failed (c.args.installing.change.inputs.keeper) Committed
-    c.in-Err.ensures.call.answer fault c.in-Err.ensures.call.shown told)))
+    c.clear.ensures.lawful c.clear.ensures.faults.never_falls (Installing c.args.installing c.args.answer) c.given_up.result
+    (λ met none. absurd none) fault.stage fault.fault
+    (leads-ended c.args.installing.change.inputs.keeper Committed _ fault c.in-Err.ensures.call.shown) c.given_up.ensures
+    (ap commit_at (sym stage))
+    (λ failed. c.clear.ensures.faults.failed (c.in-Err.is ∙ ap Err
+    (leads-failed c.args.installing.change.inputs.keeper Committed _ fault c.in-Err.ensures.call.shown
+    (fault-outside fault.stage fault.fault failed))))
 
 pub returns-in-Ok-clause-counted : goal.returns-in-Ok-clause-counted
 returns-in-Ok-clause-counted g c =

@@ -8,11 +8,11 @@ use Rattle.commit_steps.specs.Outcomes.{install_call}
 use Rattle.suite_rules.specs.Outcomes.{after_commit}
 use Rattle.suite_session.specs.declared.state.State.TheVariants.{Installing}
 use Rattle.suite_session.specs.Moment.{moment, commit_at}
-use Rattle.suite_session.specs.Locking.{cause_of_fault}
-use Rattle.suite_session.proofs.TurnLemmas.{turns, stops}
-use Rattle.suite_session.proofs.UnlockingTurns.{fault-stage, fault-met, fault-left, fault-plain}
+use Rattle.suite_session.proofs.TurnLemmas.{turns, faults}
+use Rattle.suite_session.proofs.CauseLemmas.{fault-outside}
 use Rattle.suite_session.proofs.LeadsLemmas.{leads-on, leads-stage, leads-failed}
-use Rattle.suite_session.proofs.CommittingTurns.{at-place, installs-on, install-calls, install-quiet, walks-nearer}
+use Rattle.suite_session.proofs.CommittingTurns.{at-place, install-shows, installs-on, install-calls, install-quiet, walks-nearer}
+use Rattle.suite_session.proofs.MeetingLemmas.{quiet-on, leads-done, leads-ended}
 use Rattle.suite_session.proofs.CallsLemmas.{answers-fewer, installed-calls, installing-some}
 use Rattle.suite_session.proofs.committing.install_next.Goals as goal
 
@@ -24,12 +24,16 @@ returns-in-Ok-clause-turns g c =
     (g.F.Folder.told c.install_next.new.folder)
     (g.F.Folder.fault_count c.install_next.new.folder) in
     let shown = at-place c.args.installing c.requires.left c.in-Ok.ensures.call in
+    let done = leads-done (step_on c.args.installing) after_commit _ c.in-Ok.installing shown.1.shown in
     turns before now c.args.runner.now commit_done (Installs c.args.installing)
     c.requires.stands.stands (token_of c.args.installing) c.requires.stands.same
     (install_call c.args.installing shown.0) (install-calls _ c.args.installing shown.0) _
     (install-quiet c.args.installing shown.0) shown.1
     c.install_next.ensures.lawful c.install_next.ensures.faults.never_falls
-    (Installing c.in-Ok.installing c.args.answer)
+    (Installing c.args.installing c.args.answer) (Installing c.in-Ok.installing c.args.answer)
+    (quiet-on (install_call c.args.installing shown.0) (install-shows c.args.installing shown.0)
+    shown.1.answer done.0 _ _ done.1)
+    (λ met none. absurd none)
     (installs-on before now c.args.runner.now c.args.answer c.args.installing c.requires.stands
     (install_call c.args.installing shown.0) (install-calls _ c.args.installing shown.0) _
     (install-quiet c.args.installing shown.0) shown.1 c.in-Ok.installing
@@ -56,19 +60,17 @@ returns-in-Err-clause-turns g c =
     let fault = c.in-Err.fault in
     let stage = leads-stage (step_on c.args.installing) Committed shown.1.answer fault
     shown.1.shown in
-    stops before now c.args.runner.now commit_done (Installs c.args.installing)
+    faults before now c.args.runner.now commit_done (Installs c.args.installing)
     c.requires.stands.stands (token_of c.args.installing) c.requires.stands.same
     (install_call c.args.installing shown.0) (install-calls _ c.args.installing shown.0) _
     (install-quiet c.args.installing shown.0) shown.1
-    c.install_next.ensures.lawful c.install_next.ensures.faults.never_falls
-    (cause_of_fault fault.stage fault.fault) c.given_up.result c.given_up.ensures
-    (fault-plain fault.stage fault.fault)
-    (fault-met now c.args.runner.now fault.stage fault.fault)
-    (fault-left now c.args.runner.now fault.stage fault.fault)
-    (ap commit_at (sym (fault-stage fault.stage fault.fault ∙ stage)))
-    (λ told. c.install_next.ensures.faults.failed (c.in-Err.is
-    ∙ ap Err (leads-failed (step_on c.args.installing) Committed shown.1.answer fault shown.1.shown
-    told)))
+    c.install_next.ensures.lawful c.install_next.ensures.faults.never_falls (Installing c.args.installing c.args.answer) c.given_up.result
+    (λ met none. absurd none) fault.stage fault.fault
+    (leads-ended (step_on c.args.installing) Committed _ fault shown.1.shown) c.given_up.ensures
+    (ap commit_at (sym stage))
+    (λ failed. c.install_next.ensures.faults.failed (c.in-Err.is ∙ ap Err
+    (leads-failed (step_on c.args.installing) Committed _ fault shown.1.shown
+    (fault-outside fault.stage fault.fault failed))))
 
 pub returns-in-Ok-clause-counted : goal.returns-in-Ok-clause-counted
 returns-in-Ok-clause-counted g c =

@@ -8,13 +8,13 @@ use Rattle.suite_rules.specs.Outcomes.{before_commit}
 use Rattle.commit_steps.specs.States.{intended}
 use Rattle.commit_steps.specs.Walks.{token_of}
 use Rattle.commit_steps.specs.Stands.{BacksUp}
-use Rattle.suite_session.specs.declared.state.State.TheVariants.{Committing}
+use Rattle.suite_session.specs.declared.state.State.TheVariants.{BackingUp, Committing}
 use Rattle.suite_session.specs.Moment.{moment, commit_at}
-use Rattle.suite_session.specs.Locking.{cause_of_fault}
-use Rattle.suite_session.proofs.TurnLemmas.{turns, stops}
-use Rattle.suite_session.proofs.UnlockingTurns.{fault-stage, fault-met, fault-left, fault-plain}
+use Rattle.suite_session.proofs.TurnLemmas.{turns, faults}
+use Rattle.suite_session.proofs.CauseLemmas.{fault-outside}
 use Rattle.suite_session.proofs.LeadsLemmas.{leads-on, leads-stage, leads-failed}
 use Rattle.suite_session.proofs.CommittingTurns.{stages-intent}
+use Rattle.suite_session.proofs.MeetingLemmas.{quiet-on, leads-done, leads-ended}
 use Rattle.suite_session.proofs.CallsLemmas.{answers-fewer, backing-some, intended-calls}
 use Rattle.suite_session.proofs.committing.stage_intent.Goals as goal
 
@@ -25,12 +25,17 @@ returns-in-Ok-clause-turns g c =
     let now = moment (g.F.Folder.admits c.stage_intent.new.folder)
     (g.F.Folder.told c.stage_intent.new.folder)
     (g.F.Folder.fault_count c.stage_intent.new.folder) in
+    let done = leads-done c.args.backing.change before_commit _ c.in-Ok.staged
+    c.in-Ok.ensures.call.shown in
     turns before now c.args.runner.now commit_uncalled (BacksUp c.args.backing)
     c.requires.stands.stands (token_of c.args.backing) c.requires.stands.same
     (writes IntentStage (intent_text (intended c.args.backing.change))) tt _ (λ result stood. refl)
     c.in-Ok.ensures.call
     c.stage_intent.ensures.lawful c.stage_intent.ensures.faults.never_falls
-    (Committing c.in-Ok.staged c.args.answer)
+    (BackingUp c.args.backing c.args.answer) (Committing c.in-Ok.staged c.args.answer)
+    (quiet-on (writes IntentStage (intent_text (intended c.args.backing.change)))
+    (λ given one met shows. shows) c.in-Ok.ensures.call.answer done.0 _ _ done.1)
+    (λ met none. absurd none)
     (stages-intent before now c.args.runner.now c.args.answer c.args.backing c.requires.stands
     (writes IntentStage (intent_text (intended c.args.backing.change))) tt (λ result stood. refl)
     c.in-Ok.staged c.in-Ok.ensures.call c.in-Ok.ensures.next)
@@ -46,19 +51,17 @@ returns-in-Err-clause-turns g c =
     let fault = c.in-Err.fault in
     let stage = leads-stage (c.args.backing.change) Before c.in-Err.ensures.call.answer fault
     c.in-Err.ensures.call.shown in
-    stops before now c.args.runner.now commit_uncalled (BacksUp c.args.backing)
+    faults before now c.args.runner.now commit_uncalled (BacksUp c.args.backing)
     c.requires.stands.stands (token_of c.args.backing) c.requires.stands.same
     (writes IntentStage (intent_text (intended c.args.backing.change))) tt _
     (λ result stood. refl) c.in-Err.ensures.call
-    c.stage_intent.ensures.lawful c.stage_intent.ensures.faults.never_falls
-    (cause_of_fault fault.stage fault.fault) c.given_up.result c.given_up.ensures
-    (fault-plain fault.stage fault.fault)
-    (fault-met now c.args.runner.now fault.stage fault.fault)
-    (fault-left now c.args.runner.now fault.stage fault.fault)
-    (ap commit_at (sym (fault-stage fault.stage fault.fault ∙ stage)))
-    (λ told. c.stage_intent.ensures.faults.failed (c.in-Err.is
-    ∙ ap Err (leads-failed (c.args.backing.change) Before c.in-Err.ensures.call.answer fault
-    c.in-Err.ensures.call.shown told)))
+    c.stage_intent.ensures.lawful c.stage_intent.ensures.faults.never_falls (BackingUp c.args.backing c.args.answer) c.given_up.result
+    (λ met none. absurd none) fault.stage fault.fault
+    (leads-ended c.args.backing.change Before _ fault c.in-Err.ensures.call.shown) c.given_up.ensures
+    (ap commit_at (sym stage))
+    (λ failed. c.stage_intent.ensures.faults.failed (c.in-Err.is ∙ ap Err
+    (leads-failed c.args.backing.change Before _ fault c.in-Err.ensures.call.shown
+    (fault-outside fault.stage fault.fault failed))))
 
 pub returns-in-Ok-clause-counted : goal.returns-in-Ok-clause-counted
 returns-in-Ok-clause-counted g c =

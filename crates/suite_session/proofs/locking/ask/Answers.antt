@@ -1,13 +1,16 @@
 use Rattle.std.proofs.Common.{refl, sym, ap, ◌∙◌, Err, arith, rules}
-use Rattle.suite_session.specs.declared.state.State.TheVariants.{Claiming}
+use Rattle.suite_session.specs.declared.state.State.TheVariants.{Asking, Claiming}
 use Rattle.acct_outside.specs.Calls.{asks}
 use Rattle.suite_rules.specs.Standing.{commit_uncalled}
 use Rattle.lock_steps.specs.Stands.{HasReadHeld, HasJudged}
 use Rattle.suite_session.specs.Moment.{moment, commit_at}
 use Rattle.suite_session.proofs.MetLemmas.{ask-met}
-use Rattle.suite_session.proofs.TurnLemmas.{got, unkept-left, goes-on, turns, stops}
+use Rattle.suite_session.proofs.TurnLemmas.{ended, got, unkept-left, goes-on, turns, stops}
 use Rattle.suite_session.proofs.LeavingLemmas.{ask-unkept}
 use Rattle.suite_session.proofs.LockingLemmas.{end-plain, end-stage, end-failed, asks-token}
+use Rattle.suite_session.proofs.MeetingLemmas.{ask-on, ask-ends}
+use Rattle.suite_session.specs.Locking.{cause_of_end}
+use Rattle.acct_outside.specs.declared.CommitStage.TheVariants.{Before}
 use Rattle.suite_session.proofs.CallsLemmas.{answers-fewer}
 use Rattle.suite_session.proofs.locking.ask.Goals as goal
 
@@ -19,12 +22,16 @@ returns-in-Ok-clause-turns g c =
     (g.F.Folder.fault_count c.ask.new.folder) in
     turns before now c.args.runner.now commit_uncalled (HasReadHeld c.args.asking) c.requires.1
     c.args.asking.token c.requires.0 (asks c.args.asking.asked) tt _ (λ result stood. refl)
-    c.ask.ensures.call
-    c.ask.ensures.lawful c.ask.ensures.faults.never_falls (Claiming c.in-Ok.judged) (
+    c.in-Ok.ensures.call
+    c.ask.ensures.lawful c.ask.ensures.faults.never_falls
+    (Asking c.args.asking) (Claiming c.in-Ok.judged)
+    (ask-on c.args.runner.now.asked.request.tool (Claiming c.in-Ok.judged) c.args.asking c.in-Ok.ensures.call.answer c.in-Ok.judged
+    c.in-Ok.ensures.call.shown)
+    (λ met none. absurd none) (
       asks-token _ _ _ c.in-Ok.ensures.call.shown ∙ c.requires.0,
       goes-on before now c.args.runner.now commit_uncalled (HasReadHeld c.args.asking) c.requires.1
           c.args.asking.token c.requires.0 (asks c.args.asking.asked) tt _ (λ result stood. refl)
-          c.ask.ensures.call
+          c.in-Ok.ensures.call
           (HasJudged c.in-Ok.judged) c.in-Ok.ensures.next,
     )
     (λ fault. fault)
@@ -37,14 +44,21 @@ returns-in-Err-clause-turns g c =
     (g.F.Folder.fault_count c.ask.new.folder) in
     stops before now c.args.runner.now commit_uncalled (HasReadHeld c.args.asking) c.requires.1
     c.args.asking.token c.requires.0 (asks c.args.asking.asked) tt _ (λ result stood. refl)
-    c.ask.ensures.call
-    c.ask.ensures.lawful c.ask.ensures.faults.never_falls _ c.stopped.result
-    c.stopped.ensures (end-plain c.in-Err.end)
+    c.in-Err.ensures.call
+    c.ask.ensures.lawful c.ask.ensures.faults.never_falls
+    (Asking c.args.asking) c.stopped.result
+    (ask-ends c.args.runner.now.asked.request.tool c.stopped.result c.args.asking c.in-Err.ensures.call.answer
+    c.in-Err.end c.in-Err.ensures.call.shown c.stopped.ensures)
+    (λ met none. absurd none)
+    (cause_of_end c.in-Err.end) c.stopped.ensures (end-plain c.in-Err.end)
     (ask-met c.args.runner.now.token now.told c.args.asking c.in-Err.ensures.call.answer c.in-Err.end
-    c.in-Err.ensures.call.shown
+    c.requires.2 c.in-Err.ensures.call.shown
     (got before now c.args.runner.now commit_uncalled (HasReadHeld c.args.asking) c.requires.1
     c.args.asking.token c.requires.0 (asks c.args.asking.asked) tt _ (λ result stood. refl)
-    c.in-Err.ensures.call))
+    c.in-Err.ensures.call)
+    (ended before now c.args.runner.now commit_uncalled (HasReadHeld c.args.asking) c.requires.1
+    c.args.asking.token c.requires.0 (asks c.args.asking.asked) tt _ (λ result stood. refl)
+    c.in-Err.ensures.call Before))
     (unkept-left before now c.args.runner.now commit_uncalled (HasReadHeld c.args.asking)
     c.requires.1 c.args.asking.token c.requires.0 (asks c.args.asking.asked) tt _ (λ result stood. refl)
     c.in-Err.ensures.call _ (end-plain c.in-Err.end)

@@ -1,13 +1,16 @@
 use Rattle.std.proofs.Common.{refl, sym, ap, ◌∙◌, ◌+◌, Err, arith, rules}
-use Rattle.suite_session.specs.declared.state.State.TheVariants.{Confirming}
+use Rattle.suite_session.specs.declared.state.State.TheVariants.{Claiming, Confirming}
 use Rattle.acct_outside.specs.Calls.{creates}
 use Rattle.suite_rules.specs.Standing.{commit_uncalled}
 use Rattle.lock_steps.specs.Stands.{HasMade, HasJudged}
 use Rattle.suite_session.specs.Moment.{moment, commit_at}
 use Rattle.suite_session.proofs.MetLemmas.{claim-met}
-use Rattle.suite_session.proofs.TurnLemmas.{got, unkept-left, goes-on, turns, stops}
+use Rattle.suite_session.proofs.TurnLemmas.{ended, got, unkept-left, goes-on, turns, stops}
 use Rattle.suite_session.proofs.LeavingLemmas.{claim-unkept}
 use Rattle.suite_session.proofs.LockingLemmas.{end-plain, end-stage, end-failed, claims-token}
+use Rattle.suite_session.proofs.MeetingLemmas.{claim-on, claim-ends}
+use Rattle.suite_session.specs.Locking.{cause_of_end}
+use Rattle.acct_outside.specs.declared.CommitStage.TheVariants.{Before}
 use Rattle.suite_session.proofs.CallsLemmas.{answers-fewer}
 use Rattle.suite_session.proofs.locking.claim.Goals as goal
 
@@ -19,12 +22,16 @@ returns-in-Ok-clause-turns g c =
     (g.F.Folder.fault_count c.claim.new.folder) in
     turns before now c.args.runner.now commit_uncalled (HasJudged c.args.judged) c.requires.1
     c.args.judged.token c.requires.0 (creates (c.args.judged.greatest + 1)) tt _ (λ result stood. refl)
-    c.claim.ensures.call
-    c.claim.ensures.lawful c.claim.ensures.faults.never_falls (Confirming c.in-Ok.claimed) (
+    c.in-Ok.ensures.call
+    c.claim.ensures.lawful c.claim.ensures.faults.never_falls
+    (Claiming c.args.judged) (Confirming c.in-Ok.claimed)
+    (claim-on c.args.runner.now.asked.request.tool (Confirming c.in-Ok.claimed) c.args.judged c.in-Ok.ensures.call.answer c.in-Ok.claimed
+    c.in-Ok.ensures.call.shown)
+    (λ met none. absurd none) (
       claims-token _ _ _ c.in-Ok.ensures.call.shown ∙ c.requires.0,
       goes-on before now c.args.runner.now commit_uncalled (HasJudged c.args.judged) c.requires.1
           c.args.judged.token c.requires.0 (creates (c.args.judged.greatest + 1)) tt _ (λ result stood. refl)
-          c.claim.ensures.call
+          c.in-Ok.ensures.call
           (HasMade c.in-Ok.claimed) c.in-Ok.ensures.next,
     )
     (λ fault. fault)
@@ -37,14 +44,21 @@ returns-in-Err-clause-turns g c =
     (g.F.Folder.fault_count c.claim.new.folder) in
     stops before now c.args.runner.now commit_uncalled (HasJudged c.args.judged) c.requires.1
     c.args.judged.token c.requires.0 (creates (c.args.judged.greatest + 1)) tt _ (λ result stood. refl)
-    c.claim.ensures.call
-    c.claim.ensures.lawful c.claim.ensures.faults.never_falls _ c.stopped.result
-    c.stopped.ensures (end-plain c.in-Err.end)
+    c.in-Err.ensures.call
+    c.claim.ensures.lawful c.claim.ensures.faults.never_falls
+    (Claiming c.args.judged) c.stopped.result
+    (claim-ends c.args.runner.now.asked.request.tool c.stopped.result c.args.judged c.in-Err.ensures.call.answer
+    c.in-Err.end c.in-Err.ensures.call.shown c.stopped.ensures)
+    (λ met none. absurd none)
+    (cause_of_end c.in-Err.end) c.stopped.ensures (end-plain c.in-Err.end)
     (claim-met c.args.runner.now.token now.told c.args.judged c.in-Err.ensures.call.answer c.in-Err.end
     c.in-Err.ensures.call.shown
     (got before now c.args.runner.now commit_uncalled (HasJudged c.args.judged) c.requires.1
     c.args.judged.token c.requires.0 (creates (c.args.judged.greatest + 1)) tt _ (λ result stood. refl)
-    c.in-Err.ensures.call))
+    c.in-Err.ensures.call)
+    (ended before now c.args.runner.now commit_uncalled (HasJudged c.args.judged) c.requires.1
+    c.args.judged.token c.requires.0 (creates (c.args.judged.greatest + 1)) tt _ (λ result stood. refl)
+    c.in-Err.ensures.call Before))
     (unkept-left before now c.args.runner.now commit_uncalled (HasJudged c.args.judged) c.requires.1
     c.args.judged.token c.requires.0 (creates (c.args.judged.greatest + 1)) tt _
     (λ result stood. refl) c.in-Err.ensures.call _ (end-plain c.in-Err.end)

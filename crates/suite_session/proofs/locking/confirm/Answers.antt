@@ -4,10 +4,14 @@ use Rattle.suite_rules.specs.Standing.{commit_uncalled}
 use Rattle.lock_steps.specs.Stands.{HasMade}
 use Rattle.suite_session.specs.Moment.{moment, commit_at}
 use Rattle.suite_session.proofs.MetLemmas.{confirm-met}
-use Rattle.suite_session.proofs.TurnLemmas.{got, unkept-left, turns, stops}
+use Rattle.suite_session.proofs.TurnLemmas.{ended, got, unkept-left, turns, stops}
 use Rattle.suite_session.proofs.LeavingLemmas.{confirm-unkept}
 use Rattle.suite_session.proofs.LockingLemmas.{end-plain, end-stage, end-failed}
 use Rattle.suite_session.proofs.LockingTurns.{confirm-stands, confirm-quiet}
+use Rattle.suite_session.proofs.MeetingLemmas.{confirm-on, confirm-ends}
+use Rattle.suite_session.specs.Locking.{cause_of_end}
+use Rattle.acct_outside.specs.declared.CommitStage.TheVariants.{Before}
+use Rattle.suite_session.specs.declared.state.State.TheVariants.{Confirming}
 use Rattle.suite_session.proofs.CallsLemmas.{answers-listed, listing-calls}
 use Rattle.suite_session.proofs.locking.confirm.Goals as goal
 
@@ -20,8 +24,12 @@ returns-in-Ok-clause-turns g c =
     rw c.after_listing.ensures
     (turns before now c.args.runner.now commit_uncalled (HasMade c.args.claimed) c.requires.1
     c.args.claimed.token c.requires.0 (lists) tt _ (λ result stood. refl)
-    c.confirm.ensures.call
-    c.confirm.ensures.lawful c.confirm.ensures.faults.never_falls _
+    c.in-Ok.ensures.call
+    c.confirm.ensures.lawful c.confirm.ensures.faults.never_falls
+    (Confirming c.args.claimed) _
+    (confirm-on c.args.claimed c.in-Ok.ensures.call.answer c.in-Ok.confirmed
+    c.in-Ok.ensures.call.shown)
+    (λ met none. absurd none)
     (confirm-stands before now c.args.runner.now c.args.claimed c.requires.1 c.requires.0
     c.in-Ok.confirmed c.in-Ok.ensures.call c.in-Ok.ensures.next)
     (confirm-quiet c.in-Ok.confirmed))
@@ -34,14 +42,21 @@ returns-in-Err-clause-turns g c =
     (g.F.Folder.fault_count c.confirm.new.folder) in
     stops before now c.args.runner.now commit_uncalled (HasMade c.args.claimed) c.requires.1
     c.args.claimed.token c.requires.0 (lists) tt _ (λ result stood. refl)
-    c.confirm.ensures.call
-    c.confirm.ensures.lawful c.confirm.ensures.faults.never_falls _ c.stopped.result
-    c.stopped.ensures (end-plain c.in-Err.end)
+    c.in-Err.ensures.call
+    c.confirm.ensures.lawful c.confirm.ensures.faults.never_falls
+    (Confirming c.args.claimed) c.stopped.result
+    (confirm-ends c.args.runner.now.asked.request.tool c.stopped.result c.args.claimed c.in-Err.ensures.call.answer
+    c.in-Err.end c.in-Err.ensures.call.shown c.stopped.ensures)
+    (λ met none. absurd none)
+    (cause_of_end c.in-Err.end) c.stopped.ensures (end-plain c.in-Err.end)
     (confirm-met c.args.runner.now.token now.told c.args.claimed c.in-Err.ensures.call.answer c.in-Err.end
     c.in-Err.ensures.call.shown
     (got before now c.args.runner.now commit_uncalled (HasMade c.args.claimed) c.requires.1
     c.args.claimed.token c.requires.0 (lists) tt _ (λ result stood. refl)
-    c.in-Err.ensures.call))
+    c.in-Err.ensures.call)
+    (ended before now c.args.runner.now commit_uncalled (HasMade c.args.claimed) c.requires.1
+    c.args.claimed.token c.requires.0 (lists) tt _ (λ result stood. refl)
+    c.in-Err.ensures.call Before))
     (unkept-left before now c.args.runner.now commit_uncalled (HasMade c.args.claimed) c.requires.1
     c.args.claimed.token c.requires.0 (lists) tt _ (λ result stood. refl)
     c.in-Err.ensures.call _ (end-plain c.in-Err.end)

@@ -1,13 +1,17 @@
 use Rattle.std.proofs.Common.{refl, sym, ap, ◌∙◌, Err, arith, rules}
 use Rattle.acct_outside.specs.Calls.{lists}
 use Rattle.suite_rules.specs.Standing.{commit_uncalled}
-use Rattle.lock_steps.specs.Stands.{HasNoLock}
+use Rattle.suite_session.specs.Causes.{HasListedNone}
 use Rattle.suite_session.specs.Moment.{moment, commit_at}
 use Rattle.suite_session.proofs.MetLemmas.{look-met}
-use Rattle.suite_session.proofs.TurnLemmas.{got, unkept-left, turns, stops}
+use Rattle.suite_session.proofs.TurnLemmas.{ended, got, unkept-left, turns, stops}
 use Rattle.suite_session.proofs.LeavingLemmas.{look-unkept}
 use Rattle.suite_session.proofs.LockingLemmas.{end-plain, end-stage, end-failed}
 use Rattle.suite_session.proofs.LockingTurns.{look-stands, look-quiet}
+use Rattle.suite_session.proofs.MeetingLemmas.{look-on, look-ends}
+use Rattle.suite_session.specs.Locking.{cause_of_end}
+use Rattle.acct_outside.specs.declared.CommitStage.TheVariants.{Before}
+use Rattle.suite_session.specs.declared.state.State.TheVariants.{Looking}
 use Rattle.suite_session.proofs.CallsLemmas.{answers-fewer, look-calls}
 use Rattle.suite_session.proofs.locking.look.Goals as goal
 
@@ -18,10 +22,14 @@ returns-in-Ok-clause-turns g c =
     let now = moment (g.F.Folder.admits c.look.new.folder) (g.F.Folder.told c.look.new.folder)
     (g.F.Folder.fault_count c.look.new.folder) in
     rw c.after_look.ensures
-    (turns before now c.args.runner.now commit_uncalled (HasNoLock) c.requires.1
+    (turns before now c.args.runner.now commit_uncalled (HasListedNone) c.requires.1
     c.args.looking c.requires.0 (lists) tt _ (λ result stood. refl)
-    c.look.ensures.call
-    c.look.ensures.lawful c.look.ensures.faults.never_falls _
+    c.in-Ok.ensures.call
+    c.look.ensures.lawful c.look.ensures.faults.never_falls
+    (Looking c.args.looking) _
+    (look-on c.args.runner.now.asked.request.tool _ c.args.looking c.in-Ok.ensures.call.answer c.in-Ok.seen
+    c.in-Ok.ensures.call.shown)
+    (λ met none. absurd none)
     (look-stands before now c.args.runner.now c.args.looking c.requires.1 c.requires.0
     c.in-Ok.seen c.in-Ok.ensures.call c.in-Ok.ensures.next)
     (look-quiet c.in-Ok.seen))
@@ -32,17 +40,24 @@ returns-in-Err-clause-turns g c =
     (g.F.Folder.fault_count c.args.folder.now) in
     let now = moment (g.F.Folder.admits c.look.new.folder) (g.F.Folder.told c.look.new.folder)
     (g.F.Folder.fault_count c.look.new.folder) in
-    stops before now c.args.runner.now commit_uncalled (HasNoLock) c.requires.1
+    stops before now c.args.runner.now commit_uncalled (HasListedNone) c.requires.1
     c.args.looking c.requires.0 (lists) tt _ (λ result stood. refl)
-    c.look.ensures.call
-    c.look.ensures.lawful c.look.ensures.faults.never_falls _ c.stopped.result
-    c.stopped.ensures (end-plain c.in-Err.end)
+    c.in-Err.ensures.call
+    c.look.ensures.lawful c.look.ensures.faults.never_falls
+    (Looking c.args.looking) c.stopped.result
+    (look-ends c.args.runner.now.asked.request.tool c.stopped.result c.args.looking c.in-Err.ensures.call.answer
+    c.in-Err.end c.in-Err.ensures.call.shown c.stopped.ensures)
+    (λ met none. absurd none)
+    (cause_of_end c.in-Err.end) c.stopped.ensures (end-plain c.in-Err.end)
     (look-met c.args.runner.now.token now.told c.args.looking c.in-Err.ensures.call.answer c.in-Err.end
     c.in-Err.ensures.call.shown
-    (got before now c.args.runner.now commit_uncalled (HasNoLock) c.requires.1
+    (got before now c.args.runner.now commit_uncalled (HasListedNone) c.requires.1
     c.args.looking c.requires.0 (lists) tt _ (λ result stood. refl)
-    c.in-Err.ensures.call))
-    (unkept-left before now c.args.runner.now commit_uncalled (HasNoLock) c.requires.1
+    c.in-Err.ensures.call)
+    (ended before now c.args.runner.now commit_uncalled (HasListedNone) c.requires.1
+    c.args.looking c.requires.0 (lists) tt _ (λ result stood. refl)
+    c.in-Err.ensures.call Before))
+    (unkept-left before now c.args.runner.now commit_uncalled (HasListedNone) c.requires.1
     c.args.looking c.requires.0 (lists) tt _ (λ result stood. refl)
     c.in-Err.ensures.call _ (end-plain c.in-Err.end)
     (look-unkept c.args.looking c.in-Err.ensures.call.answer c.in-Err.end

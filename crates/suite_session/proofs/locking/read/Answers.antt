@@ -5,10 +5,14 @@ use Rattle.suite_rules.specs.Standing.{commit_uncalled}
 use Rattle.lock_steps.specs.Stands.{HasLooked}
 use Rattle.suite_session.specs.Moment.{moment, commit_at}
 use Rattle.suite_session.proofs.MetLemmas.{read-met}
-use Rattle.suite_session.proofs.TurnLemmas.{got, unkept-left, turns, stops}
+use Rattle.suite_session.proofs.TurnLemmas.{ended, got, unkept-left, turns, stops}
 use Rattle.suite_session.proofs.LeavingLemmas.{read-unkept}
 use Rattle.suite_session.proofs.LockingLemmas.{end-plain, end-stage, end-failed}
 use Rattle.suite_session.proofs.LockingTurns.{read-stands, read-quiet}
+use Rattle.suite_session.proofs.MeetingLemmas.{read-on, read-ends}
+use Rattle.suite_session.specs.Locking.{cause_of_end}
+use Rattle.acct_outside.specs.declared.CommitStage.TheVariants.{Before}
+use Rattle.suite_session.specs.declared.state.State.TheVariants.{Reading}
 use Rattle.suite_session.proofs.CallsLemmas.{answers-fewer, read-calls}
 use Rattle.suite_session.proofs.locking.read.Goals as goal
 
@@ -21,9 +25,14 @@ returns-in-Ok-clause-turns g c =
     rw c.after_read.ensures
     (turns before now c.args.runner.now commit_uncalled (HasLooked c.args.seen) c.requires.2
     c.args.seen.token c.requires.0 (reads (Lock c.args.seen.greatest)) tt _ (λ result stood. refl)
-    c.read.ensures.call
-    c.read.ensures.lawful c.read.ensures.faults.never_falls _
-    (read-stands before now c.args.runner.now c.args.seen c.requires.2 c.requires.0 c.in-Ok.told
+    c.in-Ok.ensures.call
+    c.read.ensures.lawful c.read.ensures.faults.never_falls
+    (Reading c.args.seen) _
+    (read-on c.args.runner.now.asked.request.tool _ c.args.seen c.in-Ok.ensures.call.answer c.in-Ok.told
+    c.in-Ok.ensures.call.shown)
+    (λ met none. absurd none)
+    (read-stands before now c.args.runner.now c.args.seen c.requires.2 c.requires.0 c.requires.3
+    c.in-Ok.told
     c.in-Ok.ensures.call c.in-Ok.ensures.next) (read-quiet c.in-Ok.told))
 
 pub returns-in-Err-clause-turns : goal.returns-in-Err-clause-turns
@@ -34,14 +43,21 @@ returns-in-Err-clause-turns g c =
     (g.F.Folder.fault_count c.read.new.folder) in
     stops before now c.args.runner.now commit_uncalled (HasLooked c.args.seen) c.requires.2
     c.args.seen.token c.requires.0 (reads (Lock c.args.seen.greatest)) tt _ (λ result stood. refl)
-    c.read.ensures.call
-    c.read.ensures.lawful c.read.ensures.faults.never_falls _ c.stopped.result
-    c.stopped.ensures (end-plain c.in-Err.end)
+    c.in-Err.ensures.call
+    c.read.ensures.lawful c.read.ensures.faults.never_falls
+    (Reading c.args.seen) c.stopped.result
+    (read-ends c.args.runner.now.asked.request.tool c.stopped.result c.args.seen c.in-Err.ensures.call.answer
+    c.in-Err.end c.in-Err.ensures.call.shown c.stopped.ensures)
+    (λ met none. absurd none)
+    (cause_of_end c.in-Err.end) c.stopped.ensures (end-plain c.in-Err.end)
     (read-met c.args.runner.now.token now.told c.args.seen c.in-Err.ensures.call.answer c.in-Err.end
-    c.requires.1 c.in-Err.ensures.call.shown
+    c.requires.1 c.requires.3 c.in-Err.ensures.call.shown
     (got before now c.args.runner.now commit_uncalled (HasLooked c.args.seen) c.requires.2
     c.args.seen.token c.requires.0 (reads (Lock c.args.seen.greatest)) tt _ (λ result stood. refl)
-    c.in-Err.ensures.call))
+    c.in-Err.ensures.call)
+    (ended before now c.args.runner.now commit_uncalled (HasLooked c.args.seen) c.requires.2
+    c.args.seen.token c.requires.0 (reads (Lock c.args.seen.greatest)) tt _ (λ result stood. refl)
+    c.in-Err.ensures.call Before))
     (unkept-left before now c.args.runner.now commit_uncalled (HasLooked c.args.seen) c.requires.2
     c.args.seen.token c.requires.0 (reads (Lock c.args.seen.greatest)) tt _ (λ result stood. refl)
     c.in-Err.ensures.call _ (end-plain c.in-Err.end)

@@ -5,9 +5,13 @@ use Rattle.suite_rules.specs.Standing.{commit_uncalled}
 use Rattle.lock_steps.specs.Stands.{WasOvertaken}
 use Rattle.suite_session.specs.Moment.{moment, commit_at}
 use Rattle.suite_session.proofs.MetLemmas.{withdraw-met}
-use Rattle.suite_session.proofs.TurnLemmas.{got, unkept-left, stops}
+use Rattle.suite_session.proofs.TurnLemmas.{ended, got, unkept-left, stops}
 use Rattle.suite_session.proofs.LeavingLemmas.{withdraw-unkept}
 use Rattle.suite_session.proofs.LockingLemmas.{end-plain, end-stage, end-failed}
+use Rattle.suite_session.proofs.MeetingLemmas.{withdraw-ends, withdraw-told}
+use Rattle.suite_session.specs.Locking.{cause_of_end}
+use Rattle.acct_outside.specs.declared.CommitStage.TheVariants.{Before}
+use Rattle.suite_session.specs.declared.state.State.TheVariants.{Withdrawing}
 use Rattle.suite_session.proofs.CallsLemmas.{answers-fewer}
 use Rattle.suite_session.proofs.locking.withdraw.Goals as goal
 
@@ -20,13 +24,21 @@ returns-clause-turns g c =
     stops before now c.args.runner.now commit_uncalled (WasOvertaken c.args.loser) c.requires.2
     c.args.loser.token c.requires.0 (removes (Lock c.args.loser.number)) tt _ (λ result stood. refl)
     c.withdraw.ensures.call
-    c.withdraw.ensures.lawful c.withdraw.ensures.faults.never_falls _ c.stopped.result
-    c.stopped.ensures (end-plain c.withdraw.result)
+    c.withdraw.ensures.lawful c.withdraw.ensures.faults.never_falls
+    (Withdrawing c.args.loser) c.stopped.result
+    (withdraw-ends c.args.runner.now.asked.request.tool c.stopped.result c.args.loser c.withdraw.ensures.call.answer
+    c.withdraw.result c.withdraw.ensures.call.shown c.stopped.ensures)
+    (withdraw-told c.args.runner.now.asked.request.tool c.stopped.result c.args.loser c.withdraw.ensures.call.answer
+    c.withdraw.result c.withdraw.ensures.call.shown c.stopped.ensures)
+    (cause_of_end c.withdraw.result) c.stopped.ensures (end-plain c.withdraw.result)
     (withdraw-met c.args.runner.now.token now.told c.args.loser c.withdraw.ensures.call.answer
     c.withdraw.result c.requires.1 c.withdraw.ensures.call.shown
     (got before now c.args.runner.now commit_uncalled (WasOvertaken c.args.loser) c.requires.2
     c.args.loser.token c.requires.0 (removes (Lock c.args.loser.number)) tt _ (λ result stood. refl)
-    c.withdraw.ensures.call))
+    c.withdraw.ensures.call)
+    (ended before now c.args.runner.now commit_uncalled (WasOvertaken c.args.loser) c.requires.2
+    c.args.loser.token c.requires.0 (removes (Lock c.args.loser.number)) tt _ (λ result stood. refl)
+    c.withdraw.ensures.call Before))
     (unkept-left before now c.args.runner.now commit_uncalled (WasOvertaken c.args.loser)
     c.requires.2 c.args.loser.token c.requires.0 (removes (Lock c.args.loser.number)) tt _
     (λ result stood. refl) c.withdraw.ensures.call _ (end-plain c.withdraw.result)

@@ -1,16 +1,16 @@
 use Rattle.std.proofs.Common.{refl, sym, ap, ◌∙◌, Err}
 use Rattle.suite_rules.specs.Standing.{commit_uncalled}
-use Rattle.suite_rules.specs.Outcomes.{installs}
+use Rattle.suite_rules.specs.Outcomes.{installs, before_commit}
 use Rattle.recovery.specs.States.{Recoverer, moved_once}
 use Rattle.recovery.specs.Stands.{Recovers, HasStagedNext}
-use Rattle.suite_session.specs.declared.state.State.TheVariants.{Recovering}
+use Rattle.suite_session.specs.declared.state.State.TheVariants.{Moving, Recovering}
 use Rattle.suite_session.specs.Moment.{moment, commit_at}
-use Rattle.suite_session.proofs.TurnLemmas.{may-step, goes-on, turns, stops}
-use Rattle.suite_session.proofs.UnlockingTurns.{fault-stage, fault-met, fault-left, fault-plain}
+use Rattle.suite_session.proofs.TurnLemmas.{may-step, goes-on, turns, faults}
+use Rattle.suite_session.proofs.CauseLemmas.{fault-outside}
 use Rattle.suite_session.proofs.RecoveringTurns.{some-next}
 use Rattle.suite_session.proofs.LeadsLemmas.{leads-on, leads-stage, leads-failed}
-use Rattle.suite_rules.specs.Outcomes.{before_commit}
 use Rattle.acct_outside.specs.declared.CommitStage.TheVariants.{Before}
+use Rattle.suite_session.proofs.MeetingLemmas.{quiet-on, leads-done, leads-ended}
 use Rattle.suite_session.proofs.CallsLemmas.{answers-fewer, moved-calls, moving-some}
 use Rattle.suite_session.proofs.recovering.move_table.Goals as goal
 
@@ -30,10 +30,14 @@ returns-in-Ok-clause-turns g c =
     (g.F.Folder.fault_count c.move_next.new.folder) in
     let shown = some-next c.args.moving.left c.requires.1 c.in-Ok.ensures.call in
     let is = leads-on (moved_once c.args.moving) before_commit _ c.in-Ok.recovering shown.1.shown in
+    let done = leads-done (moved_once c.args.moving) before_commit _ c.in-Ok.recovering shown.1.shown in
     turns before now c.args.runner.now commit_uncalled (HasStagedNext c.args.moving) c.requires.2
     c.args.moving.keeper.token c.requires.0 (installs shown.0) tt _ (λ result stood. refl) shown.1
-    c.move_next.ensures.lawful c.move_next.ensures.faults.never_falls
-    (Recovering c.in-Ok.recovering) (
+    c.move_next.ensures.lawful c.move_next.ensures.faults.never_falls (Moving c.args.moving)
+    (Recovering c.in-Ok.recovering)
+    (quiet-on (installs shown.0) (λ given one met shows. shows) shown.1.answer done.0 _ _
+    done.1)
+    (λ met none. absurd none) (
       ap (λ (one : Recoverer). one.keeper.token) is ∙ c.requires.0,
       goes-on before now c.args.runner.now commit_uncalled (HasStagedNext c.args.moving) c.requires.2
           c.args.moving.keeper.token c.requires.0 (installs shown.0) tt _ (λ result stood. refl) shown.1
@@ -50,17 +54,15 @@ returns-in-Err-clause-turns g c =
     (g.F.Folder.fault_count c.move_next.new.folder) in
     let shown = some-next c.args.moving.left c.requires.1 c.in-Err.ensures.call in
     let fault = c.in-Err.fault in
-    stops before now c.args.runner.now commit_uncalled (HasStagedNext c.args.moving) c.requires.2
+    faults before now c.args.runner.now commit_uncalled (HasStagedNext c.args.moving) c.requires.2
     c.args.moving.keeper.token c.requires.0 (installs shown.0) tt _ (λ result stood. refl) shown.1
-    c.move_next.ensures.lawful c.move_next.ensures.faults.never_falls _ c.stopped.result
-    c.stopped.ensures (fault-plain fault.stage fault.fault)
-    (fault-met now c.args.runner.now fault.stage fault.fault)
-    (fault-left now c.args.runner.now fault.stage fault.fault)
-    (ap commit_at (sym (fault-stage fault.stage fault.fault
-    ∙ leads-stage (moved_once c.args.moving) Before _ fault shown.1.shown)))
-    (λ told. c.move_next.ensures.faults.failed
-    (c.in-Err.is ∙ ap Err (leads-failed (moved_once c.args.moving) Before _ fault shown.1.shown
-    told)))
+    c.move_next.ensures.lawful c.move_next.ensures.faults.never_falls (Moving c.args.moving) c.stopped.result
+    (λ met none. absurd none) fault.stage fault.fault
+    (leads-ended (moved_once c.args.moving) Before _ fault shown.1.shown) c.stopped.ensures
+    (ap commit_at (sym (leads-stage (moved_once c.args.moving) Before _ fault shown.1.shown)))
+    (λ failed. c.move_next.ensures.faults.failed (c.in-Err.is ∙ ap Err
+    (leads-failed (moved_once c.args.moving) Before _ fault shown.1.shown
+    (fault-outside fault.stage fault.fault failed))))
 
 pub returns-in-Ok-clause-counted : goal.returns-in-Ok-clause-counted
 returns-in-Ok-clause-counted g c =

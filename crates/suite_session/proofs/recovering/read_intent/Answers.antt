@@ -4,8 +4,10 @@ use Rattle.acct_outside.specs.Calls.{reads}
 use Rattle.suite_rules.specs.Standing.{commit_uncalled}
 use Rattle.lock_steps.specs.Stands.{Keeps, KnowsAnything}
 use Rattle.suite_session.specs.Moment.{moment}
-use Rattle.suite_session.proofs.TurnLemmas.{may-step, grown, turns}
+use Rattle.suite_session.proofs.TurnLemmas.{may-step, turn-made, turns}
 use Rattle.suite_session.proofs.RecoveringTurns.{seen-stands, seen-quiet, refused-stands, refused-failed}
+use Rattle.suite_session.proofs.MeetingLemmas.{intent-on, intent-ends}
+use Rattle.suite_session.specs.declared.state.State.TheVariants.{ReadingIntent}
 use Rattle.suite_session.proofs.CallsLemmas.{intent-calls, refused-calls}
 use Rattle.suite_session.proofs.recovering.read_intent.Goals as goal
 
@@ -28,8 +30,12 @@ returns-in-Ok-clause-turns g c =
     (turns before now c.args.runner.now commit_uncalled (Keeps c.args.keeper KnowsAnything)
     c.requires.1
     c.args.keeper.token c.requires.0 (reads Intent) tt _ (λ result stood. refl)
-    c.read_intent.ensures.call
-    c.read_intent.ensures.lawful c.read_intent.ensures.faults.never_falls _
+    c.in-Ok.ensures.call
+    c.read_intent.ensures.lawful c.read_intent.ensures.faults.never_falls
+    (ReadingIntent c.args.keeper) _
+    (intent-on c.args.runner.now.asked.request.tool _ c.args.keeper c.in-Ok.ensures.call.answer
+    c.in-Ok.seen c.in-Ok.ensures.call.shown)
+    (λ met none. absurd none)
     (seen-stands before now c.args.runner.now c.args.keeper c.requires.1 c.requires.0 c.in-Ok.seen
     c.in-Ok.ensures.call c.in-Ok.ensures.next) (seen-quiet c.in-Ok.seen))
 
@@ -41,21 +47,19 @@ returns-in-Err-clause-turns g c =
     (g.F.Folder.told c.read_intent.new.folder)
     (g.F.Folder.fault_count c.read_intent.new.folder) in
     let end = c.in-Err.end in
-    record {
-      stands = refused-stands before now c.args.runner.now c.args.keeper c.requires.1 c.requires.0
-          end
-          c.refused.result c.refused.ensures c.in-Err.ensures.call c.in-Err.ensures.refused;
-      grew = grown before now c.args.runner.now commit_uncalled
-          (Keeps c.args.keeper KnowsAnything) c.requires.1
-          c.args.keeper.token c.requires.0 (reads Intent) tt _ (λ result stood. refl)
-          c.read_intent.ensures.call;
-      lawful = λ deeds ours. c.read_intent.ensures.lawful deeds;
-      narrows = c.read_intent.ensures.call.narrows;
-      never_falls = c.read_intent.ensures.faults.never_falls;
-      risen = λ told. c.read_intent.ensures.faults.failed (c.in-Err.is ∙ ap Err
-          (refused-failed _ end c.refused.result c.refused.ensures c.args.keeper _
-          c.in-Err.ensures.call.shown told));
-    }
+    turn-made before now c.args.runner.now commit_uncalled (Keeps c.args.keeper KnowsAnything)
+    c.requires.1 c.args.keeper.token c.requires.0 (reads Intent) tt _ (λ result stood. refl)
+    c.in-Err.ensures.call
+    c.read_intent.ensures.lawful c.read_intent.ensures.faults.never_falls
+    (ReadingIntent c.args.keeper) c.refused.result
+    (intent-ends c.args.runner.now.asked.request.tool c.refused.result c.args.keeper
+    c.in-Err.ensures.call.answer end c.in-Err.ensures.call.shown c.refused.ensures)
+    (λ met none. absurd none)
+    (refused-stands before now c.args.runner.now c.args.keeper c.requires.1 c.requires.0 end
+    c.refused.result c.refused.ensures c.in-Err.ensures.call c.in-Err.ensures.refused)
+    (λ told. c.read_intent.ensures.faults.failed (c.in-Err.is ∙ ap Err
+    (refused-failed _ end c.refused.result c.refused.ensures c.args.keeper _
+    c.in-Err.ensures.call.shown told)))
 
 pub returns-in-Ok-clause-counted : goal.returns-in-Ok-clause-counted
 returns-in-Ok-clause-counted g c =

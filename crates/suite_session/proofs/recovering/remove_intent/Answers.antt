@@ -5,15 +5,16 @@ use Rattle.suite_rules.specs.Standing.{commit_uncalled}
 use Rattle.recovery.specs.Stands.{Recovers}
 use Rattle.lock_steps.specs.States.{Kept}
 use Rattle.lock_steps.specs.Stands.{Keeps, KnowsNoneYet}
-use Rattle.suite_session.specs.declared.state.State.TheVariants.{Loading}
+use Rattle.suite_session.specs.declared.state.State.TheVariants.{Recovering, Loading}
 use Rattle.commit_steps.specs.States.{start_of}
 use Rattle.suite_session.specs.Moment.{moment, commit_at}
-use Rattle.suite_session.proofs.TurnLemmas.{may-step, goes-on, turns, stops}
-use Rattle.suite_session.proofs.UnlockingTurns.{fault-stage, fault-met, fault-left, fault-plain}
+use Rattle.suite_session.proofs.TurnLemmas.{may-step, goes-on, turns, faults}
+use Rattle.suite_session.proofs.CauseLemmas.{fault-outside}
 use Rattle.suite_session.proofs.RecoveringTurns.{starts-loading}
 use Rattle.suite_session.proofs.LeadsLemmas.{leads-on, leads-stage, leads-failed}
 use Rattle.suite_rules.specs.Outcomes.{before_commit}
 use Rattle.acct_outside.specs.declared.CommitStage.TheVariants.{Before}
+use Rattle.suite_session.proofs.MeetingLemmas.{quiet-on, leads-done, leads-ended}
 use Rattle.suite_session.proofs.CallsLemmas.{answers-fewer, recovering-some, removed-calls}
 use Rattle.suite_session.proofs.recovering.remove_intent.Goals as goal
 
@@ -33,13 +34,18 @@ returns-in-Ok-clause-turns g c =
     (g.F.Folder.fault_count c.remove_intent.new.folder) in
     let is = leads-on c.args.recovering.keeper before_commit _ c.in-Ok.keeper
     c.in-Ok.ensures.call.shown in
+    let done = leads-done c.args.recovering.keeper before_commit _ c.in-Ok.keeper
+    c.in-Ok.ensures.call.shown in
     rw c.start.ensures
     (turns before now c.args.runner.now commit_uncalled (Recovers c.args.recovering)
     c.requires.stands.1
     c.args.recovering.keeper.token c.requires.stands.0 (removes Intent) tt _ (λ result stood. refl)
     c.in-Ok.ensures.call
     c.remove_intent.ensures.lawful c.remove_intent.ensures.faults.never_falls
-    (Loading (start_of c.in-Ok.keeper)) (
+    (Recovering c.args.recovering) (Loading (start_of c.in-Ok.keeper))
+    (quiet-on (removes Intent) (λ given one met shows. shows) c.in-Ok.ensures.call.answer done.0 _ _
+    done.1)
+    (λ met none. absurd none) (
       ap (λ (one : Kept). one.token) is ∙ c.requires.stands.0,
       starts-loading now c.args.runner.now c.in-Ok.keeper
           (goes-on before now c.args.runner.now commit_uncalled (Recovers c.args.recovering)
@@ -58,19 +64,17 @@ returns-in-Err-clause-turns g c =
     (g.F.Folder.told c.remove_intent.new.folder)
     (g.F.Folder.fault_count c.remove_intent.new.folder) in
     let fault = c.in-Err.fault in
-    stops before now c.args.runner.now commit_uncalled (Recovers c.args.recovering)
+    faults before now c.args.runner.now commit_uncalled (Recovers c.args.recovering)
     c.requires.stands.1
     c.args.recovering.keeper.token c.requires.stands.0 (removes Intent) tt _ (λ result stood. refl)
     c.in-Err.ensures.call
-    c.remove_intent.ensures.lawful c.remove_intent.ensures.faults.never_falls _ c.stopped.result
-    c.stopped.ensures (fault-plain fault.stage fault.fault)
-    (fault-met now c.args.runner.now fault.stage fault.fault)
-    (fault-left now c.args.runner.now fault.stage fault.fault)
-    (ap commit_at (sym (fault-stage fault.stage fault.fault
-    ∙ leads-stage c.args.recovering.keeper Before _ fault c.in-Err.ensures.call.shown)))
-    (λ told. c.remove_intent.ensures.faults.failed
-    (c.in-Err.is ∙ ap Err (leads-failed c.args.recovering.keeper Before _ fault
-    c.in-Err.ensures.call.shown told)))
+    c.remove_intent.ensures.lawful c.remove_intent.ensures.faults.never_falls (Recovering c.args.recovering) c.stopped.result
+    (λ met none. absurd none) fault.stage fault.fault
+    (leads-ended c.args.recovering.keeper Before _ fault c.in-Err.ensures.call.shown) c.stopped.ensures
+    (ap commit_at (sym (leads-stage c.args.recovering.keeper Before _ fault c.in-Err.ensures.call.shown)))
+    (λ failed. c.remove_intent.ensures.faults.failed (c.in-Err.is ∙ ap Err
+    (leads-failed c.args.recovering.keeper Before _ fault c.in-Err.ensures.call.shown
+    (fault-outside fault.stage fault.fault failed))))
 
 pub returns-in-Ok-clause-counted : goal.returns-in-Ok-clause-counted
 returns-in-Ok-clause-counted g c =

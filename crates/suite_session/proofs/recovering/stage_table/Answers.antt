@@ -1,16 +1,16 @@
 use Rattle.std.proofs.Common.{refl, sym, ap, subst, ◌∙◌, ◌<◌, length, Err}
 use Rattle.suite_rules.specs.Standing.{commit_uncalled}
-use Rattle.suite_rules.specs.Outcomes.{stages}
+use Rattle.suite_rules.specs.Outcomes.{stages, before_commit}
 use Rattle.recovery.specs.States.{Recoverer}
 use Rattle.recovery.specs.Stands.{Recovers, HasStagedNext}
-use Rattle.suite_session.specs.declared.state.State.TheVariants.{Moving}
+use Rattle.suite_session.specs.declared.state.State.TheVariants.{Recovering, Moving}
 use Rattle.suite_session.specs.Moment.{moment, commit_at}
-use Rattle.suite_session.proofs.TurnLemmas.{may-step, goes-on, turns, stops}
-use Rattle.suite_session.proofs.UnlockingTurns.{fault-stage, fault-met, fault-left, fault-plain}
+use Rattle.suite_session.proofs.TurnLemmas.{may-step, goes-on, turns, faults}
+use Rattle.suite_session.proofs.CauseLemmas.{fault-outside}
 use Rattle.suite_session.proofs.RecoveringTurns.{some-next}
 use Rattle.suite_session.proofs.LeadsLemmas.{leads-on, leads-stage, leads-failed}
-use Rattle.suite_rules.specs.Outcomes.{before_commit}
 use Rattle.acct_outside.specs.declared.CommitStage.TheVariants.{Before}
+use Rattle.suite_session.proofs.MeetingLemmas.{quiet-on, leads-done, leads-ended}
 use Rattle.suite_session.proofs.CallsLemmas.{answers-fewer, recovering-some, staged-calls}
 use Rattle.suite_session.proofs.recovering.stage_table.Goals as goal
 
@@ -30,11 +30,16 @@ returns-in-Ok-clause-turns g c =
     (g.F.Folder.fault_count c.stage_next.new.folder) in
     let shown = some-next c.args.recovering.left c.requires.left c.in-Ok.ensures.call in
     let is = leads-on c.args.recovering before_commit _ c.in-Ok.moving shown.1.shown in
+    let done = leads-done c.args.recovering before_commit _ c.in-Ok.moving shown.1.shown in
     turns before now c.args.runner.now commit_uncalled (Recovers c.args.recovering)
     c.requires.stands.1
     c.args.recovering.keeper.token c.requires.stands.0 (stages shown.0) tt _ (λ result stood. refl)
     shown.1
-    c.stage_next.ensures.lawful c.stage_next.ensures.faults.never_falls (Moving c.in-Ok.moving) (
+    c.stage_next.ensures.lawful c.stage_next.ensures.faults.never_falls (Recovering c.args.recovering)
+    (Moving c.in-Ok.moving)
+    (quiet-on (stages shown.0) (λ given one met shows. shows) shown.1.answer done.0 _ _
+    done.1)
+    (λ met none. absurd none) (
       ap (λ (one : Recoverer). one.keeper.token) is ∙ c.requires.stands.0,
       subst (λ (one : Recoverer). 0 < length one.left) (sym is) c.requires.left,
       goes-on before now c.args.runner.now commit_uncalled (Recovers c.args.recovering)
@@ -54,18 +59,17 @@ returns-in-Err-clause-turns g c =
     (g.F.Folder.fault_count c.stage_next.new.folder) in
     let shown = some-next c.args.recovering.left c.requires.left c.in-Err.ensures.call in
     let fault = c.in-Err.fault in
-    stops before now c.args.runner.now commit_uncalled (Recovers c.args.recovering)
+    faults before now c.args.runner.now commit_uncalled (Recovers c.args.recovering)
     c.requires.stands.1
     c.args.recovering.keeper.token c.requires.stands.0 (stages shown.0) tt _ (λ result stood. refl)
     shown.1
-    c.stage_next.ensures.lawful c.stage_next.ensures.faults.never_falls _ c.stopped.result
-    c.stopped.ensures (fault-plain fault.stage fault.fault)
-    (fault-met now c.args.runner.now fault.stage fault.fault)
-    (fault-left now c.args.runner.now fault.stage fault.fault)
-    (ap commit_at (sym (fault-stage fault.stage fault.fault
-    ∙ leads-stage c.args.recovering Before _ fault shown.1.shown)))
-    (λ told. c.stage_next.ensures.faults.failed
-    (c.in-Err.is ∙ ap Err (leads-failed c.args.recovering Before _ fault shown.1.shown told)))
+    c.stage_next.ensures.lawful c.stage_next.ensures.faults.never_falls (Recovering c.args.recovering) c.stopped.result
+    (λ met none. absurd none) fault.stage fault.fault
+    (leads-ended c.args.recovering Before _ fault shown.1.shown) c.stopped.ensures
+    (ap commit_at (sym (leads-stage c.args.recovering Before _ fault shown.1.shown)))
+    (λ failed. c.stage_next.ensures.faults.failed (c.in-Err.is ∙ ap Err
+    (leads-failed c.args.recovering Before _ fault shown.1.shown
+    (fault-outside fault.stage fault.fault failed))))
 
 pub returns-in-Ok-clause-counted : goal.returns-in-Ok-clause-counted
 returns-in-Ok-clause-counted g c =

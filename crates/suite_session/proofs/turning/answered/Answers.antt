@@ -4,7 +4,8 @@ use Rattle.acct_outside.specs.Contract.{Tells}
 use Rattle.account_model.specs.Words.{request_of}
 use Rattle.suite_session.specs.Runner.{Runner}
 use Rattle.suite_session.specs.Moment.{moment}
-use Rattle.suite_session.proofs.SessionTurns.{answers-turn}
+use Rattle.suite_session.proofs.SessionTurns.{answer-one, answers-turn}
+use Rattle.suite_session.proofs.StreamLemmas.{left-given}
 use Rattle.suite_session.proofs.turning.answered.Goals as goal
 
 pub returns-clause-turns : goal.returns-clause-turns
@@ -21,4 +22,8 @@ returns-clause-turns g c =
           (subst (λ (one : Runner). Tells before.admits before.told now.told one.token
           (answers c.args.answer.outcome.status) (Ok tt)) c.runner.view_is c.answered.ensures.told)
           c.answered.ensures.narrows c.answered.ensures.faults,
+      answer-one before now c.args.runner c.args.answer.outcome.status
+          (left-given before c.args.runner c.args.answer c.requires).may.may_answer
+          (subst (λ (one : Runner). Tells before.admits before.told now.told one.token
+          (answers c.args.answer.outcome.status) (Ok tt)) c.runner.view_is c.answered.ensures.told),
     )

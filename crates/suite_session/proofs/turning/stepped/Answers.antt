@@ -1,5 +1,9 @@
+use Rattle.std.proofs.Common.{refl, subst, Option}
+use Rattle.std.specs.Prelude.{IsSome}
+use Rattle.suite_answers.specs.declared.answer.Answer.{Answer}
 use Rattle.suite_session.specs.Moment.{moment}
-use Rattle.suite_session.proofs.StreamLemmas.{going-stands, goes-on}
+use Rattle.suite_session.proofs.SessionTurns.{steps-to}
+use Rattle.suite_session.proofs.StreamLemmas.{going-remembers, going-stands, goes-on, none-given}
 use Rattle.suite_session.proofs.turning.stepped.Goals as goal
 
 -- a state that doesn't answer has a turn left, and stands as no stream changed it
@@ -10,3 +14,23 @@ go_on-next-requires g c = record {
       (g.F.Folder.told c.args.folder.now) (g.F.Folder.fault_count c.args.folder.now))
       c.args.runner c.args.state c.in_default.not-Answering c.requires;
 }
+
+pub returns-in_default : goal.returns-in_default
+returns-in_default g c =
+    let before = moment (g.F.Folder.admits c.args.folder.now) (g.F.Folder.told c.args.folder.now)
+    (g.F.Folder.fault_count c.args.folder.now) in
+    let now = moment (g.F.Folder.admits c.go_on-next.new.folder)
+    (g.F.Folder.told c.go_on-next.new.folder) (g.F.Folder.fault_count c.go_on-next.new.folder) in
+    let apart = c.in_default.not-Answering in
+    record {
+      turns = (
+        refl,
+        steps-to before now c.args.runner c.args.state c.go_on-next.result
+            (going-remembers before c.args.runner c.args.state apart c.requires)
+            c.go_on-next.ensures.turns,
+      );
+      nearer = λ going. c.go_on-next.ensures.nearer;
+      counted = c.go_on-next.ensures.counted;
+      ends = λ some. subst (λ (given : Option Answer). IsSome given)
+          (none-given c.args.state apart) some;
+    }

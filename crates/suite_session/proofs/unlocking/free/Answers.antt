@@ -1,10 +1,13 @@
-use Rattle.std.proofs.Common.{refl, sym, ap, ◌∙◌, Err, arith, rules}
+use Rattle.std.proofs.Common.{refl, ap, ◌∙◌, Err, arith, rules}
 use Rattle.acct_outside.specs.declared.Name.TheVariants.{FreeStage, Lock}
 use Rattle.acct_outside.specs.Calls.{renames}
 use Rattle.lock_steps.specs.Stands.{HasStagedFree}
-use Rattle.suite_session.specs.Moment.{moment, commit_at}
-use Rattle.suite_session.proofs.TurnLemmas.{may-step, stops}
-use Rattle.suite_session.proofs.UnlockingTurns.{frees, fault-stage, fault-met, fault-left, fault-plain, fault-failed}
+use Rattle.suite_session.specs.Moment.{moment}
+use Rattle.suite_session.proofs.TurnLemmas.{may-step, faults}
+use Rattle.suite_session.proofs.UnlockingTurns.{frees, out-follows}
+use Rattle.suite_session.proofs.MeetingLemmas.{locks-ended}
+use Rattle.suite_answers.specs.Reasons.{stage_of}
+use Rattle.suite_session.specs.declared.state.State.TheVariants.{Freeing}
 use Rattle.suite_session.proofs.CallsLemmas.{answers-fewer}
 use Rattle.suite_session.proofs.unlocking.free.Goals as goal
 
@@ -30,16 +33,14 @@ returns-in-Err-clause-turns g c =
     (g.F.Folder.fault_count c.args.folder.now) in
     let now = moment (g.F.Folder.admits c.move_free.new.folder) (g.F.Folder.told c.move_free.new.folder)
     (g.F.Folder.fault_count c.move_free.new.folder) in
-    stops before now c.args.runner.now _ (HasStagedFree c.args.freeing) c.requires.stands
+    faults before now c.args.runner.now _ (HasStagedFree c.args.freeing) c.requires.stands
     c.args.freeing.token c.requires.same (renames FreeStage (Lock c.args.freeing.number)) tt _ (λ result stood. refl)
-    c.move_free.ensures.call
-    c.move_free.ensures.lawful c.move_free.ensures.faults.never_falls _ c.replaced.result
-    c.replaced.ensures (fault-plain _ c.in-Err.fault)
-    (fault-met now c.args.runner.now _ c.in-Err.fault)
-    (fault-left now c.args.runner.now _ c.in-Err.fault)
-    (ap commit_at (sym (fault-stage _ c.in-Err.fault)))
-    (λ fault. c.move_free.ensures.faults.failed
-    (c.in-Err.is ∙ ap Err (fault-failed _ c.in-Err.fault fault)))
+    c.in-Err.ensures.call
+    c.move_free.ensures.lawful c.move_free.ensures.faults.never_falls (Freeing c.args.freeing c.args.answer) c.replaced.result
+    (λ met is_told. out-follows c.args.answer.outcome.cause met is_told c.requires.quiet (renames FreeStage (Lock c.args.freeing.number)) tt)
+    (stage_of c.args.answer.outcome.cause) c.in-Err.fault
+    (locks-ended _ _ _ c.in-Err.ensures.call.shown) c.replaced.ensures refl
+    (λ failed. c.move_free.ensures.faults.failed (c.in-Err.is ∙ ap Err failed))
 
 pub returns-in-Err-clause-counted : goal.returns-in-Err-clause-counted
 returns-in-Err-clause-counted g c =

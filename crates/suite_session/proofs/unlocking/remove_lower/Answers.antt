@@ -1,11 +1,14 @@
-use Rattle.std.proofs.Common.{refl, sym, ap, ◌∙◌, Err, slice_index}
+use Rattle.std.proofs.Common.{refl, ap, ◌∙◌, Err, slice_index}
 use Rattle.acct_outside.specs.declared.Name.TheVariants.{Lock}
 use Rattle.acct_outside.specs.Calls.{removes}
 use Rattle.lock_steps.specs.Outcomes.{cleaned_once}
 use Rattle.lock_steps.specs.Stands.{Keeps, KnowsAnything}
-use Rattle.suite_session.specs.Moment.{moment, commit_at}
-use Rattle.suite_session.proofs.TurnLemmas.{may-step, stops}
-use Rattle.suite_session.proofs.UnlockingTurns.{leads, lowers, fault-stage, fault-met, fault-left, fault-plain, fault-failed}
+use Rattle.suite_session.specs.Moment.{moment}
+use Rattle.suite_session.proofs.TurnLemmas.{may-step, faults}
+use Rattle.suite_session.proofs.UnlockingTurns.{leads, lowers, out-follows}
+use Rattle.suite_session.proofs.MeetingLemmas.{locks-ended}
+use Rattle.suite_answers.specs.Reasons.{stage_of}
+use Rattle.suite_session.specs.declared.state.State.TheVariants.{Unlocking}
 use Rattle.suite_session.proofs.CallsLemmas.{answers-fewer, cleaned-calls, unlocking-some}
 use Rattle.suite_session.proofs.unlocking.remove_lower.Goals as goal
 
@@ -31,16 +34,14 @@ returns-in-Err-clause-turns g c =
     (g.F.Folder.fault_count c.args.folder.now) in
     let now = moment (g.F.Folder.admits c.clean_next.new.folder) (g.F.Folder.told c.clean_next.new.folder)
     (g.F.Folder.fault_count c.clean_next.new.folder) in
-    stops before now c.args.runner.now _ (Keeps c.args.keeper KnowsAnything) c.requires.stands.stands
+    faults before now c.args.runner.now _ (Keeps c.args.keeper KnowsAnything) c.requires.stands.stands
     c.args.keeper.token c.requires.stands.same (removes (Lock (slice_index c.args.keeper.lower 0))) tt _ (λ result stood. refl)
-    c.clean_next.ensures.call
-    c.clean_next.ensures.lawful c.clean_next.ensures.faults.never_falls _ c.replaced.result
-    c.replaced.ensures (fault-plain _ c.in-Err.fault)
-    (fault-met now c.args.runner.now _ c.in-Err.fault)
-    (fault-left now c.args.runner.now _ c.in-Err.fault)
-    (ap commit_at (sym (fault-stage _ c.in-Err.fault)))
-    (λ fault. c.clean_next.ensures.faults.failed
-    (c.in-Err.is ∙ ap Err (fault-failed _ c.in-Err.fault fault)))
+    c.in-Err.ensures.call
+    c.clean_next.ensures.lawful c.clean_next.ensures.faults.never_falls (Unlocking c.args.keeper c.args.answer) c.replaced.result
+    (λ met is_told. out-follows c.args.answer.outcome.cause met is_told c.requires.stands.quiet (removes (Lock (slice_index c.args.keeper.lower 0))) tt)
+    (stage_of c.args.answer.outcome.cause) c.in-Err.fault
+    (locks-ended _ _ _ c.in-Err.ensures.call.shown) c.replaced.ensures refl
+    (λ failed. c.clean_next.ensures.faults.failed (c.in-Err.is ∙ ap Err failed))
 
 pub returns-in-Ok-clause-counted : goal.returns-in-Ok-clause-counted
 returns-in-Ok-clause-counted g c =

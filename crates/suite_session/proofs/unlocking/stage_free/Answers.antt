@@ -1,11 +1,14 @@
-use Rattle.std.proofs.Common.{refl, sym, ap, ◌∙◌, Err}
+use Rattle.std.proofs.Common.{refl, ap, ◌∙◌, Err}
 use Rattle.acct_outside.specs.declared.Name.TheVariants.{FreeStage}
 use Rattle.acct_outside.specs.Tokens.{free_text}
 use Rattle.acct_outside.specs.Calls.{writes}
 use Rattle.lock_steps.specs.Stands.{Keeps, KnowsAnything}
-use Rattle.suite_session.specs.Moment.{moment, commit_at}
-use Rattle.suite_session.proofs.TurnLemmas.{may-step, stops}
-use Rattle.suite_session.proofs.UnlockingTurns.{stages, fault-stage, fault-met, fault-left, fault-plain, fault-failed}
+use Rattle.suite_session.specs.Moment.{moment}
+use Rattle.suite_session.proofs.TurnLemmas.{may-step, faults}
+use Rattle.suite_session.proofs.UnlockingTurns.{stages, out-follows}
+use Rattle.suite_session.proofs.MeetingLemmas.{locks-ended}
+use Rattle.suite_answers.specs.Reasons.{stage_of}
+use Rattle.suite_session.specs.declared.state.State.TheVariants.{Unlocking}
 use Rattle.suite_session.proofs.CallsLemmas.{answers-fewer, unlocking-more, unlocking-some}
 use Rattle.suite_session.proofs.unlocking.stage_free.Goals as goal
 
@@ -32,17 +35,15 @@ returns-in-Err-clause-turns g c =
     (g.F.Folder.fault_count c.args.folder.now) in
     let now = moment (g.F.Folder.admits c.stage_free.new.folder) (g.F.Folder.told c.stage_free.new.folder)
     (g.F.Folder.fault_count c.stage_free.new.folder) in
-    stops before now c.args.runner.now _ (Keeps c.args.keeper KnowsAnything)
+    faults before now c.args.runner.now _ (Keeps c.args.keeper KnowsAnything)
     c.requires.stands.stands c.args.keeper.token c.requires.stands.same
     (writes FreeStage free_text) tt _ (λ result stood. refl)
-    c.stage_free.ensures.call
-    c.stage_free.ensures.lawful c.stage_free.ensures.faults.never_falls _ c.replaced.result
-    c.replaced.ensures (fault-plain _ c.in-Err.fault)
-    (fault-met now c.args.runner.now _ c.in-Err.fault)
-    (fault-left now c.args.runner.now _ c.in-Err.fault)
-    (ap commit_at (sym (fault-stage _ c.in-Err.fault)))
-    (λ fault. c.stage_free.ensures.faults.failed
-    (c.in-Err.is ∙ ap Err (fault-failed _ c.in-Err.fault fault)))
+    c.in-Err.ensures.call
+    c.stage_free.ensures.lawful c.stage_free.ensures.faults.never_falls (Unlocking c.args.keeper c.args.answer) c.replaced.result
+    (λ met is_told. out-follows c.args.answer.outcome.cause met is_told c.requires.stands.quiet (writes FreeStage free_text) tt)
+    (stage_of c.args.answer.outcome.cause) c.in-Err.fault
+    (locks-ended _ _ _ c.in-Err.ensures.call.shown) c.replaced.ensures refl
+    (λ failed. c.stage_free.ensures.faults.failed (c.in-Err.is ∙ ap Err failed))
 
 pub returns-in-Ok-clause-counted : goal.returns-in-Ok-clause-counted
 returns-in-Ok-clause-counted g c =
