@@ -15,10 +15,11 @@ use Rattle.acct_outside.specs.Gives.{GivesResult, GivesVerdict}
 use Rattle.acct_outside.specs.Events.{call_of, begin_event}
 use Rattle.acct_outside.proofs.TokenLemmas.{begin-runs, bytes_eq-self, or_true, unbegun-without}
 use Rattle.acct_outside.specs.Others.{ByOthers, none_came}
-use Rattle.acct_outside.specs.Contract.{Past, was_begun, MayAct, MayAnswer, WhereTold, TellsCall, TellsEvent, TellsBegin}
+use Rattle.acct_outside.specs.Moment.{Past}
+use Rattle.acct_outside.specs.Contract.{was_begun, MayAct, MayAnswer, WhereTold, TellsCall, TellsEvent, TellsBegin}
 use Rattle.acct_outside.specs.Logged.{with_event}
 use Rattle.acct_outside.specs.NewTokens.{IsFirstUnused}
-use Rattle.acct_outside.specs.Memory.{no_others, past_of, Runs, TellsAct, TellsFault}
+use Rattle.acct_outside.specs.Memory.{moment_of, no_others, past_of, Runs, TellsAct, TellsFault}
 use Rattle.acct_outside.specs.declared.memory.MemoryFolder.{MemoryFolder}
 use Rattle.acct_outside.specs.declared.Call.{Call as FolderCall}
 
@@ -204,7 +205,7 @@ running-begun ended runs = absurd cc
 
 -- a session that runs in a folder in memory may call it
 pub may_act : (folder : MemoryFolder) (token : Token) → Runs folder token
-    → MayAct no_others (Some (past_of folder)) token
+    → MayAct (moment_of folder) token
 may_act folder token is = record {
   begun = running-begun (life token (past_of folder).history) is.runs;
   own = λ history e admitted same. absurd admitted;
@@ -212,6 +213,6 @@ may_act folder token is = record {
 
 -- a session that runs in a folder in memory may answer
 pub may_answer : (folder : MemoryFolder) (token : Token) → Runs folder token
-    → MayAnswer no_others (Some (past_of folder)) token
+    → MayAnswer (moment_of folder) token
 may_answer folder token is =
     record { runs = is.runs; own = λ history e admitted same. absurd admitted }

@@ -11,16 +11,13 @@ use Rattle.acct_outside.specs.declared.Found.TheVariants.{Absent, Held, TooLarge
 use Rattle.acct_outside.specs.Names.{greatest_lock}
 use Rattle.acct_outside.specs.Tokens.{Token}
 use Rattle.acct_outside.specs.Folder.{Folder}
-use Rattle.acct_outside.specs.Calls.{Call, Answer, CallResult, Command, Effect, Found, found_absent, found_bytes, found_too_large, found_within, begins, reads, done, failed}
+use Rattle.acct_outside.specs.Calls.{Call, Answer, CallResult, Command, Effect, Found, found_absent, found_bytes, found_too_large, found_within, begins, lists, reads, done, failed}
 use Rattle.acct_outside.specs.History.{Event, History, after, own_events}
 use Rattle.acct_outside.specs.Life.{Life, life, unbegun, is_running}
 use Rattle.acct_outside.specs.Gives.{GivesResult}
 use Rattle.acct_outside.specs.Others.{Admission, AdmitsNoneOf, ByOthers, ByOthersThen}
-
--- a told history with the folder at its first moment
-pub record Past : Type 0 where
-  pub first : Folder
-  pub history : History
+use Rattle.acct_outside.specs.Faults.{CountsFailure}
+use Rattle.acct_outside.specs.Moment.{Past, Moment, Narrows}
 
 -- the number of a lock
 pub record IsLockNumber (n : ℕ) : Type 0 where
@@ -52,8 +49,8 @@ pub record ActsIn (admits : Admission) (token : Token) (past : Past) : Type 0 wh
   pub own : NeverAdmits admits token
 
 -- where a history is told, the session may call the folder
-abbrev pub MayAct : Admission → Option Past → Token → Type 0
-MayAct admits told token = IfSome told (ActsIn admits token)
+abbrev pub MayAct : Moment → Token → Type 0
+MayAct now token = IfSome now.told (ActsIn now.admits token)
 
 -- the same of a session that runs
 pub record RunsIn (admits : Admission) (token : Token) (past : Past) : Type 0 where
@@ -61,8 +58,8 @@ pub record RunsIn (admits : Admission) (token : Token) (past : Past) : Type 0 wh
   pub own : NeverAdmits admits token
 
 -- where a history is told, the session may answer
-abbrev pub MayAnswer : Admission → Option Past → Token → Type 0
-MayAnswer admits told token = IfSome told (RunsIn admits token)
+abbrev pub MayAnswer : Moment → Token → Type 0
+MayAnswer now token = IfSome now.told (RunsIn now.admits token)
 
 -- what holds of the history before and after the call, where one is told; its first moment stays
 abbrev pub WhereTold : Option Past → Option Past → (Folder → History → History → Type 0) → Type 0
@@ -92,12 +89,12 @@ TellsCall admits token call gives (Err Failed) old new =
 TellsCall admits token call gives (Err Memory) old new = ByOthers admits old new
 
 -- where the folder tells its history, the call has its event, with a result that the folder gives
-abbrev pub Tells : Admission → Option Past → Option Past → Token → (call : Call)
+abbrev pub Tells : Moment → Moment → Token → (call : Call)
     → Result (Answer call) FolderFault → Type 0
-Tells admits before now token call result =
-    WhereTold before now
+Tells before now token call result =
+    WhereTold before.told now.told
     (λ first old new.
-    TellsCall admits token call
+    TellsCall before.admits token call
     (λ between r. GivesResult (after first between) between token call r) result old new)
 
 -- a read gives what stands there up to its limit, which for an event of a lawful history is the
@@ -118,12 +115,12 @@ found_result (Ok found) = Ok (found_of found)
 found_result (Err fault) = Err fault
 
 -- where the folder tells its history, the read has its event, with what stands up to its limit
-abbrev pub TellsRead : Admission → Option Past → Option Past → Token → Name → ℕ
+abbrev pub TellsRead : Moment → Moment → Token → Name → ℕ
     → Result Reading FolderFault → Type 0
-TellsRead admits before now token name limit result =
-    WhereTold before now
+TellsRead before now token name limit result =
+    WhereTold before.told now.told
     (λ first old new.
-    TellsCall admits token (reads name)
+    TellsCall before.admits token (reads name)
     (λ between r. GivesRead limit (after first between) name r) (found_result result) old new)
 
 -- what is held is within the limit
@@ -145,11 +142,41 @@ TellsBegin admits command (Err Failed) first old new =
     (λ between r. GivesResult (after first between) between [] (begins command) r) old new
 TellsBegin admits command (Err Memory) first old new = ByOthers admits old new
 
--- the folder admits no more than before
-abbrev pub Narrows : Admission → Admission → Type 0
-Narrows before now = (history : History) (e : Event) → now history e → before history e
-
 -- a listing's numbers
 abbrev pub locks_result : Result (Vec ℕ) FolderFault → Result (List ℕ) FolderFault
 locks_result (Ok numbers) = Ok numbers.items
 locks_result (Err fault) = Err fault
+
+-- The folder goes from one moment to the next: this is what its history shows, it admits no more
+-- than before, and it tells a failure only where its count rose.
+pub record Passes {T : Type 0} (before now : Moment) (Told : Type 0) (result : Result T FolderFault)
+    : Type 0 where
+  pub told : Told
+  pub narrows : Narrows before.admits now.admits
+  pub faults : CountsFailure Failed before.faults now.faults result
+
+-- with nothing new in its history
+abbrev pub EntersFolder : Moment → Moment → Result (Unit {0}) FolderFault → Type 0
+EntersFolder before now result = Passes before now (now.told ≡ before.told) result
+
+-- with the begin of a session
+abbrev pub BeginsSession : Moment → Moment → Command → Result Token FolderFault → Type 0
+BeginsSession before now command result =
+    Passes before now (WhereTold before.told now.told (TellsBegin before.admits command result))
+    result
+
+-- with the listing of a session
+abbrev pub ListsLocks : Moment → Moment → Token → Result (Vec ℕ) FolderFault → Type 0
+ListsLocks before now token result =
+    Passes before now (Tells before now token lists (locks_result result)) result
+
+-- with the read of a session
+abbrev pub ReadsFolder : Moment → Moment → Token → Name → ℕ → Result Reading FolderFault → Type 0
+ReadsFolder before now token name limit result =
+    Passes before now (TellsRead before now token name limit result) result
+
+-- with another call of a session
+abbrev pub CallsFolder : Moment → Moment → Token → (call : Call)
+    → Result (Answer call) FolderFault → Type 0
+CallsFolder before now token call result =
+    Passes before now (Tells before now token call result) result

@@ -7,6 +7,7 @@ pub mod Life
 pub mod Gives
 pub mod Others
 pub mod Faults
+pub mod Moment
 pub mod Contract
 pub mod Streams
 pub mod Store

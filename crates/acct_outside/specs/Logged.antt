@@ -3,7 +3,7 @@ use Rattle.std.specs.Prelude.{◌∷◌}
 use Rattle.acct_outside.specs.declared.log.Log.{Log}
 use Rattle.acct_outside.specs.History.{Event, after}
 use Rattle.acct_outside.specs.Folder.{Folder}
-use Rattle.acct_outside.specs.Contract.{Past}
+use Rattle.acct_outside.specs.Moment.{Past}
 use Rattle.acct_outside.specs.Stored.{folder_in}
 use Rattle.acct_outside.specs.Events.{history_of}
 

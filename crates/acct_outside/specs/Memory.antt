@@ -10,7 +10,8 @@ use Rattle.acct_outside.specs.Calls.{Call, Answer}
 use Rattle.acct_outside.specs.Life.{is_running}
 use Rattle.acct_outside.specs.Others.{Admission}
 use Rattle.acct_outside.specs.Faults.{next_count, HasRisen, CountsEach}
-use Rattle.acct_outside.specs.Contract.{Past, Tells}
+use Rattle.acct_outside.specs.Moment.{Past, Moment}
+use Rattle.acct_outside.specs.Contract.{Tells}
 use Rattle.acct_outside.specs.Logged.{past_in, with_event, folder_after}
 use Rattle.acct_outside.specs.declared.Call.{Call as FolderCall}
 use Rattle.acct_outside.specs.declared.event.Outcome.TheVariants.{Done}
@@ -34,6 +35,11 @@ calls_of folder = folder.mishaps.calls
 abbrev pub faults_of : MemoryFolder → ℕ
 faults_of folder = folder.mishaps.faults
 
+-- what it tells of itself: its history and its count, and no events of others
+abbrev pub moment_of : MemoryFolder → Moment
+moment_of folder =
+    record { admits = no_others; told = Some (past_of folder); faults = faults_of folder }
+
 -- which of its calls are to fail
 abbrev pub plan_of : MemoryFolder → List Mishap
 plan_of folder = folder.mishaps.plan.items
@@ -46,7 +52,7 @@ alive_of folder = folder.alive.items
 abbrev pub TellsIn : MemoryFolder → MemoryFolder → Token → (call : Call)
     → Result (Answer call) FolderFault → Type 0
 TellsIn old new token call result =
-    Tells no_others (Some (past_of old)) (Some (past_of new)) token call result
+    Tells (moment_of old) (moment_of new) token call result
 
 -- the same of a call that gave no answer
 abbrev pub TellsFault : MemoryFolder → MemoryFolder → Token → Call → FolderFault → Type 0

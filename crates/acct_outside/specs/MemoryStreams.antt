@@ -1,11 +1,12 @@
 -- What streams and a clock in memory tell, and which of their calls fail.
-use Rattle.std.specs.Prelude.{ℕ, List, Option, drop, Contains}
+use Rattle.std.specs.Prelude.{ℕ, List, Option, Some, drop, Contains}
 use Rattle.acct_text.specs.Bytes.{Bytes}
 use Rattle.acct_outside.specs.declared.failing.Failing.{Failing}
 use Rattle.acct_outside.specs.declared.memory_streams.MemorySource.{MemorySource}
 use Rattle.acct_outside.specs.declared.memory_streams.MemorySink.{MemorySink}
 use Rattle.acct_outside.specs.declared.memory_streams.MemoryClock.{MemoryClock}
 use Rattle.acct_outside.specs.Faults.{next_count}
+use Rattle.acct_outside.specs.Streams.{ClockMoment, SinkMoment, SourceMoment}
 
 -- the numbers of the calls that fail, and how many calls came
 pub record Calls : Type 0 where
@@ -67,3 +68,19 @@ sink_faults sink = sink.failing.faults
 -- how often the clock has failed
 abbrev pub clock_faults : MemoryClock → ℕ
 clock_faults clock = clock.failing.faults
+
+-- what the source tells of itself
+abbrev pub source_moment : MemorySource → SourceMoment
+source_moment source = record { left = Some (left_of source); faults = source_faults source }
+
+-- what the sink tells of itself
+abbrev pub sink_moment : MemorySink → SinkMoment
+sink_moment sink = record { holds = Some (held_of sink); faults = sink_faults sink }
+
+-- what the clock tells of itself
+abbrev pub clock_moment : MemoryClock → ClockMoment
+clock_moment clock = record {
+  gave = given_of clock;
+  always = Some (day_of clock);
+  faults = clock_faults clock;
+}

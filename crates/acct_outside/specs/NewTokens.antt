@@ -5,7 +5,7 @@ use Rattle.acct_outside.specs.declared.Name.TheVariants.{Lock}
 use Rattle.acct_outside.specs.Tokens.{Token, held_text}
 use Rattle.acct_outside.specs.Folder.{Folder}
 use Rattle.acct_outside.specs.History.{own_events}
-use Rattle.acct_outside.specs.Contract.{Past}
+use Rattle.acct_outside.specs.Moment.{Past}
 use Rattle.acct_outside.specs.Events.{has_token}
 
 -- the token `mN` of the number N

@@ -15,13 +15,9 @@ use acct_text::{Bytes, Word};
 
 impl Folder for MemoryFolder {
     ghost use Rattle.std.specs.Prelude.{Some};
-    ghost use Rattle.acct_outside.specs.Memory.{FailsAsPlanned, IsCounted, IsUncounted, Runs, TellsIn, alive_of, faults_of, no_others, past_of};
+    ghost use Rattle.acct_outside.specs.Memory.{FailsAsPlanned, IsCounted, IsUncounted, Runs, TellsIn, alive_of, faults_of, moment_of, no_others, past_of};
 
-    ghost told = { λ folder. Some (past_of folder) };
-
-    ghost admits = { λ folder. no_others };
-
-    ghost fault_count = { faults_of };
+    ghost moment = { moment_of };
 
     fn enter(&mut self, _prefix: &Bytes) -> Result<(), FolderFault>
         ensures done { IsOk result }
@@ -35,7 +31,7 @@ impl Folder for MemoryFolder {
             (TellsBegin no_others
             (record { words = words.now; input = input.now; day = day }) result) }
         ensures runs { IfOk result (Runs self.new) }
-        ensures acts { IfOk result (MayAct no_others (Some (past_of self.new))) }
+        ensures acts { IfOk result (MayAct (moment_of self.new)) }
         ensures faults { CountsFailure FolderFault.Failed (faults_of self.old)
             (faults_of self.new) result }
         ensures counted { IsCounted self.old self.new result }
@@ -69,9 +65,7 @@ impl Folder for MemoryFolder {
 
     fn read(&mut self, by: &Token, name: Name, limit: u64) -> Result<Found, FolderFault>
         requires { IsName name }
-        ensures told { TellsRead no_others (Some (past_of self.old))
-            (Some (past_of self.new)) by.now name
-            limit result }
+        ensures told { TellsRead (moment_of self.old) (moment_of self.new) by.now name limit result }
         ensures limit { IfOk result (IsWithinLimit limit) }
         ensures faults { CountsFailure FolderFault.Failed (faults_of self.old)
             (faults_of self.new) result }

@@ -39,11 +39,9 @@ impl MemorySource {
 
 impl Source for MemorySource {
     ghost use Rattle.std.specs.Prelude.{Some};
-    ghost use Rattle.acct_outside.specs.MemoryStreams.{Fails, left_of, source_calls, source_faults, no_calls, with_next};
+    ghost use Rattle.acct_outside.specs.MemoryStreams.{Fails, left_of, source_calls, source_faults, no_calls, with_next, source_moment};
 
-    ghost left = { λ s. Some (left_of s) };
-
-    ghost fault_count = { source_faults };
+    ghost moment = { source_moment };
 
     fn take(&mut self, room: usize) -> Result<Bytes, SourceFault>
         ensures room { IfOk result (λ piece. length piece ≤ room) }
@@ -117,11 +115,9 @@ impl MemorySink {
 
 impl Sink for MemorySink {
     ghost use Rattle.std.specs.Prelude.{Some};
-    ghost use Rattle.acct_outside.specs.MemoryStreams.{Fails, held_of, sink_calls, sink_faults, no_calls, with_next};
+    ghost use Rattle.acct_outside.specs.MemoryStreams.{Fails, held_of, sink_calls, sink_faults, no_calls, with_next, sink_moment};
 
-    ghost holds = { λ s. Some (held_of s) };
-
-    ghost fault_count = { sink_faults };
+    ghost moment = { sink_moment };
 
     fn put(&mut self, piece: &[u8]) -> Result<(), SinkFault>
         ensures ok { OnOk result (held_of self.new ≡ held_of self.old ++ piece.now) }
@@ -177,13 +173,9 @@ impl MemoryClock {
 
 impl Clock for MemoryClock {
     ghost use Rattle.std.specs.Prelude.{Some};
-    ghost use Rattle.acct_outside.specs.MemoryStreams.{Fails, clock_calls, clock_faults, day_of, given_of, no_calls, with_next};
+    ghost use Rattle.acct_outside.specs.MemoryStreams.{Fails, clock_calls, clock_faults, day_of, given_of, no_calls, with_next, clock_moment};
 
-    ghost gave = { given_of };
-
-    ghost always = { λ c. Some (day_of c) };
-
-    ghost fault_count = { clock_faults };
+    ghost moment = { clock_moment };
 
     fn day(&mut self) -> Result<u32, ClockFault>
         ensures day { IfOk result (λ day. day ≡ day_of self.old) }

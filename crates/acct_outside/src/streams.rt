@@ -1,8 +1,8 @@
 // The streams and the clock.
-ghost use Rattle.std.specs.Prelude.{◌≡◌, ◌≤◌, ℕ, List, Option, Some, length, IfOk, IfSome, OnErr};
+ghost use Rattle.std.specs.Prelude.{◌≡◌, ◌≤◌, Some, length, IfOk, IfSome, OnErr};
 ghost use Rattle.acct_outside.specs.Faults.{CountsFailure};
 ghost use Rattle.acct_text.specs.Limits.{last_day};
-ghost use Rattle.acct_outside.specs.Streams.{WhereBytesTold, Takes, Puts};
+ghost use Rattle.acct_outside.specs.Streams.{ClockMoment, SinkMoment, SourceMoment, WhereBytesTold, Takes, Puts};
 
 use acct_text::Bytes;
 
@@ -33,68 +33,59 @@ pub enum ClockFault {
 
 /// Where input comes from.
 pub trait Source {
-    /// What the source has left, where it tells.
-    ghost left: { Self → Option (List ℕ) };
-
-    /// How often the source has failed.
-    ghost fault_count: { Self → ℕ };
+    /// What the source has left, where it tells, and how often it has failed.
+    ghost moment: { Self → SourceMoment };
 
     /// The next bytes, as many as there is room for at most. An empty piece is the end, where there
     /// was room. At `Failed` the count of faults rose; at each fault what is left stays.
     fn take(&mut self, room: usize) -> Result<Bytes, SourceFault>
         ensures room { IfOk result (λ piece. length piece ≤ room) }
-        ensures left { WhereBytesTold (left self.old) (left self.new) (Takes room result) }
-        ensures faults { CountsFailure SourceFault.Failed (fault_count self.old)
-            (fault_count self.new) result };
+        ensures left { WhereBytesTold (moment self.old).left (moment self.new).left
+            (Takes room result) }
+        ensures faults { CountsFailure SourceFault.Failed (moment self.old).faults
+            (moment self.new).faults result };
 
     /// How often the source has failed.
     fn faults(&self) -> u64
-        ensures { result ≡ fault_count self.now };
+        ensures { result ≡ (moment self.now).faults };
 }
 
 /// Where output goes.
 pub trait Sink {
-    /// What the sink holds, where it tells.
-    ghost holds: { Self → Option (List ℕ) };
-
-    /// How often the sink has failed.
-    ghost fault_count: { Self → ℕ };
+    /// What the sink holds, where it tells, and how often it has failed.
+    ghost moment: { Self → SinkMoment };
 
     /// Adds a piece. At `Failed` the count of faults rose, and the sink holds a front of the piece more;
     /// at `Memory` it holds what it held.
     fn put(&mut self, piece: &[u8]) -> Result<(), SinkFault>
-        ensures holds { WhereBytesTold (holds self.old) (holds self.new) (Puts piece.now result) }
-        ensures faults { CountsFailure SinkFault.Failed (fault_count self.old)
-            (fault_count self.new) result };
+        ensures holds { WhereBytesTold (moment self.old).holds (moment self.new).holds
+            (Puts piece.now result) }
+        ensures faults { CountsFailure SinkFault.Failed (moment self.old).faults
+            (moment self.new).faults result };
 
     /// How often the sink has failed.
     fn faults(&self) -> u64
-        ensures { result ≡ fault_count self.now };
+        ensures { result ≡ (moment self.now).faults };
 }
 
 /// What day it is, counted from 1970-01-01.
 pub trait Clock {
-    /// The day that the clock last gave.
-    ghost gave: { Self → Option ℕ };
-
-    /// The day that each call gives, where the clock tells one.
-    ghost always: { Self → Option ℕ };
-
-    /// How often the clock has failed.
-    ghost fault_count: { Self → ℕ };
+    /// The day that the clock last gave, the day that each call gives, where it tells one, and how
+    /// often it has failed.
+    ghost moment: { Self → ClockMoment };
 
     /// The day, at most 2,932,896 (9999-12-31). At `Failed` the count of faults rose, and the day that
     /// was last given stays.
     fn day(&mut self) -> Result<u32, ClockFault>
         ensures day { IfOk result (λ day. day ≤ last_day) }
-        ensures given { IfOk result (λ day. gave self.new ≡ Some day) }
-        ensures err { OnErr result (gave self.new ≡ gave self.old) }
-        ensures always { IfOk result (λ day. IfSome (always self.old) (λ told. day ≡ told)) }
-        ensures stays { always self.new ≡ always self.old }
-        ensures faults { CountsFailure ClockFault.Failed (fault_count self.old)
-            (fault_count self.new) result };
+        ensures given { IfOk result (λ day. (moment self.new).gave ≡ Some day) }
+        ensures err { OnErr result ((moment self.new).gave ≡ (moment self.old).gave) }
+        ensures always { IfOk result (λ day. IfSome (moment self.old).always (λ told. day ≡ told)) }
+        ensures stays { (moment self.new).always ≡ (moment self.old).always }
+        ensures faults { CountsFailure ClockFault.Failed (moment self.old).faults
+            (moment self.new).faults result };
 
     /// How often the clock has failed.
     fn faults(&self) -> u64
-        ensures { result ≡ fault_count self.now };
+        ensures { result ≡ (moment self.now).faults };
 }

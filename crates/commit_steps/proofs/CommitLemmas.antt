@@ -16,14 +16,14 @@ use Rattle.acct_outside.specs.declared.FolderFault.TheVariants.{Failed, Memory}
 use Rattle.acct_outside.specs.declared.StageFault.{StageFault}
 use Rattle.acct_outside.specs.Tokens.{Token}
 use Rattle.acct_outside.specs.Calls.{Call, Effect, renames, done, failed}
-use Rattle.acct_outside.specs.Others.{Admission}
-use Rattle.acct_outside.specs.Contract.{Past, Narrows, Tells}
+use Rattle.acct_outside.specs.Moment.{Past, Narrows, Moment}
+use Rattle.acct_outside.specs.Contract.{Tells}
 use Rattle.intent_file.specs.Intent.{NewTable, listed_in}
 use Rattle.suite_rules.specs.Deeds.{SuiteDeeds}
 use Rattle.suite_rules.specs.Knowledge.{Knowledge, commits_bytes}
 use Rattle.suite_rules.specs.Standing.{Standing, commit_called, calls_commit, standing_step}
 use Rattle.suite_rules.specs.Rules.{KeeperRule, Permits, commit_rule}
-use Rattle.suite_rules.specs.Steps.{StandsIn}
+use Rattle.suite_rules.specs.Steps.{Stands, StandsIn}
 use Rattle.suite_rules.specs.Outcomes.{LeadsTo, at_commit}
 use Rattle.suite_rules.proofs.Changed.{listed-changed}
 use Rattle.suite_rules.proofs.Listed.{all-in-place}
@@ -109,35 +109,35 @@ module _ (change : Change) where
 
   -- after a fault the session is as far as its stage tells
   pub commit-unsure :
-      (before_admits admits : Admission) → Narrows before_admits admits → (token : Token)
-      (before now : Option Past) (answer : Result (Unit {0}) FolderFault)
+      (before now : Moment) → Narrows before.admits now.admits → (token : Token)
+      (answer : Result (Unit {0}) FolderFault)
       (result : Result Walker StageFault) → LeadsTo (walk_of change) at_commit answer result →
-      StandsIn before_admits before token (HasStagedIntent change) →
-      Tells before_admits before now token commit_call answer →
-      IfErr result (StandsUnsure now token)
-  commit-unsure before_admits admits narrows token before now (Err Failed) (Err came)
+      StandsIn before token (HasStagedIntent change) →
+      Tells before now token commit_call answer →
+      IfErr result (StandsUnsure now.told token)
+  commit-unsure before now narrows token (Err Failed) (Err came)
       shown stands tells =
-      called now (failed-leads before_admits admits narrows token commit_call tt
+      called now.told (failed-leads before.admits now.admits narrows token commit_call tt
       (HasStagedIntent change) (λ stood. stood.commit ≡ commit_called) was-called
-      before now stands tells)
+      before.told now.told stands tells)
     where
-      called : (now : Option Past) →
-          IfSome now (Faulted token (λ stood. stood.commit ≡ commit_called)) →
-          StandsUnsure now token came
+      called : (told : Option Past) →
+          IfSome told (Faulted token (λ stood. stood.commit ≡ commit_called)) →
+          StandsUnsure told token came
       called None faulted = tt
       called (Some past) faulted =
           faulted.holds ∙ sym (ap (λ (fault : StageFault). commit_at fault.stage) shown)
-  commit-unsure before_admits admits narrows token before now (Err Memory) (Err came)
+  commit-unsure before now narrows token (Err Memory) (Err came)
       shown stands tells =
-      uncalled now (stands-memory before_admits admits narrows token commit_call tt
-      (HasStagedIntent change) before now stands tells)
+      uncalled now.told (stands-memory before.admits now.admits narrows token commit_call tt
+      (HasStagedIntent change) before.told now.told stands tells)
     where
-      uncalled : (now : Option Past) → StandsIn admits now token (HasStagedIntent change) →
-          StandsUnsure now token came
+      uncalled : (told : Option Past) → IfSome told (Stands now.admits token (HasStagedIntent change)) →
+          StandsUnsure told token came
       uncalled None stands = tt
       uncalled (Some past) stands = stands.holds.uncommitted
           ∙ sym (ap (λ (fault : StageFault). commit_at fault.stage) shown)
-  commit-unsure before_admits admits narrows token before now (Ok answer) (Err came)
+  commit-unsure before now narrows token (Ok answer) (Err came)
       shown stands tells = absurd shown
-  commit-unsure before_admits admits narrows token before now answer (Ok state)
+  commit-unsure before now narrows token answer (Ok state)
       shown stands tells = tt

@@ -19,8 +19,8 @@ use Rattle.acct_outside.specs.declared.Found.{Found as Reading}
 use Rattle.acct_outside.specs.Names.{name_limit}
 use Rattle.acct_outside.specs.Tokens.{Token}
 use Rattle.acct_outside.specs.Calls.{Command, Found, found_absent, found_bytes, found_too_large, reads, done}
-use Rattle.acct_outside.specs.Others.{Admission}
-use Rattle.acct_outside.specs.Contract.{Past, IsName, Narrows, Tells, TellsRead, found_result}
+use Rattle.acct_outside.specs.Moment.{Past, Narrows, Moment}
+use Rattle.acct_outside.specs.Contract.{IsName, Tells, TellsRead, found_result}
 use Rattle.acct_text.specs.Limits.{table_limit}
 use Rattle.suite_rules.specs.Knowledge.{Knowledge, Seen, knows_none, whole_content, seen_with, input_step, read_step}
 use Rattle.suite_rules.specs.Standing.{Standing, commit_uncalled, standing_step}
@@ -53,16 +53,15 @@ next-limit (Some table) = refl
 
 -- a read of the next name, with the limit of a table, tells the read's event
 pub next-told : (next : Option Tab) (name : Name) → name ≡ next_name next →
-    (admits : Admission) (before now : Option Past) (by token : Token) → by ≡ token →
-    (found : Result Reading FolderFault) →
-    TellsRead admits before now by name table_limit found →
-    Tells admits before now token (reads (next_name next)) (found_result found)
-next-told next name is admits before now by token same found tells =
-    told-of admits before now by token (reads (next_name next)) (found_result found) same
-    (read-tells admits by (next_name next) found before now
-    (subst (λ (limit : ℕ). TellsRead admits before now by (next_name next) limit found)
+    (before now : Moment) (by token : Token) → by ≡ token → (found : Result Reading FolderFault) →
+    TellsRead before now by name table_limit found →
+    Tells before now token (reads (next_name next)) (found_result found)
+next-told next name is before now by token same found tells =
+    told-of before now by token (reads (next_name next)) (found_result found) same
+    (read-tells before now by (next_name next) found
+    (subst (λ (limit : ℕ). TellsRead before now by (next_name next) limit found)
     (sym (next-limit next))
-    (subst (λ (other : Name). TellsRead admits before now by other table_limit found) is tells)))
+    (subst (λ (other : Name). TellsRead before now by other table_limit found) is tells)))
 
 -- a clean keeper that hasn't called its commit has read nothing
 pub starts-reading : (keeper : Kept) (stood : Standing) → Keeps keeper KnowsNone stood →
@@ -206,59 +205,58 @@ module _ (keeper : Kept) (files : Files) where
     uncommitted = held.uncommitted;
   }
 
-  module _ (before_admits admits : Admission) (narrows : Narrows before_admits admits)
-      (token : Token) (before now : Option Past) where
+  module _ (before now : Moment) (narrows : Narrows before.admits now.admits) (token : Token) where
     -- a done read leads to a condition that its answer leads to
     read-done : (next : Option Tab) (Holds : Standing → Type 0) (found : Found) →
         ((stood : Standing) → HasRead (at next) stood →
         Holds (standing_step (reads (next_name next)) (done found) stood)) →
-        StandsIn before_admits before token (HasRead (at next)) →
-        Tells before_admits before now token (reads (next_name next)) (Ok found) →
-        StandsIn admits now token Holds
+        StandsIn before token (HasRead (at next)) →
+        Tells before now token (reads (next_name next)) (Ok found) →
+        StandsIn now token Holds
     read-done next Holds found follows stands tells =
-        stands-done before_admits admits narrows token (reads (next_name next)) tt
-        (HasRead (at next)) Holds found follows before now stands tells
+        stands-done before.admits now.admits narrows token (reads (next_name next)) tt
+        (HasRead (at next)) Holds found follows before.told now.told stands tells
 
     -- a read of a table that leads on
     more-read : (table : Tab) (content : Option Bytes) (found : Found) →
         whole_content found ≡ Some content → (more : Reader) →
         more ≡ read_on (at (Some table)) table content →
-        StandsIn before_admits before token (HasRead (at (Some table))) →
-        Tells before_admits before now token (reads (Table table)) (Ok found) →
-        StandsIn admits now token (HasRead more)
+        StandsIn before token (HasRead (at (Some table))) →
+        Tells before now token (reads (Table table)) (Ok found) →
+        StandsIn now token (HasRead more)
     more-read table content found whole more is stands tells =
-        subst (λ (other : Reader). StandsIn admits now token (HasRead other)) (sym is)
+        subst (λ (other : Reader). StandsIn now token (HasRead other)) (sym is)
         (read-done (Some table) (HasRead (read_on (at (Some table)) table content)) found
         (reads-on table content found whole) stands tells)
 
     -- the read of login.defs
     all-read : (content : Option Bytes) (found : Found) → whole_content found ≡ Some content →
         (inputs : Inputs) → inputs ≡ inputs_of (at None) content →
-        StandsIn before_admits before token (HasRead (at None)) →
-        Tells before_admits before now token (reads Defs) (Ok found) →
-        StandsIn admits now token (HasLoaded inputs)
+        StandsIn before token (HasRead (at None)) →
+        Tells before now token (reads Defs) (Ok found) →
+        StandsIn now token (HasLoaded inputs)
     all-read content found whole inputs is stands tells =
-        subst (λ (other : Inputs). StandsIn admits now token (HasLoaded other)) (sym is)
+        subst (λ (other : Inputs). StandsIn now token (HasLoaded other)) (sym is)
         (read-done None (HasLoaded (inputs_of (at None) content)) found
         (loads-all content found whole) stands tells)
 
     -- a read that hands the keeper back
     handed-back : (next : Option Tab) (found : Found) (kept : Kept) → kept ≡ keeper →
-        StandsIn before_admits before token (HasRead (at next)) →
-        Tells before_admits before now token (reads (next_name next)) (Ok found) →
-        StandsIn admits now token (Keeps kept KnowsNone)
+        StandsIn before token (HasRead (at next)) →
+        Tells before now token (reads (next_name next)) (Ok found) →
+        StandsIn now token (Keeps kept KnowsNone)
     handed-back next found kept is stands tells =
-        subst (λ (other : Kept). StandsIn admits now token (Keeps other KnowsNone)) (sym is)
+        subst (λ (other : Kept). StandsIn now token (Keeps other KnowsNone)) (sym is)
         (read-done next (Keeps keeper KnowsNone) found (clean-after-read next found) stands tells)
 
     -- a read of a table that is absent, and must stand
     table-missed : (table missing : Tab) (kept : Kept) → missing ≡ table → kept ≡ keeper →
-        AreSound (Some table) files → StandsIn before_admits before token (HasRead (at (Some table))) →
-        Tells before_admits before now token (reads (Table table)) (Ok found_absent) →
-        StandsIn admits now token (HasMissed missing kept)
+        AreSound (Some table) files → StandsIn before token (HasRead (at (Some table))) →
+        Tells before now token (reads (Table table)) (Ok found_absent) →
+        StandsIn now token (HasMissed missing kept)
     table-missed table missing kept is same sound stands tells =
-        subst (λ (other : Tab). StandsIn admits now token (HasMissed other kept)) (sym is)
-        (subst (λ (other : Kept). StandsIn admits now token (HasMissed table other)) (sym same)
+        subst (λ (other : Tab). StandsIn now token (HasMissed other kept)) (sym is)
+        (subst (λ (other : Kept). StandsIn now token (HasMissed table other)) (sym same)
         (read-done (Some table) (HasMissed table keeper) found_absent
         (λ stood held. record {
           files = files;
@@ -271,9 +269,9 @@ module _ (keeper : Kept) (files : Files) where
     pub load-leads :
         (next : Option Tab) (answer : Result Found FolderFault) (result : Result Loading LoadEnd)
         → Loads (at next) answer result
-        → StandsIn before_admits before token (HasRead (at next))
-        → Tells before_admits before now token (reads (next_name next)) answer
-        → IfOk result (StandsLoading admits now token)
+        → StandsIn before token (HasRead (at next))
+        → Tells before now token (reads (next_name next)) answer
+        → IfOk result (StandsLoading now token)
     load-leads (Some table) (Ok found_absent) (Ok (More more)) shown stands tells =
         more-read table None found_absent refl more shown.1 stands tells
     load-leads (Some table) (Ok (found_bytes bytes)) (Ok (More more)) shown stands tells =
@@ -296,9 +294,9 @@ module _ (keeper : Kept) (files : Files) where
         (next : Option Tab) (answer : Result Found FolderFault) (result : Result Loading LoadEnd)
         → AreSound next files
         → Loads (at next) answer result
-        → StandsIn before_admits before token (HasRead (at next))
-        → Tells before_admits before now token (reads (next_name next)) answer
-        → IfErr result (StandsEnded admits now token)
+        → StandsIn before token (HasRead (at next))
+        → Tells before now token (reads (next_name next)) answer
+        → IfErr result (StandsEnded now token)
     load-refuses next (Ok found_too_large) (Err (TooLarge name kept)) sound shown stands tells =
         handed-back next found_too_large kept shown.1 stands tells
     load-refuses (Some table) (Ok found_absent) (Err (NoTable missing kept)) sound shown stands tells =

@@ -10,8 +10,7 @@ use Rattle.acct_outside.specs.declared.CommitStage.TheVariants.{Before, Unsure, 
 use Rattle.acct_outside.specs.declared.StageFault.{StageFault}
 use Rattle.acct_outside.specs.Tokens.{Token}
 use Rattle.acct_outside.specs.Calls.{Command}
-use Rattle.acct_outside.specs.Others.{Admission}
-use Rattle.acct_outside.specs.Contract.{Past}
+use Rattle.acct_outside.specs.Moment.{Past, Moment}
 use Rattle.intent_file.specs.Intent.{NewTable, intent_text, ReadsIntent}
 use Rattle.suite_rules.specs.Deeds.{SuiteDeeds}
 use Rattle.suite_rules.specs.Knowledge.{Seen, Knowledge, knows_none, knows_bytes}
@@ -116,15 +115,19 @@ pub record HasCleared (keeper : Kept) (standing : Standing) : Type 0 where
   pub committed : standing.commit ≡ commit_done
 
 -- after a read that leads on: more is to be read, or all is
-abbrev pub StandsLoading : Admission → Option Past → Token → Loading → Type 0
-StandsLoading admits told token (More reader) = StandsIn admits told token (HasRead reader)
-StandsLoading admits told token (Done inputs) = StandsIn admits told token (HasLoaded inputs)
+abbrev pub HoldsLoading : Loading → Standing → Type 0
+HoldsLoading (More reader) = HasRead reader
+HoldsLoading (Done inputs) = HasLoaded inputs
+
+-- the session stands so after that
+abbrev pub StandsLoading : Moment → Token → Loading → Type 0
+StandsLoading now token loading = StandsIn now token (HoldsLoading loading)
 
 -- after a read that leads no further: a refusal hands the clean keeper back, and of an absent table
 -- all is known that was read before it
-abbrev pub StandsEnded : Admission → Option Past → Token → LoadEnd → Type 0
-StandsEnded admits told token (Fault fault) = ⊤
-StandsEnded admits told token (TooLarge name keeper) =
-    StandsIn admits told token (Keeps keeper KnowsNone)
-StandsEnded admits told token (NoTable table keeper) =
-    StandsIn admits told token (HasMissed table keeper)
+abbrev pub StandsEnded : Moment → Token → LoadEnd → Type 0
+StandsEnded now token (Fault fault) = ⊤
+StandsEnded now token (TooLarge name keeper) =
+    StandsIn now token (Keeps keeper KnowsNone)
+StandsEnded now token (NoTable table keeper) =
+    StandsIn now token (HasMissed table keeper)

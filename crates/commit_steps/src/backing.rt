@@ -1,13 +1,12 @@
 // The state of a keeper that backs up the tables that differ, before its commit. `back_up_next` goes
 // one step, and `stage_intent` leads to `IntentStaged` once all are backed up.
-ghost use Rattle.std.specs.Prelude.{◌≡◌, ◌<◌, IfOk, IfSome, false, slice_get, true};
+ghost use Rattle.std.specs.Prelude.{◌≡◌, ◌<◌, false, true};
 ghost use Rattle.acct_outside.specs.declared.Name.TheVariants.{IntentStage};
 ghost use Rattle.acct_outside.specs.Calls.{writes};
-ghost use Rattle.acct_outside.specs.Faults.{CountsFailure};
 ghost use Rattle.intent_file.specs.Intent.{intent_text};
-ghost use Rattle.suite_rules.specs.Steps.{StandsIn, MakesCall, AlwaysStaysLawful, Leaves, own_command};
+ghost use Rattle.suite_rules.specs.Steps.{StandsIn, own_command, TakesStep};
 ghost use Rattle.suite_rules.specs.Outcomes.{LeadsTo, before_commit};
-ghost use Rattle.commit_steps.specs.States.{changed, intended, step_on, steps_left, walk_of};
+ghost use Rattle.commit_steps.specs.States.{intended, step_on, steps_left, walk_of};
 ghost use Rattle.commit_steps.specs.Stands.{BacksUp, HasStagedIntent};
 ghost use Rattle.commit_steps.specs.Outcomes.{backup_call};
 ghost use Rattle.commit_steps.specs.Walks.{WalksOn, token_of};
@@ -55,19 +54,9 @@ impl Backing {
     /// At a fault the keeper is spent, and nothing is committed.
     pub fn back_up_next<F: Folder>(self, folder: &mut F) -> Result<Self, StageFault>
         requires left { 0 < steps_left self }
-        requires stands { StandsIn (F.admits folder.old) (F.told folder.old) (token_of self)
-            (BacksUp self) }
-        ensures call { IfSome (slice_get (changed self.change) self.place) (λ next.
-            MakesCall (F.admits folder.old) (F.admits folder.new) (F.told folder.old)
-            (F.told folder.new) (token_of self) (backup_call self next)
-            (λ answer. LeadsTo (step_on self) before_commit answer result)) }
-        ensures next { IfOk result (λ backing. StandsIn (F.admits folder.new) (F.told folder.new)
-            (token_of self) (BacksUp backing)) }
-        ensures own { Leaves own_command (token_of self) (F.told folder.old) (F.told folder.new) }
-        ensures lawful { AlwaysStaysLawful (F.admits folder.old) (F.told folder.old)
-            (F.told folder.new) }
-        ensures faults { CountsFailure (before_commit FolderFault.Failed)
-            (F.fault_count folder.old) (F.fault_count folder.new) result }
+        requires stands { StandsIn (F.moment folder.old) (token_of self) (BacksUp self) }
+        ensures { WalksOn backup_call BacksUp before_commit self (F.moment folder.old)
+            (F.moment folder.new) result }
     {
         if self.walking.is_staged() {
             self.move_backup(folder)
@@ -80,12 +69,9 @@ impl Backing {
     fn stage_backup<F: Folder>(self, folder: &mut F) -> Result<Self, StageFault>
         requires left { 0 < steps_left self }
         requires unstaged { self.is_staged ≡ false }
-        requires stands { StandsIn (F.admits folder.old) (F.told folder.old) (token_of self)
-            (BacksUp self) }
-        ensures step { WalksOn backup_call BacksUp before_commit self (F.admits folder.old)
-            (F.admits folder.new) (F.told folder.old) (F.told folder.new) result }
-        ensures faults { CountsFailure (before_commit FolderFault.Failed)
-            (F.fault_count folder.old) (F.fault_count folder.new) result }
+        requires stands { StandsIn (F.moment folder.old) (token_of self) (BacksUp self) }
+        ensures { WalksOn backup_call BacksUp before_commit self (F.moment folder.old)
+            (F.moment folder.new) result }
     {
         let prepared = self.walking.prepared();
         let old = prepared.old(self.walking.next().table);
@@ -97,12 +83,9 @@ impl Backing {
     fn move_backup<F: Folder>(self, folder: &mut F) -> Result<Self, StageFault>
         requires left { 0 < steps_left self }
         requires staged { self.is_staged ≡ true }
-        requires stands { StandsIn (F.admits folder.old) (F.told folder.old) (token_of self)
-            (BacksUp self) }
-        ensures step { WalksOn backup_call BacksUp before_commit self (F.admits folder.old)
-            (F.admits folder.new) (F.told folder.old) (F.told folder.new) result }
-        ensures faults { CountsFailure (before_commit FolderFault.Failed)
-            (F.fault_count folder.old) (F.fault_count folder.new) result }
+        requires stands { StandsIn (F.moment folder.old) (token_of self) (BacksUp self) }
+        ensures { WalksOn backup_call BacksUp before_commit self (F.moment folder.old)
+            (F.moment folder.new) result }
     {
         let token = self.walking.prepared().token();
         let table = self.walking.next().table;
@@ -125,19 +108,11 @@ impl Backing {
     /// At a fault the keeper is spent, and nothing is committed.
     pub fn stage_intent<F: Folder>(self, folder: &mut F) -> Result<IntentStaged, StageFault>
         requires left { steps_left self ≡ 0 }
-        requires stands { StandsIn (F.admits folder.old) (F.told folder.old) (token_of self)
-            (BacksUp self) }
-        ensures call { MakesCall (F.admits folder.old) (F.admits folder.new) (F.told folder.old)
-            (F.told folder.new) (token_of self)
+        requires stands { StandsIn (F.moment folder.old) (token_of self) (BacksUp self) }
+        ensures { TakesStep (F.moment folder.old) (F.moment folder.new) (token_of self)
             (writes IntentStage (intent_text (intended self.change)))
-            (λ answer. LeadsTo self.change before_commit answer result) }
-        ensures next { IfOk result (λ staged. StandsIn (F.admits folder.new) (F.told folder.new)
-            (token_of self) (HasStagedIntent staged)) }
-        ensures own { Leaves own_command (token_of self) (F.told folder.old) (F.told folder.new) }
-        ensures lawful { AlwaysStaysLawful (F.admits folder.old) (F.told folder.old)
-            (F.told folder.new) }
-        ensures faults { CountsFailure (before_commit FolderFault.Failed)
-            (F.fault_count folder.old) (F.fault_count folder.new) result }
+            (λ answer. LeadsTo self.change before_commit answer result) HasStagedIntent own_command
+            (before_commit FolderFault.Failed) result }
     {
         let prepared = self.walking.into_prepared();
         let written = folder.write(prepared.token(), Name::IntentStage, prepared.text());

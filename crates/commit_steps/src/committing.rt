@@ -45,23 +45,22 @@ impl IntentStaged {
     /// keeper is spent. `Failed` has the stage Unsure, as the rename may have happened; `Memory` has
     /// the stage Before.
     pub fn commit<F: Folder>(self, folder: &mut F) -> Result<Installing, StageFault>
-        requires { StandsIn (F.admits folder.old) (F.told folder.old) self.inputs.keeper.token
-            (HasStagedIntent self) }
-        ensures call { MakesCall (F.admits folder.old) (F.admits folder.new) (F.told folder.old)
-            (F.told folder.new) self.inputs.keeper.token (renames IntentStage Intent)
+        requires { StandsIn (F.moment folder.old) self.inputs.keeper.token (HasStagedIntent self) }
+        ensures call { MakesCall (F.moment folder.old) (F.moment folder.new)
+            self.inputs.keeper.token (renames IntentStage Intent)
             (λ answer. LeadsTo (walk_of self) at_commit answer result) }
-        ensures next { IfOk result (λ installing. StandsIn (F.admits folder.new)
-            (F.told folder.new) self.inputs.keeper.token (Installs installing)) }
+        ensures next { IfOk result (λ installing. StandsIn (F.moment folder.new)
+            self.inputs.keeper.token (Installs installing)) }
         ensures unsure { IfErr result
-            (StandsUnsure (F.told folder.new) self.inputs.keeper.token) }
-        ensures own { Leaves asked self.inputs.keeper.token (F.told folder.old)
-            (F.told folder.new) }
+            (StandsUnsure (F.moment folder.new).told self.inputs.keeper.token) }
+        ensures own { Leaves asked self.inputs.keeper.token (F.moment folder.old)
+            (F.moment folder.new) }
         ensures lawful { (deeds : SuiteDeeds) →
-            StandsIn (F.admits folder.old) (F.told folder.old) self.inputs.keeper.token
+            StandsIn (F.moment folder.old) self.inputs.keeper.token
             (IsDeed deeds self)
-            → StaysLawful deeds (F.admits folder.old) (F.told folder.old) (F.told folder.new) }
-        ensures faults { CountsFailure (at_commit FolderFault.Failed)
-            (F.fault_count folder.old) (F.fault_count folder.new) result }
+            → StaysLawful deeds (F.moment folder.old) (F.moment folder.new) }
+        ensures faults { CountsFailure (at_commit FolderFault.Failed) (F.moment folder.old).faults
+            (F.moment folder.new).faults result }
     {
         let token = self.prepared.token();
         let moved = folder.rename(token, Name::IntentStage, Name::Intent);

@@ -3,13 +3,12 @@
 // 1. `Installing`: the intent stands. `install_next` goes one step, and `clear` removes the intent
 //    once all tables that differ are in place.
 // 2. `Cleared`: no intent stands any more. `release` leads back to the keeper.
-ghost use Rattle.std.specs.Prelude.{◌≡◌, ◌<◌, IfOk, IfSome, false, slice_get, true};
+ghost use Rattle.std.specs.Prelude.{◌≡◌, ◌<◌, false, true};
 ghost use Rattle.acct_outside.specs.declared.Name.TheVariants.{Intent};
 ghost use Rattle.acct_outside.specs.Calls.{removes};
-ghost use Rattle.acct_outside.specs.Faults.{CountsFailure};
-ghost use Rattle.suite_rules.specs.Steps.{StandsIn, MakesCall, AlwaysStaysLawful, Leaves, own_command};
+ghost use Rattle.suite_rules.specs.Steps.{StandsIn, own_command, TakesStep};
 ghost use Rattle.suite_rules.specs.Outcomes.{LeadsTo, after_commit};
-ghost use Rattle.commit_steps.specs.States.{changed, step_on, steps_left, walk_of};
+ghost use Rattle.commit_steps.specs.States.{step_on, steps_left, walk_of};
 ghost use Rattle.commit_steps.specs.Stands.{HasCleared, Installs};
 ghost use Rattle.commit_steps.specs.Outcomes.{install_call};
 ghost use Rattle.commit_steps.specs.Walks.{WalksOn, token_of};
@@ -71,19 +70,9 @@ impl Installing {
     /// At a fault the keeper is spent, and the change stands.
     pub fn install_next<F: Folder>(self, folder: &mut F) -> Result<Self, StageFault>
         requires left { 0 < steps_left self }
-        requires stands { StandsIn (F.admits folder.old) (F.told folder.old) (token_of self)
-            (Installs self) }
-        ensures call { IfSome (slice_get (changed self.change) self.place) (λ next.
-            MakesCall (F.admits folder.old) (F.admits folder.new) (F.told folder.old)
-            (F.told folder.new) (token_of self) (install_call self next)
-            (λ answer. LeadsTo (step_on self) after_commit answer result)) }
-        ensures next { IfOk result (λ installing. StandsIn (F.admits folder.new)
-            (F.told folder.new) (token_of self) (Installs installing)) }
-        ensures own { Leaves own_command (token_of self) (F.told folder.old) (F.told folder.new) }
-        ensures lawful { AlwaysStaysLawful (F.admits folder.old) (F.told folder.old)
-            (F.told folder.new) }
-        ensures faults { CountsFailure (after_commit FolderFault.Failed)
-            (F.fault_count folder.old) (F.fault_count folder.new) result }
+        requires stands { StandsIn (F.moment folder.old) (token_of self) (Installs self) }
+        ensures { WalksOn install_call Installs after_commit self (F.moment folder.old)
+            (F.moment folder.new) result }
     {
         if self.walking.is_staged() {
             self.move_table(folder)
@@ -96,12 +85,9 @@ impl Installing {
     fn stage_table<F: Folder>(self, folder: &mut F) -> Result<Self, StageFault>
         requires left { 0 < steps_left self }
         requires unstaged { self.is_staged ≡ false }
-        requires stands { StandsIn (F.admits folder.old) (F.told folder.old) (token_of self)
-            (Installs self) }
-        ensures step { WalksOn install_call Installs after_commit self (F.admits folder.old)
-            (F.admits folder.new) (F.told folder.old) (F.told folder.new) result }
-        ensures faults { CountsFailure (after_commit FolderFault.Failed)
-            (F.fault_count folder.old) (F.fault_count folder.new) result }
+        requires stands { StandsIn (F.moment folder.old) (token_of self) (Installs self) }
+        ensures { WalksOn install_call Installs after_commit self (F.moment folder.old)
+            (F.moment folder.new) result }
     {
         let token = self.walking.prepared().token();
         let next = self.walking.next();
@@ -113,12 +99,9 @@ impl Installing {
     fn move_table<F: Folder>(self, folder: &mut F) -> Result<Self, StageFault>
         requires left { 0 < steps_left self }
         requires staged { self.is_staged ≡ true }
-        requires stands { StandsIn (F.admits folder.old) (F.told folder.old) (token_of self)
-            (Installs self) }
-        ensures step { WalksOn install_call Installs after_commit self (F.admits folder.old)
-            (F.admits folder.new) (F.told folder.old) (F.told folder.new) result }
-        ensures faults { CountsFailure (after_commit FolderFault.Failed)
-            (F.fault_count folder.old) (F.fault_count folder.new) result }
+        requires stands { StandsIn (F.moment folder.old) (token_of self) (Installs self) }
+        ensures { WalksOn install_call Installs after_commit self (F.moment folder.old)
+            (F.moment folder.new) result }
     {
         let token = self.walking.prepared().token();
         let table = self.walking.next().table;
@@ -141,18 +124,11 @@ impl Installing {
     /// At a fault the keeper is spent, and the change stands; the intent may stand too.
     pub fn clear<F: Folder>(self, folder: &mut F) -> Result<Cleared, StageFault>
         requires left { steps_left self ≡ 0 }
-        requires stands { StandsIn (F.admits folder.old) (F.told folder.old) (token_of self)
-            (Installs self) }
-        ensures call { MakesCall (F.admits folder.old) (F.admits folder.new) (F.told folder.old)
-            (F.told folder.new) (token_of self) (removes Intent)
-            (λ answer. LeadsTo self.change.inputs.keeper after_commit answer result) }
-        ensures next { IfOk result (λ cleared. StandsIn (F.admits folder.new) (F.told folder.new)
-            (token_of self) (HasCleared cleared)) }
-        ensures own { Leaves own_command (token_of self) (F.told folder.old) (F.told folder.new) }
-        ensures lawful { AlwaysStaysLawful (F.admits folder.old) (F.told folder.old)
-            (F.told folder.new) }
-        ensures faults { CountsFailure (after_commit FolderFault.Failed)
-            (F.fault_count folder.old) (F.fault_count folder.new) result }
+        requires stands { StandsIn (F.moment folder.old) (token_of self) (Installs self) }
+        ensures { TakesStep (F.moment folder.old) (F.moment folder.new) (token_of self)
+            (removes Intent)
+            (λ answer. LeadsTo self.change.inputs.keeper after_commit answer result) HasCleared
+            own_command (after_commit FolderFault.Failed) result }
     {
         let loaded = self.walking.into_prepared().into_loaded();
         let removed = folder.remove(loaded.keeper().token(), Name::Intent);

@@ -12,11 +12,10 @@ ghost use Rattle.acct_text.specs.Files.{table_of};
 ghost use Rattle.acct_text.specs.Limits.{table_limit};
 ghost use Rattle.acct_outside.specs.Calls.{reads};
 ghost use Rattle.acct_outside.specs.Contract.{IsWithinLimit, found_result};
-ghost use Rattle.acct_outside.specs.Faults.{CountsFailure};
-ghost use Rattle.suite_rules.specs.Steps.{StandsIn, MakesCall, AlwaysStaysLawful, Leaves, own_command};
+ghost use Rattle.suite_rules.specs.Steps.{StandsIn, own_command, TakesStep};
 ghost use Rattle.suite_rules.specs.Outcomes.{before_commit};
 ghost use Rattle.commit_steps.specs.States.{AreSound, next_name, table_after, with_table, start_of, walk_of};
-ghost use Rattle.commit_steps.specs.Stands.{HasRead, StandsLoading, StandsEnded};
+ghost use Rattle.commit_steps.specs.Stands.{HasRead, StandsEnded, HoldsLoading};
 ghost use Rattle.commit_steps.specs.Outcomes.{Loads, LoadsContent, LoadsTable, is_missing};
 
 use crate::backing::Backing;
@@ -108,20 +107,11 @@ impl Loader {
     /// At `TooLarge` it has more than 16,777,216 bytes, and at `NoTable` it is passwd or group, and
     /// absent; both hand the keeper back. `Fault` says that the folder failed or found no memory.
     pub fn load_next<F: Folder>(self, folder: &mut F) -> Result<Loading, LoadEnd>
-        requires { StandsIn (F.admits folder.old) (F.told folder.old) self.keeper.token
-            (HasRead self) }
-        ensures call { MakesCall (F.admits folder.old) (F.admits folder.new) (F.told folder.old)
-            (F.told folder.new) self.keeper.token (reads (next_name self.next))
-            (λ answer. Loads self answer result) }
-        ensures next { IfOk result
-            (StandsLoading (F.admits folder.new) (F.told folder.new) self.keeper.token) }
-        ensures refused { IfErr result
-            (StandsEnded (F.admits folder.new) (F.told folder.new) self.keeper.token) }
-        ensures own { Leaves own_command self.keeper.token (F.told folder.old) (F.told folder.new) }
-        ensures lawful { AlwaysStaysLawful (F.admits folder.old) (F.told folder.old)
-            (F.told folder.new) }
-        ensures faults { CountsFailure (LoadEnd.Fault (before_commit FolderFault.Failed))
-            (F.fault_count folder.old) (F.fault_count folder.new) result }
+        requires { StandsIn (F.moment folder.old) self.keeper.token (HasRead self) }
+        ensures step { TakesStep (F.moment folder.old) (F.moment folder.new) self.keeper.token
+            (reads (next_name self.next)) (λ answer. Loads self answer result) HoldsLoading
+            own_command (LoadEnd.Fault (before_commit FolderFault.Failed)) result }
+        ensures refused { IfErr result (StandsEnded (F.moment folder.new) self.keeper.token) }
     {
         let name = self.next_name();
         let found = folder.read(self.keeper.token(), name, TABLE_LIMIT);

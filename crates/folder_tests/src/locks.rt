@@ -12,8 +12,7 @@ use std::test::Fail;
 
 // A session that has begun.
 fn begun<F: Folder>(alloc: Global, folder: &mut F) -> Result<Looking, FolderFault>
-    ensures { IfOk result (λ looking.
-        StandsIn (F.admits folder.new) (F.told folder.new) looking HasNoLock) }
+    ensures { IfOk result (λ looking. StandsIn (F.moment folder.new) looking HasNoLock) }
 {
     let token = folder.begin(&[], &Bytes::new(alloc), 20000)?;
     Ok(Looking::start(alloc, token)?)
@@ -21,8 +20,7 @@ fn begun<F: Folder>(alloc: Global, folder: &mut F) -> Result<Looking, FolderFaul
 
 // A session that has begun and looked.
 fn looked<F: Folder>(alloc: Global, folder: &mut F) -> Result<Seen, LockEnd>
-    ensures { IfOk result (λ seen.
-        StandsIn (F.admits folder.new) (F.told folder.new) seen.token (HasLooked seen)) }
+    ensures { IfOk result (λ seen. StandsIn (F.moment folder.new) seen.token (HasLooked seen)) }
 {
     begun(alloc, folder)?.look(folder)
 }

@@ -14,8 +14,8 @@ use Rattle.acct_outside.specs.declared.Created.TheVariants.{Done, Exists}
 use Rattle.acct_outside.specs.Faults.{CountsFailure}
 use Rattle.acct_outside.specs.Tokens.{Token, free_text}
 use Rattle.acct_outside.specs.Calls.{Found, found_absent, found_bytes, found_too_large, lists, reads, asks, creates, writes, renames, removes}
-use Rattle.acct_outside.specs.Others.{Admission}
-use Rattle.acct_outside.specs.Contract.{Past, Narrows, Tells}
+use Rattle.acct_outside.specs.Moment.{Narrows, Moment}
+use Rattle.acct_outside.specs.Contract.{Tells}
 use Rattle.suite_rules.specs.Knowledge.{Knowledge}
 use Rattle.suite_rules.specs.Steps.{StandsIn}
 use Rattle.suite_rules.proofs.StepLemmas.{stands-done}
@@ -43,19 +43,18 @@ counts failure before now came result only counted = record {
 }
 
 -- What each call leads to, by a folder that admits no more than before.
-module _ (before_admits admits : Admission) (narrows : Narrows before_admits admits) (token : Token)
-    (before now : Option Past) where
+module _ (before now : Moment) (narrows : Narrows before.admits now.admits) (token : Token) where
   -- a listing
   pub look-leads :
       (answer : Result (List ℕ) FolderFault) (result : Result Lister LockEnd)
       → Looks token answer result
-      → StandsIn before_admits before token HasNoLock
-      → Tells before_admits before now token lists answer
-      → IfOk result (λ seen. StandsIn admits now token (HasLooked seen))
+      → StandsIn before token HasNoLock
+      → Tells before now token lists answer
+      → IfOk result (λ seen. StandsIn now token (HasLooked seen))
   look-leads (Ok numbers) (Ok seen) shown stands tells =
-      stands-done before_admits admits narrows token lists tt HasNoLock (HasLooked seen) numbers
+      stands-done before.admits now.admits narrows token lists tt HasNoLock (HasLooked seen) numbers
       (looked numbers seen (ap (λ (lister : Lister). lister.greatest) shown.1))
-      before now stands tells
+      before.told now.told stands tells
   look-leads (Err fault) (Ok seen) shown stands tells = absurd shown
   look-leads answer (Err end) shown stands tells = tt
 
@@ -63,19 +62,19 @@ module _ (before_admits admits : Admission) (narrows : Narrows before_admits adm
   pub read-leads :
       (seen : Lister) (answer : Result Found FolderFault) (result : Result Told LockEnd)
       → Reads seen answer result
-      → StandsIn before_admits before token (HasLooked seen)
-      → Tells before_admits before now token (reads (Lock seen.greatest)) answer
-      → IfOk result (StandsTold admits now token)
+      → StandsIn before token (HasLooked seen)
+      → Tells before now token (reads (Lock seen.greatest)) answer
+      → IfOk result (StandsTold now token)
   read-leads seen (Ok (found_bytes text)) (Ok (Judged judged)) shown stands tells =
-      stands-done before_admits admits narrows token (reads (Lock seen.greatest)) tt
+      stands-done before.admits now.admits narrows token (reads (Lock seen.greatest)) tt
       (HasLooked seen) (HasJudged judged) (found_bytes text)
-      (λ stood held. read-free seen text stood held shown.0 judged shown.1) before now stands tells
+      (λ stood held. read-free seen text stood held shown.0 judged shown.1) before.told now.told stands tells
   read-leads seen (Ok (found_bytes text)) (Ok (Ask asking)) shown stands tells =
-      stands-done before_admits admits narrows token (reads (Lock seen.greatest)) tt
+      stands-done before.admits now.admits narrows token (reads (Lock seen.greatest)) tt
       (HasLooked seen) (HasReadHeld asking) (found_bytes text)
       (λ stood held. read-held seen text stood held asking shown.0
       (ap (λ (asker : Asker). asker.greatest) shown.1))
-      before now stands tells
+      before.told now.told stands tells
   read-leads seen (Ok found_absent) (Ok told) shown stands tells = absurd shown
   read-leads seen (Ok found_too_large) (Ok told) shown stands tells = absurd shown
   read-leads seen (Err fault) (Ok told) shown stands tells = absurd shown
@@ -85,14 +84,14 @@ module _ (before_admits admits : Admission) (narrows : Narrows before_admits adm
   pub ask-leads :
       (asking : Asker) (answer : Result Verdict FolderFault) (result : Result Lister LockEnd)
       → Asks asking answer result
-      → StandsIn before_admits before token (HasReadHeld asking)
-      → Tells before_admits before now token (asks asking.asked) answer
-      → IfOk result (λ judged. StandsIn admits now token (HasJudged judged))
+      → StandsIn before token (HasReadHeld asking)
+      → Tells before now token (asks asking.asked) answer
+      → IfOk result (λ judged. StandsIn now token (HasJudged judged))
   ask-leads asking (Ok Dead) (Ok judged) shown stands tells =
-      stands-done before_admits admits narrows token (asks asking.asked) tt
+      stands-done before.admits now.admits narrows token (asks asking.asked) tt
       (HasReadHeld asking) (HasJudged judged) Dead
       (told-dead asking judged (ap (λ (lister : Lister). lister.greatest) shown))
-      before now stands tells
+      before.told now.told stands tells
   ask-leads asking (Ok Alive) (Ok judged) shown stands tells = absurd shown
   ask-leads asking (Err fault) (Ok judged) shown stands tells = absurd shown
   ask-leads asking answer (Err end) shown stands tells = tt
@@ -101,14 +100,14 @@ module _ (before_admits admits : Admission) (narrows : Narrows before_admits adm
   pub claim-leads :
       (judged : Lister) (answer : Result Created FolderFault) (result : Result Maker LockEnd)
       → Claims judged answer result
-      → StandsIn before_admits before token (HasJudged judged)
-      → Tells before_admits before now token (creates (judged.greatest + 1)) answer
-      → IfOk result (λ claimed. StandsIn admits now token (HasMade claimed))
+      → StandsIn before token (HasJudged judged)
+      → Tells before now token (creates (judged.greatest + 1)) answer
+      → IfOk result (λ claimed. StandsIn now token (HasMade claimed))
   claim-leads judged (Ok Done) (Ok claimed) shown stands tells =
-      stands-done before_admits admits narrows token (creates (judged.greatest + 1)) tt
+      stands-done before.admits now.admits narrows token (creates (judged.greatest + 1)) tt
       (HasJudged judged) (HasMade claimed) Done
       (made (judged.greatest + 1) judged claimed (ap (λ (maker : Maker). maker.number) shown))
-      before now stands tells
+      before.told now.told stands tells
   claim-leads judged (Ok Exists) (Ok claimed) shown stands tells = absurd shown
   claim-leads judged (Err fault) (Ok claimed) shown stands tells = absurd shown
   claim-leads judged answer (Err end) shown stands tells = tt
@@ -117,22 +116,22 @@ module _ (before_admits admits : Admission) (narrows : Narrows before_admits adm
   pub confirm-leads :
       (claimed : Maker) (answer : Result (List ℕ) FolderFault) (result : Result Confirmed LockEnd)
       → Confirms claimed answer result
-      → StandsIn before_admits before token (HasMade claimed)
-      → Tells before_admits before now token lists answer
-      → IfOk result (StandsConfirmed admits now token)
+      → StandsIn before token (HasMade claimed)
+      → Tells before now token lists answer
+      → IfOk result (StandsConfirmed now token)
   confirm-leads claimed (Ok numbers) (Ok (Keeper keeper)) shown stands tells =
-      stands-done before_admits admits narrows token lists tt
+      stands-done before.admits now.admits narrows token lists tt
       (HasMade claimed) (Keeps keeper KnowsAnything) numbers
       (λ stood held. kept claimed numbers stood held keeper shown.0
       (ap (λ (one : Kept). one.number) shown.1) (ap (λ (one : Kept). one.lower) shown.1))
-      before now stands tells
+      before.told now.told stands tells
   confirm-leads claimed (Ok numbers) (Ok (Loser loser)) shown stands tells =
-      stands-done before_admits admits narrows token lists tt
+      stands-done before.admits now.admits narrows token lists tt
       (HasMade claimed) (WasOvertaken loser) numbers
       (λ stood held. overtaken claimed numbers stood held loser shown.0
       (ap (λ (one : Overtaken). one.number) shown.1)
       (ap (λ (one : Overtaken). one.greatest) shown.1))
-      before now stands tells
+      before.told now.told stands tells
   confirm-leads claimed (Err fault) (Ok confirmed) shown stands tells = absurd shown
   confirm-leads claimed answer (Err end) shown stands tells = tt
 
@@ -143,15 +142,15 @@ module _ (before_admits admits : Admission) (narrows : Narrows before_admits adm
       → 0 < length keeper.lower
       → number ≡ get_or keeper.lower 0 0
       → LeadsTo (cleaned_once keeper) answer result
-      → StandsIn before_admits before token (Keeps keeper Knows)
-      → Tells before_admits before now token (removes (Lock number)) answer
-      → IfOk result (λ next. StandsIn admits now token (Keeps next Knows))
+      → StandsIn before token (Keeps keeper Knows)
+      → Tells before now token (removes (Lock number)) answer
+      → IfOk result (λ next. StandsIn now token (Keeps next Knows))
   clean-leads keeper Knows number (Ok tt) (Ok next) some first shown stands tells =
-      stands-done before_admits admits narrows token (removes (Lock number)) tt
+      stands-done before.admits now.admits narrows token (removes (Lock number)) tt
       (Keeps keeper Knows) (Keeps next Knows) tt
       (λ stood held. cleaned keeper Knows number stood held some first next
       (ap (λ (one : Kept). one.number) shown) (ap (λ (one : Kept). one.lower) shown))
-      before now stands tells
+      before.told now.told stands tells
   clean-leads keeper Knows number (Err fault) (Ok next) some first shown stands tells =
       absurd shown
   clean-leads keeper Knows number answer (Err came) some first shown stands tells = tt
@@ -162,15 +161,15 @@ module _ (before_admits admits : Admission) (narrows : Narrows before_admits adm
       (answer : Result (Unit {0}) FolderFault) (result : Result Maker FolderFault)
       → length keeper.lower ≡ 0
       → LeadsTo (freeing_of keeper) answer result
-      → StandsIn before_admits before token (Keeps keeper Knows)
-      → Tells before_admits before now token (writes FreeStage free_text) answer
-      → IfOk result (λ freeing. StandsIn admits now token (HasStagedFree freeing))
+      → StandsIn before token (Keeps keeper Knows)
+      → Tells before now token (writes FreeStage free_text) answer
+      → IfOk result (λ freeing. StandsIn now token (HasStagedFree freeing))
   stage-leads keeper Knows (Ok tt) (Ok freeing) none shown stands tells =
-      stands-done before_admits admits narrows token (writes FreeStage free_text) tt
+      stands-done before.admits now.admits narrows token (writes FreeStage free_text) tt
       (Keeps keeper Knows) (HasStagedFree freeing) tt
       (λ stood held. staged-free keeper Knows stood held none freeing
       (ap (λ (one : Maker). one.number) shown))
-      before now stands tells
+      before.told now.told stands tells
   stage-leads keeper Knows (Err fault) (Ok freeing) none shown stands tells = absurd shown
   stage-leads keeper Knows answer (Err came) none shown stands tells = tt
 
@@ -179,12 +178,12 @@ module _ (before_admits admits : Admission) (narrows : Narrows before_admits adm
       (freeing : Maker)
       (answer : Result (Unit {0}) FolderFault) (result : Result Ended FolderFault)
       → LeadsTo the_end answer result
-      → StandsIn before_admits before token (HasStagedFree freeing)
-      → Tells before_admits before now token (renames FreeStage (Lock freeing.number)) answer
-      → IfOk result (λ _. StandsIn admits now token (HasFreed freeing.number))
+      → StandsIn before token (HasStagedFree freeing)
+      → Tells before now token (renames FreeStage (Lock freeing.number)) answer
+      → IfOk result (λ _. StandsIn now token (HasFreed freeing.number))
   move-leads freeing (Ok tt) (Ok ended) shown stands tells =
-      stands-done before_admits admits narrows token (renames FreeStage (Lock freeing.number)) tt
+      stands-done before.admits now.admits narrows token (renames FreeStage (Lock freeing.number)) tt
       (HasStagedFree freeing) (HasFreed freeing.number) tt
-      (λ stood held. freed freeing stood held) before now stands tells
+      (λ stood held. freed freeing stood held) before.told now.told stands tells
   move-leads freeing (Err fault) (Ok ended) shown stands tells = absurd shown
   move-leads freeing answer (Err came) shown stands tells = tt

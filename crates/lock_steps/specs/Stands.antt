@@ -1,8 +1,7 @@
 -- The standing of a session in each typed state (docs/ARCHITECTURE.md, "Typed steps"). Each is
 -- found from the session's own events alone.
 use Rattle.std.specs.Prelude.{◌≡◌, ℕ, ◌++◌, nat_lt, true, List, [], filter, Option, Some}
-use Rattle.acct_outside.specs.Others.{Admission}
-use Rattle.acct_outside.specs.Contract.{Past}
+use Rattle.acct_outside.specs.Moment.{Moment}
 use Rattle.acct_outside.specs.declared.Name.TheVariants.{FreeStage}
 use Rattle.acct_outside.specs.Tokens.{Token, free_text}
 use Rattle.acct_outside.specs.Folder.{greatest}
@@ -91,12 +90,23 @@ abbrev pub HasFreed : ℕ → Standing → Type 0
 HasFreed number = HasLocks (lock_freed number) number []
 
 -- after the greatest lock was read: it is judged, or read as held
-abbrev pub StandsTold : Admission → Option Past → Token → Told → Type 0
-StandsTold admits told token (Judged judged) = StandsIn admits told token (HasJudged judged)
-StandsTold admits told token (Ask asking) = StandsIn admits told token (HasReadHeld asking)
+abbrev pub HoldsTold : Told → Standing → Type 0
+HoldsTold (Judged judged) = HasJudged judged
+HoldsTold (Ask asking) = HasReadHeld asking
 
--- after the second listing: the session keeps its number, or was overtaken
-abbrev pub StandsConfirmed : Admission → Option Past → Token → Confirmed → Type 0
-StandsConfirmed admits told token (Keeper keeper) =
-    StandsIn admits told token (Keeps keeper KnowsAnything)
-StandsConfirmed admits told token (Loser loser) = StandsIn admits told token (WasOvertaken loser)
+-- the session stands so after that
+abbrev pub StandsTold : Moment → Token → Told → Type 0
+StandsTold now token told = StandsIn now token (HoldsTold told)
+
+-- after the second listing: it keeps its number, or was overtaken
+abbrev pub HoldsConfirmed : Confirmed → Standing → Type 0
+HoldsConfirmed (Keeper keeper) = Keeps keeper KnowsAnything
+HoldsConfirmed (Loser loser) = WasOvertaken loser
+
+-- the session stands so after that
+abbrev pub StandsConfirmed : Moment → Token → Confirmed → Type 0
+StandsConfirmed now token confirmed = StandsIn now token (HoldsConfirmed confirmed)
+
+-- no state follows a step that always ends the command
+abbrev pub HoldsNever : Unit {0} → Standing → Type 0
+HoldsNever unit standing = ⊥

@@ -8,10 +8,9 @@ ghost use Rattle.std.specs.Prelude.{◌≡◌, ◌+◌, ◌<◌, IfOk, IsErrOf, 
 ghost use Rattle.acct_outside.specs.declared.Name.TheVariants.{Lock};
 ghost use Rattle.acct_outside.specs.Names.{greatest_lock};
 ghost use Rattle.acct_outside.specs.Calls.{lists, creates, removes};
-ghost use Rattle.acct_outside.specs.Faults.{CountsFailure};
 ghost use Rattle.acct_outside.specs.Contract.{IsLockNumber, locks_result};
-ghost use Rattle.suite_rules.specs.Steps.{StandsIn, MakesCall, AlwaysStaysLawful};
-ghost use Rattle.lock_steps.specs.Stands.{HasJudged, HasMade, WasOvertaken, StandsConfirmed};
+ghost use Rattle.suite_rules.specs.Steps.{StandsIn, TakesStep, own_command};
+ghost use Rattle.lock_steps.specs.Stands.{HasJudged, HasMade, WasOvertaken, HoldsConfirmed, HoldsNever};
 ghost use Rattle.lock_steps.specs.Outcomes.{folder_failed, Claims, Confirms, Withdraws};
 
 use crate::holder::Holder;
@@ -104,17 +103,10 @@ impl Judged {
     ///
     /// At `Raced` another session made it first.
     pub fn claim<F: Folder>(self, folder: &mut F) -> Result<Claimed, LockEnd>
-        requires { StandsIn (F.admits folder.old) (F.told folder.old) self.token
-            (HasJudged self) }
-        ensures call { MakesCall (F.admits folder.old) (F.admits folder.new) (F.told folder.old)
-            (F.told folder.new) self.token (creates (self.greatest + 1))
-            (λ answer. Claims self answer result) }
-        ensures next { IfOk result (λ claimed.
-            StandsIn (F.admits folder.new) (F.told folder.new) self.token (HasMade claimed)) }
-        ensures lawful { AlwaysStaysLawful (F.admits folder.old) (F.told folder.old)
-            (F.told folder.new) }
-        ensures faults { CountsFailure folder_failed (F.fault_count folder.old)
-            (F.fault_count folder.new) result }
+        requires { StandsIn (F.moment folder.old) self.token (HasJudged self) }
+        ensures { TakesStep (F.moment folder.old) (F.moment folder.new) self.token
+            (creates (self.greatest + 1)) (λ answer. Claims self answer result) HasMade own_command
+            folder_failed result }
     {
         let created = folder.create(&self.holder.token, self.greatest + 1);
         self.after_create(created)
@@ -141,16 +133,10 @@ impl Claimed {
     ///
     /// At `Outrun` neither the own lock nor a greater one is the greatest: the own was taken away.
     pub fn confirm<F: Folder>(self, folder: &mut F) -> Result<Confirmed, LockEnd>
-        requires { StandsIn (F.admits folder.old) (F.told folder.old) self.token
-            (HasMade self) }
-        ensures call { MakesCall (F.admits folder.old) (F.admits folder.new) (F.told folder.old)
-            (F.told folder.new) self.token lists (λ answer. Confirms self answer result) }
-        ensures next { IfOk result
-            (StandsConfirmed (F.admits folder.new) (F.told folder.new) self.token) }
-        ensures lawful { AlwaysStaysLawful (F.admits folder.old) (F.told folder.old)
-            (F.told folder.new) }
-        ensures faults { CountsFailure folder_failed (F.fault_count folder.old)
-            (F.fault_count folder.new) result }
+        requires { StandsIn (F.moment folder.old) self.token (HasMade self) }
+        ensures { TakesStep (F.moment folder.old) (F.moment folder.new) self.token lists
+            (λ answer. Confirms self answer result) HoldsConfirmed own_command folder_failed
+            result }
     {
         let listed = folder.locks(&self.holder.token);
         self.after_listing(listed)
@@ -183,15 +169,10 @@ impl Loser {
     ///
     /// At `Folder` the lock may stand.
     pub fn withdraw<F: Folder>(self, folder: &mut F) -> LockEnd
-        requires { StandsIn (F.admits folder.old) (F.told folder.old) self.token
-            (WasOvertaken self) }
-        ensures call { MakesCall (F.admits folder.old) (F.admits folder.new) (F.told folder.old)
-            (F.told folder.new) self.token (removes (Lock self.number))
-            (λ answer. Withdraws self answer result) }
-        ensures lawful { AlwaysStaysLawful (F.admits folder.old) (F.told folder.old)
-            (F.told folder.new) }
-        ensures faults { CountsFailure {T = Unit {0}} folder_failed (F.fault_count folder.old)
-            (F.fault_count folder.new) (Err result) }
+        requires { StandsIn (F.moment folder.old) self.token (WasOvertaken self) }
+        ensures { TakesStep (F.moment folder.old) (F.moment folder.new) self.token
+            (removes (Lock self.number)) (λ answer. Withdraws self answer result) HoldsNever
+            own_command folder_failed (Err result) }
     {
         let removed = folder.remove(&self.holder.token, Name::Lock(self.number));
         self.after_removal(removed)

@@ -8,11 +8,10 @@
 ghost use Rattle.std.specs.Prelude.{◌≡◌, ◌<◌, IfOk, IsErrOf, All};
 ghost use Rattle.acct_outside.specs.declared.Name.TheVariants.{Lock};
 ghost use Rattle.acct_outside.specs.Calls.{lists, reads, asks};
-ghost use Rattle.acct_outside.specs.Faults.{CountsFailure};
 ghost use Rattle.acct_outside.specs.Contract.{IsLockNumber, locks_result, found_result};
 ghost use Rattle.suite_rules.specs.Standing.{Standing};
-ghost use Rattle.suite_rules.specs.Steps.{StandsIn, MakesCall, AlwaysStaysLawful};
-ghost use Rattle.lock_steps.specs.Stands.{HasNoLock, HasLooked, HasReadHeld, HasJudged, StandsTold};
+ghost use Rattle.suite_rules.specs.Steps.{StandsIn, TakesStep, own_command};
+ghost use Rattle.lock_steps.specs.Stands.{HasNoLock, HasLooked, HasReadHeld, HasJudged, HoldsTold};
 ghost use Rattle.lock_steps.specs.Outcomes.{folder_failed, Looks, Reads, ReadsText, Asks};
 
 use crate::claiming::Judged;
@@ -105,15 +104,9 @@ impl Looking {
     ///
     /// At `Exhausted` the greatest has the last number.
     pub fn look<F: Folder>(self, folder: &mut F) -> Result<Seen, LockEnd>
-        requires { StandsIn (F.admits folder.old) (F.told folder.old) self HasNoLock }
-        ensures call { MakesCall (F.admits folder.old) (F.admits folder.new) (F.told folder.old)
-            (F.told folder.new) self lists (λ answer. Looks self answer result) }
-        ensures next { IfOk result (λ seen.
-            StandsIn (F.admits folder.new) (F.told folder.new) self (HasLooked seen)) }
-        ensures lawful { AlwaysStaysLawful (F.admits folder.old) (F.told folder.old)
-            (F.told folder.new) }
-        ensures faults { CountsFailure folder_failed (F.fault_count folder.old)
-            (F.fault_count folder.new) result }
+        requires { StandsIn (F.moment folder.old) self HasNoLock }
+        ensures { TakesStep (F.moment folder.old) (F.moment folder.new) self lists
+            (λ answer. Looks self answer result) HasLooked own_command folder_failed result }
     {
         let listed = folder.locks(&self.holder.token);
         self.after_listing(listed)
@@ -161,17 +154,10 @@ impl Seen {
     /// the token in the text.
     pub fn read<F: Folder>(self, alloc: Global, folder: &mut F) -> Result<Told, LockEnd>
         requires lock { 0 < self.greatest }
-        requires stands { StandsIn (F.admits folder.old) (F.told folder.old) self.token
-            (HasLooked self) }
-        ensures call { MakesCall (F.admits folder.old) (F.admits folder.new) (F.told folder.old)
-            (F.told folder.new) self.token (reads (Lock self.greatest))
-            (λ answer. Reads self answer result) }
-        ensures next { IfOk result
-            (StandsTold (F.admits folder.new) (F.told folder.new) self.token) }
-        ensures lawful { AlwaysStaysLawful (F.admits folder.old) (F.told folder.old)
-            (F.told folder.new) }
-        ensures faults { CountsFailure folder_failed (F.fault_count folder.old)
-            (F.fault_count folder.new) result }
+        requires stands { StandsIn (F.moment folder.old) self.token (HasLooked self) }
+        ensures { TakesStep (F.moment folder.old) (F.moment folder.new) self.token
+            (reads (Lock self.greatest)) (λ answer. Reads self answer result) HoldsTold own_command
+            folder_failed result }
     {
         let found = folder.read(&self.holder.token, Name::Lock(self.greatest), LOCK_LIMIT);
         self.after_read(alloc, found)
@@ -211,16 +197,9 @@ impl Asking {
     ///
     /// At `Held` it does.
     pub fn ask<F: Folder>(self, folder: &mut F) -> Result<Judged, LockEnd>
-        requires { StandsIn (F.admits folder.old) (F.told folder.old) self.token
-            (HasReadHeld self) }
-        ensures call { MakesCall (F.admits folder.old) (F.admits folder.new) (F.told folder.old)
-            (F.told folder.new) self.token (asks self.asked) (λ answer. Asks self answer result) }
-        ensures next { IfOk result (λ judged.
-            StandsIn (F.admits folder.new) (F.told folder.new) self.token (HasJudged judged)) }
-        ensures lawful { AlwaysStaysLawful (F.admits folder.old) (F.told folder.old)
-            (F.told folder.new) }
-        ensures faults { CountsFailure folder_failed (F.fault_count folder.old)
-            (F.fault_count folder.new) result }
+        requires { StandsIn (F.moment folder.old) self.token (HasReadHeld self) }
+        ensures { TakesStep (F.moment folder.old) (F.moment folder.new) self.token (asks self.asked)
+            (λ answer. Asks self answer result) HasJudged own_command folder_failed result }
     {
         let verdict = folder.verdict(&self.holder.token, &self.asked);
         self.after_verdict(verdict)

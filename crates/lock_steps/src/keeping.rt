@@ -4,14 +4,13 @@
 //    Once none is left, `stage_free` leads to `Freeing`.
 // 2. `Freeing`: the text that frees its lock is staged. `move_free` leads to `Ended`.
 // 3. `Ended`: its lock is free. Only the answer of the session is left.
-ghost use Rattle.std.specs.Prelude.{◌≡◌, ◌<◌, IfOk, IsErrOf, length, nat_lt, slice_index, filter, All};
+ghost use Rattle.std.specs.Prelude.{◌≡◌, ◌<◌, IsErrOf, length, nat_lt, slice_index, filter, All};
 ghost use Rattle.acct_outside.specs.declared.Name.TheVariants.{FreeStage, Lock};
 ghost use Rattle.acct_outside.specs.Tokens.{free_text};
 ghost use Rattle.acct_outside.specs.Calls.{writes, renames, removes};
-ghost use Rattle.acct_outside.specs.Faults.{CountsFailure};
 ghost use Rattle.acct_outside.specs.Contract.{IsLockNumber};
 ghost use Rattle.suite_rules.specs.Knowledge.{Knowledge};
-ghost use Rattle.suite_rules.specs.Steps.{StandsIn, MakesCall, AlwaysStaysLawful, Leaves, work};
+ghost use Rattle.suite_rules.specs.Steps.{StandsIn, work, TakesStep};
 ghost use Rattle.lock_steps.specs.Stands.{Keeps, KnowsAnything, KnowsNone, HasStagedFree, HasFreed};
 ghost use Rattle.lock_steps.specs.Outcomes.{LeadsTo, cleaned_once, freeing_of, the_end};
 
@@ -113,11 +112,9 @@ impl Keeper<Unknown> {
 
     /// Says that the keeper knows that no intent stands. The folder stays as it is.
     pub fn cleaned<F: Folder>(self, folder: &F) -> Keeper<Clean>
-        requires { StandsIn (F.admits folder.now) (F.told folder.now) self.token
-            (Keeps self KnowsNone) }
+        requires { StandsIn (F.moment folder.now) self.token (Keeps self KnowsNone) }
         ensures value { result ≡ self }
-        ensures clean { StandsIn (F.admits folder.now) (F.told folder.now) self.token
-            (Keeps result KnowsNone) }
+        ensures clean { StandsIn (F.moment folder.now) self.token (Keeps result KnowsNone) }
     {
         let _ = folder;
         Keeper {
@@ -171,18 +168,11 @@ impl<K: Knowing> Keeper<K> {
     /// At a fault the keeper is spent.
     pub fn clean_next<F: Folder>(self, folder: &mut F) -> Result<Self, FolderFault>
         requires left { 0 < length self.lower }
-        requires stands { StandsIn (F.admits folder.old) (F.told folder.old) self.token
-            (Keeps self K.knows) }
-        ensures call { MakesCall (F.admits folder.old) (F.admits folder.new) (F.told folder.old)
-            (F.told folder.new) self.token (removes (Lock (slice_index self.lower 0)))
-            (λ answer. LeadsTo (cleaned_once self) answer result) }
-        ensures next { IfOk result (λ keeper.
-            StandsIn (F.admits folder.new) (F.told folder.new) self.token (Keeps keeper K.knows)) }
-        ensures work { Leaves work self.token (F.told folder.old) (F.told folder.new) }
-        ensures lawful { AlwaysStaysLawful (F.admits folder.old) (F.told folder.old)
-            (F.told folder.new) }
-        ensures faults { CountsFailure FolderFault.Failed
-            (F.fault_count folder.old) (F.fault_count folder.new) result }
+        requires stands { StandsIn (F.moment folder.old) self.token (Keeps self K.knows) }
+        ensures { TakesStep (F.moment folder.old) (F.moment folder.new) self.token
+            (removes (Lock (slice_index self.lower 0)))
+            (λ answer. LeadsTo (cleaned_once self) answer result) (λ keeper. Keeps keeper K.knows)
+            work FolderFault.Failed result }
     {
         let removed = folder.remove(&self.holder.token, Name::Lock(self.lower[0]));
         self.after_removal(removed)
@@ -203,18 +193,10 @@ impl<K: Knowing> Keeper<K> {
     /// At a fault the keeper is spent, and its lock stands.
     pub fn stage_free<F: Folder>(self, folder: &mut F) -> Result<Freeing, FolderFault>
         requires none_left { length self.lower ≡ 0 }
-        requires stands { StandsIn (F.admits folder.old) (F.told folder.old) self.token
-            (Keeps self K.knows) }
-        ensures call { MakesCall (F.admits folder.old) (F.admits folder.new) (F.told folder.old)
-            (F.told folder.new) self.token (writes FreeStage free_text)
-            (λ answer. LeadsTo (freeing_of self) answer result) }
-        ensures next { IfOk result (λ freeing.
-            StandsIn (F.admits folder.new) (F.told folder.new) self.token (HasStagedFree freeing)) }
-        ensures work { Leaves work self.token (F.told folder.old) (F.told folder.new) }
-        ensures lawful { AlwaysStaysLawful (F.admits folder.old) (F.told folder.old)
-            (F.told folder.new) }
-        ensures faults { CountsFailure FolderFault.Failed
-            (F.fault_count folder.old) (F.fault_count folder.new) result }
+        requires stands { StandsIn (F.moment folder.old) self.token (Keeps self K.knows) }
+        ensures { TakesStep (F.moment folder.old) (F.moment folder.new) self.token
+            (writes FreeStage free_text) (λ answer. LeadsTo (freeing_of self) answer result)
+            HasStagedFree work FolderFault.Failed result }
     {
         let written = folder.write(&self.holder.token, Name::FreeStage, &self.holder.free);
         self.after_write(written)
@@ -238,19 +220,10 @@ impl Freeing {
     ///
     /// At a fault the lock may be held or free.
     pub fn move_free<F: Folder>(self, folder: &mut F) -> Result<Ended, FolderFault>
-        requires { StandsIn (F.admits folder.old) (F.told folder.old) self.token
-            (HasStagedFree self) }
-        ensures call { MakesCall (F.admits folder.old) (F.admits folder.new) (F.told folder.old)
-            (F.told folder.new) self.token (renames FreeStage (Lock self.number))
-            (λ answer. LeadsTo the_end answer result) }
-        ensures next { IfOk result (λ _.
-            StandsIn (F.admits folder.new) (F.told folder.new) self.token
-            (HasFreed self.number)) }
-        ensures work { Leaves work self.token (F.told folder.old) (F.told folder.new) }
-        ensures lawful { AlwaysStaysLawful (F.admits folder.old) (F.told folder.old)
-            (F.told folder.new) }
-        ensures faults { CountsFailure FolderFault.Failed
-            (F.fault_count folder.old) (F.fault_count folder.new) result }
+        requires { StandsIn (F.moment folder.old) self.token (HasStagedFree self) }
+        ensures { TakesStep (F.moment folder.old) (F.moment folder.new) self.token
+            (renames FreeStage (Lock self.number)) (λ answer. LeadsTo the_end answer result)
+            (λ _. HasFreed self.number) work FolderFault.Failed result }
     {
         let moved = folder.rename(&self.holder.token, Name::FreeStage, Name::Lock(self.number));
         self.after_move(moved)

@@ -1,5 +1,6 @@
 // The clock of the system, or the moment that its environment sets in its place.
-ghost use Rattle.std.specs.Prelude.{◌≡◌, ◌≤◌, None, Some, IfOk, IfSome};
+ghost use Rattle.std.specs.Prelude.{◌≡◌, ◌≤◌, Some, IfOk, IfSome};
+ghost use Rattle.real_folder.specs.Untold.{untold_clock};
 ghost use Rattle.acct_text.specs.Limits.{last_day};
 
 use crate::faults::{Faults, SystemError};
@@ -98,11 +99,7 @@ fn no_time() -> SystemError {
 }
 
 impl<R: SystemClock + Env + AllocGlobal + Drop> Clock for RealClock<R> {
-    ghost gave = { λ clock. clock.gave };
-
-    ghost always = { λ _. None };
-
-    ghost fault_count = { λ clock. clock.faults.count };
+    ghost moment = { λ clock. untold_clock clock.gave clock.faults.count };
 
     fn day(&mut self) -> Result<u32, ClockFault> {
         match self.today() {

@@ -1,5 +1,6 @@
 // The standard streams of the system.
-ghost use Rattle.std.specs.Prelude.{◌≡◌, None};
+ghost use Rattle.std.specs.Prelude.{◌≡◌};
+ghost use Rattle.real_folder.specs.Untold.{untold_sink, untold_source};
 
 use crate::faults::{Faults, SystemError};
 use acct_outside::{Sink, SinkFault, Source, SourceFault};
@@ -35,9 +36,7 @@ impl<R: Read + Drop> RealSource<R> {
 }
 
 impl<R: Read + Drop> Source for RealSource<R> {
-    ghost left = { λ _. None };
-
-    ghost fault_count = { λ source. source.faults.count };
+    ghost moment = { λ source. untold_source source.faults.count };
 
     fn take(&mut self, room: usize) -> Result<Bytes, SourceFault> {
         let mut buffer = [0u8; PIECE];
@@ -88,9 +87,7 @@ impl<W: Write + Drop> RealSink<W> {
 }
 
 impl<W: Write + Drop> Sink for RealSink<W> {
-    ghost holds = { λ _. None };
-
-    ghost fault_count = { λ sink. sink.faults.count };
+    ghost moment = { λ sink. untold_sink sink.faults.count };
 
     // A writer that takes nothing of what is left fails too.
     fn put(&mut self, piece: &[u8]) -> Result<(), SinkFault> {

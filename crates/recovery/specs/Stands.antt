@@ -3,8 +3,7 @@
 use Rattle.std.specs.Prelude.{◌≡◌, true, List, ◌++◌, slice_get, All, Option, Some, IfSome, ⊤}
 use Rattle.acct_outside.specs.declared.Name.TheVariants.{Staged}
 use Rattle.acct_outside.specs.Tokens.{Token}
-use Rattle.acct_outside.specs.Others.{Admission}
-use Rattle.acct_outside.specs.Contract.{Past}
+use Rattle.acct_outside.specs.Moment.{Moment}
 use Rattle.intent_file.specs.Intent.{NewTable}
 use Rattle.suite_rules.specs.Standing.{Standing}
 use Rattle.suite_rules.specs.Rules.{KnowsIntent}
@@ -32,14 +31,18 @@ pub record HasStagedNext (recovering : Recoverer) (standing : Standing) : Type 0
       (λ next. standing.staged (Staged next.table) ≡ Some next.bytes)
 
 -- after the read of the intent: none stands, or all tables of the one that stands are left
-abbrev pub StandsSeen : Admission → Option Past → Token → IntentSeen → Type 0
-StandsSeen admits told token (Clean keeper) = StandsIn admits told token (Keeps keeper KnowsNoneYet)
-StandsSeen admits told token (Listed recovering) = StandsIn admits told token (Recovers recovering)
+abbrev pub HoldsSeen : IntentSeen → Standing → Type 0
+HoldsSeen (Clean keeper) = Keeps keeper KnowsNoneYet
+HoldsSeen (Listed recovering) = Recovers recovering
+
+-- the session stands so after that
+abbrev pub StandsSeen : Moment → Token → IntentSeen → Type 0
+StandsSeen now token seen = StandsIn now token (HoldsSeen seen)
 
 -- after a read of the intent that leads no further: a refusal hands the keeper back
-abbrev pub StandsRefused : Admission → Option Past → Token → RecoveryEnd → Type 0
-StandsRefused admits told token (Fault fault) = ⊤
-StandsRefused admits told token (Damaged part keeper) =
-    StandsIn admits told token (Keeps keeper KnowsAnything)
-StandsRefused admits told token (TooLarge keeper) =
-    StandsIn admits told token (Keeps keeper KnowsAnything)
+abbrev pub StandsRefused : Moment → Token → RecoveryEnd → Type 0
+StandsRefused now token (Fault fault) = ⊤
+StandsRefused now token (Damaged part keeper) =
+    StandsIn now token (Keeps keeper KnowsAnything)
+StandsRefused now token (TooLarge keeper) =
+    StandsIn now token (Keeps keeper KnowsAnything)

@@ -1,13 +1,12 @@
 // The read of the intent, from `Keeper<Unknown>` to `Recovering`, or to `Keeper<Clean>` where none
 // stands.
-ghost use Rattle.std.specs.Prelude.{◌≡◌, IfOk, IfErr, IsErrOf, Ok};
+ghost use Rattle.std.specs.Prelude.{◌≡◌, IfErr, IsErrOf, Ok};
 ghost use Rattle.acct_outside.specs.Calls.{reads};
 ghost use Rattle.acct_outside.specs.Contract.{found_result};
-ghost use Rattle.acct_outside.specs.Faults.{CountsFailure};
-ghost use Rattle.suite_rules.specs.Steps.{StandsIn, MakesCall, AlwaysStaysLawful, Leaves, own_command};
+ghost use Rattle.suite_rules.specs.Steps.{StandsIn, own_command, TakesStep};
 ghost use Rattle.suite_rules.specs.Outcomes.{before_commit};
 ghost use Rattle.lock_steps.specs.Stands.{Keeps, KnowsAnything, KnowsNone};
-ghost use Rattle.recovery.specs.Stands.{StandsSeen, StandsRefused};
+ghost use Rattle.recovery.specs.Stands.{StandsRefused, HoldsSeen};
 ghost use Rattle.recovery.specs.Outcomes.{FindsIntent, ReadsBytes, failed_before};
 
 use crate::recovering::Recovering;
@@ -30,20 +29,11 @@ pub fn read_intent<F: Folder>(
     keeper: Keeper<Unknown>,
     folder: &mut F,
 ) -> Result<IntentSeen, RecoveryEnd>
-    requires { StandsIn (F.admits folder.old) (F.told folder.old) keeper.token
-        (Keeps keeper KnowsAnything) }
-    ensures call { MakesCall (F.admits folder.old) (F.admits folder.new) (F.told folder.old)
-        (F.told folder.new) keeper.token (reads Name.Intent)
-        (λ answer. FindsIntent keeper answer result) }
-    ensures next { IfOk result
-        (StandsSeen (F.admits folder.new) (F.told folder.new) keeper.token) }
-    ensures refused { IfErr result
-        (StandsRefused (F.admits folder.new) (F.told folder.new) keeper.token) }
-    ensures own { Leaves own_command keeper.token (F.told folder.old) (F.told folder.new) }
-    ensures lawful { AlwaysStaysLawful (F.admits folder.old) (F.told folder.old)
-        (F.told folder.new) }
-    ensures faults { CountsFailure (RecoveryEnd.Fault failed_before)
-        (F.fault_count folder.old) (F.fault_count folder.new) result }
+    requires { StandsIn (F.moment folder.old) keeper.token (Keeps keeper KnowsAnything) }
+    ensures step { TakesStep (F.moment folder.old) (F.moment folder.new) keeper.token
+        (reads Name.Intent) (λ answer. FindsIntent keeper answer result) HoldsSeen own_command
+        (RecoveryEnd.Fault failed_before) result }
+    ensures refused { IfErr result (StandsRefused (F.moment folder.new) keeper.token) }
 {
     let found = folder.read(keeper.token(), Name::Intent, INTENT_LIMIT);
     after_read(alloc, keeper, folder, found)
@@ -56,8 +46,8 @@ fn after_read<F: Folder>(
     folder: &F,
     found: Result<Found, FolderFault>,
 ) -> Result<IntentSeen, RecoveryEnd>
-    requires { found ≡ Ok Found.Absent →
-        StandsIn (F.admits folder.now) (F.told folder.now) keeper.token (Keeps keeper KnowsNone) }
+    requires { found ≡ Ok Found.Absent → StandsIn (F.moment folder.now) keeper.token
+        (Keeps keeper KnowsNone) }
     ensures shown { FindsIntent keeper (found_result found) result }
     ensures failed { IsErrOf result (RecoveryEnd.Fault failed_before)
         → IsErrOf found FolderFault.Failed }

@@ -5,10 +5,9 @@
 // 2. `Moving`: these bytes are staged. `move_next` moves them to their table, and leads back to
 //    `Recovering` with one table less.
 // 3. `Keeper<Clean>`: no table is left. `remove_intent` leads to it from `Recovering`.
-ghost use Rattle.std.specs.Prelude.{◌≡◌, ◌<◌, length, slice_get, IfOk, IfSome, IsErrOf, OnOk, Some};
+ghost use Rattle.std.specs.Prelude.{◌≡◌, ◌<◌, length, slice_get, IsErrOf, OnOk, Some};
 ghost use Rattle.acct_outside.specs.Calls.{removes};
-ghost use Rattle.acct_outside.specs.Faults.{CountsFailure};
-ghost use Rattle.suite_rules.specs.Steps.{StandsIn, MakesCall, AlwaysStaysLawful, Leaves, own_command};
+ghost use Rattle.suite_rules.specs.Steps.{StandsIn, own_command, TakesStep, TakesNext};
 ghost use Rattle.suite_rules.specs.Outcomes.{before_commit, LeadsTo, stages, installs};
 ghost use Rattle.lock_steps.specs.Stands.{Keeps, KnowsNone, KnowsNoneYet};
 ghost use Rattle.recovery.specs.States.{moved_once};
@@ -95,19 +94,10 @@ impl Recovering {
     /// At a fault the keeper is spent, and the intent stands.
     pub fn stage_next<F: Folder>(self, folder: &mut F) -> Result<Moving, StageFault>
         requires left { 0 < length self.left }
-        requires stands { StandsIn (F.admits folder.old) (F.told folder.old) self.keeper.token
-            (Recovers self) }
-        ensures call { IfSome (slice_get self.left 0) (λ next.
-            MakesCall (F.admits folder.old) (F.admits folder.new) (F.told folder.old)
-            (F.told folder.new) self.keeper.token (stages next)
-            (λ answer. LeadsTo self before_commit answer result)) }
-        ensures next { IfOk result (λ moving. StandsIn (F.admits folder.new) (F.told folder.new)
-            self.keeper.token (HasStagedNext moving)) }
-        ensures own { Leaves own_command self.keeper.token (F.told folder.old) (F.told folder.new) }
-        ensures lawful { AlwaysStaysLawful (F.admits folder.old) (F.told folder.old)
-            (F.told folder.new) }
-        ensures faults { CountsFailure failed_before
-            (F.fault_count folder.old) (F.fault_count folder.new) result }
+        requires stands { StandsIn (F.moment folder.old) self.keeper.token (Recovers self) }
+        ensures { TakesNext (F.moment folder.old) (F.moment folder.new) self.keeper.token
+            (slice_get self.left 0) stages (λ next answer. LeadsTo self before_commit answer result)
+            HasStagedNext own_command failed_before result }
     {
         let next = self.next();
         let written = folder.write(self.token(), Name::Staged(next.table), &next.bytes);
@@ -145,18 +135,10 @@ impl Recovering {
     /// At a fault the keeper is spent, and the intent may stand.
     pub fn remove_intent<F: Folder>(self, folder: &mut F) -> Result<Keeper<Clean>, StageFault>
         requires left { length self.left ≡ 0 }
-        requires stands { StandsIn (F.admits folder.old) (F.told folder.old) self.keeper.token
-            (Recovers self) }
-        ensures call { MakesCall (F.admits folder.old) (F.admits folder.new) (F.told folder.old)
-            (F.told folder.new) self.keeper.token (removes Name.Intent)
-            (λ answer. LeadsTo self.keeper before_commit answer result) }
-        ensures next { IfOk result (λ keeper. StandsIn (F.admits folder.new) (F.told folder.new)
-            self.keeper.token (Keeps keeper KnowsNoneYet)) }
-        ensures own { Leaves own_command self.keeper.token (F.told folder.old) (F.told folder.new) }
-        ensures lawful { AlwaysStaysLawful (F.admits folder.old) (F.told folder.old)
-            (F.told folder.new) }
-        ensures faults { CountsFailure failed_before
-            (F.fault_count folder.old) (F.fault_count folder.new) result }
+        requires stands { StandsIn (F.moment folder.old) self.keeper.token (Recovers self) }
+        ensures { TakesStep (F.moment folder.old) (F.moment folder.new) self.keeper.token
+            (removes Name.Intent) (λ answer. LeadsTo self.keeper before_commit answer result)
+            (λ keeper. Keeps keeper KnowsNoneYet) own_command failed_before result }
     {
         let removed = folder.remove(self.token(), Name::Intent);
         self.after_removal(folder, removed)
@@ -168,8 +150,8 @@ impl Recovering {
         folder: &F,
         removed: Result<(), FolderFault>,
     ) -> Result<Keeper<Clean>, StageFault>
-        requires { OnOk removed (StandsIn (F.admits folder.now) (F.told folder.now)
-            self.keeper.token (Keeps self.keeper KnowsNone)) }
+        requires { OnOk removed
+            (StandsIn (F.moment folder.now) self.keeper.token (Keeps self.keeper KnowsNone)) }
         ensures shown { LeadsTo self.keeper before_commit removed result }
         ensures failed { IsErrOf result failed_before → IsErrOf removed FolderFault.Failed }
     {
@@ -185,19 +167,11 @@ impl Moving {
     ///
     /// At a fault the keeper is spent, and the intent stands.
     pub fn move_next<F: Folder>(self, folder: &mut F) -> Result<Recovering, StageFault>
-        requires { StandsIn (F.admits folder.old) (F.told folder.old) self.keeper.token
-            (HasStagedNext self) }
-        ensures call { IfSome (slice_get self.left 0) (λ next.
-            MakesCall (F.admits folder.old) (F.admits folder.new) (F.told folder.old)
-            (F.told folder.new) self.keeper.token (installs next)
-            (λ answer. LeadsTo (moved_once self) before_commit answer result)) }
-        ensures next { IfOk result (λ recovering. StandsIn (F.admits folder.new)
-            (F.told folder.new) self.keeper.token (Recovers recovering)) }
-        ensures own { Leaves own_command self.keeper.token (F.told folder.old) (F.told folder.new) }
-        ensures lawful { AlwaysStaysLawful (F.admits folder.old) (F.told folder.old)
-            (F.told folder.new) }
-        ensures faults { CountsFailure failed_before
-            (F.fault_count folder.old) (F.fault_count folder.new) result }
+        requires { StandsIn (F.moment folder.old) self.keeper.token (HasStagedNext self) }
+        ensures { TakesNext (F.moment folder.old) (F.moment folder.new) self.keeper.token
+            (slice_get self.left 0) installs
+            (λ next answer. LeadsTo (moved_once self) before_commit answer result) Recovers
+            own_command failed_before result }
     {
         let token = self.recovering.token();
         let table = self.recovering.next().table;

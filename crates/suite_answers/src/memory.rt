@@ -16,10 +16,10 @@ pub fn put_memory_text<E: Sink>(
     tool: Option<Tool>,
     stage: CommitStage,
 ) -> Result<(), SinkFault>
-    ensures holds { WhereBytesTold (E.holds err.old) (E.holds err.new)
+    ensures holds { WhereBytesTold (E.moment err.old).holds (E.moment err.new).holds
         (PutsFront (memory_message tool stage) result) }
-    ensures faults { CountsFailure SinkFault.Failed (E.fault_count err.old) (E.fault_count err.new)
-        result }
+    ensures faults { CountsFailure SinkFault.Failed (E.moment err.old).faults
+        (E.moment err.new).faults result }
 {
     err.put(message::name(tool))?;
     err.put(b": want of memory ")?;

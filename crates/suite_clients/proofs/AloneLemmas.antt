@@ -22,7 +22,7 @@ use Rattle.acct_outside.specs.Tokens.{Token}
 use Rattle.acct_outside.specs.Folder.{Folder, settings_file}
 use Rattle.acct_outside.specs.Calls.{Command}
 use Rattle.acct_outside.specs.History.{Event, History, after}
-use Rattle.acct_outside.specs.Contract.{Past}
+use Rattle.acct_outside.specs.Moment.{Past, Moment}
 use Rattle.acct_outside.specs.Memory.{no_others}
 use Rattle.account_model.specs.declared.tool.Tool.{Tool}
 use Rattle.account_model.specs.declared.word_fault.WordFault.{WordFault}
@@ -43,7 +43,6 @@ use Rattle.suite_answers.specs.declared.cause.Outcome.{Outcome}
 use Rattle.suite_answers.specs.declared.answer.Answer.{Answer}
 use Rattle.suite_answers.specs.Answers.{told}
 use Rattle.suite_session.specs.Runner.{Question}
-use Rattle.suite_session.specs.Moment.{moment}
 use Rattle.suite_session.specs.Answers.{after_streams, answer_on, cause_of_answer, given_for, memory_answer, IsAnswerOn, IsTold}
 use Rattle.suite_session.specs.Locking.{cause_of_fault}
 use Rattle.suite_session.specs.Deeds.{AreOfTools, files_of}
@@ -259,9 +258,13 @@ module _ (deeds : SuiteDeeds) (ours : AreOfTools deeds) (asked : Question)
 
 -- ---- The run
 
+-- a folder in memory of this history that has failed so often
+abbrev pub at_moment : Past → ℕ → Moment
+at_moment past faults = record { admits = no_others; told = Some past; faults = faults }
+
 module _ (asked : Question) (old new : Past) (one other : ℕ) (was holds : Streams)
     (outcome : Outcome)
-    (ran : Ran asked (moment no_others (Some old) one) (moment no_others (Some new) other) was holds
+    (ran : Ran asked (at_moment old one) (at_moment new other) was holds
     outcome) where
   -- a lawful history stays lawful
   pub ran-lawful : IsLawful old → IsLawful new

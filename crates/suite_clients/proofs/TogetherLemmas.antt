@@ -11,7 +11,6 @@ use Rattle.acct_outside.specs.Folder.{Folder}
 use Rattle.acct_outside.specs.Calls.{Call, Answer as CallAnswer, CallResult, begins, done, failed, died}
 use Rattle.acct_outside.specs.History.{History, is_of, own_events}
 use Rattle.acct_outside.specs.Life.{life, life_step, life_from_begin, unbegun, runs_in, is_running}
-use Rattle.acct_outside.specs.Contract.{Past}
 use Rattle.acct_outside.specs.Others.{Admission}
 use Rattle.acct_outside.specs.Gives.{GivesResult}
 use Rattle.acct_outside.specs.Memory.{no_others, past_of}
@@ -26,19 +25,21 @@ use Rattle.suite_session.specs.declared.state.State.{State}
 use Rattle.suite_session.specs.declared.state.State.TheVariants.{Looking, Reading, Asking, Claiming, Confirming, Withdrawing, ReadingIntent, Recovering, Moving, Loading, BackingUp, Committing, Installing, Unlocking, Freeing, Answering}
 use Rattle.suite_session.specs.declared.session.Phase.{Phase}
 use Rattle.suite_session.specs.declared.session.Phase.TheVariants.{Waiting, Begun, Over}
-use Rattle.suite_session.specs.Moment.{Moment}
+use Rattle.acct_outside.specs.Moment.{Past, Moment}
 use Rattle.suite_session.specs.Runner.{Runner}
 use Rattle.suite_session.specs.Session.{IsWaiting, RemembersNow, OthersStand, SessionStands, SessionTurns, answer_of, outcome_of, phase_left, turn_token}
 use Rattle.suite_session.specs.Stands.{StandsAs, StaysOurs}
 use Rattle.suite_clients.specs.Alone.{IsLawful}
-use Rattle.suite_clients.specs.Together.{AreApart, IsFoldOfCommitted, KeepsOthers, StandTogether, StandsLawfully, TurnsTo, moment_of}
+use Rattle.acct_outside.specs.Memory.{moment_of}
+use Rattle.suite_rules.proofs.Parts.{StandsWhere}
+use Rattle.suite_clients.specs.Together.{AreApart, IsFoldOfCommitted, KeepsOthers, StandTogether, StandsLawfully, TurnsTo}
 use Rattle.suite_clients.proofs.AloneLemmas.{none-admitted}
 
 -- ---- A session that runs
 
 -- where it stands in such a history, it runs
 stands-runs : (admits : Admission) (token : Token) (Holds : Standing → Type 0) (past : Past) →
-    StandsIn admits (Some past) token Holds → is_running token past.history ≡ true
+    StandsWhere admits (Some past) token Holds → is_running token past.history ≡ true
 stands-runs admits token Holds past stands = ap runs_in stands.runs
 
 -- so in each state
@@ -146,7 +147,7 @@ module _ (before now : MemoryFolder) where
   new-stands old (Over answer) turns = tt
 
   -- what is told stays lawful
-  stays-lawful : StaysOurs no_others (Some (past_of before)) (Some (past_of now)) →
+  stays-lawful : StaysOurs (moment_of before) (moment_of now) →
       IsLawful (past_of before) → IsLawful (past_of now)
   stays-lawful stays is =
       let told = stays is.0 is.1 in (

@@ -4,7 +4,7 @@ use Rattle.acct_text.specs.Bytes.{Bytes}
 use Rattle.acct_text.specs.declared.files.Files.{Files}
 use Rattle.acct_outside.specs.Folder.{settings_file}
 use Rattle.acct_outside.specs.History.{after}
-use Rattle.acct_outside.specs.Contract.{Past}
+use Rattle.acct_outside.specs.Moment.{Past}
 use Rattle.account_model.specs.Request.{Request}
 use Rattle.account_model.specs.Answer.{answer, deed}
 use Rattle.suite_rules.specs.Deeds.{SuiteDeeds}

@@ -4,21 +4,16 @@ use Rattle.acct_text.specs.declared.Tab.{Tab}
 use Rattle.acct_outside.specs.declared.memory.MemoryFolder.{MemoryFolder}
 use Rattle.acct_outside.specs.Tokens.{Token}
 use Rattle.acct_outside.specs.History.{after}
-use Rattle.acct_outside.specs.Contract.{Past}
-use Rattle.acct_outside.specs.Memory.{faults_of, no_others, past_of}
+use Rattle.acct_outside.specs.Moment.{Past}
+use Rattle.acct_outside.specs.Memory.{moment_of, past_of}
 use Rattle.suite_rules.specs.Deeds.{SuiteDeeds}
 use Rattle.suite_rules.specs.Settled.{settled}
 use Rattle.suite_rules.specs.Committed.{committed, folded}
 use Rattle.suite_session.specs.declared.session.Phase.{Phase}
 use Rattle.suite_session.specs.declared.session.Phase.TheVariants.{Begun}
 use Rattle.suite_session.specs.Deeds.{AreOfTools}
-use Rattle.suite_session.specs.Moment.{Moment, moment}
 use Rattle.suite_session.specs.Session.{SessionStands}
 use Rattle.suite_clients.specs.Alone.{IsLawful}
-
--- a folder in memory tells its history, and admits no event of others
-abbrev pub moment_of : MemoryFolder → Moment
-moment_of folder = moment no_others (Some (past_of folder)) (faults_of folder)
 
 -- the session stands in the folder, whose history is lawful
 pub record StandsLawfully (folder : MemoryFolder) (session : Phase) : Type 0 where

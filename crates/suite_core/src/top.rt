@@ -5,7 +5,6 @@ ghost use Rattle.account_model.specs.Request.{Request};
 ghost use Rattle.account_model.specs.Words.{Asks, fault as first_fault};
 ghost use Rattle.account_model.specs.declared.word_fault.WordFault.{WordFault as Fault};
 ghost use Rattle.suite_answers.specs.Answers.{told_words};
-ghost use Rattle.suite_session.specs.Moment.{moment};
 ghost use Rattle.suite_session.specs.Runner.{question};
 ghost use Rattle.suite_course.specs.Streams.{streams};
 ghost use Rattle.suite_course.specs.Supplies.{AreSupplied, reads_input, supplies};
@@ -43,36 +42,20 @@ pub fn run_suite<F: Folder, S: Source, O: Sink, E: Sink, C: Clock>(
     ensures syntax { (found : Fault) → first_fault words.now ≡ Some found →
         (folder.new ≡ folder.old) × (input.new ≡ input.old) × (clock.new ≡ clock.old)
         × EndsEarly (named_tool words.now) (told_words words.now found)
-        (streams (O.holds out.old) (O.fault_count out.old)
-        (E.holds err.old) (E.fault_count err.old))
-        (streams (O.holds out.new) (O.fault_count out.new)
-        (E.holds err.new) (E.fault_count err.new))
-        result }
+        (streams (O.moment out.old) (E.moment err.old))
+        (streams (O.moment out.new) (E.moment err.new)) result }
     ensures ran { (request : Request) → Asks words.now request →
         ((folder.new ≡ folder.old) × EndsUnsupplied request.tool
-        (supplies (S.left input.old) (S.fault_count input.old)
-        (C.gave clock.old) (C.fault_count clock.old))
-        (supplies (S.left input.new) (S.fault_count input.new)
-        (C.gave clock.new) (C.fault_count clock.new))
-        (streams (O.holds out.old) (O.fault_count out.old)
-        (E.holds err.old) (E.fault_count err.old))
-        (streams (O.holds out.new) (O.fault_count out.new)
-        (E.holds err.new) (E.fault_count err.new))
-        result)
+        (supplies (S.moment input.old) (C.moment clock.old))
+        (supplies (S.moment input.new) (C.moment clock.new))
+        (streams (O.moment out.old) (E.moment err.old))
+        (streams (O.moment out.new) (E.moment err.new)) result)
         ⊎ ((text : Text) × (day : ℕ) × AreSupplied request.tool
-        (supplies (S.left input.old) (S.fault_count input.old)
-        (C.gave clock.old) (C.fault_count clock.old))
-        (supplies (S.left input.new) (S.fault_count input.new)
-        (C.gave clock.new) (C.fault_count clock.new))
-        text day
-        × Ran (question words.now request text day)
-        (moment (F.admits folder.old) (F.told folder.old) (F.fault_count folder.old))
-        (moment (F.admits folder.new) (F.told folder.new) (F.fault_count folder.new))
-        (streams (O.holds out.old) (O.fault_count out.old)
-        (E.holds err.old) (E.fault_count err.old))
-        (streams (O.holds out.new) (O.fault_count out.new)
-        (E.holds err.new) (E.fault_count err.new))
-        result) }
+        (supplies (S.moment input.old) (C.moment clock.old))
+        (supplies (S.moment input.new) (C.moment clock.new)) text day
+        × Ran (question words.now request text day) (F.moment folder.old) (F.moment folder.new)
+        (streams (O.moment out.old) (E.moment err.old))
+        (streams (O.moment out.new) (E.moment err.new)) result) }
     ensures no_input { (request : Request) → Asks words.now request →
         reads_input request.tool ≡ false →
         input.new ≡ input.old }

@@ -8,7 +8,8 @@ use Rattle.std.specs.List.{AllByRecursion}
 use Rattle.acct_outside.specs.Tokens.{Token}
 use Rattle.acct_outside.specs.History.{Event, History, is_of, own_events}
 use Rattle.acct_outside.specs.Others.{Admission, none_came, one_came}
-use Rattle.acct_outside.specs.Contract.{Past, NeverAdmits}
+use Rattle.acct_outside.specs.Moment.{Past}
+use Rattle.acct_outside.specs.Contract.{NeverAdmits}
 use Rattle.suite_rules.proofs.StepLemmas.{stayed}
 use Rattle.suite_answers.specs.declared.answer.Answer.{Answer}
 use Rattle.suite_session.specs.declared.state.State.{State}

@@ -21,7 +21,7 @@ use Rattle.acct_outside.specs.Folder.{Folder}
 use Rattle.acct_outside.specs.Calls.{answers, done}
 use Rattle.acct_outside.specs.History.{Event, History, after, own_events}
 use Rattle.acct_outside.specs.Others.{Admission}
-use Rattle.acct_outside.specs.Contract.{Past, WhereTold}
+use Rattle.acct_outside.specs.Contract.{WhereTold}
 use Rattle.account_model.specs.declared.tool.Tool.{Tool}
 use Rattle.suite_rules.specs.Deeds.{SuiteDeeds}
 use Rattle.suite_rules.specs.Standing.{standing}
@@ -35,7 +35,8 @@ use Rattle.suite_answers.specs.declared.answer.Answer.{Answer}
 use Rattle.suite_answers.specs.Answers.{told}
 use Rattle.suite_answers.specs.Reasons.{stage_of}
 use Rattle.suite_session.specs.Runner.{Question}
-use Rattle.suite_session.specs.Moment.{Moment, commit_at}
+use Rattle.acct_outside.specs.Moment.{Past, Moment}
+use Rattle.suite_session.specs.Moment.{commit_at}
 use Rattle.suite_session.specs.Answers.{IsTold, Says, after_streams}
 use Rattle.suite_session.specs.Deeds.{AreOfTools}
 use Rattle.suite_session.specs.Locking.{cause_of_fault}

@@ -11,7 +11,7 @@ use Rattle.acct_outside.specs.Folder.{Folder}
 use Rattle.acct_outside.specs.Tokens.{Token}
 use Rattle.acct_outside.specs.History.{History, is_of, own_events}
 use Rattle.acct_outside.specs.Others.{Admission, ByOthers, none_came, one_came}
-use Rattle.acct_outside.specs.Contract.{Past, Narrows, TellsBegin, WhereTold}
+use Rattle.acct_outside.specs.Contract.{TellsBegin, WhereTold}
 use Rattle.suite_rules.specs.Deeds.{SuiteDeeds}
 use Rattle.suite_rules.specs.Lawful.{Lawful}
 use Rattle.suite_rules.specs.Steps.{LawfulOthers, StaysLawful}
@@ -19,7 +19,8 @@ use Rattle.suite_answers.specs.declared.answer.Answer.{Answer}
 use Rattle.suite_session.specs.declared.session.Phase.{Phase}
 use Rattle.suite_session.specs.declared.session.Phase.TheVariants.{Waiting, Begun, Over}
 use Rattle.suite_session.specs.Runner.{Question, Runner}
-use Rattle.suite_session.specs.Moment.{Moment}
+use Rattle.acct_outside.specs.Moment.{Past, Moment, Narrows}
+use Rattle.suite_rules.proofs.Parts.{StaysLawfulWhere}
 use Rattle.suite_session.specs.Session.{RemembersNow, IsNew, IsWaiting, SessionStands, SessionTurns, IsUnbegun, answer_of, given_in, phase_left}
 use Rattle.suite_session.specs.Stands.{Extends, StandsAs, TellsOutside, TurnsTo}
 use Rattle.suite_session.specs.Counts.{SessionCounts}
@@ -39,8 +40,8 @@ others-narrow deeds more fewer first narrows others history event lawful admitte
 
 -- a history that twice stayed lawful stays so
 lawful-then : (deeds : SuiteDeeds) (more fewer : Admission) → Narrows more fewer →
-    (entry between now : Option Past) → StaysLawful deeds more entry between →
-    StaysLawful deeds fewer between now → StaysLawful deeds more entry now
+    (entry between now : Option Past) → StaysLawfulWhere deeds more entry between →
+    StaysLawfulWhere deeds fewer between now → StaysLawfulWhere deeds more entry now
 lawful-then deeds more fewer narrows None None None first second = tt
 lawful-then deeds more fewer narrows (Some entry) (Some between) (Some now) first second = (
   second.0 ∙ first.0,
@@ -285,7 +286,7 @@ comes-first asked entry phase is =
     })
   where
     still-lawful : (deeds : SuiteDeeds) (admits : Admission) (was : Option Past) →
-        StaysLawful deeds admits was was
+        StaysLawfulWhere deeds admits was was
     still-lawful deeds admits None = tt
     still-lawful deeds admits (Some was) = (refl, λ others lawful. lawful)
 

@@ -14,7 +14,7 @@ use Rattle.suite_session.specs.declared.state.State.TheVariants.{Answering}
 use Rattle.suite_session.specs.declared.session.Phase.{Phase}
 use Rattle.suite_session.specs.declared.session.Phase.TheVariants.{Waiting, Begun, Over}
 use Rattle.suite_session.specs.Runner.{Question, Runner}
-use Rattle.suite_session.specs.Moment.{Moment}
+use Rattle.acct_outside.specs.Moment.{Moment}
 use Rattle.suite_session.specs.Session.{HasAnswered, SessionStands, SessionTurns, answer_of, given_in, outcome_of, state_failed}
 use Rattle.suite_session.specs.Answers.{Says, after_streams}
 use Rattle.suite_session.proofs.MetLemmas.{told-as}

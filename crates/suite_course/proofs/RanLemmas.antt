@@ -12,7 +12,7 @@ use Rattle.acct_outside.specs.Folder.{Folder}
 use Rattle.acct_outside.specs.Calls.{Command, answers, done}
 use Rattle.acct_outside.specs.History.{Event, History, own_events}
 use Rattle.acct_outside.specs.Others.{Admission, none_came}
-use Rattle.acct_outside.specs.Contract.{Past, Narrows, TellsBegin, WhereTold}
+use Rattle.acct_outside.specs.Contract.{TellsBegin, WhereTold}
 use Rattle.suite_rules.specs.Deeds.{SuiteDeeds}
 use Rattle.suite_rules.specs.Lawful.{Lawful}
 use Rattle.suite_rules.specs.Steps.{LawfulOthers, StaysLawful}
@@ -24,13 +24,16 @@ use Rattle.suite_answers.specs.declared.cause.Outcome.{Outcome}
 use Rattle.suite_answers.specs.declared.answer.Answer.{Answer}
 use Rattle.suite_answers.specs.Reasons.{stage_of}
 use Rattle.suite_session.specs.Runner.{Question, Runner}
-use Rattle.suite_session.specs.Moment.{Moment, commit_at}
+use Rattle.acct_outside.specs.Moment.{Past, Moment, Narrows}
+use Rattle.suite_rules.proofs.Parts.{StaysLawfulWhere}
+use Rattle.suite_session.specs.Moment.{commit_at}
 use Rattle.suite_session.specs.Deeds.{AreOfTools}
 use Rattle.suite_session.specs.Session.{HasAnswered, IsNew, IsUnbegun}
 use Rattle.suite_session.specs.Answers.{after_streams, memory_answer}
 use Rattle.suite_session.specs.Grows.{Grew, Grows}
 use Rattle.suite_session.specs.Backing.{BackedUpChanges}
-use Rattle.suite_session.specs.Stands.{Extends, IsDiskFault, IsOutside, StaysOurs, TurnsTo}
+use Rattle.suite_session.proofs.Parts.{StaysOursWhere}
+use Rattle.suite_session.specs.Stands.{Extends, IsDiskFault, IsOutside, TurnsTo}
 use Rattle.suite_session.proofs.GrowsLemmas.{grew-extends, grew-nothing}
 use Rattle.suite_course.specs.Bound.{IsWithin}
 use Rattle.suite_course.specs.Streams.{Streams, Serves}
@@ -58,7 +61,7 @@ module _ (asked : Question) (entry now : Moment) where
   where-lawful : (P : SuiteDeeds → Folder → History → History → Type 0) →
       ((deeds : SuiteDeeds) (first : Folder) (old new : History) → Lawful deeds first new →
       (newer : History) → new ≡ newer ++ old → P deeds first old new) →
-      (was told : Option Past) → Extends was told → StaysOurs entry.admits was told →
+      (was told : Option Past) → Extends was told → StaysOursWhere entry.admits was told →
       WhereTold was told (λ first old new. IfLawful entry.admits first old
       (λ deeds. P deeds first old new))
   where-lawful P follows None None extends stays = tt
@@ -131,7 +134,7 @@ module _ (asked : Question) (entry now : Moment) where
     -- it has run, or its begin gave no token
     runs-or-not : (by : Token) (made : ℕ) (was told : Option Past) → was ≡ entry.told →
         told ≡ now.told → AnsweredAs asked entry now by given last_status ⊎ IsUnbegun asked entry now given →
-        Grew entry.admits by made was told → StaysOurs entry.admits was told →
+        Grew entry.admits by made was told → StaysOursWhere entry.admits was told →
         WhereTold was told (RunsOrNot asked entry.admits given outcome)
     runs-or-not by made None None was_is told_is stands grew stays = tt
     runs-or-not by made (Some was) (Some past) was_is told_is (inl gave) grew stays = (
@@ -207,7 +210,7 @@ stays-turns entry now token told narrows never_falls stands none = record {
   stands = stands;
   grew = subst (λ (one : Option Past). Grew entry.admits token 0 entry.told one) (sym told)
       (grew-nothing entry.admits token entry.told);
-  lawful = λ deeds ours. subst (λ (one : Option Past). StaysLawful deeds entry.admits entry.told one)
+  lawful = λ deeds ours. subst (λ (one : Option Past). StaysLawfulWhere deeds entry.admits entry.told one)
       (sym told) (still-lawful deeds entry.admits entry.told);
   narrows = narrows;
   never_falls = never_falls;
@@ -215,7 +218,7 @@ stays-turns entry now token told narrows never_falls stands none = record {
 }
   where
     still-lawful : (deeds : SuiteDeeds) (admits : Admission) (was : Option Past) →
-        StaysLawful deeds admits was was
+        StaysLawfulWhere deeds admits was was
     still-lawful deeds admits None = tt
     still-lawful deeds admits (Some was) = (refl, λ others lawful. lawful)
 

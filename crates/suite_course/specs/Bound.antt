@@ -4,7 +4,7 @@ use Rattle.std.specs.Prelude.{◌≡◌, ⊤, ◌+◌, ◌≤◌, ℕ, length}
 use Rattle.acct_outside.specs.Tokens.{Token}
 use Rattle.acct_outside.specs.History.{History, own_events}
 use Rattle.acct_outside.specs.Others.{Admission}
-use Rattle.acct_outside.specs.Contract.{Past}
+use Rattle.acct_outside.specs.Moment.{Past}
 use Rattle.suite_session.specs.declared.state.State.{State}
 use Rattle.suite_session.specs.declared.session.Phase.{Phase}
 use Rattle.suite_session.specs.declared.session.Phase.TheVariants.{Begun}

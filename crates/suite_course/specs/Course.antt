@@ -8,7 +8,7 @@ use Rattle.suite_session.specs.declared.session.Phase.{Phase}
 use Rattle.suite_session.specs.declared.session.Phase.TheVariants.{Waiting, Begun, Over}
 use Rattle.suite_session.specs.Runner.{Question, Runner}
 use Rattle.suite_session.specs.Backing.{BackedUpChanges}
-use Rattle.suite_session.specs.Moment.{Moment}
+use Rattle.acct_outside.specs.Moment.{Moment}
 use Rattle.suite_session.specs.Answers.{Says, after_streams}
 use Rattle.suite_session.specs.Session.{HasAnswered, IsNew, IsUnbegun, RemembersNow, SessionTurns, outcome_of, output_failed, phase_token}
 use Rattle.suite_session.specs.Stands.{IsOutside, StandsAs, TellsOutside, TurnsTo}

@@ -5,7 +5,7 @@ use Rattle.acct_outside.specs.declared.CommitStage.{CommitStage}
 use Rattle.acct_outside.specs.declared.streams.SinkFault.{SinkFault}
 use Rattle.acct_outside.specs.declared.streams.SinkFault.TheVariants.{Failed}
 use Rattle.acct_outside.specs.Faults.{HasRisen}
-use Rattle.acct_outside.specs.Streams.{WhereBytesTold}
+use Rattle.acct_outside.specs.Streams.{SinkMoment, WhereBytesTold}
 use Rattle.account_model.specs.declared.tool.Tool.{Tool}
 use Rattle.suite_answers.specs.declared.cause.Cause.{Cause}
 use Rattle.suite_answers.specs.declared.cause.Cause.TheVariants.{Memory}
@@ -20,10 +20,14 @@ pub record Streams : Type 0 where
   pub err : Option Bytes
   pub err_faults : ℕ
 
--- the streams that hold these
-abbrev pub streams : Option Bytes → ℕ → Option Bytes → ℕ → Streams
-streams out out_faults err err_faults =
-    record { out = out; out_faults = out_faults; err = err; err_faults = err_faults }
+-- the two streams, by what each tells of itself
+abbrev pub streams : SinkMoment → SinkMoment → Streams
+streams out err = record {
+  out = out.holds;
+  out_faults = out.faults;
+  err = err.holds;
+  err_faults = err.faults;
+}
 
 -- the stage of a cause that there is no memory, none of any other
 abbrev pub memory_stage : Cause → Option CommitStage

@@ -7,7 +7,7 @@ use Rattle.acct_outside.specs.declared.CommitStage.TheVariants.{Before}
 use Rattle.acct_outside.specs.declared.streams.SourceFault.{SourceFault}
 use Rattle.acct_outside.specs.declared.streams.SourceFault.TheVariants.{Failed, Memory as NoMemory}
 use Rattle.acct_outside.specs.Faults.{HasRisen}
-use Rattle.acct_outside.specs.Streams.{WhereBytesTold}
+use Rattle.acct_outside.specs.Streams.{ClockMoment, SourceMoment, WhereBytesTold}
 use Rattle.account_model.specs.declared.tool.Tool.{Tool}
 use Rattle.account_model.specs.declared.tool.Tool.TheVariants.{Chpasswd}
 use Rattle.suite_answers.specs.declared.cause.Which.TheVariants.{Input}
@@ -27,13 +27,13 @@ pub record Supplies : Type 0 where
   pub gave : Option ℕ
   pub clock_faults : ℕ
 
--- the source and the clock that tell these
-abbrev pub supplies : Option Bytes → ℕ → Option ℕ → ℕ → Supplies
-supplies left input_faults gave clock_faults = record {
-  left = left;
-  input_faults = input_faults;
-  gave = gave;
-  clock_faults = clock_faults;
+-- the source and the clock, by what each tells of itself
+abbrev pub supplies : SourceMoment → ClockMoment → Supplies
+supplies source clock = record {
+  left = source.left;
+  input_faults = source.faults;
+  gave = clock.gave;
+  clock_faults = clock.faults;
 }
 
 -- no count of faults falls

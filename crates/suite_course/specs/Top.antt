@@ -13,7 +13,7 @@ use Rattle.acct_outside.specs.Folder.{Folder, settings_file}
 use Rattle.acct_outside.specs.Calls.{answers, done}
 use Rattle.acct_outside.specs.History.{History, after, own_events}
 use Rattle.acct_outside.specs.Others.{Admission}
-use Rattle.acct_outside.specs.Contract.{Narrows, TellsBegin, WhereTold}
+use Rattle.acct_outside.specs.Contract.{TellsBegin, WhereTold}
 use Rattle.acct_outside.specs.declared.FolderFault.{FolderFault}
 use Rattle.account_model.specs.declared.tool.Tool.{Tool}
 use Rattle.account_model.specs.Options.{Word}
@@ -33,7 +33,8 @@ use Rattle.suite_answers.specs.declared.answer.Answer.{Answer}
 use Rattle.suite_answers.specs.Reasons.{stage_of}
 use Rattle.suite_answers.specs.Answers.{told}
 use Rattle.suite_session.specs.Runner.{Question}
-use Rattle.suite_session.specs.Moment.{Moment, commit_at}
+use Rattle.acct_outside.specs.Moment.{Moment, Narrows}
+use Rattle.suite_session.specs.Moment.{commit_at}
 use Rattle.suite_session.specs.Answers.{IsAnswerOn, IsTold, Says, after_streams, memory_answer}
 use Rattle.suite_session.specs.Causes.{HasMet, MetGreater}
 use Rattle.suite_session.specs.Deeds.{AreOfTools, files_of}

@@ -1,6 +1,6 @@
 -- What a session promises that is turned call by call (`Session::turn`), in the words of the top call.
 use Rattle.acct_outside.specs.History.{History, after}
-use Rattle.acct_outside.specs.Contract.{Past}
+use Rattle.acct_outside.specs.Moment.{Past}
 use Rattle.suite_rules.specs.Deeds.{SuiteDeeds}
 use Rattle.suite_rules.specs.Lawful.{Lawful}
 use Rattle.suite_answers.specs.declared.answer.Answer.{Answer}

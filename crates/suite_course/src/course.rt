@@ -1,7 +1,6 @@
 // The course of a session: it is turned to its answer, the streams are served, and it answers.
 ghost use Rattle.std.specs.Prelude.{◌≡◌, Some, IfSome, IsSome};
 ghost use Rattle.suite_session.specs.declared.session.Phase.TheVariants.{Waiting};
-ghost use Rattle.suite_session.specs.Moment.{moment};
 ghost use Rattle.suite_session.specs.Runner.{Question};
 ghost use Rattle.suite_session.specs.Session.{IsWaiting, SessionStands, answer_of};
 ghost use Rattle.suite_course.specs.Course.{Comes, Concludes, Finished, phase_after};
@@ -23,13 +22,8 @@ pub(crate) fn finish<T: Tools, F: Folder, O: Sink, E: Sink>(
 ) -> Outcome
     requires { IsWaiting session }
     ensures { (asked : Question) → session ≡ Waiting asked → tool ≡ asked.request.tool → Finished asked
-        (moment (F.admits folder.old) (F.told folder.old) (F.fault_count folder.old))
-        (moment (F.admits folder.new) (F.told folder.new) (F.fault_count folder.new))
-        (streams (O.holds out.old) (O.fault_count out.old)
-        (E.holds err.old) (E.fault_count err.old))
-        (streams (O.holds out.new) (O.fault_count out.new)
-        (E.holds err.new) (E.fault_count err.new))
-        result }
+        (F.moment folder.old) (F.moment folder.new) (streams (O.moment out.old) (E.moment err.old))
+        (streams (O.moment out.new) (E.moment err.new)) result }
 {
     let session = to_answer(session, folder);
     let put = put_answer(tool, &session, out, err);
@@ -44,11 +38,8 @@ fn put_answer<T: Tools, O: Sink, E: Sink>(
     err: &mut E,
 ) -> Result<(), SinkFault>
     ensures { IfSome (answer_of session.now) (λ given. Serves (Some tool) given
-        (streams (O.holds out.old) (O.fault_count out.old)
-        (E.holds err.old) (E.fault_count err.old))
-        (streams (O.holds out.new) (O.fault_count out.new)
-        (E.holds err.new) (E.fault_count err.new))
-        result) }
+        (streams (O.moment out.old) (E.moment err.old))
+        (streams (O.moment out.new) (E.moment err.new)) result) }
 {
     match session.answer() {
         Some(answer) => serve(Some(tool), answer, out, err),
@@ -68,12 +59,9 @@ fn after_streams<T: Tools>(mut session: Session<T>, put: Result<(), SinkFault>) 
 
 /// Lets the session answer, and gives its outcome.
 fn conclude<T: Tools, F: Folder>(mut session: Session<T>, folder: &mut F) -> Outcome
-    requires stands { SessionStands
-        (moment (F.admits folder.old) (F.told folder.old) (F.fault_count folder.old)) session }
+    requires stands { SessionStands (F.moment folder.old) session }
     requires answers { IsSome (answer_of session) }
-    ensures { Concludes
-        (moment (F.admits folder.old) (F.told folder.old) (F.fault_count folder.old))
-        (moment (F.admits folder.new) (F.told folder.new) (F.fault_count folder.new)) session result }
+    ensures { Concludes (F.moment folder.old) (F.moment folder.new) session result }
 {
     session.turn(folder);
     session.into_outcome()
@@ -83,8 +71,7 @@ fn conclude<T: Tools, F: Folder>(mut session: Session<T>, folder: &mut F) -> Out
 fn to_answer<T: Tools, F: Folder>(mut session: Session<T>, folder: &mut F) -> Session<T>
     requires { IsWaiting session }
     ensures comes { (asked : Question) → session ≡ Waiting asked → Comes asked
-        (moment (F.admits folder.old) (F.told folder.old) (F.fault_count folder.old))
-        (moment (F.admits folder.new) (F.told folder.new) (F.fault_count folder.new)) result }
+        (F.moment folder.old) (F.moment folder.new) result }
     ensures answers { IsSome (answer_of result) }
 {
     while session.is_going() {

@@ -25,12 +25,8 @@ pub fn refuse_words<O: Sink, E: Sink>(
     err: &mut E,
 ) -> Outcome
     ensures { (answer : Given) → (fault ≡ Fault.Memory) ⊎ (answer ≡ told_words words.now fault) →
-        EndsEarly (named_tool words.now) answer
-        (streams (O.holds out.old) (O.fault_count out.old)
-        (E.holds err.old) (E.fault_count err.old))
-        (streams (O.holds out.new) (O.fault_count out.new)
-        (E.holds err.new) (E.fault_count err.new))
-        result }
+        EndsEarly (named_tool words.now) answer (streams (O.moment out.old) (E.moment err.old))
+        (streams (O.moment out.new) (E.moment err.new)) result }
 {
     end(
         named_tool(words),
@@ -70,11 +66,8 @@ pub(crate) fn tell<O: Sink, E: Sink>(
     err: &mut E,
 ) -> Outcome
     ensures { EndsEarly (Some tool) (told tool cause)
-        (streams (O.holds out.old) (O.fault_count out.old)
-        (E.holds err.old) (E.fault_count err.old))
-        (streams (O.holds out.new) (O.fault_count out.new)
-        (E.holds err.new) (E.fault_count err.new))
-        result }
+        (streams (O.moment out.old) (E.moment err.old))
+        (streams (O.moment out.new) (E.moment err.new)) result }
 {
     let answer = match Answer::of_cause(alloc, tool, cause) {
         Ok(answer) => answer,
@@ -90,12 +83,8 @@ pub(crate) fn end<O: Sink, E: Sink>(
     out: &mut O,
     err: &mut E,
 ) -> Outcome
-    ensures { Ends tool answer
-        (streams (O.holds out.old) (O.fault_count out.old)
-        (E.holds err.old) (E.fault_count err.old))
-        (streams (O.holds out.new) (O.fault_count out.new)
-        (E.holds err.new) (E.fault_count err.new))
-        result }
+    ensures { Ends tool answer (streams (O.moment out.old) (E.moment err.old))
+        (streams (O.moment out.new) (E.moment err.new)) result }
 {
     let put = serve(tool, &answer, out, err);
     left_by(put, answer)

@@ -1,11 +1,10 @@
 // A command that asks for something: it is supplied, enters the folder, and its session runs there.
 ghost use Rattle.std.specs.Prelude.{◌≡◌, ◌⊎◌, ◌≤◌, ℕ, false, Some, IfOk};
 ghost use Rattle.acct_text.specs.Bytes.{Bytes as Text};
-ghost use Rattle.acct_outside.specs.Contract.{Narrows};
+ghost use Rattle.acct_outside.specs.Moment.{Narrows};
 ghost use Rattle.account_model.specs.Words.{Asks};
 ghost use Rattle.option_words.specs.Parsed.{request_in};
 ghost use Rattle.suite_session.specs.declared.session.Phase.TheVariants.{Waiting};
-ghost use Rattle.suite_session.specs.Moment.{moment};
 ghost use Rattle.suite_session.specs.Runner.{question};
 ghost use Rattle.suite_course.specs.Course.{Finished};
 ghost use Rattle.suite_course.specs.Streams.{streams};
@@ -38,29 +37,16 @@ pub fn run_request<T: Tools, F: Folder, S: Source, O: Sink, E: Sink, C: Clock>(
 ) -> Outcome
     requires { Asks words.now (request_in parsed) }
     ensures ran { ((folder.new ≡ folder.old) × EndsUnsupplied parsed.tool
-        (supplies (S.left input.old) (S.fault_count input.old)
-        (C.gave clock.old) (C.fault_count clock.old))
-        (supplies (S.left input.new) (S.fault_count input.new)
-        (C.gave clock.new) (C.fault_count clock.new))
-        (streams (O.holds out.old) (O.fault_count out.old)
-        (E.holds err.old) (E.fault_count err.old))
-        (streams (O.holds out.new) (O.fault_count out.new)
-        (E.holds err.new) (E.fault_count err.new))
-        result)
+        (supplies (S.moment input.old) (C.moment clock.old))
+        (supplies (S.moment input.new) (C.moment clock.new))
+        (streams (O.moment out.old) (E.moment err.old))
+        (streams (O.moment out.new) (E.moment err.new)) result)
         ⊎ ((text : Text) × (day : ℕ) × AreSupplied parsed.tool
-        (supplies (S.left input.old) (S.fault_count input.old)
-        (C.gave clock.old) (C.fault_count clock.old))
-        (supplies (S.left input.new) (S.fault_count input.new)
-        (C.gave clock.new) (C.fault_count clock.new))
-        text day
-        × Finished (question words.now (request_in parsed) text day)
-        (moment (F.admits folder.old) (F.told folder.old) (F.fault_count folder.old))
-        (moment (F.admits folder.new) (F.told folder.new) (F.fault_count folder.new))
-        (streams (O.holds out.old) (O.fault_count out.old)
-        (E.holds err.old) (E.fault_count err.old))
-        (streams (O.holds out.new) (O.fault_count out.new)
-        (E.holds err.new) (E.fault_count err.new))
-        result) }
+        (supplies (S.moment input.old) (C.moment clock.old))
+        (supplies (S.moment input.new) (C.moment clock.new)) text day
+        × Finished (question words.now (request_in parsed) text day) (F.moment folder.old)
+        (F.moment folder.new) (streams (O.moment out.old) (E.moment err.old))
+        (streams (O.moment out.new) (E.moment err.new)) result) }
     ensures no_input { reads_input parsed.tool ≡ false → input.new ≡ input.old }
 {
     let tool = parsed.tool;
@@ -82,13 +68,8 @@ fn run<T: Tools, F: Folder, O: Sink, E: Sink>(
 ) -> Outcome
     requires { Asks words.now (request_in parsed) }
     ensures { Finished (question words.now (request_in parsed) supplied.input supplied.day)
-        (moment (F.admits folder.old) (F.told folder.old) (F.fault_count folder.old))
-        (moment (F.admits folder.new) (F.told folder.new) (F.fault_count folder.new))
-        (streams (O.holds out.old) (O.fault_count out.old)
-        (E.holds err.old) (E.fault_count err.old))
-        (streams (O.holds out.new) (O.fault_count out.new)
-        (E.holds err.new) (E.fault_count err.new))
-        result }
+        (F.moment folder.old) (F.moment folder.new) (streams (O.moment out.old) (E.moment err.old))
+        (streams (O.moment out.new) (E.moment err.new)) result }
 {
     let tool = parsed.tool;
     match enter::<T, F>(alloc, words, parsed, supplied, folder) {
@@ -113,9 +94,9 @@ fn enter<T: Tools, F: Folder>(
     requires { Asks words.now (request_in parsed) }
     ensures session { IfOk result (λ session. session
         ≡ Waiting (question words.now (request_in parsed) supplied.input supplied.day)) }
-    ensures told { F.told folder.new ≡ F.told folder.old }
-    ensures narrows { Narrows (F.admits folder.old) (F.admits folder.new) }
-    ensures never_falls { F.fault_count folder.old ≤ F.fault_count folder.new }
+    ensures told { (F.moment folder.new).told ≡ (F.moment folder.old).told }
+    ensures narrows { Narrows (F.moment folder.old).admits (F.moment folder.new).admits }
+    ensures never_falls { (F.moment folder.old).faults ≤ (F.moment folder.new).faults }
 {
     if folder.enter(&parsed.prefix).is_err() {
         return Err(AllocError);

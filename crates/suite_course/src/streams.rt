@@ -19,9 +19,8 @@ pub(crate) fn serve<O: Sink, E: Sink>(
     out: &mut O,
     err: &mut E,
 ) -> Result<(), SinkFault>
-    ensures { Serves tool answer.now (streams (O.holds out.old) (O.fault_count out.old)
-        (E.holds err.old) (E.fault_count err.old)) (streams (O.holds out.new) (O.fault_count out.new)
-        (E.holds err.new) (E.fault_count err.new)) result }
+    ensures { Serves tool answer.now (streams (O.moment out.old) (E.moment err.old))
+        (streams (O.moment out.new) (E.moment err.new)) result }
 {
     put_text(out, answer.out.as_slice())?;
     put_message(tool, answer, err)
@@ -30,11 +29,11 @@ pub(crate) fn serve<O: Sink, E: Sink>(
 /// Puts the message of an answer.
 #[tactic(auto, using(crate::proofs::StreamsLemmas::memory_message_some))]
 fn put_message<E: Sink>(tool: Option<Tool>, answer: &Answer, err: &mut E) -> Result<(), SinkFault>
-    ensures holds { WhereBytesTold (E.holds err.old) (E.holds err.new)
+    ensures holds { WhereBytesTold (E.moment err.old).holds (E.moment err.new).holds
         (PutsFront (text_of tool answer.now) result) }
     ensures some { result ≡ Err SinkFault.Failed → text_of tool answer.now ≢ [] }
-    ensures faults { CountsFailure SinkFault.Failed (E.fault_count err.old) (E.fault_count err.new)
-        result }
+    ensures faults { CountsFailure SinkFault.Failed (E.moment err.old).faults
+        (E.moment err.new).faults result }
 {
     match memory_stage(answer) {
         Some(stage) => put_memory_text(err, tool, stage),
@@ -54,10 +53,11 @@ fn memory_stage(answer: &Answer) -> Option<CommitStage>
 
 /// Puts the text in one piece, and none where it is empty.
 fn put_text<S: Sink>(sink: &mut S, text: &[u8]) -> Result<(), SinkFault>
-    ensures holds { WhereBytesTold (S.holds sink.old) (S.holds sink.new) (PutsFront text.now result) }
+    ensures holds { WhereBytesTold (S.moment sink.old).holds (S.moment sink.new).holds
+        (PutsFront text.now result) }
     ensures some { result ≡ Err SinkFault.Failed → text.now ≢ [] }
-    ensures faults { CountsFailure SinkFault.Failed (S.fault_count sink.old) (S.fault_count sink.new)
-        result }
+    ensures faults { CountsFailure SinkFault.Failed (S.moment sink.old).faults
+        (S.moment sink.new).faults result }
 {
     if text.is_empty() {
         return Ok(());

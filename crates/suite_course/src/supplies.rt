@@ -35,21 +35,13 @@ pub(crate) fn supply<S: Source, C: Clock>(
     clock: &mut C,
 ) -> Result<Supplied, Cause>
     ensures supplied { IfOk result (λ given. AreSupplied tool
-        (supplies (S.left source.old) (S.fault_count source.old)
-        (C.gave clock.old) (C.fault_count clock.old))
-        (supplies (S.left source.new) (S.fault_count source.new)
-        (C.gave clock.new) (C.fault_count clock.new))
-        given.input given.day) }
+        (supplies (S.moment source.old) (C.moment clock.old))
+        (supplies (S.moment source.new) (C.moment clock.new)) given.input given.day) }
     ensures lacks { IfErr result (IsUnsupplied tool
-        (supplies (S.left source.old) (S.fault_count source.old)
-        (C.gave clock.old) (C.fault_count clock.old))
-        (supplies (S.left source.new) (S.fault_count source.new)
-        (C.gave clock.new) (C.fault_count clock.new))) }
-    ensures counts { CountsSupplies
-        (supplies (S.left source.old) (S.fault_count source.old)
-        (C.gave clock.old) (C.fault_count clock.old))
-        (supplies (S.left source.new) (S.fault_count source.new)
-        (C.gave clock.new) (C.fault_count clock.new)) }
+        (supplies (S.moment source.old) (C.moment clock.old))
+        (supplies (S.moment source.new) (C.moment clock.new))) }
+    ensures counts { CountsSupplies (supplies (S.moment source.old) (C.moment clock.old))
+        (supplies (S.moment source.new) (C.moment clock.new)) }
     ensures untouched { reads_input tool ≡ false → source.new ≡ source.old }
 {
     let input = input_of(alloc, tool, source)?;
@@ -61,13 +53,13 @@ pub(crate) fn supply<S: Source, C: Clock>(
 
 /// The whole input of a tool that reads one; others take nothing, and have an empty one.
 fn input_of<S: Source>(alloc: Global, tool: Tool, source: &mut S) -> Result<Bytes, Cause>
-    ensures all_input { reads_input tool ≡ true →
-        WhereBytesTold (S.left source.old) (S.left source.new) (TakesAll result) }
+    ensures all_input { reads_input tool ≡ true → WhereBytesTold (S.moment source.old).left
+        (S.moment source.new).left (TakesAll result) }
     ensures no_input { reads_input tool ≡ false → IfOk result (λ input. input ≡ []) }
     ensures within { IfOk result (λ input. length input ≤ table_limit) }
     ensures lacks { IfErr result (λ cause. (reads_input tool ≡ true) × IsOfInput cause) }
-    ensures faults { CountsFailure Cause.InputFault (S.fault_count source.old)
-        (S.fault_count source.new) result }
+    ensures faults { CountsFailure Cause.InputFault (S.moment source.old).faults
+        (S.moment source.new).faults result }
     ensures untouched { reads_input tool ≡ false → source.new ≡ source.old }
 {
     if reads_input(tool) {
@@ -92,11 +84,12 @@ fn reads_input(tool: Tool) -> bool
 /// It is too large once one byte came beyond the limit: no more is taken then. At `InputFault` the
 /// source's count of faults rose.
 fn take_all<S: Source>(alloc: Global, source: &mut S) -> Result<Bytes, Cause>
-    ensures taken { WhereBytesTold (S.left source.old) (S.left source.new) (TakesAll result) }
+    ensures taken { WhereBytesTold (S.moment source.old).left (S.moment source.new).left
+        (TakesAll result) }
     ensures within { IfOk result (λ input. length input ≤ table_limit) }
     ensures lacks { IfErr result IsOfInput }
-    ensures faults { CountsFailure Cause.InputFault (S.fault_count source.old)
-        (S.fault_count source.new) result }
+    ensures faults { CountsFailure Cause.InputFault (S.moment source.old).faults
+        (S.moment source.new).faults result }
 {
     let mut input = Bytes::new(alloc);
     'pieces: while input.as_slice().len() <= INPUT_LIMIT {

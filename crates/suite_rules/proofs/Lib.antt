@@ -1,5 +1,6 @@
 pub mod Cut
 pub mod Own
+pub mod Parts
 pub mod StepLemmas
 pub mod Numbers
 pub mod Names

@@ -5,10 +5,11 @@
 -- (`stands-done`), what a failed one (`failed-leads`), that want of memory changes nothing
 -- (`stands-memory`), that the session may answer after each (`may-answer`, `makes-call`), and which
 -- parts of its standing the call leaves (`leaves`, `stands-left`). Where the rules permit the
--- call, a lawful history stays lawful (`stays-lawful`). A read with the limit of its name is such
+-- call, a lawful history stays lawful (`stays-lawful`), and all that is a step (`takes-step`). A read with the limit of its name is such
 -- a call (`read-tells`), a call by another name of the token is the same (`told-of`), and a
 -- session that has begun stands at the start (`stands-begun`).
 use Rattle.std.proofs.Common.{◌≡◌, refl, sym, ap, subst, ◌∙◌, false, [], ◌∷◌, Option, Some, None, IfSome, Result, Ok, Err}
+use Rattle.std.specs.Prelude.{IfOk}
 use Rattle.acct_outside.specs.declared.Name.{Name}
 use Rattle.acct_outside.specs.declared.FolderFault.{FolderFault}
 use Rattle.acct_outside.specs.declared.FolderFault.TheVariants.{Failed, Memory}
@@ -21,12 +22,15 @@ use Rattle.acct_outside.specs.History.{Event, History, is_of, own_events, after}
 use Rattle.acct_outside.specs.Life.{Life, life, running, faulted, life_step, runs_in, MayCall}
 use Rattle.acct_outside.specs.Gives.{GivesResult}
 use Rattle.acct_outside.specs.Others.{Admission, ByOthers, none_came, one_came}
-use Rattle.acct_outside.specs.Contract.{Past, NeverAdmits, MayAct, MayAnswer, WhereTold, TellsEvent, Tells, TellsBegin, TellsRead, Narrows, was_begun, found_result}
+use Rattle.acct_outside.specs.Faults.{CountsFailure}
+use Rattle.acct_outside.specs.Moment.{Past, Moment, Narrows}
+use Rattle.acct_outside.specs.Contract.{NeverAdmits, WhereTold, TellsEvent, Tells, TellsBegin, TellsRead, was_begun, found_result}
 use Rattle.suite_rules.specs.Deeds.{SuiteDeeds}
 use Rattle.suite_rules.specs.Standing.{Standing, standing, standing_step}
 use Rattle.suite_rules.specs.Rules.{Permits}
 use Rattle.suite_rules.specs.Lawful.{KeepsRulesOrNone, Lawful, goes_on}
-use Rattle.suite_rules.specs.Steps.{begun_with, StandsIn, LawfulOthers, StaysLawful, Leaves, MakesCall}
+use Rattle.suite_rules.specs.Steps.{begun_with, StandsIn, LawfulOthers, MakesCall, TakesStep}
+use Rattle.suite_rules.proofs.Parts.{MayActWhere, MayAnswerWhere, TellsWhere, TellsReadWhere, StandsWhere, StaysLawfulWhere, LeavesWhere}
 use Rattle.suite_rules.proofs.Own.{own-standing as own-events}
 use Rattle.suite_rules.proofs.Sessions.{token-same, token-other}
 
@@ -34,14 +38,14 @@ use Rattle.suite_rules.proofs.Sessions.{token-same, token-other}
 module _ (admits : Admission) (token : Token) where
   -- the session may call the folder
   pub may-act : (Holds : Standing → Type 0) (told : Option Past) →
-      StandsIn admits told token Holds → MayAct admits told token
+      StandsWhere admits told token Holds → MayActWhere admits told token
   may-act Holds None stands = tt
   may-act Holds (Some past) stands =
       record { begun = ap was_begun stands.runs; own = stands.own }
 
   -- the session may answer
   pub may-answer-now : (Holds : Standing → Type 0) (told : Option Past) →
-      StandsIn admits told token Holds → MayAnswer admits told token
+      StandsWhere admits told token Holds → MayAnswerWhere admits told token
   may-answer-now Holds None stands = tt
   may-answer-now Holds (Some past) stands =
       record { runs = ap runs_in stands.runs; own = stands.own }
@@ -49,25 +53,25 @@ module _ (admits : Admission) (token : Token) where
   -- a weaker condition holds too
   pub stands-weaker : (Holds Weaker : Standing → Type 0) →
       ((stood : Standing) → Holds stood → Weaker stood) → (told : Option Past) →
-      StandsIn admits told token Holds → StandsIn admits told token Weaker
+      StandsWhere admits told token Holds → StandsWhere admits told token Weaker
   stands-weaker Holds Weaker weaker None stands = tt
   stands-weaker Holds Weaker weaker (Some past) stands =
       record { runs = stands.runs; own = stands.own; holds = weaker _ stands.holds }
 
   -- two conditions hold together
   pub stands-both : (Holds Other : Standing → Type 0) (told : Option Past) →
-      StandsIn admits told token Holds → StandsIn admits told token Other →
-      StandsIn admits told token (λ stood. Holds stood × Other stood)
+      StandsWhere admits told token Holds → StandsWhere admits told token Other →
+      StandsWhere admits told token (λ stood. Holds stood × Other stood)
   stands-both Holds Other None stands other = tt
   stands-both Holds Other (Some past) stands other =
       record { runs = stands.runs; own = stands.own; holds = (stands.holds, other.holds) }
 
 -- the call of one name for a token is that of the other
-pub told-of : (admits : Admission) (before now : Option Past) (by token : Token) (call : Call)
+pub told-of : (before now : Moment) (by token : Token) (call : Call)
     (answer : Result (Answer call) FolderFault) → by ≡ token →
-    Tells admits before now by call answer → Tells admits before now token call answer
-told-of admits before now by token call answer same =
-    subst (λ (other : Token). Tells admits before now other call answer) same
+    Tells before now by call answer → Tells before now token call answer
+told-of before now by token call answer same =
+    subst (λ (other : Token). Tells before now other call answer) same
 
 -- the session's life, standing and own events are as they were
 pub record Stayed (token : Token) (old new : History) : Type 0 where
@@ -187,8 +191,8 @@ module _ (before_admits admits : Admission) (narrows : Narrows before_admits adm
   -- a done call leads to a condition that follows from the one before by the call's step
   pub stands-done : (Holds : Standing → Type 0) (answer : Answer call) →
       ((stood : Standing) → Held stood → Holds (standing_step call (done answer) stood)) →
-      (before now : Option Past) → StandsIn before_admits before token Held →
-      Tells before_admits before now token call (Ok answer) → StandsIn admits now token Holds
+      (before now : Option Past) → StandsWhere before_admits before token Held →
+      TellsWhere before_admits before now token call (Ok answer) → StandsWhere admits now token Holds
   stands-done Holds answer follows None None stands tells = tt
   stands-done Holds answer follows (Some before) (Some now) stands tells =
       let step = stepped before_admits token stands.own call (done answer) _
@@ -205,8 +209,8 @@ module _ (before_admits admits : Admission) (narrows : Narrows before_admits adm
   pub failed-leads : (Holds : Standing → Type 0) →
       ((effect : Effect) (stood : Standing) → Held stood →
       Holds (standing_step call (failed effect) stood)) →
-      (before now : Option Past) → StandsIn before_admits before token Held →
-      Tells before_admits before now token call (Err Failed) → IfSome now (Faulted token Holds)
+      (before now : Option Past) → StandsWhere before_admits before token Held →
+      TellsWhere before_admits before now token call (Err Failed) → IfSome now (Faulted token Holds)
   failed-leads Holds follows None None stands tells = tt
   failed-leads Holds follows (Some before) (Some now) stands tells =
       let effect = tells.1.0 in
@@ -220,8 +224,8 @@ module _ (before_admits admits : Admission) (narrows : Narrows before_admits adm
   failed-leads Holds follows (Some before) None stands tells = absurd tells
 
   -- want of memory leaves the condition as it was
-  pub stands-memory : (before now : Option Past) → StandsIn before_admits before token Held →
-      Tells before_admits before now token call (Err Memory) → StandsIn admits now token Held
+  pub stands-memory : (before now : Option Past) → StandsWhere before_admits before token Held →
+      TellsWhere before_admits before now token call (Err Memory) → StandsWhere admits now token Held
   stands-memory None None stands tells = tt
   stands-memory (Some before) (Some now) stands tells =
       let stay = stayed before_admits token stands.own before.history now.history tells.1 in
@@ -235,8 +239,8 @@ module _ (before_admits admits : Admission) (narrows : Narrows before_admits adm
 
   -- whatever the call answered, the session may answer
   pub may-answer : (answer : Result (Answer call) FolderFault) (before now : Option Past) →
-      StandsIn before_admits before token Held →
-      Tells before_admits before now token call answer → MayAnswer admits now token
+      StandsWhere before_admits before token Held →
+      TellsWhere before_admits before now token call answer → MayAnswerWhere admits now token
   may-answer answer None None stands tells = tt
   may-answer (Ok answer) (Some before) (Some now) stands tells =
       let step = stepped before_admits token stands.own call (done answer) _
@@ -258,27 +262,13 @@ module _ (before_admits admits : Admission) (narrows : Narrows before_admits adm
   may-answer answer None (Some now) stands tells = absurd tells
   may-answer answer (Some before) None stands tells = absurd tells
 
-  -- the step that shows the answer of its call makes this call
-  pub makes-call : (Shows : Result (Answer call) FolderFault → Type 0)
-      (answer : Result (Answer call) FolderFault) (before now : Option Past) →
-      StandsIn before_admits before token Held →
-      Tells before_admits before now token call answer → Shows answer →
-      MakesCall before_admits admits before now token call Shows
-  makes-call Shows answer before now stands tells shown = record {
-    answer = answer;
-    told = tells;
-    shown = shown;
-    narrows = narrows;
-    may_answer = may-answer answer before now stands tells;
-  }
-
   -- whatever the call answered, a part of the standing that its step leaves is as it was
   pub leaves : {A : Type 0} (part : Standing → A) →
       ((result : CallResult (Answer call)) (stood : Standing) → Held stood →
       part (standing_step call result stood) ≡ part stood) →
       (answer : Result (Answer call) FolderFault) (before now : Option Past) →
-      StandsIn before_admits before token Held →
-      Tells before_admits before now token call answer → Leaves part token before now
+      StandsWhere before_admits before token Held →
+      TellsWhere before_admits before now token call answer → LeavesWhere part token before now
   leaves part same answer None None stands tells = tt
   leaves part same (Ok answer) (Some before) (Some now) stands tells =
       let step = stepped before_admits token stands.own call (done answer) _
@@ -295,13 +285,28 @@ module _ (before_admits admits : Admission) (narrows : Narrows before_admits adm
   leaves part same answer None (Some now) stands tells = absurd tells
   leaves part same answer (Some before) None stands tells = absurd tells
 
+-- the step that shows the answer of its call makes this call
+pub makes-call : (before now : Moment) → Narrows before.admits now.admits → (token : Token)
+    (call : Call) → IsNoAnswer call → (Held : Standing → Type 0)
+    (Shows : Result (Answer call) FolderFault → Type 0) (answer : Result (Answer call) FolderFault) →
+    StandsIn before token Held → Tells before now token call answer → Shows answer →
+    MakesCall before now token call Shows
+makes-call before now narrows token call no_answer Held Shows answer stands tells shown = record {
+  answer = answer;
+  told = tells;
+  shown = shown;
+  narrows = narrows;
+  may_answer = may-answer before.admits now.admits narrows token call no_answer Held answer
+      before.told now.told stands tells;
+}
+
 -- A part of the standing with a value, which a call leaves, has that value after the call.
 module _ {A : Type 0} (part : Standing → A) (value : A) (Held Holds : Standing → Type 0)
     (had : (stood : Standing) → Held stood → part stood ≡ value)
     (before_admits admits : Admission) (token : Token) where
-  pub stands-left : (before now : Option Past) → StandsIn before_admits before token Held →
-      Leaves part token before now → StandsIn admits now token Holds →
-      StandsIn admits now token (λ stood. Holds stood × (part stood ≡ value))
+  pub stands-left : (before now : Option Past) → StandsWhere before_admits before token Held →
+      LeavesWhere part token before now → StandsWhere admits now token Holds →
+      StandsWhere admits now token (λ stood. Holds stood × (part stood ≡ value))
   stands-left None None held left stands = tt
   stands-left (Some before) (Some now) held left stands = record {
     runs = stands.runs;
@@ -328,7 +333,7 @@ module _ (before_admits admits : Admission) (token : Token) (command : Command)
 
   pub stands-begun : (before now : Option Past) →
       WhereTold before now (TellsBegin before_admits command (Ok token)) →
-      StandsIn admits now token (λ stood. stood ≡ begun_with command)
+      StandsWhere admits now token (λ stood. stood ≡ begun_with command)
   stands-begun None None tells = tt
   stands-begun (Some before) (Some now) tells = record {
     runs = own-events.same_life token now.history ∙ (ap (life token) tells.1.1 ∙ begin-runs);
@@ -382,8 +387,8 @@ module _ (deeds : SuiteDeeds) (admits : Admission) (token : Token) (call : Call)
 
   -- a lawful history stays lawful, whatever the call answered
   pub stays-lawful : (answer : Result (Answer call) FolderFault) (before now : Option Past) →
-      StandsIn admits before token Held → Tells admits before now token call answer →
-      StaysLawful deeds admits before now
+      StandsWhere admits before token Held → TellsWhere admits before now token call answer →
+      StaysLawfulWhere deeds admits before now
   stays-lawful answer None None stands tells = tt
   stays-lawful (Ok answer) (Some before) (Some now) stands tells = (
     tells.0,
@@ -403,20 +408,53 @@ module _ (deeds : SuiteDeeds) (admits : Admission) (token : Token) (call : Call)
   stays-lawful answer None (Some now) stands tells = absurd tells
   stays-lawful answer (Some before) None stands tells = absurd tells
 
--- a read with the limit of its name tells the read's event
-pub read-tells : (admits : Admission) (token : Token) (name : Name)
+-- by whether the history is told, a read with the limit of its name tells the read's event
+read-told : (admits : Admission) (token : Token) (name : Name)
     (result : Result Reading FolderFault) (before now : Option Past) →
-    TellsRead admits before now token name (name_limit name) result →
-    Tells admits before now token (reads name) (found_result result)
-read-tells admits token name result None None tells = tt
-read-tells admits token name (Ok found) (Some before) (Some now) tells = (
+    TellsReadWhere admits before now token name (name_limit name) result →
+    TellsWhere admits before now token (reads name) (found_result result)
+read-told admits token name result None None tells = tt
+read-told admits token name (Ok found) (Some before) (Some now) tells = (
   tells.0,
   record { others_then = tells.1.others_then; given = tells.1.given },
 )
-read-tells admits token name (Err Failed) (Some before) (Some now) tells = (
+read-told admits token name (Err Failed) (Some before) (Some now) tells = (
   tells.0,
   (tells.1.0, record { others_then = tells.1.1.others_then; given = tt }),
 )
-read-tells admits token name (Err Memory) (Some before) (Some now) tells = tells
-read-tells admits token name result None (Some now) tells = absurd tells
-read-tells admits token name result (Some before) None tells = absurd tells
+read-told admits token name (Err Memory) (Some before) (Some now) tells = tells
+read-told admits token name result None (Some now) tells = absurd tells
+read-told admits token name result (Some before) None tells = absurd tells
+
+-- a read with the limit of its name tells the read's event
+pub read-tells : (before now : Moment) (token : Token) (name : Name)
+    (result : Result Reading FolderFault) →
+    TellsRead before now token name (name_limit name) result →
+    Tells before now token (reads name) (found_result result)
+read-tells before now token name result =
+    read-told before.admits token name result before.told now.told
+
+-- a step with a call that the rules permit, and that leaves a part of the standing
+pub takes-step : {State Fault Part : Type 0} (before now : Moment) →
+    Narrows before.admits now.admits → (token : Token) (call : Call) → IsNoAnswer call →
+    MayCall running call → (Held : Standing → Type 0) →
+    ((deeds : SuiteDeeds) (stood : Standing) → Held stood → Permits deeds stood call) →
+    (part : Standing → Part) →
+    ((result : CallResult (Answer call)) (stood : Standing) → Held stood →
+    part (standing_step call result stood) ≡ part stood) →
+    (Shows : Result (Answer call) FolderFault → Type 0) (Holds : State → Standing → Type 0)
+    (failure : Fault) (result : Result State Fault) (answer : Result (Answer call) FolderFault) →
+    StandsIn before token Held → Tells before now token call answer → Shows answer →
+    IfOk result (λ state. StandsIn now token (Holds state)) →
+    CountsFailure failure before.faults now.faults result →
+    TakesStep before now token call Shows Holds part failure result
+takes-step before now narrows token call no_answer may Held permits part same Shows Holds failure
+    result answer stands tells shown next faults = record {
+      call = makes-call before now narrows token call no_answer Held Shows answer stands tells shown;
+      next = next;
+      left = leaves before.admits now.admits narrows token call no_answer Held part same answer
+          before.told now.told stands tells;
+      lawful = λ deeds. stays-lawful deeds before.admits token call may Held (permits deeds) answer
+          before.told now.told stands tells;
+      faults = faults;
+    }

@@ -17,7 +17,8 @@ use Rattle.acct_outside.specs.Tokens.{Token}
 use Rattle.acct_outside.specs.Calls.{Call, renames, answers}
 use Rattle.acct_outside.specs.History.{Event, History, is_of, own_events}
 use Rattle.acct_outside.specs.Others.{Admission, ByOthers}
-use Rattle.acct_outside.specs.Contract.{Past, NeverAdmits}
+use Rattle.acct_outside.specs.Moment.{Past}
+use Rattle.acct_outside.specs.Contract.{NeverAdmits}
 use Rattle.account_model.specs.Answer.{AnswerCause, deed, new_files as new_of}
 use Rattle.account_model.specs.declared.word_fault.WordFault.{WordFault}
 use Rattle.account_model.specs.Request.{Request}
@@ -28,6 +29,7 @@ use Rattle.suite_rules.specs.Standing.{Standing, standing, commit_uncalled}
 use Rattle.suite_rules.specs.Steps.{Stands, StandsIn}
 use Rattle.suite_rules.proofs.StepLemmas.{IsNoAnswer, stayed}
 use Rattle.suite_rules.proofs.Changed.{content-differs}
+use Rattle.suite_rules.proofs.Parts.{StandsWhere}
 use Rattle.commit_steps.specs.States.{Change, old_files, new_files, changed}
 use Rattle.commit_steps.specs.Stands.{KnowsInputs}
 use Rattle.commit_steps.proofs.TablesLemmas.{at-place}
@@ -63,11 +65,11 @@ turn-backs-up Stood call is stood holds = tt
 -- also after whatever events of others
 pub turn-backs-then : (admits : Admission) (token : Token) (Stood : Standing → Type 0)
     (call : Call) → IsTurnCall Stood call → (told : Option Past) →
-    StandsIn admits told token Stood → (past : Past) → told ≡ Some past → (between : History) →
+    StandsWhere admits told token Stood → (past : Past) → told ≡ Some past → (between : History) →
     ByOthers admits past.history between → BacksUpChange (standing token between) call
 turn-backs-then admits token Stood call of_turn told stands past is between others =
     let stood : Stands admits token Stood past =
-    subst (λ (one : Option Past). StandsIn admits one token Stood) is stands in
+    subst (λ (one : Option Past). StandsWhere admits one token Stood) is stands in
     turn-backs-up Stood call of_turn (standing token between)
     (subst Stood (sym (stayed admits token stood.own past.history between others).same_standing)
     stood.holds)

@@ -8,7 +8,7 @@ use Rattle.acct_text.specs.Tables.{all_tables}
 use Rattle.acct_outside.specs.declared.FolderFault.{FolderFault}
 use Rattle.acct_outside.specs.declared.Name.TheVariants.{Intent}
 use Rattle.acct_outside.specs.Calls.{Found, found_absent, found_bytes, found_too_large, lists}
-use Rattle.acct_outside.specs.Contract.{Past}
+use Rattle.acct_outside.specs.Moment.{Past}
 use Rattle.account_model.specs.declared.tool.Tool.{Tool}
 use Rattle.acct_text.specs.Bytes.{Bytes}
 use Rattle.intent_file.specs.Intent.{Intended, ReadsIntent}

@@ -19,7 +19,7 @@ use Rattle.acct_outside.specs.declared.CommitStage.TheVariants.{Before, Unsure, 
 use Rattle.acct_outside.specs.declared.Name.TheVariants.{Intent, IntentStage}
 use Rattle.acct_outside.specs.Tokens.{Token}
 use Rattle.acct_outside.specs.Calls.{Command, Call, Answer, CallResult, renames}
-use Rattle.acct_outside.specs.Contract.{Past, MayAnswer}
+use Rattle.acct_outside.specs.Contract.{MayAnswer}
 use Rattle.intent_file.specs.Intent.{NewTable}
 use Rattle.intent_file.specs.ChangedTables.{with_new_table, changed_among}
 use Rattle.suite_rules.specs.Deeds.{SuiteDeeds}
@@ -42,7 +42,9 @@ use Rattle.suite_answers.specs.Reasons.{stage_of}
 use Rattle.suite_session.specs.declared.state.State.{State}
 use Rattle.suite_session.specs.declared.state.State.TheVariants.{Answering}
 use Rattle.suite_session.specs.Runner.{Runner}
-use Rattle.suite_session.specs.Moment.{Moment, commit_at, Runs, At}
+use Rattle.acct_outside.specs.Moment.{Past, Moment}
+use Rattle.suite_rules.proofs.Parts.{LeavesWhere, StandsWhere}
+use Rattle.suite_session.specs.Moment.{commit_at, Runs, At}
 use Rattle.suite_session.specs.Answers.{cause_of_answer, IsTold, Says}
 use Rattle.suite_session.specs.Deeds.{AreOfTools}
 use Rattle.suite_session.specs.Due.{AnsweredAll, IsShown, IsDue}
@@ -242,10 +244,10 @@ module _ (before now : Moment) (runner : Runner) (answer : FinalAnswer) where
     -- a step of the backups
     pub backs-on : (next : NewTable) →
         slice_get (changed walker.change) walker.place ≡ Some next → (walked : Walker) →
-        MakesCall before.admits now.admits before.told now.told (token_of walker)
+        MakesCall before now (token_of walker)
         (backup_call walker next)
         (λ result. LeadsTo (step_on walker) before_commit result (Ok walked)) →
-        StandsIn now.admits now.told (token_of walker) (BacksUp walked) →
+        StandsIn now (token_of walker) (BacksUp walked) →
         StandsChanging now runner walked.change (BacksUp walked) answer
     backs-on next place_is walked made stands =
         let is = leads-on (step_on walker) before_commit made.answer walked made.shown in
@@ -265,9 +267,9 @@ module _ (before now : Moment) (runner : Runner) (answer : FinalAnswer) where
         (of_turn : IsTurnCall (Runs runner commit_uncalled (BacksUp walker)) call)
         (quiet : (result : CallResult (Answer call)) (one : Standing) →
         own_command (standing_step call result one) ≡ own_command one) (staged : Change) →
-        MakesCall before.admits now.admits before.told now.told (token_of walker) call
+        MakesCall before now (token_of walker) call
         (λ result. LeadsTo walker.change before_commit result (Ok staged)) →
-        StandsIn now.admits now.told (token_of walker) (HasStagedIntent staged) →
+        StandsIn now (token_of walker) (HasStagedIntent staged) →
         StandsChanging now runner staged (HasStagedIntent staged) answer
     stages-intent call of_turn quiet staged made stands =
         let change = leads-on walker.change before_commit made.answer staged made.shown in
@@ -289,7 +291,7 @@ module _ (before now : Moment) (runner : Runner) (answer : FinalAnswer) where
 
     -- just before its commit it was a clean keeper that had seen all
     answered-all : (was : Past) →
-        StandsIn before.admits (Some was) runner.token
+        StandsWhere before.admits (Some was) runner.token
         (Runs runner commit_uncalled (HasStagedIntent change)) →
         AnsweredAll runner answer was.history
     answered-all was stands =
@@ -316,7 +318,7 @@ module _ (before now : Moment) (runner : Runner) (answer : FinalAnswer) where
 
     -- the new files are the deed of what it was asked
     pub is-deed : (deeds : SuiteDeeds) → AreOfTools deeds →
-        StandsIn before.admits before.told change.inputs.keeper.token (IsDeed deeds change)
+        StandsIn before change.inputs.keeper.token (IsDeed deeds change)
     is-deed deeds ours =
         stands-weaker before.admits change.inputs.keeper.token
         (Runs runner commit_uncalled (HasStagedIntent change)) (IsDeed deeds change)
@@ -328,13 +330,13 @@ module _ (before now : Moment) (runner : Runner) (answer : FinalAnswer) where
               ours.is_deed ∙ made-deed runner answer change stood.of_change;
         })
         before.told
-        (subst (λ (token : Token). StandsIn before.admits before.told token
+        (subst (λ (token : Token). StandsIn before token
         (Runs runner commit_uncalled (HasStagedIntent change))) (sym stood.same) stood.stands)
 
     module _ (Shows : Result (Unit {0}) FolderFault → Type 0)
-        (made : MakesCall before.admits now.admits before.told now.told
+        (made : MakesCall before now
         change.inputs.keeper.token (renames IntentStage Intent) Shows)
-        (left : Leaves asked_of change.inputs.keeper.token before.told now.told) where
+        (left : Leaves asked_of change.inputs.keeper.token before now) where
       -- the history got an event of the runner, or none, after those of others
       pub commit-grew : Grew before.admits runner.token 1 before.told now.told
       commit-grew = subst (λ (token : Token). Grew before.admits token 1 before.told now.told)
@@ -346,15 +348,15 @@ module _ (before now : Moment) (runner : Runner) (answer : FinalAnswer) where
       commit-extends : Extends before.told now.told
       commit-extends = grew-extends before.admits runner.token 1 before.told now.told commit-grew
 
-      left-asked : Leaves asked_of runner.token before.told now.told
-      left-asked = subst (λ (token : Token). Leaves asked_of token before.told now.told) stood.same
+      left-asked : Leaves asked_of runner.token before now
+      left-asked = subst (λ (token : Token). Leaves asked_of token before now) stood.same
           left
 
       -- once its commit was done, the answer is due
       committed-due : (Holds : Standing → Type 0) (was told : Option Past) →
-          StandsIn before.admits was runner.token
+          StandsWhere before.admits was runner.token
           (Runs runner commit_uncalled (HasStagedIntent change)) →
-          StandsIn now.admits told runner.token (Runs runner commit_done Holds) →
+          StandsWhere now.admits told runner.token (Runs runner commit_done Holds) →
           Extends was told → IfSome told (IsDue runner answer)
       committed-due Holds None None held stands extends = tt
       committed-due Holds (Some was) (Some past) held stands extends = record {
@@ -370,7 +372,7 @@ module _ (before now : Moment) (runner : Runner) (answer : FinalAnswer) where
 
       -- so the runner installs, and has its answer to give
       pub commits-stands : (walked : Walker) → walked ≡ walk_of change →
-          StandsIn now.admits now.told change.inputs.keeper.token (Installs walked) →
+          StandsIn now change.inputs.keeper.token (Installs walked) →
           StandsInstalling now runner walked answer
       commits-stands walked is next =
           let stands : At now runner commit_done (Installs walked) =
@@ -387,7 +389,7 @@ module _ (before now : Moment) (runner : Runner) (answer : FinalAnswer) where
           (Runs runner commit_uncalled (HasStagedIntent change)) (Installs walked)
           (λ one runs. runs.asked) before.admits now.admits runner.token before.told now.told
           stood.stands left-asked
-          (subst (λ (token : Token). StandsIn now.admits now.told token (Installs walked))
+          (subst (λ (token : Token). StandsIn now token (Installs walked))
           stood.same next)) in
           record {
             same = ap token_of is ∙ stood.same;
@@ -408,9 +410,9 @@ module _ (before now : Moment) (runner : Runner) (answer : FinalAnswer) where
       unsure-due : (fault : StageFault) (given : FinalAnswer) →
           IsTold runner.asked.request.tool (cause_of_fault fault.stage fault.fault) given →
           (was told : Option Past) →
-          StandsIn before.admits was runner.token
+          StandsWhere before.admits was runner.token
           (Runs runner commit_uncalled (HasStagedIntent change)) →
-          StandsUnsure told runner.token fault → Leaves asked_of runner.token was told →
+          StandsUnsure told runner.token fault → LeavesWhere asked_of runner.token was told →
           IfSome told (λ past.
           IsMetAs runner.token past.history (cause_of_fault fault.stage fault.fault)) →
           IfSome told (IsDue runner given)
@@ -434,7 +436,7 @@ module _ (before now : Moment) (runner : Runner) (answer : FinalAnswer) where
           StandsUnsure now.told change.inputs.keeper.token fault →
           HasMetNow now runner (cause_of_fault fault.stage fault.fault) → StandsAs now runner state
       unsure-stands fault (Answering given) says unsure met = record {
-        may_answer = subst (λ (token : Token). MayAnswer now.admits now.told token) stood.same
+        may_answer = subst (λ (token : Token). MayAnswer now token) stood.same
             made.may_answer;
         gives = record {
           says = told-says runner.asked (cause_of_fault fault.stage fault.fault) given
@@ -452,7 +454,7 @@ module _ (before now : Moment) (runner : Runner) (answer : FinalAnswer) where
     -- after the commit the answer stays due
     changed-due : (Holds : Standing → Type 0) (was told : Option Past) →
         IfSome was (IsDue runner answer) →
-        StandsIn now.admits told runner.token (Runs runner commit_done Holds) →
+        StandsWhere now.admits told runner.token (Runs runner commit_done Holds) →
         Extends was told → IfSome told (IsDue runner answer)
     changed-due Holds None None due stands extends = tt
     changed-due Holds (Some was) (Some past) due stands extends = record {
@@ -471,7 +473,7 @@ module _ (before now : Moment) (runner : Runner) (answer : FinalAnswer) where
         (Shows : Result (Answer call) FolderFault → Type 0)
         (quiet : (result : CallResult (Answer call)) (one : Standing) →
         own_command (standing_step call result one) ≡ own_command one)
-        (made : MakesCall before.admits now.admits before.told now.told (token_of walker) call
+        (made : MakesCall before now (token_of walker) call
         Shows) where
       -- so it has its answer to give
       gives-still : (Holds : Standing → Type 0) → At now runner commit_done Holds →
@@ -485,7 +487,7 @@ module _ (before now : Moment) (runner : Runner) (answer : FinalAnswer) where
 
       -- a step of the installation
       pub installs-on : (walked : Walker) → walked ≡ step_on walker →
-          StandsIn now.admits now.told (token_of walker) (Installs walked) →
+          StandsIn now (token_of walker) (Installs walked) →
           StandsInstalling now runner walked answer
       installs-on walked is next =
           let stands = goes-on before now runner commit_done (Installs walker) stood.stands
@@ -501,7 +503,7 @@ module _ (before now : Moment) (runner : Runner) (answer : FinalAnswer) where
 
       -- the removal of the intent
       pub clears : (cleared : Kept) → cleared ≡ walker.change.inputs.keeper →
-          StandsIn now.admits now.told (token_of walker) (HasCleared cleared) →
+          StandsIn now (token_of walker) (HasCleared cleared) →
           StandsUnlocking now runner cleared answer
       clears cleared is next =
           let stands = goes-on before now runner commit_done (Installs walker) stood.stands
@@ -516,7 +518,7 @@ module _ (before now : Moment) (runner : Runner) (answer : FinalAnswer) where
                 (ap (λ (cause : Cause). commit_at (stage_of cause)) (sym stood.changed)) stands;
             clean = clean-known runner.token answer.outcome.cause now.admits (HasCleared cleared)
                 (λ one held. (nothing_seen, held.keeps.knows)) now.told
-                (subst (λ (token : Token). StandsIn now.admits now.told token (HasCleared cleared))
+                (subst (λ (token : Token). StandsIn now token (HasCleared cleared))
                 stood.same next);
             quiet = λ fault. subst IsOutside stood.changed fault;
             gives = gives-still (Keeps cleared KnowsAnything) stands;

@@ -8,7 +8,6 @@ use Rattle.acct_outside.specs.declared.Name.TheVariants.{Table, Intent, Defs}
 use Rattle.acct_outside.specs.Tokens.{Token}
 use Rattle.acct_outside.specs.Calls.{Call, Answer as CallAnswer}
 use Rattle.acct_outside.specs.History.{History}
-use Rattle.acct_outside.specs.Contract.{Past}
 use Rattle.suite_rules.specs.OwnLock.{kept_number}
 use Rattle.suite_rules.specs.Standing.{Commit, Standing, standing}
 use Rattle.suite_rules.specs.Steps.{Work, work, StandsIn, Leaves}
@@ -17,7 +16,9 @@ use Rattle.suite_answers.specs.declared.cause.Cause.{Cause}
 use Rattle.suite_answers.specs.declared.cause.Cause.TheVariants.{Changed, Same, Refused, Held, Gone, Raced, Outrun, LockDamaged, Exhausted, IntentDamaged, TooLarge, NoTable, BadSetting, DiskFault}
 use Rattle.suite_answers.specs.declared.answer.Answer.{Answer}
 use Rattle.suite_session.specs.Runner.{Runner}
-use Rattle.suite_session.specs.Moment.{Moment, Runs, At}
+use Rattle.acct_outside.specs.Moment.{Past, Moment}
+use Rattle.suite_rules.proofs.Parts.{LeavesWhere, StandsWhere}
+use Rattle.suite_session.specs.Moment.{Runs, At}
 use Rattle.suite_session.specs.Causes.{Met, HasMet, HasYielded}
 use Rattle.suite_session.specs.Due.{AnswersAll, AnswersSome, AnsweredAll, WasKeeper, ShowsAll, ShowsLarge, IsShown, IsDue}
 use Rattle.suite_session.specs.Stands.{Extends, Gives}
@@ -179,9 +180,9 @@ module _ (runner : Runner) (answer : Answer) where
       (before now : Moment) where
     -- an answer that is due stays due
     due-stays : (was told : Option Past) →
-        StandsIn before.admits was runner.token (Runs runner commit Held) →
-        StandsIn now.admits told runner.token (Runs runner commit Holds) →
-        Leaves work runner.token was told → Extends was told →
+        StandsWhere before.admits was runner.token (Runs runner commit Held) →
+        StandsWhere now.admits told runner.token (Runs runner commit Holds) →
+        LeavesWhere work runner.token was told → Extends was told →
         IfSome was (IsDue runner answer) → IfSome told (IsDue runner answer)
     due-stays None None stood stands left extends due = tt
     due-stays (Some was) (Some past) stood stands left extends due = record {
@@ -196,7 +197,7 @@ module _ (runner : Runner) (answer : Answer) where
 
     -- so the runner has it to give still
     pub gives-stay : At before runner commit Held → At now runner commit Holds →
-        Leaves work runner.token before.told now.told → Extends before.told now.told →
+        Leaves work runner.token before now → Extends before.told now.told →
         Gives before runner answer → Gives now runner answer
     gives-stay stood stands left extends gives = record {
       says = gives.says;

@@ -8,8 +8,10 @@ use Rattle.acct_outside.specs.Tokens.{Token}
 use Rattle.acct_outside.specs.Calls.{Call, Answer}
 use Rattle.acct_outside.specs.History.{Event, History}
 use Rattle.acct_outside.specs.Others.{Admission, ByOthers, none_came, one_came, ByOthersThen}
-use Rattle.acct_outside.specs.Contract.{Past, Narrows, Tells}
+use Rattle.acct_outside.specs.Moment.{Past, Narrows}
+use Rattle.acct_outside.specs.Contract.{Tells}
 use Rattle.suite_rules.specs.Standing.{standing}
+use Rattle.suite_rules.proofs.Parts.{TellsWhere}
 use Rattle.suite_session.specs.Backing.{BacksUpChange}
 use Rattle.suite_session.specs.Grows.{Grows, none_new, others_new, own_new, Grew}
 use Rattle.suite_session.specs.Stands.{Extends}
@@ -117,7 +119,7 @@ BacksUpThen admits token call before = (past : Past) → before ≡ Some past �
 -- such a call makes one event of its session, or none
 pub tells-grow : (admits : Admission) (token : Token) (call : Call)
     (answer : Result (Answer call) FolderFault) (before now : Option Past) →
-    BacksUpThen admits token call before → Tells admits before now token call answer →
+    BacksUpThen admits token call before → TellsWhere admits before now token call answer →
     Grew admits token 1 before now
 tells-grow admits token call answer None None backs tells = tt
 tells-grow admits token call (Ok answer) (Some before) (Some now) backs tells = (

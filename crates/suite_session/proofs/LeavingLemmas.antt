@@ -17,10 +17,11 @@ use Rattle.acct_outside.specs.Tokens.{Token}
 use Rattle.acct_outside.specs.Folder.{greatest}
 use Rattle.acct_outside.specs.Calls.{Call, Answer, Found, lists, reads, asks, creates, removes, done}
 use Rattle.acct_outside.specs.Others.{Admission}
-use Rattle.acct_outside.specs.Contract.{Past}
+use Rattle.acct_outside.specs.Moment.{Past}
 use Rattle.suite_rules.specs.OwnLock.{OwnLock, lock_made, lock_kept, kept_number, create_step, confirm_step, own_step}
 use Rattle.suite_rules.specs.Standing.{Standing, standing}
 use Rattle.suite_rules.specs.Steps.{Work, work, StandsIn, Leaves}
+use Rattle.suite_rules.proofs.Parts.{LeavesWhere, StandsWhere}
 use Rattle.lock_steps.specs.States.{Lister, Asker, Maker, Overtaken}
 use Rattle.lock_steps.specs.Stands.{HasLooked, HasReadHeld, HasJudged, HasMade, WasOvertaken, KnowsNone, HasFreed}
 use Rattle.lock_steps.specs.declared.LockRefusal.TheVariants.{Outrun}
@@ -54,7 +55,7 @@ module _ (token : Token) (cause : Cause) where
       (none.0, knows ∙ none.1)
 
   -- so it does after a step that leaves its work
-  pub clean-stays : (was told : Option Past) → Leaves work token was told →
+  pub clean-stays : (was told : Option Past) → LeavesWhere work token was told →
       IfSome was (KnowsDecided token cause) → IfSome told (KnowsDecided token cause)
   clean-stays None None kept clean = tt
   clean-stays (Some was) (Some past) kept clean =
@@ -71,7 +72,7 @@ module _ (token : Token) (cause : Cause) where
   module _ (admits : Admission) (Holds : Standing → Type 0) where
     -- one that stands so that it knows it
     pub clean-known : ((stood : Standing) → Holds stood → KnowsNone stood.knows) →
-        (told : Option Past) → StandsIn admits told token Holds →
+        (told : Option Past) → StandsWhere admits told token Holds →
         IfSome told (KnowsDecided token cause)
     clean-known knows None stands = tt
     clean-known knows (Some past) stands = λ decided. knows _ stands.holds
@@ -80,7 +81,7 @@ module _ (token : Token) (cause : Cause) where
 
     -- one that has freed the lock that it kept
     pub freed-left : (number : ℕ) → ((stood : Standing) → Holds stood → HasFreed number stood) →
-        (told : Option Past) → StandsIn admits told token Holds →
+        (told : Option Past) → StandsWhere admits told token Holds →
         IfSome told (KnowsDecided token cause) → IfSome told (HasLeft token cause)
     freed-left number freed None stands clean = tt
     freed-left number freed (Some past) stands clean =
@@ -94,7 +95,7 @@ module _ (token : Token) (cause : Cause) where
 
   -- one that keeps no lock
   pub none-left : (admits : Admission) → (IsDecided cause → ⊥) → (told : Option Past) →
-      StandsIn admits told token KeepsNone → IfSome told (HasLeft token cause)
+      StandsWhere admits told token KeepsNone → IfSome told (HasLeft token cause)
   none-left admits undecided None stands = tt
   none-left admits undecided (Some past) stands = record {
     freed = λ number kept. absurd (cc (sym stands.holds ∙ kept));

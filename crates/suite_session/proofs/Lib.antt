@@ -1,3 +1,4 @@
+pub mod Parts
 pub mod AnswerLemmas
 pub mod BackingLemmas
 mod CallsLemmas

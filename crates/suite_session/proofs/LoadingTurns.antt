@@ -14,7 +14,6 @@ use Rattle.acct_outside.specs.declared.CommitStage.TheVariants.{Before}
 use Rattle.acct_outside.specs.declared.Name.{Name}
 use Rattle.acct_outside.specs.Calls.{Found, found_absent, found_bytes, found_too_large, reads}
 use Rattle.acct_outside.specs.History.{History}
-use Rattle.acct_outside.specs.Contract.{Past}
 use Rattle.account_model.specs.declared.tool.Tool.{Tool}
 use Rattle.account_model.specs.Answer.{Changed as ChangedTo, new_files}
 use Rattle.account_model.proofs.DeedLaws.{deed-is}
@@ -44,7 +43,9 @@ use Rattle.suite_session.specs.declared.tools.Decided.{Decided}
 use Rattle.suite_session.specs.declared.tools.Decided.TheVariants.{Change as Changes}
 use Rattle.account_model.specs.Words.{Asks}
 use Rattle.suite_session.specs.Runner.{Question, Runner}
-use Rattle.suite_session.specs.Moment.{Moment, commit_at, Runs, At}
+use Rattle.acct_outside.specs.Moment.{Past, Moment}
+use Rattle.suite_rules.proofs.Parts.{StandsWhere}
+use Rattle.suite_session.specs.Moment.{commit_at, Runs, At}
 use Rattle.suite_session.specs.Answers.{answer_on, IsAnswerOn, given_for}
 use Rattle.suite_session.specs.Deeds.{is_change}
 use Rattle.suite_session.specs.Due.{ShowsLarge, IsShown, IsDue}
@@ -140,7 +141,7 @@ module _ (before now : Moment) (runner : Runner) (reader : Reader)
         IsAnswerOn runner.asked inputs.files inputs.defs answer →
         is_change (answer_on runner.asked inputs.files inputs.defs).cause ≡ false →
         (told : Option Past) →
-        StandsIn now.admits told runner.token (Runs runner commit_uncalled (HasLoaded inputs)) →
+        StandsWhere now.admits told runner.token (Runs runner commit_uncalled (HasLoaded inputs)) →
         IfSome told (IsDue runner answer)
     stay-due answer is_answer stays None stood = tt
     stay-due answer is_answer stays (Some past) stood = record {
@@ -181,12 +182,12 @@ module _ (before now : Moment) (runner : Runner) (reader : Reader)
     }
 
   module _ (loading : Loaded)
-      (made : MakesCall before.admits now.admits before.told now.told reader.keeper.token
+      (made : MakesCall before now reader.keeper.token
       (reads (next_name reader.next)) (λ answer. Loads reader answer (Ok loading))) where
     -- after the last read the tool decided
     decided-stands : (inputs : Inputs) (state : State) → DecidesTo runner inputs state →
         inputs.keeper.token ≡ runner.token →
-        StandsIn now.admits now.told reader.keeper.token (HasLoaded inputs) →
+        StandsIn now reader.keeper.token (HasLoaded inputs) →
         StandsAs now runner state
     decided-stands inputs (BackingUp walker answer) decided token next =
         backs-stands inputs token
@@ -207,9 +208,9 @@ module _ (before now : Moment) (runner : Runner) (reader : Reader)
 
   -- after a read that leads on
   pub loads-stands : (loading : Loaded) (state : State) → LoadsTo runner loading state →
-      MakesCall before.admits now.admits before.told now.told reader.keeper.token
+      MakesCall before now reader.keeper.token
       (reads (next_name reader.next)) (λ answer. Loads reader answer (Ok loading)) →
-      StandsLoading now.admits now.told reader.keeper.token loading → StandsAs now runner state
+      StandsLoading now reader.keeper.token loading → StandsAs now runner state
   loads-stands (More more) state leads made next =
       subst (StandsAs now runner) (sym leads) (
         ap (λ (one : Reader). one.keeper.token)
@@ -225,7 +226,7 @@ module _ (before now : Moment) (runner : Runner) (reader : Reader)
   -- the answer that a table is absent is due
   missed-due : (table : Tab) (keeper : Kept) → is_missing table None ≡ true →
       (told : Option Past) →
-      StandsIn now.admits told runner.token
+      StandsWhere now.admits told runner.token
       (Runs runner commit_uncalled (HasMissed table keeper)) →
       IfSome told (IsDue runner (given_for runner.asked.request.tool (HasNoTable table)))
   missed-due table keeper missing None stood = tt
@@ -262,9 +263,9 @@ module _ (before now : Moment) (runner : Runner) (reader : Reader)
   -- after one that finds no table
   missing-stands : (table : Tab) (kept : Kept) (state : State) →
       LeavesWith runner.asked.request.tool kept (HasNoTable table) state →
-      MakesCall before.admits now.admits before.told now.told reader.keeper.token
+      MakesCall before now reader.keeper.token
       (reads (next_name reader.next)) (λ answer. Loads reader answer (Err (NoTable table kept))) →
-      StandsIn now.admits now.told reader.keeper.token (HasMissed table kept) →
+      StandsIn now reader.keeper.token (HasMissed table kept) →
       StandsAs now runner state
   missing-stands table kept (Unlocking keeper answer) leaves made next =
       let shown = missing-shown reader table kept made.answer made.shown in
@@ -283,7 +284,7 @@ module _ (before now : Moment) (runner : Runner) (reader : Reader)
 
   -- the answer that the next file is too large is due
   large-due : (kept : Kept) → AreSound reader.next reader.files → (told : Option Past) →
-      StandsIn now.admits told runner.token (Runs runner commit_uncalled (Keeps kept KnowsNone)) →
+      StandsWhere now.admits told runner.token (Runs runner commit_uncalled (Keeps kept KnowsNone)) →
       IfSome told (λ past. Met runner.token (reads (next_name reader.next)) found_too_large
       (HasRead reader) past.history) →
       IfSome told (IsDue runner
@@ -299,9 +300,9 @@ module _ (before now : Moment) (runner : Runner) (reader : Reader)
   -- after one that finds too much
   large-stands : (name : Name) (kept : Kept) (state : State) → AreSound reader.next reader.files →
       LeavesWith runner.asked.request.tool kept (IsTooLarge (File (next_name reader.next))) state →
-      MakesCall before.admits now.admits before.told now.told reader.keeper.token
+      MakesCall before now reader.keeper.token
       (reads (next_name reader.next)) (λ answer. Loads reader answer (Err (TooLarge name kept))) →
-      StandsIn now.admits now.told reader.keeper.token (Keeps kept KnowsNone) →
+      StandsIn now reader.keeper.token (Keeps kept KnowsNone) →
       StandsAs now runner state
   large-stands name kept (Unlocking keeper answer) sound leaves made next =
       let shown = large-shown reader name kept made.answer made.shown in
@@ -342,9 +343,9 @@ module _ (before now : Moment) (runner : Runner) (reader : Reader)
   -- after one that leads no further
   pub ended-stands : (end : LoadEnd) (state : State) → AreSound reader.next reader.files →
       EndsAt runner.asked.request.tool end state →
-      MakesCall before.admits now.admits before.told now.told reader.keeper.token
+      MakesCall before now reader.keeper.token
       (reads (next_name reader.next)) (λ answer. Loads reader answer (Err end)) →
-      StandsEnded now.admits now.told reader.keeper.token end → StandsAs now runner state
+      StandsEnded now reader.keeper.token end → StandsAs now runner state
   ended-stands (Fault fault) state sound ends made next =
       answers-turn before now runner commit_uncalled (HasRead reader) stands reader.keeper.token
       same (reads (next_name reader.next)) tt _ (λ result stood. refl) made

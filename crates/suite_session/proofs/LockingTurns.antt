@@ -18,7 +18,8 @@ use Rattle.lock_steps.specs.Stands.{HasLooked, HasReadHeld, HasJudged, HasMade, 
 use Rattle.suite_session.specs.Causes.{HasListedNone}
 use Rattle.suite_session.specs.declared.state.State.TheVariants.{Claiming, Reading}
 use Rattle.suite_session.specs.Runner.{Runner}
-use Rattle.suite_session.specs.Moment.{Moment, At}
+use Rattle.acct_outside.specs.Moment.{Moment}
+use Rattle.suite_session.specs.Moment.{At}
 use Rattle.suite_session.specs.Locking.{after_look, after_read, after_listing}
 use Rattle.suite_session.specs.Stands.{StandsAs, TellsOutside}
 use Rattle.suite_session.proofs.TurnLemmas.{goes-on}
@@ -40,9 +41,9 @@ module _ (before now : Moment) (runner : Runner) where
       (same : looking ≡ runner.token) where
     -- after the first listing, by whether there is a lock
     looked : (seen : Lister) (is_none : Bool) → (seen.greatest == 0) ≡ is_none →
-        MakesCall before.admits now.admits before.told now.told looking lists
+        MakesCall before now looking lists
         (λ answer. Looks looking answer (Ok seen)) →
-        StandsIn now.admits now.told looking (HasLooked seen) →
+        StandsIn now looking (HasLooked seen) →
         StandsAs now runner (if is_none then Claiming seen else Reading seen)
     looked seen true is made next = (
       looks-token _ _ _ made.shown ∙ same,
@@ -60,9 +61,9 @@ module _ (before now : Moment) (runner : Runner) where
     )
 
     pub look-stands : (seen : Lister) →
-        MakesCall before.admits now.admits before.told now.told looking lists
+        MakesCall before now looking lists
         (λ answer. Looks looking answer (Ok seen)) →
-        StandsIn now.admits now.told looking (HasLooked seen) →
+        StandsIn now looking (HasLooked seen) →
         StandsAs now runner (after_look seen)
     look-stands seen made next = looked seen _ refl made next
 
@@ -70,9 +71,9 @@ module _ (before now : Moment) (runner : Runner) where
       (same : seen.token ≡ runner.token) (not_last : seen.greatest ≢ greatest_lock) where
     -- after the read
     pub read-stands : (told : Told) →
-        MakesCall before.admits now.admits before.told now.told seen.token
+        MakesCall before now seen.token
         (reads (Lock seen.greatest)) (λ answer. Reads seen answer (Ok told)) →
-        StandsTold now.admits now.told seen.token told → StandsAs now runner (after_read told)
+        StandsTold now seen.token told → StandsAs now runner (after_read told)
     read-stands (Judged judged) made next = (
       reads-judged _ _ _ made.shown ∙ same,
       goes-on before now runner commit_uncalled (HasLooked seen) stands seen.token same
@@ -89,9 +90,9 @@ module _ (before now : Moment) (runner : Runner) where
       (same : claimed.token ≡ runner.token) where
     -- after the second listing
     pub confirm-stands : (confirmed : Confirmed) →
-        MakesCall before.admits now.admits before.told now.told claimed.token lists
+        MakesCall before now claimed.token lists
         (λ answer. Confirms claimed answer (Ok confirmed)) →
-        StandsConfirmed now.admits now.told claimed.token confirmed →
+        StandsConfirmed now claimed.token confirmed →
         StandsAs now runner (after_listing confirmed)
     confirm-stands (Keeper keeper) made next = (
       confirms-keeper _ _ _ made.shown ∙ same,

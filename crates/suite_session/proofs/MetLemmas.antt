@@ -15,7 +15,7 @@ use Rattle.acct_outside.specs.Names.{greatest_lock}
 use Rattle.acct_outside.specs.Tokens.{Token}
 use Rattle.acct_outside.specs.Calls.{Call, Answer, Found, lists, reads, asks, creates, removes, found_absent, found_bytes, found_too_large}
 use Rattle.acct_outside.specs.History.{History}
-use Rattle.acct_outside.specs.Contract.{Past}
+use Rattle.acct_outside.specs.Moment.{Past}
 use Rattle.suite_rules.specs.OwnLock.{kept_number}
 use Rattle.suite_rules.specs.Standing.{Standing}
 use Rattle.lock_steps.specs.States.{Lister, Asker, Maker, Overtaken, Kept}

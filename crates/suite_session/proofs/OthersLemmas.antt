@@ -6,7 +6,7 @@ use Rattle.acct_outside.specs.Tokens.{Token}
 use Rattle.acct_outside.specs.History.{History}
 use Rattle.acct_outside.specs.Life.{runs_in}
 use Rattle.acct_outside.specs.Others.{Admission, ByOthers, none_came, one_came}
-use Rattle.acct_outside.specs.Contract.{Past, NeverAdmits, MayAnswer, Narrows}
+use Rattle.acct_outside.specs.Contract.{NeverAdmits, MayAnswer}
 use Rattle.suite_rules.specs.OwnLock.{kept_number}
 use Rattle.suite_rules.specs.Standing.{Commit, Standing, standing}
 use Rattle.suite_rules.specs.Steps.{StandsIn}
@@ -18,7 +18,9 @@ use Rattle.suite_session.specs.declared.state.State.TheVariants.{Looking, Readin
 use Rattle.suite_session.specs.declared.session.Phase.{Phase}
 use Rattle.suite_session.specs.declared.session.Phase.TheVariants.{Waiting, Begun, Over}
 use Rattle.suite_session.specs.Runner.{Runner}
-use Rattle.suite_session.specs.Moment.{Moment, Runs, At}
+use Rattle.acct_outside.specs.Moment.{Past, Moment, Narrows}
+use Rattle.suite_rules.proofs.Parts.{MayAnswerWhere, StandsWhere}
+use Rattle.suite_session.specs.Moment.{Runs, At}
 use Rattle.suite_session.specs.Due.{IsDue}
 use Rattle.suite_session.specs.Grows.{Grows, none_new, others_new, own_new, Grew}
 use Rattle.suite_session.specs.Stands.{Gives, HasLeft, KnowsDecided, StandsAs}
@@ -44,14 +46,14 @@ all-others admits token old _ _ (own_new most event new grown is backs) =
 
 -- where a session stands, the folder admits no event of it
 stands-own : (admits : Admission) (token : Token) (Holds : Standing → Type 0)
-    (told : Option Past) → StandsIn admits told token Holds →
+    (told : Option Past) → StandsWhere admits told token Holds →
     IfSome told (λ past. NeverAdmits admits token)
 stands-own admits token Holds None stands = tt
 stands-own admits token Holds (Some past) stands = stands.own
 
 -- and where it may answer
 answers-own : (admits : Admission) (token : Token) (told : Option Past) →
-    MayAnswer admits told token → IfSome told (λ past. NeverAdmits admits token)
+    MayAnswerWhere admits told token → IfSome told (λ past. NeverAdmits admits token)
 answers-own admits token None may = tt
 answers-own admits token (Some past) may = may.own
 
@@ -111,8 +113,8 @@ module _ (before now : Moment) (runner : Runner) (token : Token) (most : ℕ)
 
   -- it stands so still
   in-stays : (Holds : Standing → Type 0) (was told : Option Past) →
-      Grew before.admits token most was told → StandsIn before.admits was runner.token Holds →
-      StandsIn now.admits told runner.token Holds
+      Grew before.admits token most was told → StandsWhere before.admits was runner.token Holds →
+      StandsWhere now.admits told runner.token Holds
   in-stays Holds None None grew stands = tt
   in-stays Holds (Some was) (Some past) grew stands =
       let stay = same stands.own was.history past.history grew.1 in
@@ -126,7 +128,7 @@ module _ (before now : Moment) (runner : Runner) (token : Token) (most : ℕ)
 
   -- and may answer still
   answer-stays : (was told : Option Past) → Grew before.admits token most was told →
-      MayAnswer before.admits was runner.token → MayAnswer now.admits told runner.token
+      MayAnswerWhere before.admits was runner.token → MayAnswerWhere now.admits told runner.token
   answer-stays None None grew may = tt
   answer-stays (Some was) (Some past) grew may = record {
     runs = ap runs_in (same may.own was.history past.history grew.1).same_life ∙ may.runs;

@@ -10,14 +10,16 @@ use Rattle.acct_outside.specs.Tokens.{Token}
 use Rattle.acct_outside.specs.Calls.{Call, Answer, done, failed}
 use Rattle.acct_outside.specs.History.{History}
 use Rattle.acct_outside.specs.Others.{ByOthers}
-use Rattle.acct_outside.specs.Contract.{Past, Tells as OutsideTells}
+use Rattle.acct_outside.specs.Contract.{Tells as OutsideTells}
 use Rattle.suite_rules.specs.Standing.{Commit, Standing, standing}
 use Rattle.suite_rules.specs.Steps.{StandsIn, MakesCall}
 use Rattle.suite_rules.proofs.StepLemmas.{IsNoAnswer, stayed, stepped}
 use Rattle.suite_answers.specs.declared.cause.Cause.{Cause}
 use Rattle.suite_session.specs.declared.state.State.{State}
 use Rattle.suite_session.specs.Runner.{Runner}
-use Rattle.suite_session.specs.Moment.{Moment, Runs, At}
+use Rattle.acct_outside.specs.Moment.{Past, Moment}
+use Rattle.suite_rules.proofs.Parts.{StandsWhere, TellsWhere}
+use Rattle.suite_session.specs.Moment.{Runs, At}
 use Rattle.suite_session.specs.Locking.{cause_of_fault}
 use Rattle.suite_session.specs.Telling.{IsToTell, MayFollow, Remembers}
 use Rattle.suite_session.specs.Stands.{FindsNoMemory, MakesOne, StaysTold}
@@ -29,20 +31,20 @@ module _ (before now : Moment) (runner : Runner) (commit : Commit) (Held : Stand
     (stands : At before runner commit Held) (token : Token) (same : token ≡ runner.token)
     (call : Call) (no_answer : IsNoAnswer call)
     (Shows : Result (Answer call) FolderFault → Type 0)
-    (made : MakesCall before.admits now.admits before.told now.told token call Shows) where
+    (made : MakesCall before now token call Shows) where
   -- the folder tells it by that
-  told-by-runner : OutsideTells before.admits before.told now.told runner.token call made.answer
+  told-by-runner : OutsideTells before now runner.token call made.answer
   told-by-runner = subst
-      (λ one. OutsideTells before.admits before.told now.told one call made.answer) same made.told
+      (λ one. OutsideTells before now one call made.answer) same made.told
 
   -- what came to a fault, the session met as that
   pub fault-met : (stage : CommitStage) (fault : FolderFault) → made.answer ≡ Err fault →
       IfSome now.told (λ past. IsMetAs runner.token past.history (cause_of_fault stage fault))
   fault-met stage fault is = by-told fault before.told now.told
-      (subst (OutsideTells before.admits before.told now.told runner.token call) is told-by-runner)
+      (subst (OutsideTells before now runner.token call) is told-by-runner)
     where
       by-told : (one : FolderFault) (was told : Option Past) →
-          OutsideTells before.admits was told runner.token call (Err one) →
+          TellsWhere before.admits was told runner.token call (Err one) →
           IfSome told (λ past. IsMetAs runner.token past.history (cause_of_fault stage one))
       by-told Failed (Some was) (Some past) tells = record {
         newer = [];
@@ -64,9 +66,9 @@ module _ (before now : Moment) (runner : Runner) (commit : Commit) (Held : Stand
     makes-one = by-told made.answer before.told now.told stands meets told-by-runner
       where
         by-told : (answer : Result (Answer call) FolderFault) (was told : Option Past) →
-            StandsIn before.admits was runner.token (Runs runner commit Held) →
+            StandsWhere before.admits was runner.token (Runs runner commit Held) →
             MeetsBy call answer Held new →
-            OutsideTells before.admits was told runner.token call answer →
+            TellsWhere before.admits was told runner.token call answer →
             MakesOne was told runner.token (FindsNoMemory new)
         by-told answer None None stood met tells = tt
         by-told (Ok given) (Some was) (Some past) stood met tells = (
@@ -102,23 +104,23 @@ module _ (before now : Moment) (runner : Runner) (commit : Commit) (Held : Stand
       where
         -- after events of others
         before-call : (was : Past) (between : History) →
-            StandsIn before.admits (Some was) runner.token (Runs runner commit Held) →
+            StandsWhere before.admits (Some was) runner.token (Runs runner commit Held) →
             ByOthers before.admits was.history between → Remembers runner.token old was.history →
             Remembers runner.token old between
         before-call was between stood others =
             tells-others (IsToTell old) runner.token before.admits stood.own was.history between others
 
         held-then : (was : Past) (between : History) →
-            StandsIn before.admits (Some was) runner.token (Runs runner commit Held) →
+            StandsWhere before.admits (Some was) runner.token (Runs runner commit Held) →
             ByOthers before.admits was.history between → Held (standing runner.token between)
         held-then was between stood others = subst Held
             (sym (stayed before.admits runner.token stood.own was.history between others).same_standing)
             stood.holds.holds
 
         by-told : (answer : Result (Answer call) FolderFault) (was told : Option Past) →
-            StandsIn before.admits was runner.token (Runs runner commit Held) →
+            StandsWhere before.admits was runner.token (Runs runner commit Held) →
             MeetsBy call answer Held new →
-            OutsideTells before.admits was told runner.token call answer →
+            TellsWhere before.admits was told runner.token call answer →
             StaysTold was told runner.token old new
         by-told answer None None stood met tells = tt
         by-told (Ok given) (Some was) (Some past) stood met tells =

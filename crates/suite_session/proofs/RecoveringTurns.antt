@@ -17,7 +17,8 @@ use Rattle.recovery.specs.declared.IntentSeen.TheVariants.{Clean, Listed}
 use Rattle.recovery.specs.declared.RecoveryEnd.{RecoveryEnd}
 use Rattle.recovery.specs.declared.RecoveryEnd.TheVariants.{Fault, Damaged, TooLarge}
 use Rattle.recovery.specs.Outcomes.{FindsIntent, failed_before}
-use Rattle.suite_session.specs.Moment.{Runs, Moment, commit_at, At}
+use Rattle.acct_outside.specs.Moment.{Moment}
+use Rattle.suite_session.specs.Moment.{Runs, commit_at, At}
 use Rattle.commit_steps.specs.States.{start_of}
 use Rattle.commit_steps.specs.Stands.{HasRead}
 use Rattle.commit_steps.proofs.ReadsLemmas.{starts-reading}
@@ -102,9 +103,9 @@ module _ (before now : Moment) (runner : Runner) (keeper : Kept)
     (same : keeper.token ≡ runner.token) where
   -- after a read of the intent
   pub seen-stands : (seen : IntentSeen) →
-      MakesCall before.admits now.admits before.told now.told keeper.token (reads Intent)
+      MakesCall before now keeper.token (reads Intent)
       (λ answer. FindsIntent keeper answer (Ok seen)) →
-      StandsSeen now.admits now.told keeper.token seen → StandsAs now runner (after_intent seen)
+      StandsSeen now keeper.token seen → StandsAs now runner (after_intent seen)
   seen-stands (Clean kept) made next = (
     seen-keeper keeper made.answer kept made.shown ∙ same,
     starts-loading now runner kept
@@ -134,9 +135,9 @@ module _ (before now : Moment) (runner : Runner) (keeper : Kept)
   -- after one that leads no further
   pub refused-stands : (end : RecoveryEnd) (state : State) →
       Refuses runner.asked.request.tool end state →
-      MakesCall before.admits now.admits before.told now.told keeper.token (reads Intent)
+      MakesCall before now keeper.token (reads Intent)
       (λ answer. FindsIntent keeper answer (Err end)) →
-      StandsRefused now.admits now.told keeper.token end → StandsAs now runner state
+      StandsRefused now keeper.token end → StandsAs now runner state
   refused-stands (Fault fault) state refuses made next =
       answers-turn before now runner commit_uncalled (Keeps keeper KnowsAnything) stands
       keeper.token same (reads Intent) tt _ (λ result stood. refl) made _ state refuses

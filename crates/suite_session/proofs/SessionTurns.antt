@@ -15,7 +15,7 @@ use Rattle.acct_outside.specs.Calls.{Answer, Call, CallResult, Command, begins, 
 use Rattle.acct_outside.specs.History.{Event, History, is_of, own_events}
 use Rattle.acct_outside.specs.Life.{Life, runs_in, running, faulted, unbegun as not_begun, ended, MayCall}
 use Rattle.acct_outside.specs.Others.{Admission}
-use Rattle.acct_outside.specs.Contract.{Past, NeverAdmits, MayAnswer, WhereTold, Tells, TellsBegin, TellsEvent, Narrows}
+use Rattle.acct_outside.specs.Contract.{NeverAdmits, MayAnswer, WhereTold, Tells, TellsBegin, TellsEvent}
 use Rattle.acct_outside.specs.Faults.{HasRisen}
 use Rattle.account_model.specs.Options.{Word}
 use Rattle.account_model.specs.Request.{Request}
@@ -35,7 +35,9 @@ use Rattle.suite_answers.specs.declared.answer.Answer.{Answer as FinalAnswer}
 use Rattle.suite_session.specs.declared.state.State.{State}
 use Rattle.suite_session.specs.declared.state.State.TheVariants.{Looking, Answering}
 use Rattle.suite_session.specs.Runner.{Question, Runner}
-use Rattle.suite_session.specs.Moment.{Moment, Runs, At}
+use Rattle.acct_outside.specs.Moment.{Past, Moment, Narrows}
+use Rattle.suite_rules.proofs.Parts.{MayAnswerWhere, StandsWhere, StaysLawfulWhere, TellsWhere}
+use Rattle.suite_session.specs.Moment.{Runs, At}
 use Rattle.suite_session.specs.Answers.{after_streams, memory_answer, IsTold, Says}
 use Rattle.suite_session.specs.Deeds.{AreOfTools}
 use Rattle.suite_session.specs.Due.{IsDue}
@@ -69,7 +71,7 @@ begun_answer (Err fault) = Err fault
 -- a begin is told as any call
 begin-tells : (admits : Admission) (command : Command) (result : Result Token FolderFault)
     (before now : Option Past) → WhereTold before now (TellsBegin admits command result) →
-    Tells admits before now (begun_token result) (begins command) (begun_answer result)
+    TellsWhere admits before now (begun_token result) (begins command) (begun_answer result)
 begin-tells admits command result None None tells = tt
 begin-tells admits command (Ok token) (Some before) (Some now) tells = (tells.0, tells.1.0)
 begin-tells admits command (Err Failed) (Some before) (Some now) tells = tells
@@ -148,7 +150,7 @@ begin-remembers admits command token state (Some before) None tells = tt
 -- it keeps a history lawful, for whatever deeds
 begin-lawful : (deeds : SuiteDeeds) (admits : Admission) (command : Command)
     (result : Result Token FolderFault) (before now : Option Past) →
-    WhereTold before now (TellsBegin admits command result) → StaysLawful deeds admits before now
+    WhereTold before now (TellsBegin admits command result) → StaysLawfulWhere deeds admits before now
 begin-lawful deeds admits command result None None tells = tt
 begin-lawful deeds admits command (Ok token) (Some before) (Some now) tells =
     let event = tells.1.0 in
@@ -237,7 +239,7 @@ module _ (before now : Moment) where
 
     -- want of memory is due then
     memory-due : (told : Option Past) →
-        StandsIn now.admits told runner.token (Runs runner commit_uncalled HasListedNone) →
+        StandsWhere now.admits told runner.token (Runs runner commit_uncalled HasListedNone) →
         IfSome told (IsDue runner (memory_answer Before))
     memory-due None stands = tt
     memory-due (Some past) stands = record {
@@ -373,8 +375,8 @@ module _ (before now : Moment) (runner : Runner) (status : ℕ) where
 
   -- an answer that was due is so after it too, and what was left is so
   answered-due : (answer : FinalAnswer) (was told : Option Past) →
-      MayAnswer before.admits was runner.token →
-      Tells before.admits was told runner.token call (Ok tt) → Extends was told →
+      MayAnswerWhere before.admits was runner.token →
+      TellsWhere before.admits was told runner.token call (Ok tt) → Extends was told →
       IfSome was (λ past. DropsNothing runner.token answer.outcome.cause past.history) →
       IfSome was (IsDue runner answer) → ((IsStopped answer.outcome.cause → ⊥) →
       IfSome was (HasLeft runner.token answer.outcome.cause)) →
@@ -415,10 +417,10 @@ module _ (before now : Moment) (runner : Runner) (status : ℕ) where
   answered-lawful : request_of runner.asked.command.words ≡ Ok runner.asked.request →
       (deeds : SuiteDeeds) → AreOfTools deeds → (answer : FinalAnswer)
       (put : Result (Unit {0}) SinkFault) → status ≡ (after_streams put answer).outcome.status →
-      (was told : Option Past) → MayAnswer before.admits was runner.token →
-      Tells before.admits was told runner.token call (Ok tt) →
+      (was told : Option Past) → MayAnswerWhere before.admits was runner.token →
+      TellsWhere before.admits was told runner.token call (Ok tt) →
       Says runner.asked answer answer.outcome.cause → IfSome was (IsDue runner answer) →
-      StaysLawful deeds before.admits was told
+      StaysLawfulWhere deeds before.admits was told
   answered-lawful read deeds ours answer put is None None may tells says due = tt
   answered-lawful read deeds ours answer put is (Some was) (Some past) may tells says due =
       let came = tells.1.others_then in
@@ -445,13 +447,13 @@ module _ (before now : Moment) (runner : Runner) (status : ℕ) where
   answered-lawful read deeds ours answer put is (Some was) None may tells says due = absurd tells
 
   -- it is one event of the session
-  pub answer-one : MayAnswer before.admits before.told runner.token →
-      Tells before.admits before.told now.told runner.token call (Ok tt) →
+  pub answer-one : MayAnswer before runner.token →
+      Tells before now runner.token call (Ok tt) →
       MakesOne before.told now.told runner.token ⊥
   answer-one = by-told before.told now.told
     where
-      by-told : (was told : Option Past) → MayAnswer before.admits was runner.token →
-          Tells before.admits was told runner.token call (Ok tt) → MakesOne was told runner.token ⊥
+      by-told : (was told : Option Past) → MayAnswerWhere before.admits was runner.token →
+          TellsWhere before.admits was told runner.token call (Ok tt) → MakesOne was told runner.token ⊥
       by-told None None may tells = tt
       by-told (Some was) (Some past) may tells = (
         tells.0,
@@ -468,7 +470,7 @@ module _ (before now : Moment) (runner : Runner) (status : ℕ) where
 pub answers-turn : (before now : Moment) (runner : Runner) (answer : FinalAnswer) →
     request_of runner.asked.command.words ≡ Ok runner.asked.request →
     StandsLeft before runner (Answering answer) →
-    Tells before.admits before.told now.told runner.token (answers answer.outcome.status) (Ok tt) →
+    Tells before now runner.token (answers answer.outcome.status) (Ok tt) →
     Narrows before.admits now.admits → before.faults ≤ now.faults →
     TurnsTo before now runner.token 1 (GaveLeft before now runner answer) ⊥
 answers-turn before now runner answer read stood tells narrows never_falls =

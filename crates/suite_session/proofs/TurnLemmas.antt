@@ -9,7 +9,7 @@ use Rattle.acct_outside.specs.declared.FolderFault.{FolderFault}
 use Rattle.acct_outside.specs.declared.FolderFault.TheVariants.{Failed}
 use Rattle.acct_outside.specs.Tokens.{Token}
 use Rattle.acct_outside.specs.Calls.{Call, Answer, CallResult}
-use Rattle.acct_outside.specs.Contract.{Past, Tells as OutsideTells}
+use Rattle.acct_outside.specs.Contract.{Tells as OutsideTells}
 use Rattle.acct_outside.specs.Faults.{HasRisen}
 use Rattle.suite_rules.specs.Standing.{Commit, Standing, standing_step}
 use Rattle.suite_rules.specs.Steps.{OwnCommand, own_command, StandsIn, AlwaysStaysLawful, Leaves, MakesCall}
@@ -23,7 +23,9 @@ use Rattle.suite_answers.specs.Reasons.{stage_of}
 use Rattle.suite_session.specs.declared.state.State.{State}
 use Rattle.suite_session.specs.declared.state.State.TheVariants.{Unlocking, Answering}
 use Rattle.suite_session.specs.Runner.{Runner}
-use Rattle.suite_session.specs.Moment.{Moment, commit_at, Runs, At}
+use Rattle.acct_outside.specs.Moment.{Past, Moment}
+use Rattle.suite_rules.proofs.Parts.{LeavesWhere, StandsWhere, TellsWhere}
+use Rattle.suite_session.specs.Moment.{commit_at, Runs, At}
 use Rattle.suite_session.specs.Answers.{IsTold}
 use Rattle.suite_session.specs.Causes.{Met}
 use Rattle.suite_session.specs.Due.{IsShown, IsDue}
@@ -45,11 +47,11 @@ own_of runner commit = record { command = Some runner.asked.command; commit = co
 -- a typed step asks for the runner's standing by the token that it keeps
 pub may-step : (now : Moment) (runner : Runner) (commit : Commit) (Holds : Standing → Type 0)
     (token : Token) → token ≡ runner.token → At now runner commit Holds →
-    StandsIn now.admits now.told token Holds
+    StandsIn now token Holds
 may-step now runner commit Holds token same stands =
     stands-weaker now.admits token (Runs runner commit Holds) Holds (λ stood runs. runs.holds)
     now.told
-    (subst (λ one. StandsIn now.admits now.told one (Runs runner commit Holds)) (sym same) stands)
+    (subst (λ one. StandsIn now one (Runs runner commit Holds)) (sym same) stands)
 
 -- what the runner met of the cause, where the folder tells its history
 abbrev pub HasMetNow : Moment → Runner → Cause → Type 0
@@ -97,24 +99,24 @@ module _ (before now : Moment) (runner : Runner) (commit : Commit) (Held : Stand
     (Shows : Result (Answer call) FolderFault → Type 0)
     (quiet : (result : CallResult (Answer call)) (stood : Standing) →
     own_command (standing_step call result stood) ≡ own_command stood)
-    (made : MakesCall before.admits now.admits before.told now.told token call Shows) where
+    (made : MakesCall before now token call Shows) where
   -- the call by the runner's token
-  by-runner : MakesCall before.admits now.admits before.told now.told runner.token call Shows
+  by-runner : MakesCall before now runner.token call Shows
   by-runner = subst
-      (λ one. MakesCall before.admits now.admits before.told now.told one call Shows) same made
+      (λ one. MakesCall before now one call Shows) same made
 
   -- the call isn't the answer
   no_answer : IsNoAnswer call
   no_answer = turn-no-answer (Runs runner commit Held) call of_turn
 
   -- the runner's command and its commit are as before the call
-  left : Leaves own_command runner.token before.told now.told
+  left : Leaves own_command runner.token before now
   left = leaves before.admits now.admits made.narrows runner.token call no_answer
       (Runs runner commit Held) own_command (λ result stood held. quiet result stood)
       by-runner.answer before.told now.told stands by-runner.told
 
   -- the standing at the next moment is that of the step
-  pub goes-on : (Holds : Standing → Type 0) → StandsIn now.admits now.told token Holds →
+  pub goes-on : (Holds : Standing → Type 0) → StandsIn now token Holds →
       At now runner commit Holds
   goes-on Holds stands_now = stands-weaker now.admits runner.token
       (λ stood. Holds stood × (own_command stood ≡ own_of runner commit)) (Runs runner commit Holds)
@@ -127,13 +129,13 @@ module _ (before now : Moment) (runner : Runner) (commit : Commit) (Held : Stand
       (stands-left own_command (own_of runner commit) (Runs runner commit Held) Holds
       (λ stood runs. λ i. record { command = runs.asked i; commit = runs.commits i })
       before.admits now.admits runner.token before.told now.told stands left
-      (subst (λ one. StandsIn now.admits now.told one Holds) same stands_now))
+      (subst (λ one. StandsIn now one Holds) same stands_now))
 
   -- the folder tells what the call answered
   answered : (answer : Answer call) → made.answer ≡ Ok answer →
-      OutsideTells before.admits before.told now.told runner.token call (Ok answer)
-  answered answer is = subst (OutsideTells before.admits before.told now.told runner.token call) is
-      (subst (λ one. OutsideTells before.admits before.told now.told one call made.answer) same
+      OutsideTells before now runner.token call (Ok answer)
+  answered answer is = subst (OutsideTells before now runner.token call) is
+      (subst (λ one. OutsideTells before now one call made.answer) same
       made.told)
 
   -- what the call answered, the session met
@@ -142,8 +144,8 @@ module _ (before now : Moment) (runner : Runner) (commit : Commit) (Held : Stand
   got answer is = by-told before.told now.told stands (answered answer is)
     where
       by-told : (was told : Option Past) →
-          StandsIn before.admits was runner.token (Runs runner commit Held) →
-          OutsideTells before.admits was told runner.token call (Ok answer) →
+          StandsWhere before.admits was runner.token (Runs runner commit Held) →
+          TellsWhere before.admits was told runner.token call (Ok answer) →
           IfSome told (λ past. Met runner.token call answer Held past.history)
       by-told None None stood tells = tt
       by-told (Some was) (Some past) stood tells =
@@ -176,8 +178,8 @@ module _ (before now : Moment) (runner : Runner) (commit : Commit) (Held : Stand
   -- an answer of this commit is due, where its cause is shown
   pub is-due : (answer : FinalAnswer) → commit ≡ commit_at (stage_of answer.outcome.cause) →
       (was now_told : Option Past) →
-      StandsIn before.admits was runner.token (Runs runner commit Held) →
-      Leaves own_command runner.token was now_told →
+      StandsWhere before.admits was runner.token (Runs runner commit Held) →
+      LeavesWhere own_command runner.token was now_told →
       IfSome now_told (λ past. IsShown runner answer past.history answer.outcome.cause) →
       IfSome now_told (IsDue runner answer)
   is-due answer is None None stood kept shown = tt
@@ -238,7 +240,7 @@ module _ (before now : Moment) (runner : Runner) (commit : Commit) (Held : Stand
       LeavesWith runner.asked.request.tool keeper cause state → IsPlain cause →
       HasMetNow now runner cause → (IsOutside cause → ⊥) → commit ≡ commit_at (stage_of cause) →
       keeper.token ≡ runner.token →
-      StandsIn now.admits now.told token (Keeps keeper KnowsAnything) → StandsAs now runner state
+      StandsIn now token (Keeps keeper KnowsAnything) → StandsAs now runner state
   leaves-turn keeper cause (Unlocking kept answer) shown plain met quiet is owned next =
       let tool = runner.asked.request.tool in
       let has = ap (λ (given : FinalAnswer). given.outcome.cause) shown.1 ∙ given-cause tool cause in
@@ -247,7 +249,7 @@ module _ (before now : Moment) (runner : Runner) (commit : Commit) (Held : Stand
         same = ap (λ (one : Kept). one.token) shown.0 ∙ owned;
         stands = subst (λ (one : Commit). At now runner one (Keeps kept KnowsAnything)) at
             (goes-on (Keeps kept KnowsAnything)
-            (subst (λ (one : Kept). StandsIn now.admits now.told token (Keeps one KnowsAnything))
+            (subst (λ (one : Kept). StandsIn now token (Keeps one KnowsAnything))
             (sym shown.0) next));
         clean = clean-else runner.token answer.outcome.cause
             (plain-undecided answer.outcome.cause (subst IsPlain (sym has) plain)) now.told;
@@ -260,7 +262,7 @@ module _ (before now : Moment) (runner : Runner) (commit : Commit) (Held : Stand
       (λ goes_on. absurd (goes_on (subst IsStopped (sym has) tt))) is
   leaves-turn keeper cause state shown plain met quiet is owned next = absurd shown
 
-  module _ (lawful : AlwaysStaysLawful before.admits before.told now.told)
+  module _ (lawful : AlwaysStaysLawful before now)
       (never_falls : before.faults ≤ now.faults) (old state : State)
       (meets : MeetsBy call made.answer Held state)
       (leads : (met : Cause) → IsToTell old met → IsToTell state met × MayFollow met call) where
@@ -299,7 +301,7 @@ module _ (before now : Moment) (runner : Runner) (commit : Commit) (Held : Stand
         (λ fault. failed (answers-fault runner.asked.request.tool cause state told fault))
 
   -- a turn to the answer of a call that came to a fault
-  pub faults : AlwaysStaysLawful before.admits before.told now.told → before.faults ≤ now.faults →
+  pub faults : AlwaysStaysLawful before now → before.faults ≤ now.faults →
       (old state : State) → ((met : Cause) → IsToTell old met → MayFollow met call) →
       (stage : CommitStage) (fault : FolderFault) → made.answer ≡ Err fault →
       AnswersWith runner.asked.request.tool (cause_of_fault stage fault) state →

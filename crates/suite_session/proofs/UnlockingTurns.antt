@@ -20,7 +20,8 @@ use Rattle.suite_answers.specs.declared.answer.Answer.{Answer as FinalAnswer}
 use Rattle.suite_answers.specs.Reasons.{stage_of}
 use Rattle.suite_session.specs.declared.state.State.TheVariants.{Unlocking, Freeing, Answering}
 use Rattle.suite_session.specs.Runner.{Runner}
-use Rattle.suite_session.specs.Moment.{Moment, commit_at, Runs}
+use Rattle.acct_outside.specs.Moment.{Moment}
+use Rattle.suite_session.specs.Moment.{commit_at, Runs}
 use Rattle.suite_session.specs.Telling.{IsLeavingCall, MayFollow}
 use Rattle.suite_session.specs.Stands.{IsOutside, StandsUnlocking, StandsFreeing, Turns}
 use Rattle.suite_session.proofs.TurnLemmas.{goes-on, extended, turns}
@@ -68,11 +69,11 @@ module _ (before now : Moment) (runner : Runner) (answer : FinalAnswer) where
   module _ (keeper : Kept) (stood : StandsUnlocking before runner keeper answer) where
     -- it removes a lower lock
     pub lowers : (number : ℕ) (kept : Kept) →
-        MakesCall before.admits now.admits before.told now.told keeper.token (removes (Lock number))
+        MakesCall before now keeper.token (removes (Lock number))
         (λ result. LeadsTo (cleaned_once keeper) result (Ok kept)) →
-        StandsIn now.admits now.told keeper.token (Keeps kept KnowsAnything) →
-        Leaves work keeper.token before.told now.told →
-        AlwaysStaysLawful before.admits before.told now.told → before.faults ≤ now.faults →
+        StandsIn now keeper.token (Keeps kept KnowsAnything) →
+        Leaves work keeper.token before now →
+        AlwaysStaysLawful before now → before.faults ≤ now.faults →
         Turns before now runner (Unlocking keeper answer) (Unlocking kept answer)
     lowers number kept made next left lawful never_falls =
         let is = leads (cleaned_once keeper) made.answer kept made.shown in
@@ -80,7 +81,7 @@ module _ (before now : Moment) (runner : Runner) (answer : FinalAnswer) where
         let stands = goes-on before now runner commit (Keeps keeper KnowsAnything) stood.stands
         keeper.token stood.same call tt _ (λ result stood. refl) made (Keeps kept KnowsAnything)
         next in
-        let kept_work = subst (λ (token : Token). Leaves work token before.told now.told) stood.same
+        let kept_work = subst (λ (token : Token). Leaves work token before now) stood.same
         left in
         turns before now runner commit (Keeps keeper KnowsAnything) stood.stands keeper.token
         stood.same call tt _ (λ result stood. refl) made lawful never_falls
@@ -110,18 +111,18 @@ module _ (before now : Moment) (runner : Runner) (answer : FinalAnswer) where
 
     -- it stages the free text
     pub stages : (freeing : Maker) →
-        MakesCall before.admits now.admits before.told now.told keeper.token
+        MakesCall before now keeper.token
         (writes FreeStage free_text) (λ result. LeadsTo (freeing_of keeper) result (Ok freeing)) →
-        StandsIn now.admits now.told keeper.token (HasStagedFree freeing) →
-        Leaves work keeper.token before.told now.told →
-        AlwaysStaysLawful before.admits before.told now.told → before.faults ≤ now.faults →
+        StandsIn now keeper.token (HasStagedFree freeing) →
+        Leaves work keeper.token before now →
+        AlwaysStaysLawful before now → before.faults ≤ now.faults →
         Turns before now runner (Unlocking keeper answer) (Freeing freeing answer)
     stages freeing made next left lawful never_falls =
         let is = leads (freeing_of keeper) made.answer freeing made.shown in
         let call = writes FreeStage free_text in
         let stands = goes-on before now runner commit (Keeps keeper KnowsAnything) stood.stands
         keeper.token stood.same call tt _ (λ result stood. refl) made (HasStagedFree freeing) next in
-        let kept_work = subst (λ (token : Token). Leaves work token before.told now.told) stood.same
+        let kept_work = subst (λ (token : Token). Leaves work token before now) stood.same
         left in
         turns before now runner commit (Keeps keeper KnowsAnything) stood.stands keeper.token
         stood.same call tt _ (λ result stood. refl) made lawful never_falls
@@ -152,18 +153,18 @@ module _ (before now : Moment) (runner : Runner) (answer : FinalAnswer) where
   module _ (freeing : Maker) (stood : StandsFreeing before runner freeing answer) where
     -- it moves the free text to its lock
     pub frees : (ended : Ended) →
-        MakesCall before.admits now.admits before.told now.told freeing.token
+        MakesCall before now freeing.token
         (renames FreeStage (Lock freeing.number)) (λ result. LeadsTo the_end result (Ok ended)) →
-        StandsIn now.admits now.told freeing.token (HasFreed freeing.number) →
-        Leaves work freeing.token before.told now.told →
-        AlwaysStaysLawful before.admits before.told now.told → before.faults ≤ now.faults →
+        StandsIn now freeing.token (HasFreed freeing.number) →
+        Leaves work freeing.token before now →
+        AlwaysStaysLawful before now → before.faults ≤ now.faults →
         Turns before now runner (Freeing freeing answer) (Answering answer)
     frees ended made next left lawful never_falls =
         let call = renames FreeStage (Lock freeing.number) in
         let stands = goes-on before now runner commit (HasStagedFree freeing) stood.stands
         freeing.token stood.same call tt _ (λ result stood. refl) made (HasFreed freeing.number)
         next in
-        let kept_work = subst (λ (token : Token). Leaves work token before.told now.told) stood.same
+        let kept_work = subst (λ (token : Token). Leaves work token before now) stood.same
         left in
         turns before now runner commit (HasStagedFree freeing) stood.stands freeing.token
         stood.same call tt _ (λ result stood. refl) made lawful never_falls

@@ -3,7 +3,8 @@ use Rattle.std.specs.Prelude.{◌≡◌, ◌∷◌, ℕ, suc, Option}
 use Rattle.acct_outside.specs.Tokens.{Token}
 use Rattle.acct_outside.specs.History.{Event, History}
 use Rattle.acct_outside.specs.Others.{Admission}
-use Rattle.acct_outside.specs.Contract.{Past, WhereTold}
+use Rattle.acct_outside.specs.Moment.{Past}
+use Rattle.acct_outside.specs.Contract.{WhereTold}
 use Rattle.suite_rules.specs.Standing.{standing}
 use Rattle.suite_session.specs.Backing.{BacksUpChange}
 

@@ -3,7 +3,7 @@ use Rattle.std.specs.Prelude.{◌≡◌, ⊤, [], ◌∷◌, ℕ, Option, Some, 
 use Rattle.acct_outside.specs.Calls.{Command, answers, done}
 use Rattle.acct_outside.specs.Tokens.{Token}
 use Rattle.acct_outside.specs.History.{History, own_events}
-use Rattle.acct_outside.specs.Contract.{Past, Narrows, TellsBegin, WhereTold}
+use Rattle.acct_outside.specs.Contract.{TellsBegin, WhereTold}
 use Rattle.acct_outside.specs.declared.FolderFault.{FolderFault}
 use Rattle.account_model.specs.Words.{Asks}
 use Rattle.acct_outside.specs.declared.CommitStage.TheVariants.{Before}
@@ -15,7 +15,7 @@ use Rattle.suite_session.specs.declared.state.State.TheVariants.{Looking, Answer
 use Rattle.suite_session.specs.declared.session.Phase.{Phase}
 use Rattle.suite_session.specs.declared.session.Phase.TheVariants.{Waiting, Begun, Over}
 use Rattle.suite_session.specs.Runner.{Question, Runner}
-use Rattle.suite_session.specs.Moment.{Moment}
+use Rattle.acct_outside.specs.Moment.{Past, Moment, Narrows}
 use Rattle.suite_session.specs.Answers.{IsTold, Says, after_fault, after_streams, memory_answer}
 use Rattle.suite_session.specs.Due.{IsDue}
 use Rattle.suite_session.specs.Left.{ranked, turns_left}

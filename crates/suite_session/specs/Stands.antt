@@ -6,7 +6,7 @@ use Rattle.acct_outside.specs.Names.{greatest_lock}
 use Rattle.acct_outside.specs.Tokens.{Token}
 use Rattle.acct_outside.specs.History.{Event, History, own_events}
 use Rattle.acct_outside.specs.Others.{Admission}
-use Rattle.acct_outside.specs.Contract.{Past, Narrows, MayAnswer, WhereTold}
+use Rattle.acct_outside.specs.Contract.{MayAnswer, WhereTold}
 use Rattle.suite_rules.specs.OwnLock.{kept_number}
 use Rattle.suite_rules.specs.Standing.{Standing, standing, commit_uncalled, commit_done}
 use Rattle.lock_steps.specs.States.{Maker, Kept}
@@ -28,7 +28,8 @@ use Rattle.suite_answers.specs.Reasons.{stage_of}
 use Rattle.suite_session.specs.declared.state.State.{State}
 use Rattle.suite_session.specs.declared.state.State.TheVariants.{Looking, Reading, Asking, Claiming, Confirming, Withdrawing, ReadingIntent, Recovering, Moving, Loading, BackingUp, Committing, Installing, Unlocking, Freeing, Answering}
 use Rattle.suite_session.specs.Runner.{Runner}
-use Rattle.suite_session.specs.Moment.{Moment, At, commit_at}
+use Rattle.acct_outside.specs.Moment.{Past, Moment, Narrows}
+use Rattle.suite_session.specs.Moment.{At, commit_at}
 use Rattle.suite_session.specs.Answers.{answer_on, IsAnswerOn, given_for, memory_answer, IsTold, Says}
 use Rattle.suite_session.specs.Deeds.{AreOfTools}
 use Rattle.suite_session.specs.Causes.{HasListedNone}
@@ -97,7 +98,7 @@ pub record Gives (now : Moment) (runner : Runner) (answer : Answer) : Type 0 whe
 -- the runner may answer so: no other call of it is left, as it has left the locks and the intent as it
 -- must, unless a fault or want of memory stopped it
 pub record MayGive (now : Moment) (runner : Runner) (answer : Answer) : Type 0 where
-  pub may_answer : MayAnswer now.admits now.told runner.token
+  pub may_answer : MayAnswer now runner.token
   pub gives : Gives now runner answer
   pub left : (IsStopped answer.outcome.cause → ⊥) →
       IfSome now.told (HasLeft runner.token answer.outcome.cause)
@@ -181,9 +182,8 @@ AnswersWith tool cause (Answering answer) = IsTold tool cause answer
 AnswersWith tool cause state = ⊥
 
 -- a lawful history stays lawful, for the deeds of the tools
-abbrev pub StaysOurs : Admission → Option Past → Option Past → Type 0
-StaysOurs admits before now =
-    (deeds : SuiteDeeds) → AreOfTools deeds → StaysLawful deeds admits before now
+abbrev pub StaysOurs : Moment → Moment → Type 0
+StaysOurs before now = (deeds : SuiteDeeds) → AreOfTools deeds → StaysLawful deeds before now
 
 -- the state answers with a fault of what lies outside
 abbrev pub TellsOutside : State → Type 0
@@ -207,7 +207,7 @@ pub record TurnsTo (before now : Moment) (token : Token) (most : ℕ) (Stands Te
     : Type 0 where
   pub stands : Stands
   pub grew : Grew before.admits token most before.told now.told
-  pub lawful : StaysOurs before.admits before.told now.told
+  pub lawful : StaysOurs before now
   pub narrows : Narrows before.admits now.admits
   pub never_falls : before.faults ≤ now.faults
   pub risen : TellsFault → HasRisen before.faults now.faults

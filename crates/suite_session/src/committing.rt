@@ -6,7 +6,6 @@
 ghost use Rattle.std.specs.Prelude.{◌≡◌, ◌<◌};
 ghost use Rattle.commit_steps.specs.States.{steps_left};
 ghost use Rattle.suite_session.specs.Left.{calls_left, turns_left};
-ghost use Rattle.suite_session.specs.Moment.{moment};
 ghost use Rattle.suite_session.specs.Stands.{StandsAs, Turns};
 
 use crate::runner::Runner;
@@ -25,13 +24,9 @@ pub(crate) fn back_up<F: Folder>(
     answer: Answer,
     folder: &mut F,
 ) -> State
-    requires { StandsAs
-        (moment (F.admits folder.old) (F.told folder.old) (F.fault_count folder.old))
-        runner.now (State.BackingUp backing answer) }
-    ensures turns { Turns
-        (moment (F.admits folder.old) (F.told folder.old) (F.fault_count folder.old))
-        (moment (F.admits folder.new) (F.told folder.new) (F.fault_count folder.new))
-        runner.now (State.BackingUp backing answer) result }
+    requires { StandsAs (F.moment folder.old) runner.now (State.BackingUp backing answer) }
+    ensures turns { Turns (F.moment folder.old) (F.moment folder.new) runner.now
+        (State.BackingUp backing answer) result }
     ensures nearer { turns_left result < turns_left (State.BackingUp backing answer) }
     ensures counted { calls_left result < calls_left (State.BackingUp backing answer) }
 {
@@ -51,13 +46,9 @@ fn back_up_next<F: Folder>(
     folder: &mut F,
 ) -> State
     requires left { 0 < steps_left backing }
-    requires stands { StandsAs
-        (moment (F.admits folder.old) (F.told folder.old) (F.fault_count folder.old))
-        runner.now (State.BackingUp backing answer) }
-    ensures turns { Turns
-        (moment (F.admits folder.old) (F.told folder.old) (F.fault_count folder.old))
-        (moment (F.admits folder.new) (F.told folder.new) (F.fault_count folder.new))
-        runner.now (State.BackingUp backing answer) result }
+    requires stands { StandsAs (F.moment folder.old) runner.now (State.BackingUp backing answer) }
+    ensures turns { Turns (F.moment folder.old) (F.moment folder.new) runner.now
+        (State.BackingUp backing answer) result }
     ensures nearer { turns_left result < turns_left (State.BackingUp backing answer) }
     ensures counted { calls_left result < calls_left (State.BackingUp backing answer) }
 {
@@ -76,13 +67,9 @@ fn stage_intent<F: Folder>(
     folder: &mut F,
 ) -> State
     requires left { steps_left backing ≡ 0 }
-    requires stands { StandsAs
-        (moment (F.admits folder.old) (F.told folder.old) (F.fault_count folder.old))
-        runner.now (State.BackingUp backing answer) }
-    ensures turns { Turns
-        (moment (F.admits folder.old) (F.told folder.old) (F.fault_count folder.old))
-        (moment (F.admits folder.new) (F.told folder.new) (F.fault_count folder.new))
-        runner.now (State.BackingUp backing answer) result }
+    requires stands { StandsAs (F.moment folder.old) runner.now (State.BackingUp backing answer) }
+    ensures turns { Turns (F.moment folder.old) (F.moment folder.new) runner.now
+        (State.BackingUp backing answer) result }
     ensures nearer { turns_left result < turns_left (State.BackingUp backing answer) }
     ensures counted { calls_left result < calls_left (State.BackingUp backing answer) }
 {
@@ -100,13 +87,9 @@ pub(crate) fn commit<F: Folder>(
     answer: Answer,
     folder: &mut F,
 ) -> State
-    requires { StandsAs
-        (moment (F.admits folder.old) (F.told folder.old) (F.fault_count folder.old))
-        runner.now (State.Committing staged answer) }
-    ensures turns { Turns
-        (moment (F.admits folder.old) (F.told folder.old) (F.fault_count folder.old))
-        (moment (F.admits folder.new) (F.told folder.new) (F.fault_count folder.new))
-        runner.now (State.Committing staged answer) result }
+    requires { StandsAs (F.moment folder.old) runner.now (State.Committing staged answer) }
+    ensures turns { Turns (F.moment folder.old) (F.moment folder.new) runner.now
+        (State.Committing staged answer) result }
     ensures nearer { turns_left result < turns_left (State.Committing staged answer) }
     ensures counted { calls_left result < calls_left (State.Committing staged answer) }
 {
@@ -124,13 +107,9 @@ pub(crate) fn install<F: Folder>(
     answer: Answer,
     folder: &mut F,
 ) -> State
-    requires { StandsAs
-        (moment (F.admits folder.old) (F.told folder.old) (F.fault_count folder.old))
-        runner.now (State.Installing installing answer) }
-    ensures turns { Turns
-        (moment (F.admits folder.old) (F.told folder.old) (F.fault_count folder.old))
-        (moment (F.admits folder.new) (F.told folder.new) (F.fault_count folder.new))
-        runner.now (State.Installing installing answer) result }
+    requires { StandsAs (F.moment folder.old) runner.now (State.Installing installing answer) }
+    ensures turns { Turns (F.moment folder.old) (F.moment folder.new) runner.now
+        (State.Installing installing answer) result }
     ensures nearer { turns_left result < turns_left (State.Installing installing answer) }
     ensures counted { calls_left result < calls_left (State.Installing installing answer) }
 {
@@ -150,13 +129,10 @@ fn install_next<F: Folder>(
     folder: &mut F,
 ) -> State
     requires left { 0 < steps_left installing }
-    requires stands { StandsAs
-        (moment (F.admits folder.old) (F.told folder.old) (F.fault_count folder.old))
-        runner.now (State.Installing installing answer) }
-    ensures turns { Turns
-        (moment (F.admits folder.old) (F.told folder.old) (F.fault_count folder.old))
-        (moment (F.admits folder.new) (F.told folder.new) (F.fault_count folder.new))
-        runner.now (State.Installing installing answer) result }
+    requires stands { StandsAs (F.moment folder.old) runner.now
+        (State.Installing installing answer) }
+    ensures turns { Turns (F.moment folder.old) (F.moment folder.new) runner.now
+        (State.Installing installing answer) result }
     ensures nearer { turns_left result < turns_left (State.Installing installing answer) }
     ensures counted { calls_left result < calls_left (State.Installing installing answer) }
 {
@@ -175,13 +151,10 @@ fn clear<F: Folder>(
     folder: &mut F,
 ) -> State
     requires left { steps_left installing ≡ 0 }
-    requires stands { StandsAs
-        (moment (F.admits folder.old) (F.told folder.old) (F.fault_count folder.old))
-        runner.now (State.Installing installing answer) }
-    ensures turns { Turns
-        (moment (F.admits folder.old) (F.told folder.old) (F.fault_count folder.old))
-        (moment (F.admits folder.new) (F.told folder.new) (F.fault_count folder.new))
-        runner.now (State.Installing installing answer) result }
+    requires stands { StandsAs (F.moment folder.old) runner.now
+        (State.Installing installing answer) }
+    ensures turns { Turns (F.moment folder.old) (F.moment folder.new) runner.now
+        (State.Installing installing answer) result }
     ensures nearer { turns_left result < turns_left (State.Installing installing answer) }
     ensures counted { calls_left result < calls_left (State.Installing installing answer) }
 {

@@ -1,7 +1,6 @@
 // The turns in which a keeper loads the files. After the last read the tool decides.
 ghost use Rattle.std.specs.Prelude.{◌<◌};
 ghost use Rattle.suite_session.specs.Left.{calls_left, turns_left};
-ghost use Rattle.suite_session.specs.Moment.{moment};
 ghost use Rattle.suite_session.specs.Loading.{DecidesOn, DecidesTo, EndsAt, LoadsTo};
 ghost use Rattle.suite_session.specs.Stands.{StandsAs, Turns};
 
@@ -23,13 +22,9 @@ pub(crate) fn load<T: Tools, F: Folder>(
     loader: Loader,
     folder: &mut F,
 ) -> State
-    requires { StandsAs
-        (moment (F.admits folder.old) (F.told folder.old) (F.fault_count folder.old))
-        runner.now (State.Loading loader) }
-    ensures turns { Turns
-        (moment (F.admits folder.old) (F.told folder.old) (F.fault_count folder.old))
-        (moment (F.admits folder.new) (F.told folder.new) (F.fault_count folder.new))
-        runner.now (State.Loading loader) result }
+    requires { StandsAs (F.moment folder.old) runner.now (State.Loading loader) }
+    ensures turns { Turns (F.moment folder.old) (F.moment folder.new) runner.now
+        (State.Loading loader) result }
     ensures nearer { turns_left result < turns_left (State.Loading loader) }
     ensures counted { calls_left result < calls_left (State.Loading loader) }
 {

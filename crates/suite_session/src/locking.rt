@@ -3,7 +3,6 @@ ghost use Rattle.std.specs.Prelude.{◌≡◌, ◌<◌};
 ghost use Rattle.suite_session.specs.Locking.{after_look, after_read, after_listing, cause_of_end, cause_of_fault, cause_of_refusal};
 ghost use Rattle.suite_session.specs.Counts.{Listed};
 ghost use Rattle.suite_session.specs.Left.{calls_left, turns_left};
-ghost use Rattle.suite_session.specs.Moment.{moment};
 ghost use Rattle.suite_session.specs.Stands.{AnswersWith, StandsAs, Turns};
 
 use crate::runner::Runner;
@@ -22,13 +21,9 @@ pub(crate) fn look<F: Folder>(
     looking: Looking,
     folder: &mut F,
 ) -> State
-    requires { StandsAs
-        (moment (F.admits folder.old) (F.told folder.old) (F.fault_count folder.old))
-        runner.now (State.Looking looking) }
-    ensures turns { Turns
-        (moment (F.admits folder.old) (F.told folder.old) (F.fault_count folder.old))
-        (moment (F.admits folder.new) (F.told folder.new) (F.fault_count folder.new))
-        runner.now (State.Looking looking) result }
+    requires { StandsAs (F.moment folder.old) runner.now (State.Looking looking) }
+    ensures turns { Turns (F.moment folder.old) (F.moment folder.new) runner.now
+        (State.Looking looking) result }
     ensures nearer { turns_left result < turns_left (State.Looking looking) }
     ensures counted { calls_left result < calls_left (State.Looking looking) }
 {
@@ -51,13 +46,9 @@ fn after_look(seen: Seen) -> State
 
 /// Reads the greatest lock.
 pub(crate) fn read<F: Folder>(alloc: Global, runner: &Runner, seen: Seen, folder: &mut F) -> State
-    requires { StandsAs
-        (moment (F.admits folder.old) (F.told folder.old) (F.fault_count folder.old))
-        runner.now (State.Reading seen) }
-    ensures turns { Turns
-        (moment (F.admits folder.old) (F.told folder.old) (F.fault_count folder.old))
-        (moment (F.admits folder.new) (F.told folder.new) (F.fault_count folder.new))
-        runner.now (State.Reading seen) result }
+    requires { StandsAs (F.moment folder.old) runner.now (State.Reading seen) }
+    ensures turns { Turns (F.moment folder.old) (F.moment folder.new) runner.now
+        (State.Reading seen) result }
     ensures nearer { turns_left result < turns_left (State.Reading seen) }
     ensures counted { calls_left result < calls_left (State.Reading seen) }
 {
@@ -84,13 +75,9 @@ pub(crate) fn ask<F: Folder>(
     asking: Asking,
     folder: &mut F,
 ) -> State
-    requires { StandsAs
-        (moment (F.admits folder.old) (F.told folder.old) (F.fault_count folder.old))
-        runner.now (State.Asking asking) }
-    ensures turns { Turns
-        (moment (F.admits folder.old) (F.told folder.old) (F.fault_count folder.old))
-        (moment (F.admits folder.new) (F.told folder.new) (F.fault_count folder.new))
-        runner.now (State.Asking asking) result }
+    requires { StandsAs (F.moment folder.old) runner.now (State.Asking asking) }
+    ensures turns { Turns (F.moment folder.old) (F.moment folder.new) runner.now
+        (State.Asking asking) result }
     ensures nearer { turns_left result < turns_left (State.Asking asking) }
     ensures counted { calls_left result < calls_left (State.Asking asking) }
 {
@@ -107,13 +94,9 @@ pub(crate) fn claim<F: Folder>(
     judged: Judged,
     folder: &mut F,
 ) -> State
-    requires { StandsAs
-        (moment (F.admits folder.old) (F.told folder.old) (F.fault_count folder.old))
-        runner.now (State.Claiming judged) }
-    ensures turns { Turns
-        (moment (F.admits folder.old) (F.told folder.old) (F.fault_count folder.old))
-        (moment (F.admits folder.new) (F.told folder.new) (F.fault_count folder.new))
-        runner.now (State.Claiming judged) result }
+    requires { StandsAs (F.moment folder.old) runner.now (State.Claiming judged) }
+    ensures turns { Turns (F.moment folder.old) (F.moment folder.new) runner.now
+        (State.Claiming judged) result }
     ensures nearer { turns_left result < turns_left (State.Claiming judged) }
     ensures counted { calls_left result < calls_left (State.Claiming judged) }
 {
@@ -130,15 +113,12 @@ pub(crate) fn confirm<F: Folder>(
     claimed: Claimed,
     folder: &mut F,
 ) -> State
-    requires { StandsAs
-        (moment (F.admits folder.old) (F.told folder.old) (F.fault_count folder.old))
-        runner.now (State.Confirming claimed) }
-    ensures turns { Turns
-        (moment (F.admits folder.old) (F.told folder.old) (F.fault_count folder.old))
-        (moment (F.admits folder.new) (F.told folder.new) (F.fault_count folder.new))
-        runner.now (State.Confirming claimed) result }
+    requires { StandsAs (F.moment folder.old) runner.now (State.Confirming claimed) }
+    ensures turns { Turns (F.moment folder.old) (F.moment folder.new) runner.now
+        (State.Confirming claimed) result }
     ensures nearer { turns_left result < turns_left (State.Confirming claimed) }
-    ensures counted { Listed (F.told folder.new) runner.now (State.Confirming claimed) result }
+    ensures counted { Listed (F.moment folder.new).told runner.now (State.Confirming claimed)
+        result }
 {
     match claimed.confirm(folder) {
         Ok(confirmed) => after_listing(confirmed),
@@ -163,13 +143,9 @@ pub(crate) fn withdraw<F: Folder>(
     loser: Loser,
     folder: &mut F,
 ) -> State
-    requires { StandsAs
-        (moment (F.admits folder.old) (F.told folder.old) (F.fault_count folder.old))
-        runner.now (State.Withdrawing loser) }
-    ensures turns { Turns
-        (moment (F.admits folder.old) (F.told folder.old) (F.fault_count folder.old))
-        (moment (F.admits folder.new) (F.told folder.new) (F.fault_count folder.new))
-        runner.now (State.Withdrawing loser) result }
+    requires { StandsAs (F.moment folder.old) runner.now (State.Withdrawing loser) }
+    ensures turns { Turns (F.moment folder.old) (F.moment folder.new) runner.now
+        (State.Withdrawing loser) result }
     ensures nearer { turns_left result < turns_left (State.Withdrawing loser) }
     ensures counted { calls_left result < calls_left (State.Withdrawing loser) }
 {

@@ -2,7 +2,6 @@
 ghost use Rattle.std.specs.Prelude.{◌≡◌, ◌<◌, length};
 ghost use Rattle.suite_session.specs.Locking.{cause_of_fault};
 ghost use Rattle.suite_session.specs.Left.{calls_left, turns_left};
-ghost use Rattle.suite_session.specs.Moment.{moment};
 ghost use Rattle.suite_session.specs.Recovering.{after_intent, Refuses};
 ghost use Rattle.suite_session.specs.Stands.{AnswersWith, StandsAs, Turns};
 
@@ -23,13 +22,9 @@ pub(crate) fn read_intent<F: Folder>(
     keeper: Keeper<Unknown>,
     folder: &mut F,
 ) -> State
-    requires { StandsAs
-        (moment (F.admits folder.old) (F.told folder.old) (F.fault_count folder.old))
-        runner.now (State.ReadingIntent keeper) }
-    ensures turns { Turns
-        (moment (F.admits folder.old) (F.told folder.old) (F.fault_count folder.old))
-        (moment (F.admits folder.new) (F.told folder.new) (F.fault_count folder.new))
-        runner.now (State.ReadingIntent keeper) result }
+    requires { StandsAs (F.moment folder.old) runner.now (State.ReadingIntent keeper) }
+    ensures turns { Turns (F.moment folder.old) (F.moment folder.new) runner.now
+        (State.ReadingIntent keeper) result }
     ensures nearer { turns_left result < turns_left (State.ReadingIntent keeper) }
     ensures counted { calls_left result < calls_left (State.ReadingIntent keeper) }
 {
@@ -76,13 +71,9 @@ pub(crate) fn recover<F: Folder>(
     recovering: Recovering,
     folder: &mut F,
 ) -> State
-    requires { StandsAs
-        (moment (F.admits folder.old) (F.told folder.old) (F.fault_count folder.old))
-        runner.now (State.Recovering recovering) }
-    ensures turns { Turns
-        (moment (F.admits folder.old) (F.told folder.old) (F.fault_count folder.old))
-        (moment (F.admits folder.new) (F.told folder.new) (F.fault_count folder.new))
-        runner.now (State.Recovering recovering) result }
+    requires { StandsAs (F.moment folder.old) runner.now (State.Recovering recovering) }
+    ensures turns { Turns (F.moment folder.old) (F.moment folder.new) runner.now
+        (State.Recovering recovering) result }
     ensures nearer { turns_left result < turns_left (State.Recovering recovering) }
     ensures counted { calls_left result < calls_left (State.Recovering recovering) }
 {
@@ -101,13 +92,9 @@ fn stage_table<F: Folder>(
     folder: &mut F,
 ) -> State
     requires left { 0 < length recovering.left }
-    requires stands { StandsAs
-        (moment (F.admits folder.old) (F.told folder.old) (F.fault_count folder.old))
-        runner.now (State.Recovering recovering) }
-    ensures turns { Turns
-        (moment (F.admits folder.old) (F.told folder.old) (F.fault_count folder.old))
-        (moment (F.admits folder.new) (F.told folder.new) (F.fault_count folder.new))
-        runner.now (State.Recovering recovering) result }
+    requires stands { StandsAs (F.moment folder.old) runner.now (State.Recovering recovering) }
+    ensures turns { Turns (F.moment folder.old) (F.moment folder.new) runner.now
+        (State.Recovering recovering) result }
     ensures nearer { turns_left result < turns_left (State.Recovering recovering) }
     ensures counted { calls_left result < calls_left (State.Recovering recovering) }
 {
@@ -125,13 +112,9 @@ fn remove_intent<F: Folder>(
     folder: &mut F,
 ) -> State
     requires none { length recovering.left ≡ 0 }
-    requires stands { StandsAs
-        (moment (F.admits folder.old) (F.told folder.old) (F.fault_count folder.old))
-        runner.now (State.Recovering recovering) }
-    ensures turns { Turns
-        (moment (F.admits folder.old) (F.told folder.old) (F.fault_count folder.old))
-        (moment (F.admits folder.new) (F.told folder.new) (F.fault_count folder.new))
-        runner.now (State.Recovering recovering) result }
+    requires stands { StandsAs (F.moment folder.old) runner.now (State.Recovering recovering) }
+    ensures turns { Turns (F.moment folder.old) (F.moment folder.new) runner.now
+        (State.Recovering recovering) result }
     ensures nearer { turns_left result < turns_left (State.Recovering recovering) }
     ensures counted { calls_left result < calls_left (State.Recovering recovering) }
 {
@@ -148,13 +131,9 @@ pub(crate) fn move_table<F: Folder>(
     moving: Moving,
     folder: &mut F,
 ) -> State
-    requires { StandsAs
-        (moment (F.admits folder.old) (F.told folder.old) (F.fault_count folder.old))
-        runner.now (State.Moving moving) }
-    ensures turns { Turns
-        (moment (F.admits folder.old) (F.told folder.old) (F.fault_count folder.old))
-        (moment (F.admits folder.new) (F.told folder.new) (F.fault_count folder.new))
-        runner.now (State.Moving moving) result }
+    requires { StandsAs (F.moment folder.old) runner.now (State.Moving moving) }
+    ensures turns { Turns (F.moment folder.old) (F.moment folder.new) runner.now
+        (State.Moving moving) result }
     ensures nearer { turns_left result < turns_left (State.Moving moving) }
     ensures counted { calls_left result < calls_left (State.Moving moving) }
 {

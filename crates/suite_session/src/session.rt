@@ -5,7 +5,6 @@ ghost use Rattle.acct_text.specs.Limits.{last_day, table_limit};
 ghost use Rattle.account_model.specs.Words.{Asks, fault as first_fault};
 ghost use Rattle.option_words.specs.Parsed.{request_in};
 ghost use Rattle.suite_session.specs.Counts.{SessionCounts};
-ghost use Rattle.suite_session.specs.Moment.{moment};
 ghost use Rattle.suite_session.specs.Session.{IsStarted, OthersStand, SessionStands, SessionTurns, answer_of, outcome_of, output_failed, phase_left, state_failed};
 ghost use Rattle.suite_session.specs.Answers.{after_fault, left_by, status_left};
 
@@ -121,18 +120,11 @@ impl<T: Tools> Session<T> {
     /// A fault of the folder, and want of memory, become its answer. Every other session stands where it
     /// stood, so sessions can be turned in any order.
     pub fn turn<F: Folder>(&mut self, folder: &mut F)
-        requires { SessionStands
-            (moment (F.admits folder.old) (F.told folder.old) (F.fault_count folder.old)) self.old }
-        ensures turns { SessionTurns
-            (moment (F.admits folder.old) (F.told folder.old) (F.fault_count folder.old))
-            (moment (F.admits folder.new) (F.told folder.new) (F.fault_count folder.new))
-            self.old self.new }
-        ensures others { OthersStand
-            (moment (F.admits folder.old) (F.told folder.old) (F.fault_count folder.old))
-            (moment (F.admits folder.new) (F.told folder.new) (F.fault_count folder.new))
-            self.old self.new }
+        requires { SessionStands (F.moment folder.old) self.old }
+        ensures turns { SessionTurns (F.moment folder.old) (F.moment folder.new) self.old self.new }
+        ensures others { OthersStand (F.moment folder.old) (F.moment folder.new) self.old self.new }
         ensures nearer { answer_of self.old ≡ None → phase_left self.new < phase_left self.old }
-        ensures counted { SessionCounts (F.told folder.new) self.old self.new }
+        ensures counted { SessionCounts (F.moment folder.new).told self.old self.new }
         ensures ends { IsSome (answer_of self.old) → IsSome (outcome_of self.new) }
     {
         let alloc = self.alloc;

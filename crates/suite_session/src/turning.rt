@@ -3,7 +3,6 @@ ghost use Rattle.std.specs.Prelude.{◌≡◌, ◌<◌, None, Ok, IfOk, IsSome};
 ghost use Rattle.account_model.specs.Words.{request_of};
 ghost use Rattle.suite_session.specs.Answers.{IsTold};
 ghost use Rattle.suite_session.specs.Locking.{cause_of_fault};
-ghost use Rattle.suite_session.specs.Moment.{moment};
 ghost use Rattle.suite_session.specs.Counts.{CountsTo, SessionCounts};
 ghost use Rattle.suite_session.specs.Left.{turns_left};
 ghost use Rattle.suite_session.specs.Session.{IsFirst, SessionStands, SessionTurns, StandsLeft, answer_of, given_in, outcome_of, phase_left};
@@ -26,14 +25,10 @@ use suite_answers::Answer;
 
 /// The phase after its one turn.
 pub(crate) fn turned<T: Tools, F: Folder>(alloc: Global, phase: Phase, folder: &mut F) -> Phase
-    requires { SessionStands
-        (moment (F.admits folder.old) (F.told folder.old) (F.fault_count folder.old)) phase }
-    ensures turns { SessionTurns
-        (moment (F.admits folder.old) (F.told folder.old) (F.fault_count folder.old))
-        (moment (F.admits folder.new) (F.told folder.new) (F.fault_count folder.new))
-        phase result }
+    requires { SessionStands (F.moment folder.old) phase }
+    ensures turns { SessionTurns (F.moment folder.old) (F.moment folder.new) phase result }
     ensures nearer { answer_of phase ≡ None → phase_left result < phase_left phase }
-    ensures counted { SessionCounts (F.told folder.new) phase result }
+    ensures counted { SessionCounts (F.moment folder.new).told phase result }
     ensures ends { IsSome (answer_of phase) → IsSome (outcome_of result) }
 {
     match phase {
@@ -50,15 +45,11 @@ fn stepped<T: Tools, F: Folder>(
     state: State,
     folder: &mut F,
 ) -> Phase
-    requires { SessionStands
-        (moment (F.admits folder.old) (F.told folder.old) (F.fault_count folder.old))
-        (Phase.Begun runner state) }
-    ensures turns { SessionTurns
-        (moment (F.admits folder.old) (F.told folder.old) (F.fault_count folder.old))
-        (moment (F.admits folder.new) (F.told folder.new) (F.fault_count folder.new))
+    requires { SessionStands (F.moment folder.old) (Phase.Begun runner state) }
+    ensures turns { SessionTurns (F.moment folder.old) (F.moment folder.new)
         (Phase.Begun runner state) result }
     ensures nearer { given_in state ≡ None → phase_left result < turns_left state }
-    ensures counted { SessionCounts (F.told folder.new) (Phase.Begun runner state) result }
+    ensures counted { SessionCounts (F.moment folder.new).told (Phase.Begun runner state) result }
     ensures ends { IsSome (given_in state) → IsSome (outcome_of result) }
 {
     match state {
@@ -72,12 +63,10 @@ fn stepped<T: Tools, F: Folder>(
 
 /// Begins the session.
 fn begin<F: Folder>(alloc: Global, asked: Asked, folder: &mut F) -> Phase
-    ensures turns { SessionTurns
-        (moment (F.admits folder.old) (F.told folder.old) (F.fault_count folder.old))
-        (moment (F.admits folder.new) (F.told folder.new) (F.fault_count folder.new))
-        (Phase.Waiting asked) result }
+    ensures turns { SessionTurns (F.moment folder.old) (F.moment folder.new) (Phase.Waiting asked)
+        result }
     ensures nearer { phase_left result < phase_left (Phase.Waiting asked) }
-    ensures counted { SessionCounts (F.told folder.new) (Phase.Waiting asked) result }
+    ensures counted { SessionCounts (F.moment folder.new).told (Phase.Waiting asked) result }
 {
     match folder.begin(&asked.words, &asked.input, asked.day) {
         Ok(token) => {
@@ -119,15 +108,10 @@ fn looking(alloc: Global, token: &Token) -> Result<Looking, AllocError>
 /// Makes the one call of a state that doesn't answer, and gives the next state.
 fn go_on<T: Tools, F: Folder>(alloc: Global, runner: &Runner, state: State, folder: &mut F) -> State
     requires going { 0 < turns_left state }
-    requires stands { StandsAs
-        (moment (F.admits folder.old) (F.told folder.old) (F.fault_count folder.old))
-        runner.now state }
-    ensures turns { Turns
-        (moment (F.admits folder.old) (F.told folder.old) (F.fault_count folder.old))
-        (moment (F.admits folder.new) (F.told folder.new) (F.fault_count folder.new))
-        runner.now state result }
+    requires stands { StandsAs (F.moment folder.old) runner.now state }
+    ensures turns { Turns (F.moment folder.old) (F.moment folder.new) runner.now state result }
     ensures nearer { turns_left result < turns_left state }
-    ensures counted { CountsTo (F.told folder.new) runner.now state result }
+    ensures counted { CountsTo (F.moment folder.new).told runner.now state result }
 {
     match state {
         State::Looking(looking) => look(alloc, runner, looking, folder),
@@ -153,12 +137,8 @@ fn go_on<T: Tools, F: Folder>(alloc: Global, runner: &Runner, state: State, fold
 
 /// Gives the answer, the session's last call.
 fn answered<F: Folder>(runner: Runner, answer: Answer, folder: &mut F) -> Phase
-    requires { SessionStands
-        (moment (F.admits folder.old) (F.told folder.old) (F.fault_count folder.old))
-        (Phase.Begun runner (State.Answering answer)) }
-    ensures turns { SessionTurns
-        (moment (F.admits folder.old) (F.told folder.old) (F.fault_count folder.old))
-        (moment (F.admits folder.new) (F.told folder.new) (F.fault_count folder.new))
+    requires { SessionStands (F.moment folder.old) (Phase.Begun runner (State.Answering answer)) }
+    ensures turns { SessionTurns (F.moment folder.old) (F.moment folder.new)
         (Phase.Begun runner (State.Answering answer)) result }
     ensures ends { IsSome (outcome_of result) }
 {

@@ -8,7 +8,6 @@ ghost use Rattle.std.specs.Prelude.{◌≡◌, ◌<◌, length};
 ghost use Rattle.suite_answers.specs.Reasons.{stage_of};
 ghost use Rattle.suite_session.specs.Locking.{cause_of_fault};
 ghost use Rattle.suite_session.specs.Left.{calls_left, turns_left};
-ghost use Rattle.suite_session.specs.Moment.{moment};
 ghost use Rattle.suite_session.specs.Stands.{AnswersWith, LeavesWith, StandsAs, Turns};
 
 use crate::locking::cause_of_fault;
@@ -27,13 +26,9 @@ pub(crate) fn unlock<F: Folder>(
     answer: Answer,
     folder: &mut F,
 ) -> State
-    requires { StandsAs
-        (moment (F.admits folder.old) (F.told folder.old) (F.fault_count folder.old))
-        runner.now (State.Unlocking keeper answer) }
-    ensures turns { Turns
-        (moment (F.admits folder.old) (F.told folder.old) (F.fault_count folder.old))
-        (moment (F.admits folder.new) (F.told folder.new) (F.fault_count folder.new))
-        runner.now (State.Unlocking keeper answer) result }
+    requires { StandsAs (F.moment folder.old) runner.now (State.Unlocking keeper answer) }
+    ensures turns { Turns (F.moment folder.old) (F.moment folder.new) runner.now
+        (State.Unlocking keeper answer) result }
     ensures nearer { turns_left result < turns_left (State.Unlocking keeper answer) }
     ensures counted { calls_left result < calls_left (State.Unlocking keeper answer) }
 {
@@ -53,13 +48,9 @@ fn remove_lower<F: Folder>(
     folder: &mut F,
 ) -> State
     requires left { 0 < length keeper.lower }
-    requires stands { StandsAs
-        (moment (F.admits folder.old) (F.told folder.old) (F.fault_count folder.old))
-        runner.now (State.Unlocking keeper answer) }
-    ensures turns { Turns
-        (moment (F.admits folder.old) (F.told folder.old) (F.fault_count folder.old))
-        (moment (F.admits folder.new) (F.told folder.new) (F.fault_count folder.new))
-        runner.now (State.Unlocking keeper answer) result }
+    requires stands { StandsAs (F.moment folder.old) runner.now (State.Unlocking keeper answer) }
+    ensures turns { Turns (F.moment folder.old) (F.moment folder.new) runner.now
+        (State.Unlocking keeper answer) result }
     ensures nearer { turns_left result < turns_left (State.Unlocking keeper answer) }
     ensures counted { calls_left result < calls_left (State.Unlocking keeper answer) }
 {
@@ -78,13 +69,9 @@ fn stage_free<F: Folder>(
     folder: &mut F,
 ) -> State
     requires left { length keeper.lower ≡ 0 }
-    requires stands { StandsAs
-        (moment (F.admits folder.old) (F.told folder.old) (F.fault_count folder.old))
-        runner.now (State.Unlocking keeper answer) }
-    ensures turns { Turns
-        (moment (F.admits folder.old) (F.told folder.old) (F.fault_count folder.old))
-        (moment (F.admits folder.new) (F.told folder.new) (F.fault_count folder.new))
-        runner.now (State.Unlocking keeper answer) result }
+    requires stands { StandsAs (F.moment folder.old) runner.now (State.Unlocking keeper answer) }
+    ensures turns { Turns (F.moment folder.old) (F.moment folder.new) runner.now
+        (State.Unlocking keeper answer) result }
     ensures nearer { turns_left result < turns_left (State.Unlocking keeper answer) }
     ensures counted { calls_left result < calls_left (State.Unlocking keeper answer) }
 {
@@ -102,13 +89,9 @@ pub(crate) fn free<F: Folder>(
     answer: Answer,
     folder: &mut F,
 ) -> State
-    requires { StandsAs
-        (moment (F.admits folder.old) (F.told folder.old) (F.fault_count folder.old))
-        runner.now (State.Freeing freeing answer) }
-    ensures turns { Turns
-        (moment (F.admits folder.old) (F.told folder.old) (F.fault_count folder.old))
-        (moment (F.admits folder.new) (F.told folder.new) (F.fault_count folder.new))
-        runner.now (State.Freeing freeing answer) result }
+    requires { StandsAs (F.moment folder.old) runner.now (State.Freeing freeing answer) }
+    ensures turns { Turns (F.moment folder.old) (F.moment folder.new) runner.now
+        (State.Freeing freeing answer) result }
     ensures nearer { turns_left result < turns_left (State.Freeing freeing answer) }
     ensures counted { calls_left result < calls_left (State.Freeing freeing answer) }
 {

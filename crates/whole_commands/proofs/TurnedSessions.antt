@@ -9,10 +9,11 @@ use Rattle.suite_session.specs.declared.state.State.{State}
 use Rattle.suite_session.specs.declared.state.State.TheVariants.{BackingUp, Committing, Installing, Unlocking, Freeing, Answering}
 use Rattle.suite_session.specs.declared.session.Phase.{Phase}
 use Rattle.suite_session.specs.declared.session.Phase.TheVariants.{Waiting, Begun, Over}
-use Rattle.suite_session.specs.Moment.{Moment, moment}
+use Rattle.acct_outside.specs.Moment.{Moment}
 use Rattle.suite_session.specs.Runner.{Runner}
 use Rattle.suite_session.specs.Session.{IsWaiting, RemembersNow, SessionStands, SessionTurns}
 use Rattle.suite_session.specs.Stands.{Gives, StandsAs}
+use Rattle.whole_commands.specs.Untold.{untold}
 use Rattle.whole_commands.specs.Untold.{StandsUntold}
 
 pub waiting-stands : (now : Moment) (phase : Phase) → IsWaiting phase → SessionStands now phase
@@ -39,14 +40,14 @@ turned-stands before now old (Over answer) turns = tt
 
 -- where no history is told, an answer is given however often the folder has failed
 untold-gives : (one other : ℕ) (runner : Runner) (answer : Answer)
-    → Gives (moment no_others None one) runner answer
-    → Gives (moment no_others None other) runner answer
+    → Gives (untold one) runner answer
+    → Gives (untold other) runner answer
 untold-gives one other runner answer is = record { says = is.says; due = tt }
 
 -- where no history is told, a state stands however often the folder has failed
 untold-state : (one other : ℕ) (runner : Runner) (state : State)
-    → StandsAs (moment no_others None one) runner state
-    → StandsAs (moment no_others None other) runner state
+    → StandsAs (untold one) runner state
+    → StandsAs (untold other) runner state
 untold-state one other runner (BackingUp walker answer) is =
     record { same = is.same; stands = tt; of_change = is.of_change }
 untold-state one other runner (Committing change answer) is =
@@ -80,8 +81,8 @@ untold-state one other runner state is = is
 
 -- where no history is told, a session stands however often the folder has failed
 untold-session : (one other : ℕ) (session : Phase)
-    → SessionStands (moment no_others None one) session
-    → SessionStands (moment no_others None other) session
+    → SessionStands (untold one) session
+    → SessionStands (untold other) session
 untold-session one other (Begun runner state) is = record {
   own = is.own;
   stands = untold-state one other runner is.own is.stands;
@@ -94,12 +95,12 @@ untold-session one other (Over answer) is = tt
 
 -- a session that hasn't begun stands where no history is told
 pub waiting-untold : (session : Phase) → IsWaiting session → StandsUntold session
-waiting-untold session is faults = waiting-stands (moment no_others None faults) session is
+waiting-untold session is faults = waiting-stands (untold faults) session is
 
 -- after a turn where no history is told the session stands, however often the folder will have failed
 pub turned-untold : (before now : ℕ) (old new : Phase)
-    → SessionTurns (moment no_others None before) (moment no_others None now) old new
+    → SessionTurns (untold before) (untold now) old new
     → StandsUntold new
 turned-untold before now old new turns faults =
     untold-session now faults new
-    (turned-stands (moment no_others None before) (moment no_others None now) old new turns)
+    (turned-stands (untold before) (untold now) old new turns)

@@ -31,14 +31,10 @@ impl SilentFolder {
 }
 
 impl Folder for SilentFolder {
-    ghost use Rattle.std.specs.Prelude.{None};
-    ghost use Rattle.acct_outside.specs.Memory.{faults_of, no_others};
+    ghost use Rattle.acct_outside.specs.Memory.{faults_of};
+    ghost use Rattle.whole_commands.specs.Untold.{untold};
 
-    ghost told = { λ _. None };
-
-    ghost admits = { λ _. no_others };
-
-    ghost fault_count = { λ folder. faults_of folder.files };
+    ghost moment = { λ folder. untold (faults_of folder.files) };
 
     fn enter(&mut self, prefix: &Bytes) -> Result<(), FolderFault> {
         self.files.enter(prefix)

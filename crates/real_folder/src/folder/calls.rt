@@ -1,5 +1,5 @@
 // The calls of the folder DIR/etc on a file system. It tells no history.
-ghost use Rattle.std.specs.Prelude.{None};
+ghost use Rattle.real_folder.specs.Untold.{untold};
 
 use super::{RealFolder, held_text, model_of};
 use crate::files;
@@ -11,11 +11,7 @@ use std::fs::File;
 use std::rt::Files;
 
 impl<R: Files<File = File> + AllocGlobal + Clone + Drop> Folder for RealFolder<R> {
-    ghost told = { λ _. None };
-
-    ghost admits = { λ _ _ _. ⊥ };
-
-    ghost fault_count = { λ folder. folder.faults.count };
+    ghost moment = { λ folder. untold folder.faults.count };
 
     fn enter(&mut self, prefix: &Bytes) -> Result<(), FolderFault> {
         self.etc = etc_of(self.rt.alloc(), prefix)?;

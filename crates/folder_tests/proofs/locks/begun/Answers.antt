@@ -6,6 +6,9 @@ use Rattle.folder_tests.proofs.locks.begun.Goals as goal
 
 pub returns : goal.returns
 returns g c = rw c.in_ok-start.ensures
-    (stands-weaker _ c.in_ok-token.token _ HasNoLock
-    (λ stood is. ap (λ (one : Standing). one.own) is) _
-    (stands-begun _ _ c.in_ok-token.token _ c.in_ok-token.ensures.own _ _ c.in_ok-token.ensures.told))
+    (let before = g.F.Folder.moment c.args.folder.now in
+    let now = g.F.Folder.moment c.begin.new.self in
+    stands-weaker now.admits c.in_ok-token.token _ HasNoLock
+    (λ stood is. ap (λ (one : Standing). one.own) is) now.told
+    (stands-begun before.admits now.admits c.in_ok-token.token _ c.in_ok-token.ensures.own
+    before.told now.told c.in_ok-token.ensures.call.told))

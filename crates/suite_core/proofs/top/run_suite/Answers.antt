@@ -7,7 +7,6 @@ use Rattle.account_model.specs.Request.{Request}
 use Rattle.option_words.specs.Parsed.{request_in}
 use Rattle.suite_answers.specs.declared.cause.Cause.TheVariants.{Memory}
 use Rattle.suite_answers.specs.Answers.{told, told_words}
-use Rattle.suite_session.specs.Moment.{moment}
 use Rattle.suite_session.specs.Runner.{question}
 use Rattle.suite_course.specs.Streams.{streams}
 use Rattle.suite_course.specs.Supplies.{AreSupplied, reads_input, supplies}
@@ -33,11 +32,8 @@ returns-in-Err-clause-syntax g c = λ found is. (
 
 pub returns-in-Err-clause-ran : goal.returns-in-Err-clause-ran
 returns-in-Err-clause-ran g c = λ request asks.
-    let was = streams (g.O.Sink.holds c.args.out.now) (g.O.Sink.fault_count c.args.out.now)
-    (g.E.Sink.holds c.args.err.now) (g.E.Sink.fault_count c.args.err.now) in
-    let holds = streams (g.O.Sink.holds c.refuse_words.new.out)
-    (g.O.Sink.fault_count c.refuse_words.new.out) (g.E.Sink.holds c.refuse_words.new.err)
-    (g.E.Sink.fault_count c.refuse_words.new.err) in
+    let was = streams (g.O.Sink.moment c.args.out.now) (g.E.Sink.moment c.args.err.now) in
+    let holds = streams (g.O.Sink.moment c.refuse_words.new.out) (g.E.Sink.moment c.refuse_words.new.err) in
     let memory = elim c.in-Err.ensures.first_fault as (λ one. c.in-Err.fault ≡ NoMemory) [
       | inl found ↦ absurd (no-fault c.args.words.now request c.in-Err.fault asks found)
       | inr memory ↦ memory
@@ -45,7 +41,7 @@ returns-in-Err-clause-ran g c = λ request asks.
     inl (
       refl,
       ends-unsupplied request.tool _ _ was holds c.refuse_words.result (Memory Before)
-          (record { gave = refl; faults = refl }, none-came (g.S.Source.left c.args.input.now))
+          (record { gave = refl; faults = refl }, none-came (g.S.Source.moment c.args.input.now).left)
           (record { source = omega arith; clock = omega arith })
           (subst (λ (one : Option Tool).
           EndsEarly one (told request.tool (Memory Before)) was holds c.refuse_words.result)
@@ -60,22 +56,14 @@ returns-in-Ok-clause-syntax g c = λ found is. absurd
 
 pub returns-in-Ok-clause-ran : goal.returns-in-Ok-clause-ran
 returns-in-Ok-clause-ran g c = λ request asks.
-    let entry = moment (g.F.Folder.admits c.args.folder.now) (g.F.Folder.told c.args.folder.now)
-    (g.F.Folder.fault_count c.args.folder.now) in
-    let now = moment (g.F.Folder.admits c.run_request.new.folder)
-    (g.F.Folder.told c.run_request.new.folder) (g.F.Folder.fault_count c.run_request.new.folder) in
-    let was = streams (g.O.Sink.holds c.args.out.now) (g.O.Sink.fault_count c.args.out.now)
-    (g.E.Sink.holds c.args.err.now) (g.E.Sink.fault_count c.args.err.now) in
-    let holds = streams (g.O.Sink.holds c.run_request.new.out)
-    (g.O.Sink.fault_count c.run_request.new.out) (g.E.Sink.holds c.run_request.new.err)
-    (g.E.Sink.fault_count c.run_request.new.err) in
+    let entry = g.F.Folder.moment c.args.folder.now in
+    let now = g.F.Folder.moment c.run_request.new.folder in
+    let was = streams (g.O.Sink.moment c.args.out.now) (g.E.Sink.moment c.args.err.now) in
+    let holds = streams (g.O.Sink.moment c.run_request.new.out) (g.E.Sink.moment c.run_request.new.err) in
     let same = one-request c.args.words.now (request_in c.in-Ok.parsed) request
     c.in-Ok.ensures.request asks in
-    let first = supplies (g.S.Source.left c.args.input.now) (g.S.Source.fault_count c.args.input.now)
-    (g.C.Clock.gave c.args.clock.now) (g.C.Clock.fault_count c.args.clock.now) in
-    let last = supplies (g.S.Source.left c.run_request.new.input)
-    (g.S.Source.fault_count c.run_request.new.input) (g.C.Clock.gave c.run_request.new.clock)
-    (g.C.Clock.fault_count c.run_request.new.clock) in
+    let first = supplies (g.S.Source.moment c.args.input.now) (g.C.Clock.moment c.args.clock.now) in
+    let last = supplies (g.S.Source.moment c.run_request.new.input) (g.C.Clock.moment c.run_request.new.clock) in
     subst (λ (one : Request). ((c.run_request.new.folder ≡ c.args.folder.now)
     × EndsUnsupplied one.tool first last was holds c.run_request.result)
     ⊎ ((text : Bytes) × (day : ℕ) × AreSupplied one.tool first last text day

@@ -1,5 +1,4 @@
 use Rattle.std.proofs.Common.{sym, ◌∙◌}
-use Rattle.suite_session.specs.Moment.{moment}
 use Rattle.suite_course.proofs.CourseLemmas.{comes-first, comes-stands, comes-turn, none-of, waiting-is}
 use Rattle.suite_course.proofs.course.to_answer.Goals as goal
 
@@ -8,22 +7,17 @@ loop-session-init g c = λ asked is. comes-first asked _ c.args.session is
 
 pub turn-requires : goal.turn-requires
 turn-requires g c =
-    let entry = moment (g.F.Folder.admits c.args.folder.now) (g.F.Folder.told c.args.folder.now)
-    (g.F.Folder.fault_count c.args.folder.now) in
-    let between = moment (g.F.Folder.admits c.loop-session.folder)
-    (g.F.Folder.told c.loop-session.folder) (g.F.Folder.fault_count c.loop-session.folder) in
+    let entry = g.F.Folder.moment c.args.folder.now in
+    let between = g.F.Folder.moment c.loop-session.folder in
     let waits = waiting-is c.args.session c.requires in
     comes-stands waits.0 entry between c.loop-session.session
     (c.loop-session.invariant waits.0 waits.1)
 
 pub loop-session-preserved : goal.loop-session-preserved
 loop-session-preserved g c = λ asked is.
-    let entry = moment (g.F.Folder.admits c.args.folder.now) (g.F.Folder.told c.args.folder.now)
-    (g.F.Folder.fault_count c.args.folder.now) in
-    let between = moment (g.F.Folder.admits c.loop-session.folder)
-    (g.F.Folder.told c.loop-session.folder) (g.F.Folder.fault_count c.loop-session.folder) in
-    let now = moment (g.F.Folder.admits c.turn.new.folder) (g.F.Folder.told c.turn.new.folder)
-    (g.F.Folder.fault_count c.turn.new.folder) in
+    let entry = g.F.Folder.moment c.args.folder.now in
+    let between = g.F.Folder.moment c.loop-session.folder in
+    let now = g.F.Folder.moment c.turn.new.folder in
     comes-turn asked entry between now c.loop-session.session c.turn.new.self
     (c.loop-session.invariant asked is)
     (none-of _ (sym c.is_going.ensures ∙ c.loop-session-test.true)) c.turn.ensures.turns

@@ -1,7 +1,6 @@
 use Rattle.std.proofs.Common.{◌≡◌, [], refl, subst, Some}
 use Rattle.option_words.specs.Parsed.{request_in}
 use Rattle.suite_answers.specs.declared.answer.Answer.{Answer}
-use Rattle.suite_session.specs.Moment.{moment}
 use Rattle.suite_session.specs.Runner.{Question, question}
 use Rattle.suite_session.specs.Answers.{after_streams}
 use Rattle.suite_course.specs.Streams.{Serves, streams}
@@ -10,16 +9,11 @@ use Rattle.suite_course.proofs.running.run.Goals as goal
 
 pub returns-in-Ok : goal.returns-in-Ok
 returns-in-Ok g c =
-    let entry = moment (g.F.Folder.admits c.args.folder.now) (g.F.Folder.told c.args.folder.now)
-    (g.F.Folder.fault_count c.args.folder.now) in
-    let between = moment (g.F.Folder.admits c.enter.new.folder) (g.F.Folder.told c.enter.new.folder)
-    (g.F.Folder.fault_count c.enter.new.folder) in
-    let now = moment (g.F.Folder.admits c.finish.new.folder) (g.F.Folder.told c.finish.new.folder)
-    (g.F.Folder.fault_count c.finish.new.folder) in
-    let was = streams (g.O.Sink.holds c.args.out.now) (g.O.Sink.fault_count c.args.out.now)
-    (g.E.Sink.holds c.args.err.now) (g.E.Sink.fault_count c.args.err.now) in
-    let holds = streams (g.O.Sink.holds c.finish.new.out) (g.O.Sink.fault_count c.finish.new.out)
-    (g.E.Sink.holds c.finish.new.err) (g.E.Sink.fault_count c.finish.new.err) in
+    let entry = g.F.Folder.moment c.args.folder.now in
+    let between = g.F.Folder.moment c.enter.new.folder in
+    let now = g.F.Folder.moment c.finish.new.folder in
+    let was = streams (g.O.Sink.moment c.args.out.now) (g.E.Sink.moment c.args.err.now) in
+    let holds = streams (g.O.Sink.moment c.finish.new.out) (g.E.Sink.moment c.finish.new.err) in
     let asked : Question = question c.args.words.now (request_in c.args.parsed)
     c.args.supplied.input c.args.supplied.day in
     finished-from asked entry between now was holds c.finish.result [] c.enter.ensures.told
@@ -29,14 +23,10 @@ returns-in-Ok g c =
 
 pub returns-in-Err : goal.returns-in-Err
 returns-in-Err g c =
-    let entry = moment (g.F.Folder.admits c.args.folder.now) (g.F.Folder.told c.args.folder.now)
-    (g.F.Folder.fault_count c.args.folder.now) in
-    let now = moment (g.F.Folder.admits c.enter.new.folder) (g.F.Folder.told c.enter.new.folder)
-    (g.F.Folder.fault_count c.enter.new.folder) in
-    let was = streams (g.O.Sink.holds c.args.out.now) (g.O.Sink.fault_count c.args.out.now)
-    (g.E.Sink.holds c.args.err.now) (g.E.Sink.fault_count c.args.err.now) in
-    let holds = streams (g.O.Sink.holds c.end.new.out) (g.O.Sink.fault_count c.end.new.out)
-    (g.E.Sink.holds c.end.new.err) (g.E.Sink.fault_count c.end.new.err) in
+    let entry = g.F.Folder.moment c.args.folder.now in
+    let now = g.F.Folder.moment c.enter.new.folder in
+    let was = streams (g.O.Sink.moment c.args.out.now) (g.E.Sink.moment c.args.err.now) in
+    let holds = streams (g.O.Sink.moment c.end.new.out) (g.E.Sink.moment c.end.new.err) in
     let asked : Question = question c.args.words.now (request_in c.args.parsed)
     c.args.supplied.input c.args.supplied.day in
     unbegun-finished asked entry now was holds c.end.result c.end.ensures.put

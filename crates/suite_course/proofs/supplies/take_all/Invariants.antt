@@ -7,9 +7,9 @@ use Rattle.suite_course.proofs.supplies.take_all.Given as goal
 -- what came so far is what the source had before, at most one byte more than an input may have
 abbrev pub invariant-pieces : goal.invariant-pieces
 invariant-pieces g l =
-    WhereBytesTold (g.S.Source.left l.initial.source) (g.S.Source.left l.source) (Came l.input)
+    WhereBytesTold (g.S.Source.moment l.initial.source).left (g.S.Source.moment l.source).left (Came l.input)
     × (length l.input ≤ table_limit + 1)
-    × (g.S.Source.fault_count l.initial.source ≤ g.S.Source.fault_count l.source)
+    × ((g.S.Source.moment l.initial.source).faults ≤ (g.S.Source.moment l.source).faults)
 
 -- there is less room after each piece
 abbrev pub decreases-pieces : goal.decreases-pieces

@@ -7,7 +7,7 @@ use Rattle.commit_steps.specs.Stands.{BacksUp}
 use Rattle.commit_steps.specs.Outcomes.{backup_call}
 use Rattle.suite_rules.specs.Outcomes.{before_commit}
 use Rattle.suite_session.specs.declared.state.State.TheVariants.{BackingUp}
-use Rattle.suite_session.specs.Moment.{moment, commit_at}
+use Rattle.suite_session.specs.Moment.{commit_at}
 use Rattle.suite_session.proofs.TurnLemmas.{turns, faults}
 use Rattle.suite_session.proofs.CauseLemmas.{fault-outside}
 use Rattle.suite_session.proofs.LeadsLemmas.{leads-on, leads-stage, leads-failed}
@@ -18,11 +18,8 @@ use Rattle.suite_session.proofs.committing.back_up_next.Goals as goal
 
 pub returns-in-Ok-clause-turns : goal.returns-in-Ok-clause-turns
 returns-in-Ok-clause-turns g c =
-    let before = moment (g.F.Folder.admits c.args.folder.now) (g.F.Folder.told c.args.folder.now)
-    (g.F.Folder.fault_count c.args.folder.now) in
-    let now = moment (g.F.Folder.admits c.back_up_next.new.folder)
-    (g.F.Folder.told c.back_up_next.new.folder)
-    (g.F.Folder.fault_count c.back_up_next.new.folder) in
+    let before = g.F.Folder.moment c.args.folder.now in
+    let now = g.F.Folder.moment c.back_up_next.new.folder in
     let shown = at-place c.args.backing c.requires.left c.in-Ok.ensures.call in
     let done = leads-done (step_on c.args.backing) before_commit _ c.in-Ok.backing shown.1.shown in
     turns before now c.args.runner.now commit_uncalled (BacksUp c.args.backing)
@@ -48,11 +45,8 @@ returns-in-Ok-clause-nearer g c =
 
 pub returns-in-Err-clause-turns : goal.returns-in-Err-clause-turns
 returns-in-Err-clause-turns g c =
-    let before = moment (g.F.Folder.admits c.args.folder.now) (g.F.Folder.told c.args.folder.now)
-    (g.F.Folder.fault_count c.args.folder.now) in
-    let now = moment (g.F.Folder.admits c.back_up_next.new.folder)
-    (g.F.Folder.told c.back_up_next.new.folder)
-    (g.F.Folder.fault_count c.back_up_next.new.folder) in
+    let before = g.F.Folder.moment c.args.folder.now in
+    let now = g.F.Folder.moment c.back_up_next.new.folder in
     let shown = at-place c.args.backing c.requires.left c.in-Err.ensures.call in
     let fault = c.in-Err.fault in
     let stage = leads-stage (step_on c.args.backing) Before shown.1.answer fault shown.1.shown in

@@ -9,7 +9,7 @@ use Rattle.commit_steps.specs.Walks.{token_of}
 use Rattle.commit_steps.specs.Stands.{Installs}
 use Rattle.suite_session.specs.declared.state.State.TheVariants.{Installing, Unlocking}
 use Rattle.suite_session.specs.Stands.{Turns}
-use Rattle.suite_session.specs.Moment.{moment, commit_at}
+use Rattle.suite_session.specs.Moment.{commit_at}
 use Rattle.suite_session.proofs.TurnLemmas.{turns, faults}
 use Rattle.suite_session.proofs.CauseLemmas.{fault-outside}
 use Rattle.suite_session.proofs.LeadsLemmas.{leads-on, leads-stage, leads-failed}
@@ -20,10 +20,8 @@ use Rattle.suite_session.proofs.committing.clear.Goals as goal
 
 pub returns-in-Ok-clause-turns : goal.returns-in-Ok-clause-turns
 returns-in-Ok-clause-turns g c =
-    let before = moment (g.F.Folder.admits c.args.folder.now) (g.F.Folder.told c.args.folder.now)
-    (g.F.Folder.fault_count c.args.folder.now) in
-    let now = moment (g.F.Folder.admits c.clear.new.folder) (g.F.Folder.told c.clear.new.folder)
-    (g.F.Folder.fault_count c.clear.new.folder) in
+    let before = g.F.Folder.moment c.args.folder.now in
+    let now = g.F.Folder.moment c.clear.new.folder in
     let done = leads-done c.args.installing.change.inputs.keeper after_commit _ c.in-Ok.cleared
     c.in-Ok.ensures.call.shown in
     subst (λ (kept : Kept). Turns before now c.args.runner.now
@@ -45,10 +43,8 @@ returns-in-Ok-clause-turns g c =
 
 pub returns-in-Err-clause-turns : goal.returns-in-Err-clause-turns
 returns-in-Err-clause-turns g c =
-    let before = moment (g.F.Folder.admits c.args.folder.now) (g.F.Folder.told c.args.folder.now)
-    (g.F.Folder.fault_count c.args.folder.now) in
-    let now = moment (g.F.Folder.admits c.clear.new.folder) (g.F.Folder.told c.clear.new.folder)
-    (g.F.Folder.fault_count c.clear.new.folder) in
+    let before = g.F.Folder.moment c.args.folder.now in
+    let now = g.F.Folder.moment c.clear.new.folder in
     let fault = c.in-Err.fault in
     let stage = leads-stage (c.args.installing.change.inputs.keeper) Committed
     c.in-Err.ensures.call.answer fault c.in-Err.ensures.call.shown in

@@ -1,7 +1,6 @@
 use Rattle.std.proofs.Common.{ap, ◌∙◌, Err}
 use Rattle.suite_rules.specs.Outcomes.{at_commit}
 use Rattle.commit_steps.specs.States.{walk_of}
-use Rattle.suite_session.specs.Moment.{moment}
 use Rattle.suite_session.specs.Locking.{cause_of_fault}
 use Rattle.suite_session.proofs.CauseLemmas.{answers-fault}
 use Rattle.suite_session.proofs.LeadsLemmas.{leads-on}
@@ -18,10 +17,8 @@ use Rattle.suite_session.proofs.committing.commit.Goals as goal
 
 pub returns-in-Ok-clause-turns : goal.returns-in-Ok-clause-turns
 returns-in-Ok-clause-turns g c =
-    let before = moment (g.F.Folder.admits c.args.folder.now) (g.F.Folder.told c.args.folder.now)
-    (g.F.Folder.fault_count c.args.folder.now) in
-    let now = moment (g.F.Folder.admits c.commit.new.folder) (g.F.Folder.told c.commit.new.folder)
-    (g.F.Folder.fault_count c.commit.new.folder) in
+    let before = g.F.Folder.moment c.args.folder.now in
+    let now = g.F.Folder.moment c.commit.new.folder in
     let done = leads-done (walk_of c.args.staged) at_commit _ c.in-Ok.installing
     c.in-Ok.ensures.call.shown in
     let meets = quiet-on (renames IntentStage Intent) (λ given one met shows. shows)
@@ -54,10 +51,8 @@ returns-in-Ok-clause-turns g c =
 
 pub returns-in-Err-clause-turns : goal.returns-in-Err-clause-turns
 returns-in-Err-clause-turns g c =
-    let before = moment (g.F.Folder.admits c.args.folder.now) (g.F.Folder.told c.args.folder.now)
-    (g.F.Folder.fault_count c.args.folder.now) in
-    let now = moment (g.F.Folder.admits c.commit.new.folder) (g.F.Folder.told c.commit.new.folder)
-    (g.F.Folder.fault_count c.commit.new.folder) in
+    let before = g.F.Folder.moment c.args.folder.now in
+    let now = g.F.Folder.moment c.commit.new.folder in
     let fault = c.in-Err.fault in
     let tool = c.args.runner.now.asked.request.tool in
     let is = commit-ended (walk_of c.args.staged) _ fault c.in-Err.ensures.call.shown in

@@ -9,7 +9,7 @@ use Rattle.commit_steps.specs.States.{intended}
 use Rattle.commit_steps.specs.Walks.{token_of}
 use Rattle.commit_steps.specs.Stands.{BacksUp}
 use Rattle.suite_session.specs.declared.state.State.TheVariants.{BackingUp, Committing}
-use Rattle.suite_session.specs.Moment.{moment, commit_at}
+use Rattle.suite_session.specs.Moment.{commit_at}
 use Rattle.suite_session.proofs.TurnLemmas.{turns, faults}
 use Rattle.suite_session.proofs.CauseLemmas.{fault-outside}
 use Rattle.suite_session.proofs.LeadsLemmas.{leads-on, leads-stage, leads-failed}
@@ -20,11 +20,8 @@ use Rattle.suite_session.proofs.committing.stage_intent.Goals as goal
 
 pub returns-in-Ok-clause-turns : goal.returns-in-Ok-clause-turns
 returns-in-Ok-clause-turns g c =
-    let before = moment (g.F.Folder.admits c.args.folder.now) (g.F.Folder.told c.args.folder.now)
-    (g.F.Folder.fault_count c.args.folder.now) in
-    let now = moment (g.F.Folder.admits c.stage_intent.new.folder)
-    (g.F.Folder.told c.stage_intent.new.folder)
-    (g.F.Folder.fault_count c.stage_intent.new.folder) in
+    let before = g.F.Folder.moment c.args.folder.now in
+    let now = g.F.Folder.moment c.stage_intent.new.folder in
     let done = leads-done c.args.backing.change before_commit _ c.in-Ok.staged
     c.in-Ok.ensures.call.shown in
     turns before now c.args.runner.now commit_uncalled (BacksUp c.args.backing)
@@ -43,11 +40,8 @@ returns-in-Ok-clause-turns g c =
 
 pub returns-in-Err-clause-turns : goal.returns-in-Err-clause-turns
 returns-in-Err-clause-turns g c =
-    let before = moment (g.F.Folder.admits c.args.folder.now) (g.F.Folder.told c.args.folder.now)
-    (g.F.Folder.fault_count c.args.folder.now) in
-    let now = moment (g.F.Folder.admits c.stage_intent.new.folder)
-    (g.F.Folder.told c.stage_intent.new.folder)
-    (g.F.Folder.fault_count c.stage_intent.new.folder) in
+    let before = g.F.Folder.moment c.args.folder.now in
+    let now = g.F.Folder.moment c.stage_intent.new.folder in
     let fault = c.in-Err.fault in
     let stage = leads-stage (c.args.backing.change) Before c.in-Err.ensures.call.answer fault
     c.in-Err.ensures.call.shown in

@@ -3,7 +3,7 @@ use Rattle.suite_session.specs.declared.state.State.TheVariants.{Asking, Claimin
 use Rattle.acct_outside.specs.Calls.{asks}
 use Rattle.suite_rules.specs.Standing.{commit_uncalled}
 use Rattle.lock_steps.specs.Stands.{HasReadHeld, HasJudged}
-use Rattle.suite_session.specs.Moment.{moment, commit_at}
+use Rattle.suite_session.specs.Moment.{commit_at}
 use Rattle.suite_session.proofs.MetLemmas.{ask-met}
 use Rattle.suite_session.proofs.TurnLemmas.{ended, got, unkept-left, goes-on, turns, stops}
 use Rattle.suite_session.proofs.LeavingLemmas.{ask-unkept}
@@ -16,10 +16,8 @@ use Rattle.suite_session.proofs.locking.ask.Goals as goal
 
 pub returns-in-Ok-clause-turns : goal.returns-in-Ok-clause-turns
 returns-in-Ok-clause-turns g c =
-    let before = moment (g.F.Folder.admits c.args.folder.now) (g.F.Folder.told c.args.folder.now)
-    (g.F.Folder.fault_count c.args.folder.now) in
-    let now = moment (g.F.Folder.admits c.ask.new.folder) (g.F.Folder.told c.ask.new.folder)
-    (g.F.Folder.fault_count c.ask.new.folder) in
+    let before = g.F.Folder.moment c.args.folder.now in
+    let now = g.F.Folder.moment c.ask.new.folder in
     turns before now c.args.runner.now commit_uncalled (HasReadHeld c.args.asking) c.requires.1
     c.args.asking.token c.requires.0 (asks c.args.asking.asked) tt _ (λ result stood. refl)
     c.in-Ok.ensures.call
@@ -38,10 +36,8 @@ returns-in-Ok-clause-turns g c =
 
 pub returns-in-Err-clause-turns : goal.returns-in-Err-clause-turns
 returns-in-Err-clause-turns g c =
-    let before = moment (g.F.Folder.admits c.args.folder.now) (g.F.Folder.told c.args.folder.now)
-    (g.F.Folder.fault_count c.args.folder.now) in
-    let now = moment (g.F.Folder.admits c.ask.new.folder) (g.F.Folder.told c.ask.new.folder)
-    (g.F.Folder.fault_count c.ask.new.folder) in
+    let before = g.F.Folder.moment c.args.folder.now in
+    let now = g.F.Folder.moment c.ask.new.folder in
     stops before now c.args.runner.now commit_uncalled (HasReadHeld c.args.asking) c.requires.1
     c.args.asking.token c.requires.0 (asks c.args.asking.asked) tt _ (λ result stood. refl)
     c.in-Err.ensures.call

@@ -2,7 +2,7 @@ use Rattle.std.proofs.Common.{refl, sym, ap, ◌∙◌, Err}
 use Rattle.acct_outside.specs.Calls.{lists}
 use Rattle.suite_rules.specs.Standing.{commit_uncalled}
 use Rattle.lock_steps.specs.Stands.{HasMade}
-use Rattle.suite_session.specs.Moment.{moment, commit_at}
+use Rattle.suite_session.specs.Moment.{commit_at}
 use Rattle.suite_session.proofs.MetLemmas.{confirm-met}
 use Rattle.suite_session.proofs.TurnLemmas.{ended, got, unkept-left, turns, stops}
 use Rattle.suite_session.proofs.LeavingLemmas.{confirm-unkept}
@@ -17,10 +17,8 @@ use Rattle.suite_session.proofs.locking.confirm.Goals as goal
 
 pub returns-in-Ok-clause-turns : goal.returns-in-Ok-clause-turns
 returns-in-Ok-clause-turns g c =
-    let before = moment (g.F.Folder.admits c.args.folder.now) (g.F.Folder.told c.args.folder.now)
-    (g.F.Folder.fault_count c.args.folder.now) in
-    let now = moment (g.F.Folder.admits c.confirm.new.folder) (g.F.Folder.told c.confirm.new.folder)
-    (g.F.Folder.fault_count c.confirm.new.folder) in
+    let before = g.F.Folder.moment c.args.folder.now in
+    let now = g.F.Folder.moment c.confirm.new.folder in
     rw c.after_listing.ensures
     (turns before now c.args.runner.now commit_uncalled (HasMade c.args.claimed) c.requires.1
     c.args.claimed.token c.requires.0 (lists) tt _ (λ result stood. refl)
@@ -36,10 +34,8 @@ returns-in-Ok-clause-turns g c =
 
 pub returns-in-Err-clause-turns : goal.returns-in-Err-clause-turns
 returns-in-Err-clause-turns g c =
-    let before = moment (g.F.Folder.admits c.args.folder.now) (g.F.Folder.told c.args.folder.now)
-    (g.F.Folder.fault_count c.args.folder.now) in
-    let now = moment (g.F.Folder.admits c.confirm.new.folder) (g.F.Folder.told c.confirm.new.folder)
-    (g.F.Folder.fault_count c.confirm.new.folder) in
+    let before = g.F.Folder.moment c.args.folder.now in
+    let now = g.F.Folder.moment c.confirm.new.folder in
     stops before now c.args.runner.now commit_uncalled (HasMade c.args.claimed) c.requires.1
     c.args.claimed.token c.requires.0 (lists) tt _ (λ result stood. refl)
     c.in-Err.ensures.call
@@ -68,10 +64,8 @@ returns-in-Err-clause-turns g c =
 
 pub returns-in-Ok-clause-counted : goal.returns-in-Ok-clause-counted
 returns-in-Ok-clause-counted g c =
-    let before = moment (g.F.Folder.admits c.args.folder.now) (g.F.Folder.told c.args.folder.now)
-    (g.F.Folder.fault_count c.args.folder.now) in
-    let now = moment (g.F.Folder.admits c.confirm.new.folder) (g.F.Folder.told c.confirm.new.folder)
-    (g.F.Folder.fault_count c.confirm.new.folder) in
+    let before = g.F.Folder.moment c.args.folder.now in
+    let now = g.F.Folder.moment c.confirm.new.folder in
     rw c.after_listing.ensures
     (listing-calls now.told c.args.runner.now c.args.claimed c.in-Ok.ensures.call.answer
     c.in-Ok.confirmed c.in-Ok.ensures.call.shown
@@ -81,5 +75,5 @@ returns-in-Ok-clause-counted g c =
 
 pub returns-in-Err-clause-counted : goal.returns-in-Err-clause-counted
 returns-in-Err-clause-counted g c =
-    answers-listed (g.F.Folder.told c.confirm.new.folder) c.args.runner.now c.args.claimed _ _
+    answers-listed (g.F.Folder.moment c.confirm.new.folder).told c.args.runner.now c.args.claimed _ _
     c.stopped.result c.stopped.ensures

@@ -2,7 +2,7 @@ use Rattle.std.proofs.Common.{refl, sym, ap, ◌∙◌, Err, arith, rules}
 use Rattle.acct_outside.specs.Calls.{lists}
 use Rattle.suite_rules.specs.Standing.{commit_uncalled}
 use Rattle.suite_session.specs.Causes.{HasListedNone}
-use Rattle.suite_session.specs.Moment.{moment, commit_at}
+use Rattle.suite_session.specs.Moment.{commit_at}
 use Rattle.suite_session.proofs.MetLemmas.{look-met}
 use Rattle.suite_session.proofs.TurnLemmas.{ended, got, unkept-left, turns, stops}
 use Rattle.suite_session.proofs.LeavingLemmas.{look-unkept}
@@ -17,10 +17,8 @@ use Rattle.suite_session.proofs.locking.look.Goals as goal
 
 pub returns-in-Ok-clause-turns : goal.returns-in-Ok-clause-turns
 returns-in-Ok-clause-turns g c =
-    let before = moment (g.F.Folder.admits c.args.folder.now) (g.F.Folder.told c.args.folder.now)
-    (g.F.Folder.fault_count c.args.folder.now) in
-    let now = moment (g.F.Folder.admits c.look.new.folder) (g.F.Folder.told c.look.new.folder)
-    (g.F.Folder.fault_count c.look.new.folder) in
+    let before = g.F.Folder.moment c.args.folder.now in
+    let now = g.F.Folder.moment c.look.new.folder in
     rw c.after_look.ensures
     (turns before now c.args.runner.now commit_uncalled (HasListedNone) c.requires.1
     c.args.looking c.requires.0 (lists) tt _ (λ result stood. refl)
@@ -36,10 +34,8 @@ returns-in-Ok-clause-turns g c =
 
 pub returns-in-Err-clause-turns : goal.returns-in-Err-clause-turns
 returns-in-Err-clause-turns g c =
-    let before = moment (g.F.Folder.admits c.args.folder.now) (g.F.Folder.told c.args.folder.now)
-    (g.F.Folder.fault_count c.args.folder.now) in
-    let now = moment (g.F.Folder.admits c.look.new.folder) (g.F.Folder.told c.look.new.folder)
-    (g.F.Folder.fault_count c.look.new.folder) in
+    let before = g.F.Folder.moment c.args.folder.now in
+    let now = g.F.Folder.moment c.look.new.folder in
     stops before now c.args.runner.now commit_uncalled (HasListedNone) c.requires.1
     c.args.looking c.requires.0 (lists) tt _ (λ result stood. refl)
     c.in-Err.ensures.call

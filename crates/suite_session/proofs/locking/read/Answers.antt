@@ -3,7 +3,7 @@ use Rattle.acct_outside.specs.declared.Name.TheVariants.{Lock}
 use Rattle.acct_outside.specs.Calls.{reads}
 use Rattle.suite_rules.specs.Standing.{commit_uncalled}
 use Rattle.lock_steps.specs.Stands.{HasLooked}
-use Rattle.suite_session.specs.Moment.{moment, commit_at}
+use Rattle.suite_session.specs.Moment.{commit_at}
 use Rattle.suite_session.proofs.MetLemmas.{read-met}
 use Rattle.suite_session.proofs.TurnLemmas.{ended, got, unkept-left, turns, stops}
 use Rattle.suite_session.proofs.LeavingLemmas.{read-unkept}
@@ -18,10 +18,8 @@ use Rattle.suite_session.proofs.locking.read.Goals as goal
 
 pub returns-in-Ok-clause-turns : goal.returns-in-Ok-clause-turns
 returns-in-Ok-clause-turns g c =
-    let before = moment (g.F.Folder.admits c.args.folder.now) (g.F.Folder.told c.args.folder.now)
-    (g.F.Folder.fault_count c.args.folder.now) in
-    let now = moment (g.F.Folder.admits c.read.new.folder) (g.F.Folder.told c.read.new.folder)
-    (g.F.Folder.fault_count c.read.new.folder) in
+    let before = g.F.Folder.moment c.args.folder.now in
+    let now = g.F.Folder.moment c.read.new.folder in
     rw c.after_read.ensures
     (turns before now c.args.runner.now commit_uncalled (HasLooked c.args.seen) c.requires.2
     c.args.seen.token c.requires.0 (reads (Lock c.args.seen.greatest)) tt _ (λ result stood. refl)
@@ -37,10 +35,8 @@ returns-in-Ok-clause-turns g c =
 
 pub returns-in-Err-clause-turns : goal.returns-in-Err-clause-turns
 returns-in-Err-clause-turns g c =
-    let before = moment (g.F.Folder.admits c.args.folder.now) (g.F.Folder.told c.args.folder.now)
-    (g.F.Folder.fault_count c.args.folder.now) in
-    let now = moment (g.F.Folder.admits c.read.new.folder) (g.F.Folder.told c.read.new.folder)
-    (g.F.Folder.fault_count c.read.new.folder) in
+    let before = g.F.Folder.moment c.args.folder.now in
+    let now = g.F.Folder.moment c.read.new.folder in
     stops before now c.args.runner.now commit_uncalled (HasLooked c.args.seen) c.requires.2
     c.args.seen.token c.requires.0 (reads (Lock c.args.seen.greatest)) tt _ (λ result stood. refl)
     c.in-Err.ensures.call

@@ -3,7 +3,7 @@ use Rattle.acct_outside.specs.declared.Name.TheVariants.{Lock}
 use Rattle.acct_outside.specs.Calls.{removes}
 use Rattle.suite_rules.specs.Standing.{commit_uncalled}
 use Rattle.lock_steps.specs.Stands.{WasOvertaken}
-use Rattle.suite_session.specs.Moment.{moment, commit_at}
+use Rattle.suite_session.specs.Moment.{commit_at}
 use Rattle.suite_session.proofs.MetLemmas.{withdraw-met}
 use Rattle.suite_session.proofs.TurnLemmas.{ended, got, unkept-left, stops}
 use Rattle.suite_session.proofs.LeavingLemmas.{withdraw-unkept}
@@ -17,10 +17,8 @@ use Rattle.suite_session.proofs.locking.withdraw.Goals as goal
 
 pub returns-clause-turns : goal.returns-clause-turns
 returns-clause-turns g c =
-    let before = moment (g.F.Folder.admits c.args.folder.now) (g.F.Folder.told c.args.folder.now)
-    (g.F.Folder.fault_count c.args.folder.now) in
-    let now = moment (g.F.Folder.admits c.withdraw.new.folder) (g.F.Folder.told c.withdraw.new.folder)
-    (g.F.Folder.fault_count c.withdraw.new.folder) in
+    let before = g.F.Folder.moment c.args.folder.now in
+    let now = g.F.Folder.moment c.withdraw.new.folder in
     stops before now c.args.runner.now commit_uncalled (WasOvertaken c.args.loser) c.requires.2
     c.args.loser.token c.requires.0 (removes (Lock c.args.loser.number)) tt _ (λ result stood. refl)
     c.withdraw.ensures.call

@@ -4,7 +4,7 @@ use Rattle.suite_rules.specs.Outcomes.{installs, before_commit}
 use Rattle.recovery.specs.States.{Recoverer, moved_once}
 use Rattle.recovery.specs.Stands.{Recovers, HasStagedNext}
 use Rattle.suite_session.specs.declared.state.State.TheVariants.{Moving, Recovering}
-use Rattle.suite_session.specs.Moment.{moment, commit_at}
+use Rattle.suite_session.specs.Moment.{commit_at}
 use Rattle.suite_session.proofs.TurnLemmas.{may-step, goes-on, turns, faults}
 use Rattle.suite_session.proofs.CauseLemmas.{fault-outside}
 use Rattle.suite_session.proofs.RecoveringTurns.{some-next}
@@ -16,18 +16,14 @@ use Rattle.suite_session.proofs.recovering.move_table.Goals as goal
 
 pub move_next-requires : goal.move_next-requires
 move_next-requires g c =
-    let before = moment (g.F.Folder.admits c.args.folder.now) (g.F.Folder.told c.args.folder.now)
-    (g.F.Folder.fault_count c.args.folder.now) in
+    let before = g.F.Folder.moment c.args.folder.now in
     may-step before c.args.runner.now commit_uncalled (HasStagedNext c.args.moving)
     (c.args.moving.keeper.token) (c.requires.0) (c.requires.2)
 
 pub returns-in-Ok-clause-turns : goal.returns-in-Ok-clause-turns
 returns-in-Ok-clause-turns g c =
-    let before = moment (g.F.Folder.admits c.args.folder.now) (g.F.Folder.told c.args.folder.now)
-    (g.F.Folder.fault_count c.args.folder.now) in
-    let now = moment (g.F.Folder.admits c.move_next.new.folder)
-    (g.F.Folder.told c.move_next.new.folder)
-    (g.F.Folder.fault_count c.move_next.new.folder) in
+    let before = g.F.Folder.moment c.args.folder.now in
+    let now = g.F.Folder.moment c.move_next.new.folder in
     let shown = some-next c.args.moving.left c.requires.1 c.in-Ok.ensures.call in
     let is = leads-on (moved_once c.args.moving) before_commit _ c.in-Ok.recovering shown.1.shown in
     let done = leads-done (moved_once c.args.moving) before_commit _ c.in-Ok.recovering shown.1.shown in
@@ -47,11 +43,8 @@ returns-in-Ok-clause-turns g c =
 
 pub returns-in-Err-clause-turns : goal.returns-in-Err-clause-turns
 returns-in-Err-clause-turns g c =
-    let before = moment (g.F.Folder.admits c.args.folder.now) (g.F.Folder.told c.args.folder.now)
-    (g.F.Folder.fault_count c.args.folder.now) in
-    let now = moment (g.F.Folder.admits c.move_next.new.folder)
-    (g.F.Folder.told c.move_next.new.folder)
-    (g.F.Folder.fault_count c.move_next.new.folder) in
+    let before = g.F.Folder.moment c.args.folder.now in
+    let now = g.F.Folder.moment c.move_next.new.folder in
     let shown = some-next c.args.moving.left c.requires.1 c.in-Err.ensures.call in
     let fault = c.in-Err.fault in
     faults before now c.args.runner.now commit_uncalled (HasStagedNext c.args.moving) c.requires.2

@@ -3,7 +3,6 @@ use Rattle.acct_outside.specs.declared.Name.TheVariants.{Intent}
 use Rattle.acct_outside.specs.Calls.{reads}
 use Rattle.suite_rules.specs.Standing.{commit_uncalled}
 use Rattle.lock_steps.specs.Stands.{Keeps, KnowsAnything}
-use Rattle.suite_session.specs.Moment.{moment}
 use Rattle.suite_session.proofs.TurnLemmas.{may-step, turn-made, turns}
 use Rattle.suite_session.proofs.RecoveringTurns.{seen-stands, seen-quiet, refused-stands, refused-failed}
 use Rattle.suite_session.proofs.MeetingLemmas.{intent-on, intent-ends}
@@ -13,60 +12,53 @@ use Rattle.suite_session.proofs.recovering.read_intent.Goals as goal
 
 pub read_intent-requires : goal.read_intent-requires
 read_intent-requires g c =
-    let before = moment (g.F.Folder.admits c.args.folder.now) (g.F.Folder.told c.args.folder.now)
-    (g.F.Folder.fault_count c.args.folder.now) in
+    let before = g.F.Folder.moment c.args.folder.now in
     may-step before c.args.runner.now commit_uncalled (Keeps c.args.keeper KnowsAnything)
     c.args.keeper.token c.requires.0
     c.requires.1
 
 pub returns-in-Ok-clause-turns : goal.returns-in-Ok-clause-turns
 returns-in-Ok-clause-turns g c =
-    let before = moment (g.F.Folder.admits c.args.folder.now) (g.F.Folder.told c.args.folder.now)
-    (g.F.Folder.fault_count c.args.folder.now) in
-    let now = moment (g.F.Folder.admits c.read_intent.new.folder)
-    (g.F.Folder.told c.read_intent.new.folder)
-    (g.F.Folder.fault_count c.read_intent.new.folder) in
+    let before = g.F.Folder.moment c.args.folder.now in
+    let now = g.F.Folder.moment c.read_intent.new.folder in
     rw c.after_intent.ensures
     (turns before now c.args.runner.now commit_uncalled (Keeps c.args.keeper KnowsAnything)
     c.requires.1
     c.args.keeper.token c.requires.0 (reads Intent) tt _ (λ result stood. refl)
-    c.in-Ok.ensures.call
-    c.read_intent.ensures.lawful c.read_intent.ensures.faults.never_falls
+    c.in-Ok.ensures.step.call
+    c.read_intent.ensures.step.lawful c.read_intent.ensures.step.faults.never_falls
     (ReadingIntent c.args.keeper) _
-    (intent-on c.args.runner.now.asked.request.tool _ c.args.keeper c.in-Ok.ensures.call.answer
-    c.in-Ok.seen c.in-Ok.ensures.call.shown)
+    (intent-on c.args.runner.now.asked.request.tool _ c.args.keeper c.in-Ok.ensures.step.call.answer
+    c.in-Ok.seen c.in-Ok.ensures.step.call.shown)
     (λ met none. absurd none)
     (seen-stands before now c.args.runner.now c.args.keeper c.requires.1 c.requires.0 c.in-Ok.seen
-    c.in-Ok.ensures.call c.in-Ok.ensures.next) (seen-quiet c.in-Ok.seen))
+    c.in-Ok.ensures.step.call c.in-Ok.ensures.step.next) (seen-quiet c.in-Ok.seen))
 
 pub returns-in-Err-clause-turns : goal.returns-in-Err-clause-turns
 returns-in-Err-clause-turns g c =
-    let before = moment (g.F.Folder.admits c.args.folder.now) (g.F.Folder.told c.args.folder.now)
-    (g.F.Folder.fault_count c.args.folder.now) in
-    let now = moment (g.F.Folder.admits c.read_intent.new.folder)
-    (g.F.Folder.told c.read_intent.new.folder)
-    (g.F.Folder.fault_count c.read_intent.new.folder) in
+    let before = g.F.Folder.moment c.args.folder.now in
+    let now = g.F.Folder.moment c.read_intent.new.folder in
     let end = c.in-Err.end in
     turn-made before now c.args.runner.now commit_uncalled (Keeps c.args.keeper KnowsAnything)
     c.requires.1 c.args.keeper.token c.requires.0 (reads Intent) tt _ (λ result stood. refl)
-    c.in-Err.ensures.call
-    c.read_intent.ensures.lawful c.read_intent.ensures.faults.never_falls
+    c.in-Err.ensures.step.call
+    c.read_intent.ensures.step.lawful c.read_intent.ensures.step.faults.never_falls
     (ReadingIntent c.args.keeper) c.refused.result
     (intent-ends c.args.runner.now.asked.request.tool c.refused.result c.args.keeper
-    c.in-Err.ensures.call.answer end c.in-Err.ensures.call.shown c.refused.ensures)
+    c.in-Err.ensures.step.call.answer end c.in-Err.ensures.step.call.shown c.refused.ensures)
     (λ met none. absurd none)
     (refused-stands before now c.args.runner.now c.args.keeper c.requires.1 c.requires.0 end
-    c.refused.result c.refused.ensures c.in-Err.ensures.call c.in-Err.ensures.refused)
-    (λ told. c.read_intent.ensures.faults.failed (c.in-Err.is ∙ ap Err
+    c.refused.result c.refused.ensures c.in-Err.ensures.step.call c.in-Err.ensures.refused)
+    (λ told. c.read_intent.ensures.step.faults.failed (c.in-Err.is ∙ ap Err
     (refused-failed _ end c.refused.result c.refused.ensures c.args.keeper _
-    c.in-Err.ensures.call.shown told)))
+    c.in-Err.ensures.step.call.shown told)))
 
 pub returns-in-Ok-clause-counted : goal.returns-in-Ok-clause-counted
 returns-in-Ok-clause-counted g c =
-    rw c.after_intent.ensures (intent-calls c.args.keeper c.in-Ok.ensures.call.answer c.in-Ok.seen
-    c.in-Ok.ensures.call.shown)
+    rw c.after_intent.ensures (intent-calls c.args.keeper c.in-Ok.ensures.step.call.answer c.in-Ok.seen
+    c.in-Ok.ensures.step.call.shown)
 
 pub returns-in-Err-clause-counted : goal.returns-in-Err-clause-counted
 returns-in-Err-clause-counted g c =
-    refused-calls _ c.args.keeper c.in-Err.ensures.call.answer c.in-Err.end c.refused.result
-    c.refused.ensures c.in-Err.ensures.call.shown
+    refused-calls _ c.args.keeper c.in-Err.ensures.step.call.answer c.in-Err.end c.refused.result
+    c.refused.ensures c.in-Err.ensures.step.call.shown

@@ -7,7 +7,7 @@ use Rattle.lock_steps.specs.States.{Kept}
 use Rattle.lock_steps.specs.Stands.{Keeps, KnowsNoneYet}
 use Rattle.suite_session.specs.declared.state.State.TheVariants.{Recovering, Loading}
 use Rattle.commit_steps.specs.States.{start_of}
-use Rattle.suite_session.specs.Moment.{moment, commit_at}
+use Rattle.suite_session.specs.Moment.{commit_at}
 use Rattle.suite_session.proofs.TurnLemmas.{may-step, goes-on, turns, faults}
 use Rattle.suite_session.proofs.CauseLemmas.{fault-outside}
 use Rattle.suite_session.proofs.RecoveringTurns.{starts-loading}
@@ -20,18 +20,14 @@ use Rattle.suite_session.proofs.recovering.remove_intent.Goals as goal
 
 pub remove_intent-requires-clause-stands : goal.remove_intent-requires-clause-stands
 remove_intent-requires-clause-stands g c =
-    let before = moment (g.F.Folder.admits c.args.folder.now) (g.F.Folder.told c.args.folder.now)
-    (g.F.Folder.fault_count c.args.folder.now) in
+    let before = g.F.Folder.moment c.args.folder.now in
     may-step before c.args.runner.now commit_uncalled (Recovers c.args.recovering)
     (c.args.recovering.keeper.token) (c.requires.stands.0) (c.requires.stands.1)
 
 pub returns-in-Ok-clause-turns : goal.returns-in-Ok-clause-turns
 returns-in-Ok-clause-turns g c =
-    let before = moment (g.F.Folder.admits c.args.folder.now) (g.F.Folder.told c.args.folder.now)
-    (g.F.Folder.fault_count c.args.folder.now) in
-    let now = moment (g.F.Folder.admits c.remove_intent.new.folder)
-    (g.F.Folder.told c.remove_intent.new.folder)
-    (g.F.Folder.fault_count c.remove_intent.new.folder) in
+    let before = g.F.Folder.moment c.args.folder.now in
+    let now = g.F.Folder.moment c.remove_intent.new.folder in
     let is = leads-on c.args.recovering.keeper before_commit _ c.in-Ok.keeper
     c.in-Ok.ensures.call.shown in
     let done = leads-done c.args.recovering.keeper before_commit _ c.in-Ok.keeper
@@ -58,11 +54,8 @@ returns-in-Ok-clause-turns g c =
 
 pub returns-in-Err-clause-turns : goal.returns-in-Err-clause-turns
 returns-in-Err-clause-turns g c =
-    let before = moment (g.F.Folder.admits c.args.folder.now) (g.F.Folder.told c.args.folder.now)
-    (g.F.Folder.fault_count c.args.folder.now) in
-    let now = moment (g.F.Folder.admits c.remove_intent.new.folder)
-    (g.F.Folder.told c.remove_intent.new.folder)
-    (g.F.Folder.fault_count c.remove_intent.new.folder) in
+    let before = g.F.Folder.moment c.args.folder.now in
+    let now = g.F.Folder.moment c.remove_intent.new.folder in
     let fault = c.in-Err.fault in
     faults before now c.args.runner.now commit_uncalled (Recovers c.args.recovering)
     c.requires.stands.1

@@ -4,7 +4,7 @@ use Rattle.suite_rules.specs.Outcomes.{stages, before_commit}
 use Rattle.recovery.specs.States.{Recoverer}
 use Rattle.recovery.specs.Stands.{Recovers, HasStagedNext}
 use Rattle.suite_session.specs.declared.state.State.TheVariants.{Recovering, Moving}
-use Rattle.suite_session.specs.Moment.{moment, commit_at}
+use Rattle.suite_session.specs.Moment.{commit_at}
 use Rattle.suite_session.proofs.TurnLemmas.{may-step, goes-on, turns, faults}
 use Rattle.suite_session.proofs.CauseLemmas.{fault-outside}
 use Rattle.suite_session.proofs.RecoveringTurns.{some-next}
@@ -16,18 +16,14 @@ use Rattle.suite_session.proofs.recovering.stage_table.Goals as goal
 
 pub stage_next-requires-clause-stands : goal.stage_next-requires-clause-stands
 stage_next-requires-clause-stands g c =
-    let before = moment (g.F.Folder.admits c.args.folder.now) (g.F.Folder.told c.args.folder.now)
-    (g.F.Folder.fault_count c.args.folder.now) in
+    let before = g.F.Folder.moment c.args.folder.now in
     may-step before c.args.runner.now commit_uncalled (Recovers c.args.recovering)
     (c.args.recovering.keeper.token) (c.requires.stands.0) (c.requires.stands.1)
 
 pub returns-in-Ok-clause-turns : goal.returns-in-Ok-clause-turns
 returns-in-Ok-clause-turns g c =
-    let before = moment (g.F.Folder.admits c.args.folder.now) (g.F.Folder.told c.args.folder.now)
-    (g.F.Folder.fault_count c.args.folder.now) in
-    let now = moment (g.F.Folder.admits c.stage_next.new.folder)
-    (g.F.Folder.told c.stage_next.new.folder)
-    (g.F.Folder.fault_count c.stage_next.new.folder) in
+    let before = g.F.Folder.moment c.args.folder.now in
+    let now = g.F.Folder.moment c.stage_next.new.folder in
     let shown = some-next c.args.recovering.left c.requires.left c.in-Ok.ensures.call in
     let is = leads-on c.args.recovering before_commit _ c.in-Ok.moving shown.1.shown in
     let done = leads-done c.args.recovering before_commit _ c.in-Ok.moving shown.1.shown in
@@ -52,11 +48,8 @@ returns-in-Ok-clause-turns g c =
 
 pub returns-in-Err-clause-turns : goal.returns-in-Err-clause-turns
 returns-in-Err-clause-turns g c =
-    let before = moment (g.F.Folder.admits c.args.folder.now) (g.F.Folder.told c.args.folder.now)
-    (g.F.Folder.fault_count c.args.folder.now) in
-    let now = moment (g.F.Folder.admits c.stage_next.new.folder)
-    (g.F.Folder.told c.stage_next.new.folder)
-    (g.F.Folder.fault_count c.stage_next.new.folder) in
+    let before = g.F.Folder.moment c.args.folder.now in
+    let now = g.F.Folder.moment c.stage_next.new.folder in
     let shown = some-next c.args.recovering.left c.requires.left c.in-Err.ensures.call in
     let fault = c.in-Err.fault in
     faults before now c.args.runner.now commit_uncalled (Recovers c.args.recovering)

@@ -3,27 +3,24 @@ use Rattle.acct_outside.specs.Calls.{answers}
 use Rattle.acct_outside.specs.Contract.{Tells}
 use Rattle.account_model.specs.Words.{request_of}
 use Rattle.suite_session.specs.Runner.{Runner}
-use Rattle.suite_session.specs.Moment.{moment}
 use Rattle.suite_session.proofs.SessionTurns.{answer-one, answers-turn}
 use Rattle.suite_session.proofs.StreamLemmas.{left-given}
 use Rattle.suite_session.proofs.turning.answered.Goals as goal
 
 pub returns-clause-turns : goal.returns-clause-turns
 returns-clause-turns g c =
-    let before = moment (g.F.Folder.admits c.args.folder.now) (g.F.Folder.told c.args.folder.now)
-    (g.F.Folder.fault_count c.args.folder.now) in
-    let now = moment (g.F.Folder.admits c.answered.new.self) (g.F.Folder.told c.answered.new.self)
-    (g.F.Folder.fault_count c.answered.new.self) in (
+    let before = g.F.Folder.moment c.args.folder.now in
+    let now = g.F.Folder.moment c.answered.new.self in (
       refl,
       answers-turn before now c.args.runner c.args.answer
           (subst (λ (one : Runner). request_of one.asked.command.words ≡ Ok one.asked.request)
           c.runner.view_is c.asks_once.ensures)
           c.requires
-          (subst (λ (one : Runner). Tells before.admits before.told now.told one.token
+          (subst (λ (one : Runner). Tells before now one.token
           (answers c.args.answer.outcome.status) (Ok tt)) c.runner.view_is c.answered.ensures.told)
-          c.answered.ensures.narrows c.answered.ensures.faults,
+          c.answered.ensures.narrows c.answered.ensures.faults.never_falls,
       answer-one before now c.args.runner c.args.answer.outcome.status
           (left-given before c.args.runner c.args.answer c.requires).may.may_answer
-          (subst (λ (one : Runner). Tells before.admits before.told now.told one.token
+          (subst (λ (one : Runner). Tells before now one.token
           (answers c.args.answer.outcome.status) (Ok tt)) c.runner.view_is c.answered.ensures.told),
     )

@@ -1,51 +1,46 @@
 use Rattle.std.proofs.Common.{refl, ap, subst, ◌∙◌, Ok, Err}
 use Rattle.acct_outside.specs.Calls.{Command}
 use Rattle.acct_outside.specs.Contract.{WhereTold, TellsBegin}
-use Rattle.suite_session.specs.Moment.{moment}
 use Rattle.suite_session.proofs.SessionTurns.{asked-command, begin-new, begins-counts, begins-turn, unbegun}
 use Rattle.suite_session.proofs.turning.begin.Goals as goal
 
 pub returns-in-Ok-clause-turns : goal.returns-in-Ok-clause-turns
 returns-in-Ok-clause-turns g c =
-    let before = moment (g.F.Folder.admits c.args.folder.now) (g.F.Folder.told c.args.folder.now)
-    (g.F.Folder.fault_count c.args.folder.now) in
-    let now = moment (g.F.Folder.admits c.begin.new.self) (g.F.Folder.told c.begin.new.self)
-    (g.F.Folder.fault_count c.begin.new.self) in
+    let before = g.F.Folder.moment c.args.folder.now in
+    let now = g.F.Folder.moment c.begin.new.self in
     let same = asked-command c.asked.inside.input c.asked.inside.day c.args.asked
     c.deref.ensures.value c.asked.view_is in
     let tells = subst (λ (command : Command). WhereTold before.told now.told
-    (TellsBegin before.admits command (Ok c.in-Ok.token))) same c.in-Ok.ensures.told in (
+    (TellsBegin before.admits command (Ok c.in-Ok.token))) same c.in-Ok.ensures.call.told in (
       refl,
       begins-turn before now (record { token = c.in-Ok.token; asked = c.args.asked }) tells
-          c.in-Ok.ensures.own c.begin.ensures.narrows
-          c.begin.ensures.faults.never_falls c.first_state-state.result c.first_state-state.ensures,
+          c.in-Ok.ensures.own c.begin.ensures.call.narrows
+          c.begin.ensures.call.faults.never_falls c.first_state-state.result c.first_state-state.ensures,
       begin-new before.admits c.args.asked.command c.in-Ok.token before.told now.told tells,
     )
 
 pub returns-in-Ok-clause-counted : goal.returns-in-Ok-clause-counted
 returns-in-Ok-clause-counted g c =
     let asked = c.args.asked in
-    begins-counts (g.F.Folder.admits c.args.folder.now)
-    (record { token = c.in-Ok.token; asked = asked }) (g.F.Folder.told c.args.folder.now)
-    (g.F.Folder.told c.begin.new.self)
-    (subst (λ (command : Command). WhereTold (g.F.Folder.told c.args.folder.now)
-    (g.F.Folder.told c.begin.new.self)
-    (TellsBegin (g.F.Folder.admits c.args.folder.now) command (Ok c.in-Ok.token)))
+    begins-counts (g.F.Folder.moment c.args.folder.now).admits
+    (record { token = c.in-Ok.token; asked = asked }) (g.F.Folder.moment c.args.folder.now).told
+    (g.F.Folder.moment c.begin.new.self).told
+    (subst (λ (command : Command). WhereTold (g.F.Folder.moment c.args.folder.now).told
+    (g.F.Folder.moment c.begin.new.self).told
+    (TellsBegin (g.F.Folder.moment c.args.folder.now).admits command (Ok c.in-Ok.token)))
     (asked-command c.asked.inside.input c.asked.inside.day c.args.asked
-    c.deref.ensures.value c.asked.view_is) c.in-Ok.ensures.told)
+    c.deref.ensures.value c.asked.view_is) c.in-Ok.ensures.call.told)
     c.first_state-state.result c.first_state-state.ensures
 
 pub returns-in-Err-clause-turns : goal.returns-in-Err-clause-turns
 returns-in-Err-clause-turns g c =
-    let before = moment (g.F.Folder.admits c.args.folder.now) (g.F.Folder.told c.args.folder.now)
-    (g.F.Folder.fault_count c.args.folder.now) in
-    let now = moment (g.F.Folder.admits c.begin.new.self) (g.F.Folder.told c.begin.new.self)
-    (g.F.Folder.fault_count c.begin.new.self) in
+    let before = g.F.Folder.moment c.args.folder.now in
+    let now = g.F.Folder.moment c.begin.new.self in
     let same = asked-command c.asked.inside.input c.asked.inside.day c.args.asked
     c.deref.ensures.value c.asked.view_is in
     unbegun before now c.args.asked c.in-Err.fault
     (subst (λ (command : Command). WhereTold before.told now.told
-    (TellsBegin before.admits command (Err c.in-Err.fault))) same c.in-Err.ensures.told)
+    (TellsBegin before.admits command (Err c.in-Err.fault))) same c.in-Err.ensures.call.told)
     c.unbegun.result c.unbegun.ensures
-    c.begin.ensures.narrows c.begin.ensures.faults.never_falls
-    (λ is. c.begin.ensures.faults.failed (c.in-Err.is ∙ ap Err is))
+    c.begin.ensures.call.narrows c.begin.ensures.call.faults.never_falls
+    (λ is. c.begin.ensures.call.faults.failed (c.in-Err.is ∙ ap Err is))

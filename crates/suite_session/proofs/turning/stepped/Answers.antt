@@ -1,7 +1,6 @@
 use Rattle.std.proofs.Common.{refl, subst, Option}
 use Rattle.std.specs.Prelude.{IsSome}
 use Rattle.suite_answers.specs.declared.answer.Answer.{Answer}
-use Rattle.suite_session.specs.Moment.{moment}
 use Rattle.suite_session.proofs.SessionTurns.{steps-to}
 use Rattle.suite_session.proofs.StreamLemmas.{going-remembers, going-stands, goes-on, none-given}
 use Rattle.suite_session.proofs.turning.stepped.Goals as goal
@@ -10,17 +9,14 @@ use Rattle.suite_session.proofs.turning.stepped.Goals as goal
 pub go_on-next-requires : goal.go_on-next-requires
 go_on-next-requires g c = record {
   going = goes-on c.args.state c.in_default.not-Answering;
-  stands = going-stands (moment (g.F.Folder.admits c.args.folder.now)
-      (g.F.Folder.told c.args.folder.now) (g.F.Folder.fault_count c.args.folder.now))
+  stands = going-stands (g.F.Folder.moment c.args.folder.now)
       c.args.runner c.args.state c.in_default.not-Answering c.requires;
 }
 
 pub returns-in_default : goal.returns-in_default
 returns-in_default g c =
-    let before = moment (g.F.Folder.admits c.args.folder.now) (g.F.Folder.told c.args.folder.now)
-    (g.F.Folder.fault_count c.args.folder.now) in
-    let now = moment (g.F.Folder.admits c.go_on-next.new.folder)
-    (g.F.Folder.told c.go_on-next.new.folder) (g.F.Folder.fault_count c.go_on-next.new.folder) in
+    let before = g.F.Folder.moment c.args.folder.now in
+    let now = g.F.Folder.moment c.go_on-next.new.folder in
     let apart = c.in_default.not-Answering in
     record {
       turns = (

@@ -2,7 +2,6 @@ use Rattle.std.proofs.Common.{refl, ap, ◌∙◌, Err, arith, rules}
 use Rattle.acct_outside.specs.declared.Name.TheVariants.{FreeStage, Lock}
 use Rattle.acct_outside.specs.Calls.{renames}
 use Rattle.lock_steps.specs.Stands.{HasStagedFree}
-use Rattle.suite_session.specs.Moment.{moment}
 use Rattle.suite_session.proofs.TurnLemmas.{may-step, faults}
 use Rattle.suite_session.proofs.UnlockingTurns.{frees, out-follows}
 use Rattle.suite_session.proofs.MeetingLemmas.{locks-ended}
@@ -13,26 +12,21 @@ use Rattle.suite_session.proofs.unlocking.free.Goals as goal
 
 pub move_free-requires : goal.move_free-requires
 move_free-requires g c =
-    let before = moment (g.F.Folder.admits c.args.folder.now) (g.F.Folder.told c.args.folder.now)
-    (g.F.Folder.fault_count c.args.folder.now) in
+    let before = g.F.Folder.moment c.args.folder.now in
     may-step before c.args.runner.now _ (HasStagedFree c.args.freeing) c.args.freeing.token c.requires.same c.requires.stands
 
 pub returns-in-Ok-clause-turns : goal.returns-in-Ok-clause-turns
 returns-in-Ok-clause-turns g c =
-    let before = moment (g.F.Folder.admits c.args.folder.now) (g.F.Folder.told c.args.folder.now)
-    (g.F.Folder.fault_count c.args.folder.now) in
-    let now = moment (g.F.Folder.admits c.move_free.new.folder) (g.F.Folder.told c.move_free.new.folder)
-    (g.F.Folder.fault_count c.move_free.new.folder) in
+    let before = g.F.Folder.moment c.args.folder.now in
+    let now = g.F.Folder.moment c.move_free.new.folder in
     frees before now c.args.runner.now c.args.answer c.args.freeing c.requires
     _ c.in-Ok.ensures.call c.in-Ok.ensures.next
-    c.move_free.ensures.work c.move_free.ensures.lawful c.move_free.ensures.faults.never_falls
+    c.move_free.ensures.left c.move_free.ensures.lawful c.move_free.ensures.faults.never_falls
 
 pub returns-in-Err-clause-turns : goal.returns-in-Err-clause-turns
 returns-in-Err-clause-turns g c =
-    let before = moment (g.F.Folder.admits c.args.folder.now) (g.F.Folder.told c.args.folder.now)
-    (g.F.Folder.fault_count c.args.folder.now) in
-    let now = moment (g.F.Folder.admits c.move_free.new.folder) (g.F.Folder.told c.move_free.new.folder)
-    (g.F.Folder.fault_count c.move_free.new.folder) in
+    let before = g.F.Folder.moment c.args.folder.now in
+    let now = g.F.Folder.moment c.move_free.new.folder in
     faults before now c.args.runner.now _ (HasStagedFree c.args.freeing) c.requires.stands
     c.args.freeing.token c.requires.same (renames FreeStage (Lock c.args.freeing.number)) tt _ (λ result stood. refl)
     c.in-Err.ensures.call

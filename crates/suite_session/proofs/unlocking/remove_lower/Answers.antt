@@ -3,7 +3,6 @@ use Rattle.acct_outside.specs.declared.Name.TheVariants.{Lock}
 use Rattle.acct_outside.specs.Calls.{removes}
 use Rattle.lock_steps.specs.Outcomes.{cleaned_once}
 use Rattle.lock_steps.specs.Stands.{Keeps, KnowsAnything}
-use Rattle.suite_session.specs.Moment.{moment}
 use Rattle.suite_session.proofs.TurnLemmas.{may-step, faults}
 use Rattle.suite_session.proofs.UnlockingTurns.{leads, lowers, out-follows}
 use Rattle.suite_session.proofs.MeetingLemmas.{locks-ended}
@@ -14,26 +13,21 @@ use Rattle.suite_session.proofs.unlocking.remove_lower.Goals as goal
 
 pub clean_next-requires-clause-stands : goal.clean_next-requires-clause-stands
 clean_next-requires-clause-stands g c =
-    let before = moment (g.F.Folder.admits c.args.folder.now) (g.F.Folder.told c.args.folder.now)
-    (g.F.Folder.fault_count c.args.folder.now) in
+    let before = g.F.Folder.moment c.args.folder.now in
     may-step before c.args.runner.now _ (Keeps c.args.keeper KnowsAnything) c.args.keeper.token c.requires.stands.same c.requires.stands.stands
 
 pub returns-in-Ok-clause-turns : goal.returns-in-Ok-clause-turns
 returns-in-Ok-clause-turns g c =
-    let before = moment (g.F.Folder.admits c.args.folder.now) (g.F.Folder.told c.args.folder.now)
-    (g.F.Folder.fault_count c.args.folder.now) in
-    let now = moment (g.F.Folder.admits c.clean_next.new.folder) (g.F.Folder.told c.clean_next.new.folder)
-    (g.F.Folder.fault_count c.clean_next.new.folder) in
+    let before = g.F.Folder.moment c.args.folder.now in
+    let now = g.F.Folder.moment c.clean_next.new.folder in
     lowers before now c.args.runner.now c.args.answer c.args.keeper c.requires.stands
     _ c.in-Ok.keeper c.in-Ok.ensures.call c.in-Ok.ensures.next
-    c.clean_next.ensures.work c.clean_next.ensures.lawful c.clean_next.ensures.faults.never_falls
+    c.clean_next.ensures.left c.clean_next.ensures.lawful c.clean_next.ensures.faults.never_falls
 
 pub returns-in-Err-clause-turns : goal.returns-in-Err-clause-turns
 returns-in-Err-clause-turns g c =
-    let before = moment (g.F.Folder.admits c.args.folder.now) (g.F.Folder.told c.args.folder.now)
-    (g.F.Folder.fault_count c.args.folder.now) in
-    let now = moment (g.F.Folder.admits c.clean_next.new.folder) (g.F.Folder.told c.clean_next.new.folder)
-    (g.F.Folder.fault_count c.clean_next.new.folder) in
+    let before = g.F.Folder.moment c.args.folder.now in
+    let now = g.F.Folder.moment c.clean_next.new.folder in
     faults before now c.args.runner.now _ (Keeps c.args.keeper KnowsAnything) c.requires.stands.stands
     c.args.keeper.token c.requires.stands.same (removes (Lock (slice_index c.args.keeper.lower 0))) tt _ (λ result stood. refl)
     c.in-Err.ensures.call

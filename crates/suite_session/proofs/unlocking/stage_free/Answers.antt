@@ -3,7 +3,6 @@ use Rattle.acct_outside.specs.declared.Name.TheVariants.{FreeStage}
 use Rattle.acct_outside.specs.Tokens.{free_text}
 use Rattle.acct_outside.specs.Calls.{writes}
 use Rattle.lock_steps.specs.Stands.{Keeps, KnowsAnything}
-use Rattle.suite_session.specs.Moment.{moment}
 use Rattle.suite_session.proofs.TurnLemmas.{may-step, faults}
 use Rattle.suite_session.proofs.UnlockingTurns.{stages, out-follows}
 use Rattle.suite_session.proofs.MeetingLemmas.{locks-ended}
@@ -14,27 +13,22 @@ use Rattle.suite_session.proofs.unlocking.stage_free.Goals as goal
 
 pub stage_free-requires-clause-stands : goal.stage_free-requires-clause-stands
 stage_free-requires-clause-stands g c =
-    let before = moment (g.F.Folder.admits c.args.folder.now) (g.F.Folder.told c.args.folder.now)
-    (g.F.Folder.fault_count c.args.folder.now) in
+    let before = g.F.Folder.moment c.args.folder.now in
     may-step before c.args.runner.now _ (Keeps c.args.keeper KnowsAnything) c.args.keeper.token
     c.requires.stands.same c.requires.stands.stands
 
 pub returns-in-Ok-clause-turns : goal.returns-in-Ok-clause-turns
 returns-in-Ok-clause-turns g c =
-    let before = moment (g.F.Folder.admits c.args.folder.now) (g.F.Folder.told c.args.folder.now)
-    (g.F.Folder.fault_count c.args.folder.now) in
-    let now = moment (g.F.Folder.admits c.stage_free.new.folder) (g.F.Folder.told c.stage_free.new.folder)
-    (g.F.Folder.fault_count c.stage_free.new.folder) in
+    let before = g.F.Folder.moment c.args.folder.now in
+    let now = g.F.Folder.moment c.stage_free.new.folder in
     stages before now c.args.runner.now c.args.answer c.args.keeper c.requires.stands
     c.in-Ok.freeing c.in-Ok.ensures.call c.in-Ok.ensures.next
-    c.stage_free.ensures.work c.stage_free.ensures.lawful c.stage_free.ensures.faults.never_falls
+    c.stage_free.ensures.left c.stage_free.ensures.lawful c.stage_free.ensures.faults.never_falls
 
 pub returns-in-Err-clause-turns : goal.returns-in-Err-clause-turns
 returns-in-Err-clause-turns g c =
-    let before = moment (g.F.Folder.admits c.args.folder.now) (g.F.Folder.told c.args.folder.now)
-    (g.F.Folder.fault_count c.args.folder.now) in
-    let now = moment (g.F.Folder.admits c.stage_free.new.folder) (g.F.Folder.told c.stage_free.new.folder)
-    (g.F.Folder.fault_count c.stage_free.new.folder) in
+    let before = g.F.Folder.moment c.args.folder.now in
+    let now = g.F.Folder.moment c.stage_free.new.folder in
     faults before now c.args.runner.now _ (Keeps c.args.keeper KnowsAnything)
     c.requires.stands.stands c.args.keeper.token c.requires.stands.same
     (writes FreeStage free_text) tt _ (λ result stood. refl)

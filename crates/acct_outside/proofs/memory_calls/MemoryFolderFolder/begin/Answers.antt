@@ -4,10 +4,11 @@ use Rattle.acct_outside.specs.declared.FolderFault.{FolderFault}
 use Rattle.acct_outside.specs.Tokens.{Token}
 use Rattle.acct_outside.specs.Calls.{Command}
 use Rattle.acct_outside.specs.NewTokens.{IsFirstUnused}
-use Rattle.acct_outside.specs.Contract.{Past, MayAct}
+use Rattle.acct_outside.specs.Moment.{Past}
+use Rattle.acct_outside.specs.Contract.{MayAct}
 use Rattle.acct_outside.specs.Logged.{with_event}
 use Rattle.acct_outside.specs.Events.{begin_event, command_of}
-use Rattle.acct_outside.specs.Memory.{no_others, alive_of, past_of, Runs}
+use Rattle.acct_outside.specs.Memory.{alive_of, moment_of, past_of, Runs}
 use Rattle.acct_outside.specs.declared.memory.MemoryFolder.{MemoryFolder}
 use Rattle.acct_outside.proofs.ToldLemmas.{Begins, begin_memory, begin_fault, begin_started, begun_runs, may_act}
 use Rattle.acct_outside.proofs.memory_calls.MemoryFolderFolder.begin.Goals as goal
@@ -25,7 +26,7 @@ starts old new outsiders command (Err fault) is first = tt
 -- a session that a begin started may call the folder
 may_call : (new : MemoryFolder) (result : Result Token FolderFault)
     → IfOk result (Runs new)
-    → IfOk result (MayAct no_others (Some (past_of new)))
+    → IfOk result (MayAct (moment_of new))
 may_call new (Ok token) runs = may_act new token runs
 may_call new (Err fault) runs = tt
 

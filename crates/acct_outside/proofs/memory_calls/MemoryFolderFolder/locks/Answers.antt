@@ -1,6 +1,7 @@
 use Rattle.std.proofs.Common.{◌∙◌, ap, refl}
 use Rattle.acct_outside.specs.Calls.{lists}
-use Rattle.acct_outside.specs.Contract.{Past, locks_result}
+use Rattle.acct_outside.specs.Moment.{Past}
+use Rattle.acct_outside.specs.Contract.{locks_result}
 use Rattle.acct_outside.specs.Logged.{past_in, with_event, folder_after}
 use Rattle.acct_outside.specs.Memory.{past_of}
 use Rattle.acct_outside.specs.Events.{done_event}

@@ -1,6 +1,7 @@
 use Rattle.std.proofs.Common.{ℕ, ◌∙◌, ap, refl}
 use Rattle.acct_outside.specs.Calls.{CallResult, Found, reads, found_within}
-use Rattle.acct_outside.specs.Contract.{Past, GivesRead, found_of, found_result}
+use Rattle.acct_outside.specs.Moment.{Past}
+use Rattle.acct_outside.specs.Contract.{GivesRead, found_of, found_result}
 use Rattle.acct_outside.specs.Logged.{past_in, with_event, folder_after}
 use Rattle.acct_outside.specs.Memory.{past_of}
 use Rattle.acct_outside.specs.Events.{done_event}

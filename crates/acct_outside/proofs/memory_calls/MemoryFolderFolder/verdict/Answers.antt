@@ -1,6 +1,6 @@
 use Rattle.std.proofs.Common.{◌≡◌, ◌∙◌, ap, refl, subst, false}
 use Rattle.acct_outside.specs.Calls.{asks}
-use Rattle.acct_outside.specs.Contract.{Past}
+use Rattle.acct_outside.specs.Moment.{Past}
 use Rattle.acct_outside.specs.Logged.{past_in, with_event}
 use Rattle.acct_outside.specs.Memory.{past_of}
 use Rattle.acct_outside.specs.Events.{call_event}

@@ -10,8 +10,11 @@ use Rattle.commit_steps.proofs.LeadsLemmas.{takes-step, walks-on}
 use Rattle.commit_steps.proofs.BackupLemmas.{moves_backup_of, backup-staged, backs-after-move, may-move-backup}
 use Rattle.commit_steps.proofs.backing.Backing.move_backup.Goals as goal
 
-pub returns-clause-step : goal.returns-clause-step
-returns-clause-step g c =
+pub returns : goal.returns
+returns g c =
+    let before = g.F.Folder.moment c.args.folder.now in
+    let now = g.F.Folder.moment c.rename-moved.new.self in
+    let narrows = c.rename-moved.ensures.narrows in
     let walker = c.args.self in
     let next = c.next.result.now in
     let moved = c.rename-moved.result in
@@ -23,16 +26,20 @@ returns-clause-step g c =
     c.self.view_is c.next.ensures.stands in
     let shown = subst (λ (walked : Walker). LeadsTo walked before_commit moved c.leads.result)
     c.step_on.ensures c.leads.ensures.shown in
-    let told = told-of _ _ _ _ (token_of walker) (moves_backup_of next) moved
+    let told = told-of before now _ (token_of walker) (moves_backup_of next) moved
     (c.token-token.ensures
     ∙ ap (λ (change : Change). change.inputs.keeper.token)
     (c.prepared.ensures ∙ ap (λ (walker : Walker). walker.change) c.self.view_is))
     c.rename-moved.ensures.told in
     walks-on backup_call BacksUp before_commit walker next is_next
-    (moves_backup_of next) (backup-staged walker next staged) _ _ _ _ c.leads.result
+    (moves_backup_of next) (backup-staged walker next staged) before now c.leads.result
     (takes-step (moves_backup_of next) tt (BacksUp walker) BacksUp (step_on walker)
     (λ answer stood held. backs-after-move walker next is_next stands staged stood held answer)
     tt (λ result stood held. refl)
     (λ deeds stood held. may-move-backup walker next is_next stands staged stood held deeds)
-    before_commit _ _ c.rename-moved.ensures.narrows
-    (token_of walker) _ _ moved c.leads.result shown c.requires.stands told)
+    before_commit before now narrows (token_of walker) moved c.leads.result shown c.requires.stands
+    told
+    (record {
+      never_falls = c.rename-moved.ensures.faults.never_falls;
+      failed = λ is. c.rename-moved.ensures.faults.failed (c.leads.ensures.failed is);
+    }))

@@ -14,11 +14,15 @@ use Rattle.commit_steps.proofs.BackupLemmas.{stages_backup, backup-unstaged, bac
 use Rattle.commit_steps.proofs.backing.Backing.stage_backup.Goals as goal
 
 pub old-old-requires : goal.old-old-requires
-old-old-requires g c = subst (λ (change : Change). IsSome (old_files change c.next.result.now.table))
+old-old-requires g c =
+    subst (λ (change : Change). IsSome (old_files change c.next.result.now.table))
     (sym c.prepared-prepared.ensures) c.next.ensures.stands
 
-pub returns-clause-step : goal.returns-clause-step
-returns-clause-step g c =
+pub returns : goal.returns
+returns g c =
+    let before = g.F.Folder.moment c.args.folder.now in
+    let now = g.F.Folder.moment c.write-written.new.self in
+    let narrows = c.write-written.ensures.narrows in
     let walker = c.args.self in
     let next = c.next.result.now in
     let old = c.old-old.result.now in
@@ -35,13 +39,17 @@ returns-clause-step g c =
     ap (λ (content : Option Bytes). unwrap_or content [])
     (sym (ap (λ (change : Change). old_files change next.table) (sym change)
     ∙ c.old-old.ensures)) in
-    let told = writes-same _ _ _ (token_of walker) BackupStage old _ written old_is
-    (told-of _ _ _ _ (token_of walker) (writes BackupStage old) written
+    let told = writes-same before now (token_of walker) BackupStage old _ written old_is
+    (told-of before now _ (token_of walker) (writes BackupStage old) written
     (c.token.ensures ∙ ap (λ (change : Change). change.inputs.keeper.token) change)
     c.write-written.ensures.told) in
     walks-on backup_call BacksUp before_commit walker next is_next
-    (stages_backup walker next) (backup-unstaged walker next unstaged) _ _ _ _ c.leads.result
+    (stages_backup walker next) (backup-unstaged walker next unstaged) before now c.leads.result
     (takes-step (stages_backup walker next) tt (BacksUp walker) BacksUp (step_on walker)
     (backs-after-write walker next is_next unstaged) tt (λ result stood held. refl)
-    (may-stage-backup walker next is_next) before_commit _ _ c.write-written.ensures.narrows
-    (token_of walker) _ _ written c.leads.result shown c.requires.stands told)
+    (may-stage-backup walker next is_next) before_commit before now narrows (token_of walker)
+    written c.leads.result shown c.requires.stands told
+    (record {
+      never_falls = c.write-written.ensures.faults.never_falls;
+      failed = λ is. c.write-written.ensures.faults.failed (c.leads.ensures.failed is);
+    }))

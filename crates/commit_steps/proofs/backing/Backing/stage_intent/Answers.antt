@@ -15,12 +15,14 @@ pub write-written-requires-clause-acts : goal.write-written-requires-clause-acts
 write-written-requires-clause-acts g c =
     let change = c.into_prepared-prepared.ensures
     ∙ ap (λ (walker : Walker). walker.change) c.self.view_is in
-    acts-as (BacksUp c.args.self) _ _ _ (token_of c.args.self)
+    acts-as (BacksUp c.args.self) (g.F.Folder.moment c.args.folder.now) _ (token_of c.args.self)
     (c.token.ensures ∙ ap (λ (change : Change). change.inputs.keeper.token) change)
     c.requires.stands
 
 pub returns : goal.returns
 returns g c =
+    let before = g.F.Folder.moment c.args.folder.now in
+    let now = g.F.Folder.moment c.write-written.new.self in
     let walker = c.args.self in
     let written = c.write-written.result in
     let narrows = c.write-written.ensures.narrows in
@@ -33,22 +35,16 @@ returns g c =
     ReadsIntent (intent_text (intended change)) (intended change)) change c.text.ensures.reads in
     let shown = subst (λ (next : Change). LeadsTo next before_commit written c.leads.result)
     (c.of.ensures ∙ change) c.leads.ensures.shown in
-    let told = writes-same _ _ _ (token_of walker) IntentStage c.text.result.now _ written text
-    (told-of _ _ _ _ (token_of walker) (writes IntentStage c.text.result.now) written
+    let told = writes-same before now (token_of walker) IntentStage c.text.result.now _ written text
+    (told-of before now _ (token_of walker) (writes IntentStage c.text.result.now) written
     (c.token.ensures ∙ ap (λ (change : Change). change.inputs.keeper.token) change)
     c.write-written.ensures.told) in
-    let taken = takes-step (stages_intent walker reads_it) tt (BacksUp walker) HasStagedIntent
+    takes-step (stages_intent walker reads_it) tt (BacksUp walker) HasStagedIntent
     walker.change (intent-after-write walker reads_it c.requires.left) tt
     (λ result stood held. refl) (may-stage-intent walker reads_it)
-    before_commit _ _ narrows (token_of walker) _ _ written c.leads.result shown
-    c.requires.stands told in
-    record {
-      call = taken.called;
-      next = taken.stands;
-      own = taken.left;
-      lawful = taken.stays_lawful;
-      faults = record {
-        never_falls = counts.never_falls;
-        failed = λ is. counts.failed (c.leads.ensures.failed is);
-      };
-    }
+    before_commit before now narrows (token_of walker) written c.leads.result shown
+    c.requires.stands told
+    (record {
+      never_falls = counts.never_falls;
+      failed = λ is. counts.failed (c.leads.ensures.failed is);
+    })

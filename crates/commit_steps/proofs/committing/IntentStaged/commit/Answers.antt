@@ -10,6 +10,8 @@ use Rattle.commit_steps.proofs.committing.IntentStaged.commit.Goals as goal
 
 pub returns : goal.returns
 returns g c =
+    let before = g.F.Folder.moment c.args.folder.now in
+    let now = g.F.Folder.moment c.rename-moved.new.self in
     let change = c.args.self in
     let token = change.inputs.keeper.token in
     let moved = c.rename-moved.result in
@@ -17,24 +19,25 @@ returns g c =
     let counts = c.rename-moved.ensures.faults in
     let shown = subst (λ (walker : Walker). LeadsTo walker at_commit moved c.commits.result)
     (c.start.ensures ∙ ap walk_of c.self.view_is) c.commits.ensures.shown in
-    let told = told-of _ _ _ _ token commit_call moved
+    let told = told-of before now _ token commit_call moved
     (c.token-token.ensures
     ∙ ap (λ (change : Change). change.inputs.keeper.token) c.self.view_is)
     c.rename-moved.ensures.told in
     record {
-      call = makes-call _ _ narrows token commit_call tt (HasStagedIntent change) _
-          moved _ _ c.requires told shown;
+      call = makes-call before now narrows token commit_call tt (HasStagedIntent change) _
+          moved c.requires told shown;
       next = leads-on commit_call tt (HasStagedIntent change) Installs (walk_of change)
-          (installs-after-commit change) at_commit _ _ narrows token _ _ moved c.commits.result
+          (installs-after-commit change) at_commit before now narrows token moved c.commits.result
           shown c.requires told;
-      unsure = commit-unsure change _ _ narrows token _ _ moved c.commits.result
+      unsure = commit-unsure change before now narrows token moved c.commits.result
           shown c.requires told;
-      own = leaves _ _ narrows token commit_call tt (HasStagedIntent change)
-          asked (λ result stood held. refl) moved _ _ c.requires told;
-      lawful = λ deeds deed. stays-lawful deeds _ token commit_call tt
+      own = leaves before.admits now.admits narrows token commit_call tt (HasStagedIntent change)
+          asked (λ result stood held. refl) moved before.told now.told c.requires told;
+      lawful = λ deeds deed. stays-lawful deeds before.admits token commit_call tt
           (λ stood. HasStagedIntent change stood × IsDeed deeds change stood)
-          (may-commit change deeds) moved _ _
-          (stands-both _ token (HasStagedIntent change) (IsDeed deeds change) _ c.requires deed)
+          (may-commit change deeds) moved before.told now.told
+          (stands-both before.admits token (HasStagedIntent change) (IsDeed deeds change)
+          before.told c.requires deed)
           told;
       faults = record {
         never_falls = counts.never_falls;

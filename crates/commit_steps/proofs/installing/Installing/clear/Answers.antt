@@ -17,10 +17,13 @@ remove-removed-requires-clause-acts g c =
     ∙ ap (λ (change : Change). change.inputs) (c.into_prepared.ensures
     ∙ ap (λ (walker : Walker). walker.change) c.self.view_is)) in
     let token = c.token.ensures ∙ ap (λ (kept : Kept). kept.token) (c.keeper.ensures ∙ keeper) in
-    acts-as (Installs c.args.self) _ _ _ (token_of c.args.self) token c.requires.stands
+    acts-as (Installs c.args.self) (g.F.Folder.moment c.args.folder.now) _ (token_of c.args.self)
+    token c.requires.stands
 
 pub returns : goal.returns
 returns g c =
+    let before = g.F.Folder.moment c.args.folder.now in
+    let now = g.F.Folder.moment c.remove-removed.new.self in
     let walker = c.args.self in
     let removed = c.remove-removed.result in
     let narrows = c.remove-removed.ensures.narrows in
@@ -31,20 +34,14 @@ returns g c =
     let token = c.token.ensures ∙ ap (λ (kept : Kept). kept.token) (c.keeper.ensures ∙ keeper) in
     let shown = subst (λ (kept : Kept). LeadsTo kept after_commit removed c.leads.result)
     (c.release-keeper.ensures ∙ keeper) c.leads.ensures.shown in
-    let told = told-of _ _ _ _ (token_of walker) (removes Intent) removed token
+    let told = told-of before now _ (token_of walker) (removes Intent) removed token
     c.remove-removed.ensures.told in
-    let taken = takes-step (removes Intent) tt (Installs walker) HasCleared
+    takes-step (removes Intent) tt (Installs walker) HasCleared
     walker.change.inputs.keeper (cleared-after-removal walker) tt (λ result stood held. refl)
     (λ deeds stood held. may-clear walker deeds c.requires.left stood held)
-    after_commit _ _ narrows (token_of walker) _ _ removed c.leads.result shown
-    c.requires.stands told in
-    record {
-      call = taken.called;
-      next = taken.stands;
-      own = taken.left;
-      lawful = taken.stays_lawful;
-      faults = record {
-        never_falls = counts.never_falls;
-        failed = λ is. counts.failed (c.leads.ensures.failed is);
-      };
-    }
+    after_commit before now narrows (token_of walker) removed c.leads.result shown
+    c.requires.stands told
+    (record {
+      never_falls = counts.never_falls;
+      failed = λ is. counts.failed (c.leads.ensures.failed is);
+    })

@@ -1,8 +1,9 @@
-use Rattle.std.proofs.Common.{ap}
+use Rattle.std.proofs.Common.{refl, ap}
 use Rattle.acct_outside.specs.Calls.{lists}
 use Rattle.acct_outside.specs.Contract.{locks_result}
 use Rattle.suite_rules.specs.Rules.{free_listing}
-use Rattle.suite_rules.proofs.StepLemmas.{makes-call, stays-lawful}
+use Rattle.suite_rules.specs.Steps.{own_command}
+use Rattle.suite_rules.proofs.StepLemmas.{makes-call, leaves, stays-lawful}
 use Rattle.lock_steps.specs.States.{Maker}
 use Rattle.lock_steps.specs.Stands.{HasMade}
 use Rattle.lock_steps.proofs.OutcomesLemmas.{confirm-leads, counts}
@@ -10,18 +11,24 @@ use Rattle.lock_steps.proofs.claiming.Claimed.confirm.Goals as goal
 
 pub returns : goal.returns
 returns g c =
+    let before = g.F.Folder.moment c.args.folder.now in
+    let now = g.F.Folder.moment c.locks-listed.new.self in
+    let narrows = c.locks-listed.ensures.call.narrows in
     let claimed = c.args.self in
     let listed = c.locks-listed.result in
     let tells = rw (ap (λ (maker : Maker). maker.token) c.self.view_is)
-    at c.locks-listed.ensures.told in
+    at c.locks-listed.ensures.call.told in
     record {
-      call = makes-call _ _ c.locks-listed.ensures.narrows claimed.token lists tt
-          (HasMade claimed) _ (locks_result listed) _ _ c.requires tells c.after_listing.ensures.shown;
-      next = confirm-leads _ _ c.locks-listed.ensures.narrows claimed.token _ _ claimed
+      call = makes-call before now narrows claimed.token lists tt
+          (HasMade claimed) _ (locks_result listed) c.requires tells c.after_listing.ensures.shown;
+      next = confirm-leads before now narrows claimed.token claimed
           (locks_result listed) c.after_listing.result c.after_listing.ensures.shown c.requires
           tells;
-      lawful = λ deeds. stays-lawful deeds _ claimed.token lists tt (HasMade claimed)
-          (λ stood held. free_listing) (locks_result listed) _ _ c.requires tells;
+      left = leaves before.admits now.admits narrows claimed.token lists tt (HasMade claimed)
+          own_command
+          (λ result stood held. refl) (locks_result listed) before.told now.told c.requires tells;
+      lawful = λ deeds. stays-lawful deeds before.admits claimed.token lists tt (HasMade claimed)
+          (λ stood held. free_listing) (locks_result listed) before.told now.told c.requires tells;
       faults = counts _ _ _ listed c.after_listing.result c.after_listing.ensures.failed
-          c.locks-listed.ensures.faults;
+          c.locks-listed.ensures.call.faults;
     }

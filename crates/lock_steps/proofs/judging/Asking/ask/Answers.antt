@@ -1,7 +1,8 @@
-use Rattle.std.proofs.Common.{ap}
+use Rattle.std.proofs.Common.{refl, ap}
 use Rattle.acct_outside.specs.Calls.{asks}
 use Rattle.suite_rules.specs.Rules.{free_verdict}
-use Rattle.suite_rules.proofs.StepLemmas.{makes-call, stays-lawful}
+use Rattle.suite_rules.specs.Steps.{own_command}
+use Rattle.suite_rules.proofs.StepLemmas.{makes-call, leaves, stays-lawful}
 use Rattle.lock_steps.specs.States.{Asker}
 use Rattle.lock_steps.specs.Stands.{HasReadHeld}
 use Rattle.lock_steps.proofs.OutcomesLemmas.{ask-leads, counts}
@@ -9,6 +10,9 @@ use Rattle.lock_steps.proofs.judging.Asking.ask.Goals as goal
 
 pub returns : goal.returns
 returns g c =
+    let before = g.F.Folder.moment c.args.folder.now in
+    let now = g.F.Folder.moment c.verdict-verdict.new.self in
+    let narrows = c.verdict-verdict.ensures.narrows in
     let asking = c.args.self in
     let verdict = c.verdict-verdict.result in
     let tells = rw (
@@ -17,12 +21,16 @@ returns g c =
     )
     at c.verdict-verdict.ensures.told in
     record {
-      call = makes-call _ _ c.verdict-verdict.ensures.narrows asking.token (asks asking.asked) tt
-          (HasReadHeld asking) _ verdict _ _ c.requires tells c.after_verdict.ensures.shown;
-      next = ask-leads _ _ c.verdict-verdict.ensures.narrows asking.token _ _ asking verdict
+      call = makes-call before now narrows asking.token (asks asking.asked) tt
+          (HasReadHeld asking) _ verdict c.requires tells c.after_verdict.ensures.shown;
+      next = ask-leads before now narrows asking.token asking verdict
           c.after_verdict.result c.after_verdict.ensures.shown c.requires tells;
-      lawful = λ deeds. stays-lawful deeds _ asking.token (asks asking.asked) tt
-          (HasReadHeld asking) (λ stood held. free_verdict asking.asked) verdict _ _ c.requires tells;
+      left = leaves before.admits now.admits narrows asking.token (asks asking.asked) tt
+          (HasReadHeld asking) own_command
+          (λ result stood held. refl) verdict before.told now.told c.requires tells;
+      lawful = λ deeds. stays-lawful deeds before.admits asking.token (asks asking.asked) tt
+          (HasReadHeld asking) (λ stood held. free_verdict asking.asked) verdict before.told
+          now.told c.requires tells;
       faults = counts _ _ _ verdict c.after_verdict.result c.after_verdict.ensures.failed
           c.verdict-verdict.ensures.faults;
     }

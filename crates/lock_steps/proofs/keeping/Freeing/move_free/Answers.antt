@@ -12,6 +12,9 @@ use Rattle.lock_steps.proofs.keeping.Freeing.move_free.Goals as goal
 
 pub returns : goal.returns
 returns g c =
+    let before = g.F.Folder.moment c.args.folder.now in
+    let now = g.F.Folder.moment c.rename-moved.new.self in
+    let narrows = c.rename-moved.ensures.narrows in
     let freeing = c.args.self in
     let moved = c.rename-moved.result in
     let tells = rw (
@@ -20,16 +23,18 @@ returns g c =
     )
     at c.rename-moved.ensures.told in
     record {
-      call = makes-call _ _ c.rename-moved.ensures.narrows freeing.token
-          (renames FreeStage (Lock freeing.number)) tt (HasStagedFree freeing) _ moved _ _
-          c.requires tells c.after_move.ensures.shown;
-      next = move-leads _ _ c.rename-moved.ensures.narrows freeing.token _ _ freeing moved
+      call = makes-call before now narrows freeing.token
+          (renames FreeStage (Lock freeing.number)) tt (HasStagedFree freeing) _ moved c.requires
+          tells c.after_move.ensures.shown;
+      next = move-leads before now narrows freeing.token freeing moved
           c.after_move.result c.after_move.ensures.shown c.requires tells;
-      work = leaves _ _ c.rename-moved.ensures.narrows freeing.token
+      left = leaves before.admits now.admits narrows freeing.token
           (renames FreeStage (Lock freeing.number)) tt (HasStagedFree freeing) work
-          (λ result stood held. move-leaves freeing stood held result) moved _ _ c.requires tells;
-      lawful = λ deeds. stays-lawful deeds _ freeing.token
-          (renames FreeStage (Lock freeing.number)) tt (HasStagedFree freeing) (λ stood held. may-move-free deeds stood freeing held) moved _ _
+          (λ result stood held. move-leaves freeing stood held result) moved before.told now.told
+          c.requires tells;
+      lawful = λ deeds. stays-lawful deeds before.admits freeing.token
+          (renames FreeStage (Lock freeing.number)) tt (HasStagedFree freeing)
+          (λ stood held. may-move-free deeds stood freeing held) moved before.told now.told
           c.requires tells;
       faults = counts _ _ _ moved c.after_move.result c.after_move.ensures.failed
           c.rename-moved.ensures.faults;

@@ -13,6 +13,9 @@ use Rattle.lock_steps.proofs.keeping.Keeper.clean_next.Goals as goal
 
 pub returns : goal.returns
 returns g c =
+    let before = g.F.Folder.moment c.args.folder.now in
+    let now = g.F.Folder.moment c.remove-removed.new.self in
+    let narrows = c.remove-removed.ensures.narrows in
     let keeper = c.args.self in
     let knows = g.K.Knowing.knows in
     let removed = c.remove-removed.result in
@@ -25,18 +28,18 @@ returns g c =
     (λ (one : Kept). 0 < length one.lower → get_or one.lower 0 0 < one.number)
     c.self.view_is (λ some. (c.self.invariant.1 0 0 some).1) c.requires.left in
     record {
-      call = makes-call _ _ c.remove-removed.ensures.narrows keeper.token (removes (Lock lowest)) tt
-          (Keeps keeper knows) _ removed _ _ c.requires.stands tells c.after_removal.ensures.shown;
-      next = clean-leads _ _ c.remove-removed.ensures.narrows keeper.token _ _ keeper knows lowest
+      call = makes-call before now narrows keeper.token (removes (Lock lowest)) tt
+          (Keeps keeper knows) _ removed c.requires.stands tells c.after_removal.ensures.shown;
+      next = clean-leads before now narrows keeper.token keeper knows lowest
           removed c.after_removal.result c.requires.left refl c.after_removal.ensures.shown
           c.requires.stands tells;
-      work = leaves _ _ c.remove-removed.ensures.narrows keeper.token (removes (Lock lowest)) tt
+      left = leaves before.admits now.admits narrows keeper.token (removes (Lock lowest)) tt
           (Keeps keeper knows) work
-          (λ result stood held. removal-leaves keeper knows lowest stood held result) removed _ _
-          c.requires.stands tells;
-      lawful = λ deeds. stays-lawful deeds _ keeper.token (removes (Lock lowest)) tt
-          (Keeps keeper knows) (λ stood held. may-remove deeds stood keeper knows lowest below held) removed _ _
-          c.requires.stands tells;
+          (λ result stood held. removal-leaves keeper knows lowest stood held result) removed
+          before.told now.told c.requires.stands tells;
+      lawful = λ deeds. stays-lawful deeds before.admits keeper.token (removes (Lock lowest)) tt
+          (Keeps keeper knows) (λ stood held. may-remove deeds stood keeper knows lowest below held)
+          removed before.told now.told c.requires.stands tells;
       faults = counts _ _ _ removed c.after_removal.result c.after_removal.ensures.failed
           c.remove-removed.ensures.faults;
     }

@@ -13,23 +13,29 @@ use Rattle.lock_steps.proofs.keeping.Keeper.stage_free.Goals as goal
 
 pub returns : goal.returns
 returns g c =
+    let before = g.F.Folder.moment c.args.folder.now in
+    let now = g.F.Folder.moment c.write-written.new.self in
+    let narrows = c.write-written.ensures.narrows in
     let keeper = c.args.self in
     let knows = g.K.Knowing.knows in
     let written = c.write-written.result in
     let tells = rw (ap (λ (one : Kept). one.token) c.self.view_is, c.self.inside.holder.is_free)
     at c.write-written.ensures.told in
     record {
-      call = makes-call _ _ c.write-written.ensures.narrows keeper.token
-          (writes FreeStage free_text) tt (Keeps keeper knows) _ written _ _ c.requires.stands tells c.after_write.ensures.shown;
-      next = stage-leads _ _ c.write-written.ensures.narrows keeper.token _ _ keeper knows written
-          c.after_write.result c.requires.none_left c.after_write.ensures.shown c.requires.stands tells;
-      work = leaves _ _ c.write-written.ensures.narrows keeper.token (writes FreeStage free_text) tt
+      call = makes-call before now narrows keeper.token
+          (writes FreeStage free_text) tt (Keeps keeper knows) _ written c.requires.stands tells
+          c.after_write.ensures.shown;
+      next = stage-leads before now narrows keeper.token keeper knows written
+          c.after_write.result c.requires.none_left c.after_write.ensures.shown c.requires.stands
+          tells;
+      left = leaves before.admits now.admits narrows keeper.token (writes FreeStage free_text) tt
           (Keeps keeper knows) work
-          (λ result stood held. write-leaves keeper knows stood held result) written _ _
-          c.requires.stands tells;
-      lawful = λ deeds. stays-lawful deeds _ keeper.token (writes FreeStage free_text) tt
+          (λ result stood held. write-leaves keeper knows stood held result) written before.told
+          now.told c.requires.stands tells;
+      lawful = λ deeds. stays-lawful deeds before.admits keeper.token (writes FreeStage free_text)
+          tt
           (Keeps keeper knows) (λ stood held. may-stage-free deeds stood keeper knows held) written
-          _ _ c.requires.stands tells;
+          before.told now.told c.requires.stands tells;
       faults = counts _ _ _ written c.after_write.result c.after_write.ensures.failed
           c.write-written.ensures.faults;
     }

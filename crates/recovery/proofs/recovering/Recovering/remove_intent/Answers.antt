@@ -10,31 +10,39 @@ use Rattle.recovery.proofs.recovering.Recovering.remove_intent.Goals as goal
 
 pub after_removal-requires : goal.after_removal-requires
 after_removal-requires g c =
+    let before = g.F.Folder.moment c.args.folder.now in
+    let now = g.F.Folder.moment c.remove-removed.new.self in
     let token = c.args.self.keeper.token in
     let removed = c.remove-removed.result in
-    removal-clean _ _ c.remove-removed.ensures.narrows token _ _ c.args.self removed
+    removal-clean before now c.remove-removed.ensures.narrows token c.args.self removed
     c.requires.stands
-    (told-of _ _ _ _ token (removes Intent) removed c.token.ensures c.remove-removed.ensures.told)
+    (told-of before now _ token (removes Intent) removed c.token.ensures
+    c.remove-removed.ensures.told)
 
 pub returns : goal.returns
 returns g c =
+    let before = g.F.Folder.moment c.args.folder.now in
+    let now = g.F.Folder.moment c.remove-removed.new.self in
     let token = c.args.self.keeper.token in
     let removed = c.remove-removed.result in
     let narrows = c.remove-removed.ensures.narrows in
     let counts = c.remove-removed.ensures.faults in
     let shown = c.after_removal.ensures.shown in
-    let told = told-of _ _ _ _ token (removes Intent) removed
+    let told = told-of before now _ token (removes Intent) removed
     c.token.ensures c.remove-removed.ensures.told in
     record {
-      call = makes-call _ _ narrows token (removes Intent) tt (Recovers c.args.self) _
-          removed _ _ c.requires.stands told shown;
-      next = removal-leads _ _ narrows token _ _ c.args.self
+      call = makes-call before now narrows token (removes Intent) tt (Recovers c.args.self) _
+          removed c.requires.stands told shown;
+      next = removal-leads before now narrows token c.args.self
           removed c.after_removal.result shown c.requires.stands told;
-      own = leaves _ _ narrows token (removes Intent) tt (Recovers c.args.self)
-          own_command (λ result stood held. refl) removed _ _ c.requires.stands told;
-      lawful = λ deeds. stays-lawful deeds _ token (removes Intent) tt (Recovers c.args.self)
+      left = leaves before.admits now.admits narrows token (removes Intent) tt
+          (Recovers c.args.self)
+          own_command (λ result stood held. refl) removed before.told now.told c.requires.stands
+          told;
+      lawful = λ deeds. stays-lawful deeds before.admits token (removes Intent) tt
+          (Recovers c.args.self)
           (λ stood recovers. may-remove c.args.self stood deeds c.requires.left recovers)
-          removed _ _ c.requires.stands told;
+          removed before.told now.told c.requires.stands told;
       faults = record {
         never_falls = counts.never_falls;
         failed = λ is. counts.failed (c.after_removal.ensures.failed is);

@@ -9,25 +9,29 @@ use Rattle.recovery.proofs.recovering.Recovering.stage_next.Goals as goal
 
 pub returns : goal.returns
 returns g c =
+    let before = g.F.Folder.moment c.args.folder.now in
+    let now = g.F.Folder.moment c.write-written.new.self in
     let token = c.args.self.keeper.token in
     let next = c.next-next.result.now in
     let written = c.write-written.result in
     let narrows = c.write-written.ensures.narrows in
     let counts = c.write-written.ensures.faults in
     let shown = c.after_write.ensures.shown in
-    let told = told-of _ _ _ _ token (stages next) written
+    let told = told-of before now _ token (stages next) written
     c.token.ensures c.write-written.ensures.told in
     record {
       call = rw c.next-next.ensures
-          (makes-call _ _ narrows token (stages next) tt (Recovers c.args.self) _
-          written _ _ c.requires.stands told shown);
-      next = stage-leads _ _ narrows token _ _ c.args.self next
+          (makes-call before now narrows token (stages next) tt (Recovers c.args.self) _
+          written c.requires.stands told shown);
+      next = stage-leads before now narrows token c.args.self next
           written c.after_write.result c.next-next.ensures shown c.requires.stands told;
-      own = leaves _ _ narrows token (stages next) tt (Recovers c.args.self)
-          own_command (λ result stood held. refl) written _ _ c.requires.stands told;
-      lawful = λ deeds. stays-lawful deeds _ token (stages next) tt (Recovers c.args.self)
+      left = leaves before.admits now.admits narrows token (stages next) tt (Recovers c.args.self)
+          own_command (λ result stood held. refl) written before.told now.told c.requires.stands
+          told;
+      lawful = λ deeds. stays-lawful deeds before.admits token (stages next) tt
+          (Recovers c.args.self)
           (λ stood recovers. may-stage c.args.self next c.next-next.ensures stood deeds recovers)
-          written _ _ c.requires.stands told;
+          written before.told now.told c.requires.stands told;
       faults = record {
         never_falls = counts.never_falls;
         failed = λ is. counts.failed (c.after_write.ensures.failed is);

@@ -1,17 +1,13 @@
 use Rattle.std.proofs.Common.{sym, subst, ◌∙◌}
 use Rattle.suite_session.specs.declared.session.Phase.{Phase}
-use Rattle.suite_session.specs.Moment.{moment}
 use Rattle.suite_session.specs.Session.{OthersStand}
 use Rattle.suite_session.proofs.OthersLemmas.{others-stand}
 use Rattle.suite_session.proofs.session.Session.turn.Goals as goal
 
 pub returns-clause-others : goal.returns-clause-others
 returns-clause-others g c =
-    let before = moment (g.F.Folder.admits c.args.folder.now) (g.F.Folder.told c.args.folder.now)
-    (g.F.Folder.fault_count c.args.folder.now) in
-    let now = moment (g.F.Folder.admits c.turned-next.new.folder)
-    (g.F.Folder.told c.turned-next.new.folder)
-    (g.F.Folder.fault_count c.turned-next.new.folder) in
+    let before = g.F.Folder.moment c.args.folder.now in
+    let now = g.F.Folder.moment c.turned-next.new.folder in
     subst (λ (phase : Phase). OthersStand before now phase c.replace.new.dest)
     (c.replace-phase.ensures.value ∙ c.self.view_is)
     (subst (λ (phase : Phase). OthersStand before now c.replace-phase.result phase)
