@@ -57,4 +57,5 @@ mod GetsubidsRows
 pub mod FreeIds
 pub mod UsermodRangeScripts
 pub mod FormatLaws
+pub mod NamingLaws
 pub mod TextLaws

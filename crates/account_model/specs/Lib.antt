@@ -51,3 +51,4 @@ pub mod Faults
 pub mod WrittenScript
 pub mod TouchedLines
 pub mod LineFormat
+pub mod Naming

@@ -25,7 +25,9 @@ pub use laws::{
     ranges_are_found, records_are_found, records_read_back, reports_are_whole, tables_are_edited,
     tools_are_written, touched_lines_are_met, untouched_lines_stay,
 };
-pub use records::{GroupRecord, GshadowRecord, PasswdRecord, ShadowRecord, SubidRecord};
+pub use records::{
+    GREATEST_DAYS, GREATEST_ID, GroupRecord, GshadowRecord, PasswdRecord, ShadowRecord, SubidRecord,
+};
 pub use refusal::{LineProblem, Refusal};
 pub use renaming_laws::lists_are_renamed;
 pub use settings::{IdSort, Key, Kind};

@@ -1,90 +1,21 @@
 -- Claim: a text is a date where it has three pieces between hyphens, of four, two and two digits
--- (`date-read`), and else none (`month-missing`, `day-missing`). Way: the place of the first hyphen
--- ends the first piece (`cut-found`), and digits have no hyphen, so they are one piece
--- (`cut-digits`).
-use Rattle.std.proofs.Common.{◌≡◌, ℕ, ◌+◌, ◌-◌, ◌<◌, ◌≤◌, Bool, true, false, cond, List, [], ◌∷◌, length, take, drop, length-drop, ℤ, refl, sym, ◌∙◌, ap, subst, arith, inl, inr}
-use Rattle.std.specs.Prelude.{Option, Some, None, Result, Ok, Err, ◌==◌, ◌&&◌, nat_lt, position, if◌then◌else◌}
+-- (`date-read`), and else none (`month-missing`, `day-missing`). Way: digits have no hyphen, so they
+-- are one piece (`cut-digits`).
+use Rattle.std.proofs.Common.{◌≡◌, ℕ, ◌<◌, Bool, true, false, List, [], ◌∷◌, length, ℤ, refl, sym, ◌∙◌, ap, subst, arith}
+use Rattle.std.specs.Prelude.{Result, Ok, Err, ◌==◌, ◌&&◌, if◌then◌else◌}
 use Rattle.std.specs.Char.{digit_value}
-use Rattle.std.specs.List.{position_or_len, join_with_byte}
+use Rattle.std.specs.List.{join_with_byte}
 use Rattle.std.specs.Str.Parse.{AllDigits, digits_value}
-use Rattle.std.proofs.lemmas.Bool.{cases_Bool, ltb-true, ltb-false}
-use Rattle.std.proofs.lemmas.Bool.Decides.{eqb_tells, nat_tests}
-use Rattle.std.proofs.lemmas.List.{take_all}
-use Rattle.std.proofs.lemmas.List.Splits.{slice_split_first}
 use Rattle.acct_text.specs.Pieces.{cut_at, Lacks}
 use Rattle.acct_text.specs.Numbers.{is_digits}
 use Rattle.acct_text.proofs.Cut.{cut_at-is, cut-one}
-use Rattle.acct_text.proofs.NumberLaws.{some-inj, is_digits-numeral}
+use Rattle.acct_text.proofs.NumberLaws.{is_digits-numeral}
 use Rattle.account_model.specs.Text.{hyphen}
 use Rattle.account_model.specs.Dates.{are_digits, written_date, day_of_written, read_date_pieces, no_day_shape}
 use Rattle.account_model.proofs.DateTextLaws.{both_true}
 use Rattle.acct_dates.specs.Days.{answered}
 use Rattle.acct_dates.specs.declared.read.DateFault.{DateFault}
 use Rattle.acct_dates.specs.declared.read.DateFault.TheVariants.{Shape}
-
--- whether a byte is a hyphen
-abbrev pub is_hyphen : ℕ → Bool
-is_hyphen byte = byte == hyphen
-
--- ---- The first hyphen
-
--- what the first place that passes says
-found-by :
-    (place len end : ℕ) (within : Bool)
-    → nat_lt place len ≡ within
-    → cond within (Some place) None ≡ Some end
-    → (place ≡ end) × (place < len)
-found-by place len end true e found = (some-inj found, ltb-true place len e)
-found-by place len end false e found = absurd (cc)
-
--- a text is its first piece up to the hyphen, and the pieces of what follows
-pub cut-found :
-    (text : List ℕ) (end : ℕ)
-    → position is_hyphen text ≡ Some end
-    → cut_at hyphen text
-    ≡ take end text ∷ cut_at hyphen (take (length text - (end + 1)) (drop (end + 1) text))
-cut-found text end e =
-    let place = position_or_len is_hyphen text
-    in let found = found-by place (length text) end (nat_lt place (length text)) refl e
-    in let rest = drop (end + 1) text
-    in let all : take (length text - (end + 1)) rest ≡ rest =
-    take_all (length text - (end + 1)) rest (simp length-drop (omega arith))
-    in let first = slice_split_first is_hyphen text 0 found.1
-    in let cut = subst
-    (λ end. cut_at hyphen text ≡ take end text ∷ cut_at hyphen (drop (end + 1) text))
-    found.0
-    first
-    in rw all cut
-
--- a text whose first hyphen stands at its end has none
-lacks-to-end :
-    (text : List ℕ)
-    → length text ≤ position_or_len is_hyphen text
-    → Lacks hyphen text
-lacks-to-end [] past = tt
-lacks-to-end (byte ∷ text) past = elim (eqb_tells byte hyphen) [
-  | inl at ↦ absurd (grind (arith, nat_tests))
-  | inr other ↦ (other.1, lacks-to-end text (grind (arith, nat_tests)))
-]
-
--- there is none where none is found
-none-past :
-    (place len : ℕ) (within : Bool)
-    → nat_lt place len ≡ within
-    → ◌≡◌ {A = Option ℕ} (cond within (Some place) None) None
-    → len ≤ place
-none-past place len true e none = absurd (cc)
-none-past place len false e none = ltb-false place len e
-
--- a text without a hyphen is one piece
-pub cut-none :
-    (text : List ℕ)
-    → position is_hyphen text ≡ None
-    → cut_at hyphen text ≡ text ∷ []
-cut-none text e =
-    let place = position_or_len is_hyphen text
-    in let past = none-past place (length text) (nat_lt place (length text)) refl e
-    in cut-one hyphen text (lacks-to-end text past)
 
 -- ---- Digits are one piece
 

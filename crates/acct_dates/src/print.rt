@@ -1,17 +1,13 @@
 // A day as a text: a date, and behind the last of them a number (chage(1), `-l`).
 ghost use Rattle.std.specs.Prelude.{◌≡◌, ◌<◌, IfOk, MatchOption};
-ghost use Rattle.std.specs.Fmt.{decimal};
 ghost use Rattle.account_model.specs.Dates.{print_day as text_of_day};
 ghost use Rattle.acct_text.specs.Limits.{last_day};
 ghost use Rattle.jiff.specs.Words.{date_text};
 
-use acct_text::{Bytes, push_decimal};
+use acct_text::{Bytes, LAST_DAY, Piece};
 use jiff::ToSpan;
 use jiff::civil::{Date, date};
 use std::alloc::{AllocError, Global};
-
-// 9999-12-31, the last date of four digits.
-const LAST_DAY: u64 = 2_932_896;
 
 /// The text of a day: YYYY-MM-DD up to 9999-12-31, and its number behind that.
 pub fn print_day(alloc: Global, day: u64) -> Result<Bytes, AllocError>
@@ -19,7 +15,7 @@ pub fn print_day(alloc: Global, day: u64) -> Result<Bytes, AllocError>
 {
     match date_of(day) {
         Some(date) => Bytes::of(alloc, date.to_string(alloc)?.as_bytes()),
-        None => print_number(alloc, day),
+        None => Bytes::made_of(alloc, &[Piece::Number(day)]),
     }
 }
 
@@ -31,13 +27,4 @@ fn date_of(day: u64) -> Option<Date>
         return None;
     }
     date(1970, 1, 1).checked_add((day as i64).days()).ok()
-}
-
-// A number in decimal.
-fn print_number(alloc: Global, number: u64) -> Result<Bytes, AllocError>
-    ensures { IfOk result (λ text. text ≡ decimal number) }
-{
-    let mut text = Bytes::new(alloc);
-    push_decimal(&mut text, number)?;
-    Ok(text)
 }

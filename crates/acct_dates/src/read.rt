@@ -1,18 +1,19 @@
 // A text as a day: `-1`, the number of a day, or a date (chage(1), `-d` and `-E`; useradd(8) and
 // usermod(8), `-e`).
-ghost use Rattle.std.specs.Prelude.{◌≡◌, ◌<◌, ◌≤◌, ◌∷◌, [], ◌==◌, ◌^◌, position, if◌then◌else◌, IfOk, IfErr};
+ghost use Rattle.std.specs.Prelude.{◌≡◌, ◌<◌, ◌≤◌, ◌^◌, if◌then◌else◌, IfOk};
 ghost use Rattle.std.specs.Str.Parse.{digits_value};
 ghost use Rattle.acct_text.specs.Pieces.{cut_at};
 ghost use Rattle.account_model.specs.Text.{hyphen};
 ghost use Rattle.account_model.specs.Dates.{are_digits, day_of_written, read_date_pieces, read_day as day_of_text};
 ghost use Rattle.acct_dates.specs.Days.{answered, date_of};
 
-use acct_text::{NumberFault, read_decimal};
+use account_model::GREATEST_DAYS;
+use acct_text::{NumberFault, cut_once, read_decimal};
 use jiff::civil::Date;
 use thiserror::Error;
 
-// The greatest day and number of days (shadow(5)).
-const GREATEST_DAY: u64 = 2_147_483_647;
+// The greatest day, as the number that is read.
+const GREATEST_DAY: u64 = GREATEST_DAYS as u64;
 
 /// Why a text is no day.
 #[derive(Clone, Copy, Debug, PartialEq, Eq, Error)]
@@ -52,42 +53,16 @@ pub fn read_day(text: &[u8]) -> Result<i64, DateFault>
 fn read_date(text: &[u8]) -> Result<i64, DateFault>
     ensures { result ≡ answered (read_date_pieces (cut_at hyphen text.now)) }
 {
-    let first = cut_once(text)?;
-    let second = cut_once(first.after)?;
+    let Some(first) = cut_once(b'-', text) else {
+        return Err(DateFault::Shape);
+    };
+    let Some(second) = cut_once(b'-', first.behind) else {
+        return Err(DateFault::Shape);
+    };
     let year = number(first.before, 4)?;
     let month = number(second.before, 2)?;
-    let day = number(second.after, 2)?;
+    let day = number(second.behind, 2)?;
     day_of(WrittenDate { year, month, day })
-}
-
-// A text at its first hyphen.
-#[derive(Clone, Copy)]
-struct Cut<'a> {
-    before: &'a [u8],
-    after: &'a [u8],
-}
-
-// Cuts a text at its first hyphen; without one it is no date.
-fn cut_once(text: &[u8]) -> Result<Cut<'_>, DateFault>
-    ensures found { IfOk result (λ cut.
-        cut_at hyphen text.now ≡ cut.before.now ∷ cut_at hyphen cut.after.now) }
-    ensures whole { IfErr result (λ fault.
-        (fault ≡ DateFault.Shape) × (cut_at hyphen text.now ≡ text.now ∷ [])) }
-{
-    match place_of_hyphen(text) {
-        Some(end) => Ok(Cut {
-            before: &text[..end],
-            after: &text[end + 1..],
-        }),
-        None => Err(DateFault::Shape),
-    }
-}
-
-// The place of the first hyphen.
-fn place_of_hyphen(text: &[u8]) -> Option<usize>
-    ensures { result ≡ position (λ byte. byte == hyphen) text.now }
-{
-    text.iter().position(|byte| *byte == b'-')
 }
 
 // The number of exactly so many digits.

@@ -1,6 +1,5 @@
 pub mod Counted
 pub mod NamesCut
-pub mod NamesJoined
 pub mod Read
 pub mod Taken
 pub mod PasswdFields

@@ -1,54 +1,9 @@
--- Claim: the first separator ends the first piece (`cut-at_first`), and a text without one is one
--- piece (`cut-at_none`); a name is listed where it is the first piece (`listed-here`) or among those
--- behind it (`listed-behind`). Way: the bytes before the first place that passes the test don't pass it.
-use Rattle.std.proofs.Common.{◌≡◌, ℕ, ◌+◌, ◌<◌, Bool, true, false, List, ◌∷◌, [], ◌++◌, length, take, drop, slice_index, get_or, All, Some, None, refl, append_assoc, ap, sym, ◌∙◌, arith, inl, inr, subst}
-use Rattle.std.proofs.lemmas.Grind.{common_steps}
-use Rattle.std.proofs.lemmas.Bool.{cases_Bool}
-use Rattle.std.proofs.lemmas.List.{append-nil, take-append-drop, drop_more}
-use Rattle.std.proofs.lemmas.List.Elements.{All-from_get_or}
-use Rattle.std.proofs.lemmas.List.Splits.{slice_split_at, slice_split_none}
-use Rattle.memchr.specs.Find.{is_byte, Passes, Nowhere, IsFirstByte}
-use Rattle.acct_text.specs.Pieces.{cut_at}
+-- Claim: a name is listed where it is the first piece of a list (`listed-here`) or among those
+-- behind it (`listed-behind`). Way: a name is among pieces where it is the first or among the others.
+use Rattle.std.proofs.Common.{◌≡◌, ℕ, Bool, true, false, List, ◌∷◌, [], ◌++◌, refl, append_assoc, ap, sym, ◌∙◌}
+use Rattle.std.proofs.lemmas.List.{append-nil}
 use Rattle.std.specs.Prelude.{◌||◌, bytes_eq}
 use Rattle.account_model.specs.Text.{is_listed, nonempty}
-
--- a test that isn't passed is failed
-failed : (passed : Bool) → ¬ (passed ≡ true) → passed ≡ false
-failed passed not_passed = elim (cases_Bool passed) [ inl yes_is ↦ absurd (not_passed yes_is) | inr no_is ↦ no_is ]
-
--- bytes of which none passes the test
-all-failed :
-    (test : ℕ → Bool) (text : List ℕ) (end : ℕ)
-    → end < length text + 1
-    → Nowhere (Passes test text) 0 end
-    → All (λ byte. test byte ≡ false) (take end text)
-all-failed test text end within nowhere = All-from_get_or (λ byte. test byte ≡ false) (take end text) 0
-    (λ place low.
-    let same : get_or (take end text) place 0 ≡ get_or text place 0 = grind (arith, common_steps) in
-    subst (λ byte. test byte ≡ false) (sym same) (failed (test (get_or text place 0)) (nowhere place (omega arith) (grind (arith, common_steps)))))
-
--- a text without the separator is one piece
-pub cut-at_none :
-    (separator : ℕ) (text : List ℕ)
-    → IsFirstByte (is_byte separator) text None
-    → cut_at separator text ≡ text ∷ []
-cut-at_none separator text first =
-    slice_split_none (is_byte separator) text
-    (All-from_get_or (λ byte. is_byte separator byte ≡ false) text 0
-    (λ place low. failed (is_byte separator (get_or text place 0)) (first place (omega arith) low)))
-
--- the first piece ends at the first separator
-pub cut-at_first :
-    (separator : ℕ) (text : List ℕ) (end : ℕ)
-    → IsFirstByte (is_byte separator) text (Some end)
-    → cut_at separator text ≡ take end text ∷ cut_at separator (drop (end + 1) text)
-cut-at_first separator text end first =
-    let inside : end < length text = first.0.high in
-    let whole : text ≡ take end text ++ (slice_index text end ∷ drop (end + 1) text) =
-    sym (take-append-drop end text) ∙ ap (λ rest. take end text ++ rest) (drop_more text end 0 inside)
-    in ap (cut_at separator) whole
-    ∙ slice_split_at (is_byte separator) (take end text) (slice_index text end) (drop (end + 1) text)
-    (all-failed (is_byte separator) text end (omega arith) first.0.before) first.1
 
 -- a piece that is pushed where it isn't empty moves from the pieces to the names
 pub pushed-piece :

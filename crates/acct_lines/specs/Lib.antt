@@ -1,5 +1,3 @@
 pub mod Reading
 pub mod Fields
 pub mod Shown
-pub mod Naming
-pub mod NamingLaws

@@ -1,25 +1,18 @@
 // A line cut into its fields where they stand, and what each kind of field holds. Fields are counted
 // from 1.
-ghost use Rattle.std.specs.Prelude.{◌≡◌, ◌<◌, ◌+◌, ◌++◌, [], ◌∷◌, IfOk, IfSome, MatchOption, MatchResult, OnOk, length};
+ghost use Rattle.std.specs.Prelude.{◌≡◌, ◌<◌, ◌+◌, ◌++◌, [], ◌∷◌, IfOk, MatchResult, OnOk, length};
 ghost use Rattle.std.specs.Option.{ok_or};
-ghost use Rattle.account_model.specs.Records.{read_days, read_names};
+ghost use Rattle.account_model.specs.Records.{read_count, read_days, read_id, read_names};
 ghost use Rattle.account_model.specs.Text.{is_listed, nonempty};
 ghost use Rattle.acct_text.specs.Numbers.{number_within};
-ghost use Rattle.acct_text.specs.Pieces.{cut_at};
 ghost use Rattle.acct_lines.specs.Fields.{AreFields, IsMiscount, IsNameIn, IsUnnamed};
-ghost use Rattle.acct_lines.specs.Naming.{first_field as first_of};
+ghost use Rattle.account_model.specs.Naming.{first_field as first_of};
 
-use crate::LineFault;
-use acct_text::{Names, read_decimal};
-use memchr::{memchr, memchr_iter};
+use account_model::{GREATEST_DAYS, GREATEST_ID, LineFault};
+use acct_text::{Names, cut_once, read_decimal};
+use memchr::memchr_iter;
 use std::alloc::{AllocError, Global};
 use std::marker::Model;
-
-/// The greatest UID, GID or subordinate ID.
-pub(crate) const GREATEST_ID: u32 = 4294967294;
-
-// The greatest day, and the greatest number of days.
-const GREATEST_DAYS: u32 = 2147483647;
 
 /// The fields of a line that are still to be taken, each a part of the line.
 #[derive(Drop)]
@@ -74,30 +67,22 @@ impl<'a> Fields<'a> {
     }
 }
 
-// A text in front of a separator and behind it.
-#[derive(Clone, Copy)]
-struct Cut<'a> {
-    before: &'a [u8],
-    behind: &'a [u8],
-}
-
-// The text cut at its first separator; none where it has none.
-fn cut_once(separator: u8, text: &[u8]) -> Option<Cut<'_>>
-    ensures cut { MatchOption result (cut_at separator text.now ≡ text.now ∷ [])
-        (λ cut. cut_at separator text.now ≡ cut.before.now ∷ cut_at separator cut.behind.now) }
-    ensures shorter { IfSome result (λ cut. length cut.behind.now < length text.now) }
+/// The UID, the GID or the first subordinate ID that the field at a place is.
+pub(crate) fn id(place: usize, field: &[u8]) -> Result<u32, LineFault>
+    ensures { result ≡ ok_or (read_id field.now) (LineFault.BadNumber place) }
 {
-    match memchr(separator, text) {
-        Some(end) => Some(Cut {
-            before: &text[..end],
-            behind: &text[end + 1..],
-        }),
-        None => None,
-    }
+    number(place, field, GREATEST_ID)
 }
 
-/// The number, of at most `greatest`, that the field at a place is.
-pub(crate) fn number(place: usize, field: &[u8], greatest: u32) -> Result<u32, LineFault>
+/// The number of subordinate IDs that the field at a place is, before the range is tested.
+pub(crate) fn count(place: usize, field: &[u8]) -> Result<u32, LineFault>
+    ensures { result ≡ ok_or (read_count field.now) (LineFault.BadNumber place) }
+{
+    number(place, field, GREATEST_ID + 1)
+}
+
+// The number, of at most `greatest`, that the field at a place is.
+fn number(place: usize, field: &[u8], greatest: u32) -> Result<u32, LineFault>
     ensures { result ≡ ok_or (number_within greatest field.now) (LineFault.BadNumber place) }
 {
     match read_decimal(field, u64::from(greatest)) {

@@ -3,10 +3,24 @@ ghost use Rattle.std.specs.Prelude.{◌≡◌, Some, IfOk, MatchResult};
 ghost use Rattle.account_model.specs.Faults.{group_fault};
 ghost use Rattle.account_model.specs.Records.{group_format};
 
-use crate::fields::{self, Fields, GREATEST_ID};
+use crate::fields::{self, Fields};
+use crate::walks::{copy_field, copy_fields, print_field, print_fields, read_fields};
 use crate::{GroupRecord, LineFault, ReadFault, TableRecord, cut_names, parts};
 use acct_text::{Bytes, Names, join_fields};
 use std::alloc::{AllocError, Global};
+
+// The fields of a line, in their order (group(5)).
+macro_rules! group_fields {
+    ($walk:ident, $($with:tt)+) => {
+        $walk! {
+            $($with)+;
+            name,
+            password: text,
+            gid: id(3),
+            members: names,
+        }
+    };
+}
 
 /// A line of group, read where it stands: its texts are parts of the line.
 #[derive(Clone, Copy)]
@@ -31,31 +45,14 @@ impl<'a> GroupLine<'a> {
             (λ shown. group_format.read line.now ≡ Some (group_shown shown))
             (λ first. group_fault line.now ≡ Some first) }
     {
-        let mut fields = Fields::of(line, 4)?;
-        let name = fields.take();
-        let password = fields.take();
-        let gid = fields.take();
-        let members = fields.take();
-        let gid = fields::number(3, gid, GREATEST_ID)?;
-        let name = fields::name(name)?;
-        Ok(GroupLine {
-            name,
-            password,
-            gid,
-            members,
-        })
+        Ok(group_fields!(read_fields, line as GroupLine of 4))
     }
 
     /// A copy of the record that the line shows.
     pub fn copied(&self, alloc: Global) -> Result<GroupRecord, AllocError>
         ensures { IfOk result (λ copy. copy ≡ group_shown self.now) }
     {
-        Ok(GroupRecord {
-            name: Bytes::of(alloc, self.name)?,
-            password: Bytes::of(alloc, self.password)?,
-            gid: self.gid,
-            members: cut_names(alloc, self.members)?,
-        })
+        Ok(group_fields!(copy_fields, self as GroupRecord in alloc))
     }
 }
 
@@ -63,7 +60,7 @@ impl TableRecord for GroupRecord {
     ghost use Rattle.account_model.specs.Records.{group_format};
     ghost use Rattle.account_model.specs.Faults.{group_fault};
     ghost use Rattle.account_model.proofs.FormatLaws.{group-is_format};
-    ghost use Rattle.acct_lines.specs.NamingLaws.{group-names_first};
+    ghost use Rattle.account_model.proofs.NamingLaws.{group-names_first};
 
     ghost format = { group_format };
 
@@ -78,12 +75,7 @@ impl TableRecord for GroupRecord {
     }
 
     fn print(&self, alloc: Global) -> Result<Bytes, AllocError> {
-        let mut line = Names::new(alloc);
-        line.push(self.name.as_slice())?;
-        line.push(self.password.as_slice())?;
-        parts::push_number(alloc, &mut line, self.gid)?;
-        parts::push_names(alloc, &mut line, &self.members)?;
-        join_fields(alloc, &line)
+        group_fields!(print_fields, self in alloc)
     }
 
     fn name(&self) -> &[u8] {

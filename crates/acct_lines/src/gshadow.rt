@@ -4,9 +4,23 @@ ghost use Rattle.account_model.specs.Faults.{gshadow_fault};
 ghost use Rattle.account_model.specs.Records.{gshadow_format};
 
 use crate::fields::{self, Fields};
+use crate::walks::{copy_field, copy_fields, print_field, print_fields, read_fields};
 use crate::{GshadowRecord, LineFault, ReadFault, TableRecord, cut_names, parts};
 use acct_text::{Bytes, Names, join_fields};
 use std::alloc::{AllocError, Global};
+
+// The fields of a line, in their order (gshadow(5)).
+macro_rules! gshadow_fields {
+    ($walk:ident, $($with:tt)+) => {
+        $walk! {
+            $($with)+;
+            name,
+            password: text,
+            administrators: names,
+            members: names,
+        }
+    };
+}
 
 /// A line of gshadow, read where it stands: its texts are parts of the line.
 #[derive(Clone, Copy)]
@@ -31,30 +45,14 @@ impl<'a> GshadowLine<'a> {
             (λ shown. gshadow_format.read line.now ≡ Some (gshadow_shown shown))
             (λ first. gshadow_fault line.now ≡ Some first) }
     {
-        let mut fields = Fields::of(line, 4)?;
-        let name = fields.take();
-        let password = fields.take();
-        let administrators = fields.take();
-        let members = fields.take();
-        let name = fields::name(name)?;
-        Ok(GshadowLine {
-            name,
-            password,
-            administrators,
-            members,
-        })
+        Ok(gshadow_fields!(read_fields, line as GshadowLine of 4))
     }
 
     /// A copy of the record that the line shows.
     pub fn copied(&self, alloc: Global) -> Result<GshadowRecord, AllocError>
         ensures { IfOk result (λ copy. copy ≡ gshadow_shown self.now) }
     {
-        Ok(GshadowRecord {
-            name: Bytes::of(alloc, self.name)?,
-            password: Bytes::of(alloc, self.password)?,
-            administrators: cut_names(alloc, self.administrators)?,
-            members: cut_names(alloc, self.members)?,
-        })
+        Ok(gshadow_fields!(copy_fields, self as GshadowRecord in alloc))
     }
 }
 
@@ -62,7 +60,7 @@ impl TableRecord for GshadowRecord {
     ghost use Rattle.account_model.specs.Records.{gshadow_format};
     ghost use Rattle.account_model.specs.Faults.{gshadow_fault};
     ghost use Rattle.account_model.proofs.FormatLaws.{gshadow-is_format};
-    ghost use Rattle.acct_lines.specs.NamingLaws.{gshadow-names_first};
+    ghost use Rattle.account_model.proofs.NamingLaws.{gshadow-names_first};
 
     ghost format = { gshadow_format };
 
@@ -77,12 +75,7 @@ impl TableRecord for GshadowRecord {
     }
 
     fn print(&self, alloc: Global) -> Result<Bytes, AllocError> {
-        let mut line = Names::new(alloc);
-        line.push(self.name.as_slice())?;
-        line.push(self.password.as_slice())?;
-        parts::push_names(alloc, &mut line, &self.administrators)?;
-        parts::push_names(alloc, &mut line, &self.members)?;
-        join_fields(alloc, &line)
+        gshadow_fields!(print_fields, self in alloc)
     }
 
     fn name(&self) -> &[u8] {

@@ -4,7 +4,7 @@
 //!
 //! `TableRecord` is what the five records share. `PasswdLine` and its likes show the record of a line
 //! where it stands, without memory. `fields` cuts a line and reads its fields, `parts` prints them,
-//! and each record has a file of its own.
+//! and each record has a file of its own, which names its fields once for `walks`.
 #![tactic(auto)]
 
 mod fields;
@@ -16,6 +16,7 @@ mod passwd;
 mod record;
 mod shadow;
 mod subid;
+mod walks;
 
 pub use account_model::{
     GroupRecord, GshadowRecord, LineFault, PasswdRecord, ShadowRecord, SubidRecord,

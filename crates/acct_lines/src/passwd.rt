@@ -3,10 +3,27 @@ ghost use Rattle.std.specs.Prelude.{◌≡◌, Some, IfOk, MatchResult};
 ghost use Rattle.account_model.specs.Faults.{passwd_fault};
 ghost use Rattle.account_model.specs.Records.{passwd_format};
 
-use crate::fields::{self, Fields, GREATEST_ID};
+use crate::fields::{self, Fields};
+use crate::walks::{copy_field, copy_fields, print_field, print_fields, read_fields};
 use crate::{LineFault, PasswdRecord, ReadFault, TableRecord, parts};
 use acct_text::{Bytes, Names, join_fields};
 use std::alloc::{AllocError, Global};
+
+// The fields of a line, in their order (passwd(5)).
+macro_rules! passwd_fields {
+    ($walk:ident, $($with:tt)+) => {
+        $walk! {
+            $($with)+;
+            name,
+            password: text,
+            uid: id(3),
+            gid: id(4),
+            comment: text,
+            home: text,
+            shell: text,
+        }
+    };
+}
 
 /// A line of passwd, read where it stands: its texts are parts of the line.
 #[derive(Clone, Copy)]
@@ -37,41 +54,14 @@ impl<'a> PasswdLine<'a> {
             (λ shown. passwd_format.read line.now ≡ Some (passwd_shown shown))
             (λ first. passwd_fault line.now ≡ Some first) }
     {
-        let mut fields = Fields::of(line, 7)?;
-        let name = fields.take();
-        let password = fields.take();
-        let uid = fields.take();
-        let gid = fields.take();
-        let comment = fields.take();
-        let home = fields.take();
-        let shell = fields.take();
-        let uid = fields::number(3, uid, GREATEST_ID)?;
-        let gid = fields::number(4, gid, GREATEST_ID)?;
-        let name = fields::name(name)?;
-        Ok(PasswdLine {
-            name,
-            password,
-            uid,
-            gid,
-            comment,
-            home,
-            shell,
-        })
+        Ok(passwd_fields!(read_fields, line as PasswdLine of 7))
     }
 
     /// A copy of the record that the line shows.
     pub fn copied(&self, alloc: Global) -> Result<PasswdRecord, AllocError>
         ensures { IfOk result (λ copy. copy ≡ passwd_shown self.now) }
     {
-        Ok(PasswdRecord {
-            name: Bytes::of(alloc, self.name)?,
-            password: Bytes::of(alloc, self.password)?,
-            uid: self.uid,
-            gid: self.gid,
-            comment: Bytes::of(alloc, self.comment)?,
-            home: Bytes::of(alloc, self.home)?,
-            shell: Bytes::of(alloc, self.shell)?,
-        })
+        Ok(passwd_fields!(copy_fields, self as PasswdRecord in alloc))
     }
 }
 
@@ -79,7 +69,7 @@ impl TableRecord for PasswdRecord {
     ghost use Rattle.account_model.specs.Records.{passwd_format};
     ghost use Rattle.account_model.specs.Faults.{passwd_fault};
     ghost use Rattle.account_model.proofs.FormatLaws.{passwd-is_format};
-    ghost use Rattle.acct_lines.specs.NamingLaws.{passwd-names_first};
+    ghost use Rattle.account_model.proofs.NamingLaws.{passwd-names_first};
 
     ghost format = { passwd_format };
 
@@ -94,15 +84,7 @@ impl TableRecord for PasswdRecord {
     }
 
     fn print(&self, alloc: Global) -> Result<Bytes, AllocError> {
-        let mut line = Names::new(alloc);
-        line.push(self.name.as_slice())?;
-        line.push(self.password.as_slice())?;
-        parts::push_number(alloc, &mut line, self.uid)?;
-        parts::push_number(alloc, &mut line, self.gid)?;
-        line.push(self.comment.as_slice())?;
-        line.push(self.home.as_slice())?;
-        line.push(self.shell.as_slice())?;
-        join_fields(alloc, &line)
+        passwd_fields!(print_fields, self in alloc)
     }
 
     fn name(&self) -> &[u8] {

@@ -6,7 +6,7 @@ ghost use Rattle.account_model.specs.declared.fault.LineFault.{LineFault};
 ghost use Rattle.account_model.specs.Format.{Format};
 ghost use Rattle.account_model.specs.LineFormat.{IsLineFormat};
 ghost use Rattle.account_model.specs.Written.{IsWritten};
-ghost use Rattle.acct_lines.specs.Naming.{NamesFirst};
+ghost use Rattle.account_model.specs.Naming.{NamesFirst};
 ghost use Rattle.acct_lines.specs.Reading.{MatchRead};
 
 use account_model::LineFault;

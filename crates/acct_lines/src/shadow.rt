@@ -4,9 +4,28 @@ ghost use Rattle.account_model.specs.Faults.{shadow_fault};
 ghost use Rattle.account_model.specs.Records.{shadow_format};
 
 use crate::fields::{self, Fields};
+use crate::walks::{copy_field, copy_fields, print_field, print_fields, read_fields};
 use crate::{LineFault, ReadFault, ShadowRecord, TableRecord, parts};
 use acct_text::{Bytes, Names, join_fields};
 use std::alloc::{AllocError, Global};
+
+// The fields of a line, in their order (shadow(5)).
+macro_rules! shadow_fields {
+    ($walk:ident, $($with:tt)+) => {
+        $walk! {
+            $($with)+;
+            name,
+            hash: text,
+            last_change: days(3),
+            minimum: days(4),
+            maximum: days(5),
+            warning: days(6),
+            inactive: days(7),
+            expiration: days(8),
+            rest: text,
+        }
+    };
+}
 
 /// A line of shadow, read where it stands: its texts are parts of the line. The last change and the
 /// expiration are days since 1970-01-01, the others numbers of days.
@@ -42,51 +61,14 @@ impl<'a> ShadowLine<'a> {
             (λ shown. shadow_format.read line.now ≡ Some (shadow_shown shown))
             (λ first. shadow_fault line.now ≡ Some first) }
     {
-        let mut fields = Fields::of(line, 9)?;
-        let name = fields.take();
-        let hash = fields.take();
-        let last_change = fields.take();
-        let minimum = fields.take();
-        let maximum = fields.take();
-        let warning = fields.take();
-        let inactive = fields.take();
-        let expiration = fields.take();
-        let rest = fields.take();
-        let last_change = fields::days(3, last_change)?;
-        let minimum = fields::days(4, minimum)?;
-        let maximum = fields::days(5, maximum)?;
-        let warning = fields::days(6, warning)?;
-        let inactive = fields::days(7, inactive)?;
-        let expiration = fields::days(8, expiration)?;
-        let name = fields::name(name)?;
-        Ok(ShadowLine {
-            name,
-            hash,
-            last_change,
-            minimum,
-            maximum,
-            warning,
-            inactive,
-            expiration,
-            rest,
-        })
+        Ok(shadow_fields!(read_fields, line as ShadowLine of 9))
     }
 
     /// A copy of the record that the line shows.
     pub fn copied(&self, alloc: Global) -> Result<ShadowRecord, AllocError>
         ensures { IfOk result (λ copy. copy ≡ shadow_shown self.now) }
     {
-        Ok(ShadowRecord {
-            name: Bytes::of(alloc, self.name)?,
-            hash: Bytes::of(alloc, self.hash)?,
-            last_change: self.last_change,
-            minimum: self.minimum,
-            maximum: self.maximum,
-            warning: self.warning,
-            inactive: self.inactive,
-            expiration: self.expiration,
-            rest: Bytes::of(alloc, self.rest)?,
-        })
+        Ok(shadow_fields!(copy_fields, self as ShadowRecord in alloc))
     }
 }
 
@@ -94,7 +76,7 @@ impl TableRecord for ShadowRecord {
     ghost use Rattle.account_model.specs.Records.{shadow_format};
     ghost use Rattle.account_model.specs.Faults.{shadow_fault};
     ghost use Rattle.account_model.proofs.FormatLaws.{shadow-is_format};
-    ghost use Rattle.acct_lines.specs.NamingLaws.{shadow-names_first};
+    ghost use Rattle.account_model.proofs.NamingLaws.{shadow-names_first};
 
     ghost format = { shadow_format };
 
@@ -109,17 +91,7 @@ impl TableRecord for ShadowRecord {
     }
 
     fn print(&self, alloc: Global) -> Result<Bytes, AllocError> {
-        let mut line = Names::new(alloc);
-        line.push(self.name.as_slice())?;
-        line.push(self.hash.as_slice())?;
-        parts::push_days(alloc, &mut line, self.last_change)?;
-        parts::push_days(alloc, &mut line, self.minimum)?;
-        parts::push_days(alloc, &mut line, self.maximum)?;
-        parts::push_days(alloc, &mut line, self.warning)?;
-        parts::push_days(alloc, &mut line, self.inactive)?;
-        parts::push_days(alloc, &mut line, self.expiration)?;
-        line.push(self.rest.as_slice())?;
-        join_fields(alloc, &line)
+        shadow_fields!(print_fields, self in alloc)
     }
 
     fn name(&self) -> &[u8] {

@@ -3,13 +3,24 @@ ghost use Rattle.std.specs.Prelude.{◌≡◌, Some, IfOk, MatchResult};
 ghost use Rattle.account_model.specs.Faults.{subid_fault};
 ghost use Rattle.account_model.specs.Records.{is_bad_range, subid_format};
 
-use crate::fields::{self, Fields, GREATEST_ID};
+use crate::fields::{self, Fields};
+use crate::walks::{copy_field, copy_fields, print_field, print_fields, read_fields};
 use crate::{LineFault, ReadFault, SubidRecord, TableRecord, parts};
+use account_model::GREATEST_ID;
 use acct_text::{Bytes, Names, join_fields};
 use std::alloc::{AllocError, Global};
 
-// The greatest number that a count may be before the range is tested.
-const GREATEST_COUNT: u32 = GREATEST_ID + 1;
+// The fields of a line, in their order (subuid(5), subgid(5)).
+macro_rules! subid_fields {
+    ($walk:ident, $($with:tt)+) => {
+        $walk! {
+            $($with)+;
+            owner,
+            first: id(2),
+            count: count(3),
+        }
+    };
+}
 
 /// A line of subuid or subgid, read where it stands: its owner is a part of the line, who holds
 /// `count` IDs from `first` on.
@@ -33,32 +44,18 @@ impl<'a> SubidLine<'a> {
             (λ shown. subid_format.read line.now ≡ Some (subid_shown shown))
             (λ first. subid_fault line.now ≡ Some first) }
     {
-        let mut fields = Fields::of(line, 3)?;
-        let owner = fields.take();
-        let first = fields.take();
-        let count = fields.take();
-        let first = fields::number(2, first, GREATEST_ID)?;
-        let count = fields::number(3, count, GREATEST_COUNT)?;
-        let owner = fields::name(owner)?;
-        if is_bad_range(first, count) {
+        let range = subid_fields!(read_fields, line as SubidLine of 3);
+        if is_bad_range(range.first, range.count) {
             return Err(LineFault::BadRange);
         }
-        Ok(SubidLine {
-            owner,
-            first,
-            count,
-        })
+        Ok(range)
     }
 
     /// A copy of the record that the line shows.
     pub fn copied(&self, alloc: Global) -> Result<SubidRecord, AllocError>
         ensures { IfOk result (λ copy. copy ≡ subid_shown self.now) }
     {
-        Ok(SubidRecord {
-            owner: Bytes::of(alloc, self.owner)?,
-            first: self.first,
-            count: self.count,
-        })
+        Ok(subid_fields!(copy_fields, self as SubidRecord in alloc))
     }
 }
 
@@ -66,7 +63,7 @@ impl TableRecord for SubidRecord {
     ghost use Rattle.account_model.specs.Records.{subid_format};
     ghost use Rattle.account_model.specs.Faults.{subid_fault};
     ghost use Rattle.account_model.proofs.FormatLaws.{subid-is_format};
-    ghost use Rattle.acct_lines.specs.NamingLaws.{subid-names_first};
+    ghost use Rattle.account_model.proofs.NamingLaws.{subid-names_first};
 
     ghost format = { subid_format };
 
@@ -81,11 +78,7 @@ impl TableRecord for SubidRecord {
     }
 
     fn print(&self, alloc: Global) -> Result<Bytes, AllocError> {
-        let mut line = Names::new(alloc);
-        line.push(self.owner.as_slice())?;
-        parts::push_number(alloc, &mut line, self.first)?;
-        parts::push_number(alloc, &mut line, self.count)?;
-        join_fields(alloc, &line)
+        subid_fields!(print_fields, self in alloc)
     }
 
     fn name(&self) -> &[u8] {

@@ -1,5 +1,5 @@
 -- Counts of faults: how often the outside has failed.
-use Rattle.std.specs.Prelude.{◌≡◌, ◌⊎◌, ℕ, ◌+◌, min, ◌<◌, ◌≤◌, Result, IsErrOf}
+use Rattle.std.specs.Prelude.{◌≡◌, ◌⊎◌, ℕ, ◌+◌, min, ◌<◌, ◌≤◌, Bool, true, false, Result, IsErrOf}
 
 -- a count is a u64, and stays at its end once it is there
 abbrev pub last_count : ℕ
@@ -24,3 +24,27 @@ pub record CountsEach {T E : Type 0} (failure : E) (before now : ℕ) (result : 
     : Type 0 where
   pub failed : IsErrOf result failure → now ≡ next_count before
   pub others : ¬ (IsErrOf result failure) → now ≡ before
+
+-- how often a source or a clock has failed, and whether its last call did
+pub record Faults : Type 0 where
+  pub count : ℕ
+  pub last_failed : Bool
+
+-- no fault yet
+abbrev pub no_faults : Faults
+no_faults = record { count = 0; last_failed = false }
+
+-- no call failed in between
+abbrev pub NoneFailed : Faults → Faults → Type 0
+NoneFailed before now = now.count ≡ before.count
+
+-- exactly one call failed in between, and none came after it
+abbrev pub LastFailed : Faults → Faults → Type 0
+LastFailed before now = now ≡ record { count = next_count before.count; last_failed = true }
+
+-- a call that failed is counted, once, and is the last that did; at every other result the count stays
+pub record NotesFault {T E : Type 0} (failure : E) (before now : Faults) (result : Result T E)
+    : Type 0 where
+  pub failed : IsErrOf result failure → LastFailed before now
+  pub others :
+      ¬ (IsErrOf result failure) → now ≡ record { count = before.count; last_failed = false }

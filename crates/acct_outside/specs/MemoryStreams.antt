@@ -5,7 +5,7 @@ use Rattle.acct_outside.specs.declared.failing.Failing.{Failing}
 use Rattle.acct_outside.specs.declared.memory_streams.MemorySource.{MemorySource}
 use Rattle.acct_outside.specs.declared.memory_streams.MemorySink.{MemorySink}
 use Rattle.acct_outside.specs.declared.memory_streams.MemoryClock.{MemoryClock}
-use Rattle.acct_outside.specs.Faults.{next_count}
+use Rattle.acct_outside.specs.Faults.{Faults, next_count}
 use Rattle.acct_outside.specs.Streams.{ClockMoment, SinkMoment, SourceMoment}
 
 -- the numbers of the calls that fail, and how many calls came
@@ -57,17 +57,21 @@ sink_calls sink = calls_in sink.failing
 abbrev pub clock_calls : MemoryClock → Calls
 clock_calls clock = calls_in clock.failing
 
--- how often the source has failed
-abbrev pub source_faults : MemorySource → ℕ
-source_faults source = source.failing.faults
+-- the faults that a list of failing calls has counted
+abbrev pub faults_in : Failing → Faults
+faults_in failing = record { count = failing.faults; last_failed = failing.last_failed }
+
+-- the faults of the source
+abbrev pub source_faults : MemorySource → Faults
+source_faults source = faults_in source.failing
 
 -- how often the sink has failed
 abbrev pub sink_faults : MemorySink → ℕ
 sink_faults sink = sink.failing.faults
 
--- how often the clock has failed
-abbrev pub clock_faults : MemoryClock → ℕ
-clock_faults clock = clock.failing.faults
+-- the faults of the clock
+abbrev pub clock_faults : MemoryClock → Faults
+clock_faults clock = faults_in clock.failing
 
 -- what the source tells of itself
 abbrev pub source_moment : MemorySource → SourceMoment

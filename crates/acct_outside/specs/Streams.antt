@@ -4,23 +4,23 @@ use Rattle.acct_text.specs.Bytes.{Bytes}
 use Rattle.acct_outside.specs.declared.streams.SinkFault.{SinkFault}
 use Rattle.acct_outside.specs.declared.streams.SinkFault.TheVariants.{Failed, Memory}
 use Rattle.acct_outside.specs.declared.streams.SourceFault.{SourceFault}
+use Rattle.acct_outside.specs.Faults.{Faults}
 
--- what a source has left where it tells, and how often it failed
+-- what a source has left where it tells, and its faults
 pub record SourceMoment : Type 0 where
   pub left : Option Bytes
-  pub faults : ℕ
+  pub faults : Faults
 
 -- what a sink holds where it tells, and how often it failed
 pub record SinkMoment : Type 0 where
   pub holds : Option Bytes
   pub faults : ℕ
 
--- the day that a clock last gave, the day that it always gives where it tells one, and how often it
--- failed
+-- the day that a clock last gave, the day that it always gives where it tells one, and its faults
 pub record ClockMoment : Type 0 where
   pub gave : Option ℕ
   pub always : Option ℕ
-  pub faults : ℕ
+  pub faults : Faults
 
 -- what holds of the bytes before and after the call, where they are told
 abbrev pub WhereBytesTold : Option Bytes → Option Bytes → (Bytes → Bytes → Type 0) → Type 0

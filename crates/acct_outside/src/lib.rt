@@ -11,6 +11,7 @@ mod apply;
 mod event;
 mod failing;
 mod folder;
+mod limits;
 mod log;
 mod memory;
 mod memory_calls;
@@ -23,6 +24,7 @@ mod tokens;
 
 use acct_text::{Bytes, Tab};
 pub use folder::Folder;
+pub use limits::{GREATEST_LOCK, INTENT_LIMIT, LOCK_LIMIT};
 pub use memory::MemoryFolder;
 pub use memory_streams::{MemoryClock, MemorySink, MemorySource};
 pub use mishap::Mishap;

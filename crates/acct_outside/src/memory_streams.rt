@@ -1,6 +1,6 @@
 // Streams and a clock in memory, of which the listed calls fail.
 ghost use Rattle.std.specs.Prelude.{◌≡◌, ◌≤◌, ◌++◌, ◌↔◌, ℕ, List, [], Some, length, drop, take, IfOk, OnErr, OnOk, IsErrOf};
-ghost use Rattle.acct_outside.specs.Faults.{CountsEach, CountsFailure};
+ghost use Rattle.acct_outside.specs.Faults.{CountsEach, CountsFailure, NotesFault, no_faults};
 ghost use Rattle.acct_outside.specs.Streams.{Takes};
 ghost use Rattle.acct_text.specs.Limits.{last_day};
 
@@ -26,7 +26,7 @@ impl MemorySource {
     pub fn new(alloc: Global, text: Bytes, failing: Vec<u64>) -> Self
         ensures left { left_of result ≡ text }
         ensures calls { source_calls result ≡ no_calls failing.items }
-        ensures faults { source_faults result ≡ 0 }
+        ensures faults { source_faults result ≡ no_faults }
     {
         MemorySource {
             alloc,
@@ -48,9 +48,7 @@ impl Source for MemorySource {
         ensures left { Takes room result (left_of self.old) (left_of self.new) }
         ensures fails { IsErrOf result SourceFault.Failed ↔ Fails (source_calls self.old) }
         ensures calls { source_calls self.new ≡ with_next (source_calls self.old) }
-        ensures faults { CountsFailure SourceFault.Failed (source_faults self.old)
-            (source_faults self.new) result }
-        ensures each { CountsEach SourceFault.Failed (source_faults self.old)
+        ensures faults { NotesFault SourceFault.Failed (source_faults self.old)
             (source_faults self.new) result }
     {
         if self.failing.next() {
@@ -161,7 +159,7 @@ impl MemoryClock {
         requires { day ≤ last_day }
         ensures day { day_of result ≡ day }
         ensures calls { clock_calls result ≡ no_calls failing.items }
-        ensures faults { clock_faults result ≡ 0 }
+        ensures faults { clock_faults result ≡ no_faults }
     {
         MemoryClock {
             day,
@@ -184,9 +182,7 @@ impl Clock for MemoryClock {
         ensures stays { day_of self.new ≡ day_of self.old }
         ensures fails { IsErrOf result ClockFault.Failed ↔ Fails (clock_calls self.old) }
         ensures calls { clock_calls self.new ≡ with_next (clock_calls self.old) }
-        ensures faults { CountsFailure ClockFault.Failed (clock_faults self.old)
-            (clock_faults self.new) result }
-        ensures each { CountsEach ClockFault.Failed (clock_faults self.old)
+        ensures faults { NotesFault ClockFault.Failed (clock_faults self.old)
             (clock_faults self.new) result }
     {
         if self.failing.next() {

@@ -12,3 +12,9 @@ pub mod ArrangeLemmas
 pub mod RefusalLemmas
 pub mod FirstRefusal
 pub mod DecimalTexts
+pub mod LinesAhead
+pub mod EditedFiles
+pub mod LinesCounted
+pub mod NameIndexLemmas
+pub mod FirstRecords
+pub mod NamedRecords

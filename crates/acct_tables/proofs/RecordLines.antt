@@ -3,7 +3,7 @@
 -- line (`find-met`, `find-passed`, `count-met`, `count-passed`), or place by place (`find-named`,
 -- `find-unnamed`).
 use Rattle.std.proofs.Common.{◌≡◌, ℕ, ◌+◌, ◌<◌, ◌≤◌, arith, Bool, true, false, List, [], ◌∷◌, length, take, drop, get_or, zero, suc, refl, sym, ◌∙◌, ap, zero-add, add-one}
-use Rattle.std.specs.Prelude.{Option, Some, None, if◌then◌else◌}
+use Rattle.std.specs.Prelude.{Option, Some, None, is_some, if◌then◌else◌}
 use Rattle.std.specs.List.{cons_option}
 use Rattle.std.proofs.lemmas.List.{drop_more, take-append-drop}
 use Rattle.std.proofs.lemmas.List.Sums.{sum_by-cons, sum_by-append}
@@ -32,8 +32,16 @@ module _ {R : Type 0} (format : Format R) (name : List ℕ) where
   records-from lines place line inside is =
       ap (records_of format) (lines-from lines place line inside is)
 
+  -- a record of the name is there
+  pub named-some :
+      (kept : Option R)
+      → (elim kept [ None ↦ false | Some r ↦ is_named format name r ]) ≡ true
+      → is_some kept ≡ true
+  named-some None named = absurd cc
+  named-some (Some r) named = refl
+
   -- a record of the name is the first that is found
-  met-by :
+  pub met-by :
       (kept : Option R) (rest : List R)
       → (elim kept [ None ↦ false | Some r ↦ is_named format name r ]) ≡ true
       → find_named format name (cons_option kept rest) ≡ kept
@@ -41,7 +49,7 @@ module _ {R : Type 0} (format : Format R) (name : List ℕ) where
   met-by (Some r) rest named = rw named refl
 
   -- a record of another name isn't found, and other text neither
-  passed-by :
+  pub passed-by :
       (kept : Option R) (rest : List R)
       → (elim kept [ None ↦ false | Some r ↦ is_named format name r ]) ≡ false
       → find_named format name (cons_option kept rest) ≡ find_named format name rest
@@ -163,7 +171,7 @@ module _ {R : Type 0} (format : Format R) (name : List ℕ) where
       ∙ ap (λ n. find_named format name (records_of format (drop n lines))) (sym (add-one place))
 
   -- one line, by what it reads as
-  counted-by :
+  pub counted-by :
       (kept : Option R) (rest : List R)
       → count_named format name (cons_option kept rest)
       ≡ (if (elim kept [ None ↦ false | Some r ↦ is_named format name r ]) then 1 else 0)

@@ -10,3 +10,5 @@ pub mod Refusing
 pub mod DecimalTexts
 pub mod LinePlaces
 pub mod EditedTexts
+pub mod SeenLines
+pub mod NameIndex

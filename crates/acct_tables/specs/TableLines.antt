@@ -14,6 +14,11 @@ abbrev pub record_at : {R : Type 0} → Format R → List Line → ℕ → Optio
 record_at format lines place =
     elim (slice_get lines place) [ None ↦ None | Some line ↦ format.read line.text ]
 
+-- whether the text is a record of the name
+abbrev pub text_is_named : {R : Type 0} → Format R → List ℕ → List ℕ → Bool
+text_is_named format name text =
+    elim (format.read text) [ None ↦ false | Some r ↦ is_named format name r ]
+
 -- whether the line is a record of the name
 abbrev pub line_is_named : {R : Type 0} → Format R → List ℕ → Line → Bool
 line_is_named format name line =

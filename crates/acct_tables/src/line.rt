@@ -1,5 +1,5 @@
 // A line of a table, with the record that it is.
-ghost use Rattle.std.specs.Prelude.{◌≡◌, ◌++◌, Bool, false, bytes_eq, is_some, IfOk, IfSome, OnOk, OnErr};
+ghost use Rattle.std.specs.Prelude.{◌≡◌, ◌++◌, Bool, false, bytes_eq, is_some, option_map, IfOk, IfSome, OnOk, OnErr};
 ghost use Rattle.std.specs.Option.{option_copied};
 ghost use Rattle.acct_text.specs.Bytes.{newline};
 ghost use Rattle.acct_text.specs.Lines.{Line, line_bytes};
@@ -8,10 +8,10 @@ ghost use Rattle.account_model.specs.Edits.{as_ended};
 ghost use Rattle.account_model.specs.Written.{IsListed, IsWritten};
 ghost use Rattle.acct_tables.specs.Kept.{is_printed_as};
 ghost use Rattle.acct_tables.specs.Lists.{changed_line};
-ghost use Rattle.acct_tables.specs.TableLines.{line_is_named, with_record};
+ghost use Rattle.acct_tables.specs.TableLines.{line_is_named, text_is_named, with_record};
 
 use crate::ListRecord;
-use acct_lines::{ReadFault, TableRecord};
+use acct_lines::{ReadFault, TableRecord, first_field};
 use acct_text::Bytes;
 use std::alloc::{AllocError, Global};
 use std::marker::Model;
@@ -34,6 +34,23 @@ pub fn is_record<R: TableRecord>(line: &[u8]) -> bool
     ensures { result ≡ is_some (R.format.read line.now) }
 {
     R::fault(line).is_none()
+}
+
+/// The name of the record that the line is; none where it is other text. It takes no memory.
+pub fn name_of<R: TableRecord>(line: &[u8]) -> Option<&[u8]>
+    ensures { option_copied result ≡ option_map R.format.name (R.format.read line.now) }
+{
+    if !is_record::<R>(line) {
+        return None;
+    }
+    Some(first_field(line))
+}
+
+/// Whether the line is a record of the name. It takes no memory.
+pub fn is_named<R: TableRecord>(line: &[u8], name: &[u8]) -> bool
+    ensures { result ≡ text_is_named R.format name.now line.now }
+{
+    first_field(line) == name && is_record::<R>(line)
 }
 
 /// A line of a table, which keeps its bytes until another record is put into it.

@@ -3,7 +3,7 @@ ghost use Rattle.std.specs.Prelude.{◌≡◌, ℕ, Bool, List, IfOk};
 ghost use Rattle.account_model.specs.Written.{IsListed, IsWritten};
 
 use crate::TableRecord;
-use crate::renaming::{is_listed, renamed_in};
+use crate::renaming::renamed_in;
 use acct_lines::{GroupRecord, GshadowRecord};
 use std::alloc::{AllocError, Global};
 
@@ -41,7 +41,7 @@ impl ListRecord for GroupRecord {
     ghost renamed = { group_renamed };
 
     fn holds(&self, name: &[u8]) -> bool {
-        is_listed(&self.members, name)
+        self.members.contains(name)
     }
 
     fn renamed(&self, alloc: Global, old: &[u8], new: &[u8]) -> Result<Self, AllocError> {
@@ -65,7 +65,7 @@ impl ListRecord for GshadowRecord {
     ghost renamed = { gshadow_renamed };
 
     fn holds(&self, name: &[u8]) -> bool {
-        is_listed(&self.administrators, name) || is_listed(&self.members, name)
+        self.administrators.contains(name) || self.members.contains(name)
     }
 
     fn renamed(&self, alloc: Global, old: &[u8], new: &[u8]) -> Result<Self, AllocError> {

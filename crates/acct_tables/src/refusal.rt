@@ -5,7 +5,8 @@ ghost use Rattle.account_model.specs.Messages.{line_problem_text, refusal_text};
 ghost use Rattle.acct_text.specs.Tables.{table_name};
 
 use account_model::{LineProblem, Refusal};
-use acct_text::{Bytes, Tab, push_decimal};
+use acct_text::Piece::{Number, Text};
+use acct_text::{Bytes, Tab, pair, triple};
 use std::alloc::{AllocError, Global};
 
 /// The text of a refusal, without the tool's name in front and without a newline.
@@ -36,30 +37,14 @@ pub fn refusal_text(alloc: Global, refusal: &Refusal) -> Result<Bytes, AllocErro
     }
 }
 
-// The text of two pieces.
-fn pair(alloc: Global, first: &[u8], second: &[u8]) -> Result<Bytes, AllocError>
-    ensures { IfOk result (λ text. text ≡ first.now ++ second.now) }
-{
-    let mut text = Bytes::of(alloc, first)?;
-    text.push(second)?;
-    Ok(text)
-}
-
-// The text of three pieces.
-fn triple(alloc: Global, first: &[u8], second: &[u8], third: &[u8]) -> Result<Bytes, AllocError>
-    ensures { IfOk result (λ text. text ≡ first.now ++ second.now ++ third.now) }
-{
-    let mut text = pair(alloc, first, second)?;
-    text.push(third)?;
-    Ok(text)
-}
-
 // The value of the option of a letter can't be used.
 fn bad_value(alloc: Global, letter: u8, value: &[u8]) -> Result<Bytes, AllocError>
     ensures { IfOk result (λ text. text ≡
         codes "invalid value for -" ++ letter ∷ codes ": " ++ value.now) }
 {
-    let mut text = triple(alloc, b"invalid value for -", &[letter], b": ")?;
+    let mut text = Bytes::of(alloc, b"invalid value for -")?;
+    text.push(&[letter])?;
+    text.push(b": ")?;
     text.push(value)?;
     Ok(text)
 }
@@ -68,10 +53,10 @@ fn bad_value(alloc: Global, letter: u8, value: &[u8]) -> Result<Bytes, AllocErro
 fn in_use(alloc: Global, sort: &[u8], id: u32) -> Result<Bytes, AllocError>
     ensures { IfOk result (λ text. text ≡ sort.now ++ decimal id ++ codes " is in use") }
 {
-    let mut text = Bytes::of(alloc, sort)?;
-    push_decimal(&mut text, u64::from(id))?;
-    text.push(b" is in use")?;
-    Ok(text)
+    Bytes::made_of(
+        alloc,
+        &[Text(sort), Number(u64::from(id)), Text(b" is in use")],
+    )
 }
 
 // The range from the first ID to the last meets a line of the table.
@@ -80,15 +65,19 @@ fn meets(alloc: Global, first: u32, last: u32, tab: Tab, line: usize) -> Result<
         codes "range " ++ decimal first ++ codes "-" ++ decimal last ++ codes " meets "
         ++ table_name tab ++ codes " line " ++ decimal line) }
 {
-    let mut text = Bytes::of(alloc, b"range ")?;
-    push_decimal(&mut text, u64::from(first))?;
-    text.push(b"-")?;
-    push_decimal(&mut text, u64::from(last))?;
-    text.push(b" meets ")?;
-    text.push(tab.name().as_bytes())?;
-    text.push(b" line ")?;
-    push_decimal(&mut text, line as u64)?;
-    Ok(text)
+    Bytes::made_of(
+        alloc,
+        &[
+            Text(b"range "),
+            Number(u64::from(first)),
+            Text(b"-"),
+            Number(u64::from(last)),
+            Text(b" meets "),
+            Text(tab.name().as_bytes()),
+            Text(b" line "),
+            Number(line as u64),
+        ],
+    )
 }
 
 // To unlock the user would leave no password.
@@ -124,11 +113,16 @@ fn bad_line(alloc: Global, line: u32, problem: &LineProblem) -> Result<Bytes, Al
     ensures { IfOk result (λ text. text ≡
         codes "line " ++ decimal line ++ codes ": " ++ line_problem_text problem.now) }
 {
-    let mut text = Bytes::of(alloc, b"line ")?;
-    push_decimal(&mut text, u64::from(line))?;
-    text.push(b": ")?;
-    text.push(problem_text(alloc, problem)?.as_slice())?;
-    Ok(text)
+    let problem = problem_text(alloc, problem)?;
+    Bytes::made_of(
+        alloc,
+        &[
+            Text(b"line "),
+            Number(u64::from(line)),
+            Text(b": "),
+            Text(problem.as_slice()),
+        ],
+    )
 }
 
 // What is wrong with a line of the input.

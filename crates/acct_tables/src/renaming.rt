@@ -1,7 +1,6 @@
 // A user renamed in a list of names (usermod(8), `-l`).
 ghost use Rattle.std.specs.Prelude.{◌≡◌, bytes_eq, IfOk};
 ghost use Rattle.account_model.specs.Members.{name_once, in_place_of, renamed_in};
-ghost use Rattle.account_model.specs.Text.{is_listed};
 ghost use Rattle.acct_tables.specs.Renaming.{renamed_name};
 
 use acct_text::Names;
@@ -17,20 +16,10 @@ pub(crate) fn renamed_in(
 ) -> Result<Names, AllocError>
     ensures { IfOk result (λ renamed. renamed ≡ renamed_in old.now new.now names.now) }
 {
-    if is_listed(names, old) && old != new {
+    if names.contains(old) && old != new {
         return put_in_place(alloc, names, old, new);
     }
     names.copy()
-}
-
-/// Whether the name is one of the list.
-pub(crate) fn is_listed(names: &Names, name: &[u8]) -> bool
-    ensures { result ≡ is_listed name.now names.now }
-{
-    names
-        .as_slice()
-        .iter()
-        .any(|other| name == other.as_slice())
 }
 
 // The names with the new one in the place of the old one; of the new one the first stays.

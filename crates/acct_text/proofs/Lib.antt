@@ -1,8 +1,10 @@
 pub mod Cut
+pub mod CutOnce
 pub mod LinesLaws
 pub mod NumberLaws
 pub mod PiecePlaces
 pub mod PartPlaces
+pub mod PieceTexts
 pub mod LinePlaces
 pub mod Digits
 pub mod Rows

@@ -1,12 +1,13 @@
 // A text cut at each byte that separates its pieces: a file into lines, a line into fields
-// (passwd(5), and likewise the other five tables).
-ghost use Rattle.std.specs.Prelude.{◌≡◌, map, All, IfOk};
+// (passwd(5), and likewise the other five tables); and a text cut at the first of these alone.
+ghost use Rattle.std.specs.Prelude.{◌≡◌, ◌<◌, [], ◌∷◌, map, length, All, IfOk, IfSome, MatchOption};
+ghost use Rattle.std.specs.List.{join_with_byte};
 ghost use Rattle.acct_text.specs.Bytes.{IsWithin, part_of, places_from};
 ghost use Rattle.acct_text.specs.Lines.{lines_of, texts_of};
 ghost use Rattle.acct_text.specs.Pieces.{cut_at, fields_of, line_of};
 
 use crate::{Bytes, Names};
-use memchr::memchr_iter;
+use memchr::{memchr, memchr_iter};
 use std::alloc::{AllocError, Global};
 
 /// The start and the end of each line of a file, without its newline, counted in bytes from 0.
@@ -59,17 +60,48 @@ fn piece_places(
     Ok(places)
 }
 
+/// The two sides of a byte in a text.
+#[derive(Clone, Copy)]
+pub struct Sides<'a> {
+    /// What stands in front of the byte.
+    pub before: &'a [u8],
+    /// What stands behind it.
+    pub behind: &'a [u8],
+}
+
+/// The text cut at the first byte that is this one; none where no byte is. It takes no memory.
+pub fn cut_once(separator: u8, text: &[u8]) -> Option<Sides<'_>>
+    ensures cut { MatchOption result (cut_at separator text.now ≡ text.now ∷ [])
+        (λ cut. cut_at separator text.now ≡ cut.before.now ∷ cut_at separator cut.behind.now) }
+    ensures shorter { IfSome result (λ cut. length cut.behind.now < length text.now) }
+{
+    match memchr(separator, text) {
+        Some(end) => Some(Sides {
+            before: &text[..end],
+            behind: &text[end + 1..],
+        }),
+        None => None,
+    }
+}
+
 /// The line of these fields, with a colon between each two; no fields make an empty line.
 pub fn join_fields(alloc: Global, parts: &Names) -> Result<Bytes, AllocError>
     ensures { IfOk result (λ line. line ≡ line_of parts.now) }
 {
-    let mut line = Bytes::new(alloc);
+    join(alloc, b':', parts)
+}
+
+/// The text of these parts, with a separator between each two; no parts make an empty text.
+pub fn join(alloc: Global, separator: u8, parts: &Names) -> Result<Bytes, AllocError>
+    ensures { IfOk result (λ text. text ≡ join_with_byte separator parts.now) }
+{
+    let mut text = Bytes::new(alloc);
     if let Some((first, rest)) = parts.as_slice().split_first() {
-        line.push(first.as_slice())?;
-        for field in rest {
-            line.push(b":")?;
-            line.push(field.as_slice())?;
+        text.push(first.as_slice())?;
+        for part in rest {
+            text.push(&[separator])?;
+            text.push(part.as_slice())?;
         }
     }
-    Ok(line)
+    Ok(text)
 }

@@ -1,5 +1,5 @@
 //! What every crate of the suite reads and writes: bytes, words and lists of names; the six
-//! account tables and their files; lines, fields and decimal numbers.
+//! account tables and their files; lines, fields and decimal numbers; texts that are made of pieces.
 //!
 //! A place in a text counts its bytes from 0. Want of memory is the only error of a call that
 //! allocates, and leaves what was there as it was.
@@ -9,16 +9,20 @@ mod bytes;
 mod cuts;
 mod files;
 mod laws;
+mod limits;
 mod names;
 mod numbers;
+mod pieces;
 mod tables;
 
 pub use bytes::{Bytes, Word};
-pub use cuts::{fields, join_fields, lines};
+pub use cuts::{Sides, cut_once, fields, join, join_fields, lines};
 pub use files::Files;
 pub use laws::{one_cut_into_lines, one_cut_into_pieces, one_number};
+pub use limits::{LAST_DAY, TABLE_LIMIT};
 pub use names::Names;
 pub use numbers::{NumberFault, push_decimal, read_decimal};
+pub use pieces::{Piece, pair, triple};
 
 /// A table of accounts. The variants stand in the order in which the suite reads and writes tables.
 #[derive(Clone, Copy, Debug, PartialEq, Eq, PartialOrd, Ord)]

@@ -1,5 +1,6 @@
 // A list of names: the members of a group, the fields of a line.
-ghost use Rattle.std.specs.Prelude.{◌≡◌, ℕ, ◌++◌, [], ◌∷◌, List, length, IfOk, OnOk, OnErr, slice_get, IsTrue, ◌↔◌};
+ghost use Rattle.std.specs.Prelude.{◌≡◌, ℕ, ◌++◌, [], ◌∷◌, List, length, IfOk, OnOk, OnErr, slice_get, IsTrue, ◌↔◌, bytes_eq};
+ghost use Rattle.std.specs.List.{list_any};
 ghost use Rattle.std.specs.Option.{option_copied};
 
 use crate::Bytes;
@@ -71,6 +72,13 @@ impl Names {
             Some(name) => Some(name.as_slice()),
             None => None,
         }
+    }
+
+    /// Whether the name is one of the list.
+    pub fn contains(&self, name: &[u8]) -> bool
+        ensures { result ≡ list_any (bytes_eq name.now) self.now }
+    {
+        self.as_slice().iter().any(|other| name == other.as_slice())
     }
 
     /// The names as a slice, to go over them in order.

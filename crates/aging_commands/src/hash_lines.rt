@@ -1,16 +1,14 @@
 // The lines of the input of chpasswd(8), each NAME:HASH.
-ghost use Rattle.std.specs.Prelude.{◌≡◌, ◌==◌, ◌<◌, ◌≤◌, ◌++◌, [], ◌∷◌, length, map, position, IfOk, IfSome, OnOk};
-ghost use Rattle.acct_text.specs.Bytes.{colon};
+ghost use Rattle.std.specs.Prelude.{◌≡◌, ◌≤◌, ◌++◌, [], ◌∷◌, length, map, IfOk, OnOk};
 ghost use Rattle.acct_text.specs.Limits.{table_limit};
 ghost use Rattle.acct_text.specs.Lines.{lines_of, texts_of};
 ghost use Rattle.account_model.specs.Chpasswd.{bad_line_from};
-ghost use Rattle.account_model.specs.Text.{has_byte};
 ghost use Rattle.table_edits.specs.Stopping.{StopsBy};
 ghost use Rattle.aging_commands.specs.HashLines.{IsCut, hash_line, line_refusal, seen_line};
 
 use account_model::{LineProblem, Refusal};
-use acct_text::{Bytes, lines};
-use command_values::ToolFault;
+use acct_text::{Bytes, cut_once, lines};
+use command_values::{ToolFault, has_byte};
 use std::alloc::{AllocError, Global};
 use table_edits::UserIndex;
 
@@ -70,7 +68,7 @@ fn read_hash<'a>(
     let Some(new) = cut_at_colon(line) else {
         return Err(bad_line(number, LineProblem::NoColon));
     };
-    if has_colon(new.hash) {
+    if has_byte(new.hash, b':') {
         return Err(bad_line(number, LineProblem::HashColon));
     }
     if users.user_named(alloc, new.name)?.is_none() {
@@ -91,24 +89,9 @@ fn bad_line(number: u32, problem: LineProblem) -> ToolFault
 fn cut_at_colon<'a>(line: &'a [u8]) -> Option<NewHash<'a>>
     ensures { IsCut line.now result }
 {
-    let place = place_of_colon(line)?;
+    let cut = cut_once(b':', line)?;
     Some(NewHash {
-        name: &line[..place],
-        hash: &line[place + 1..],
+        name: cut.before,
+        hash: cut.behind,
     })
-}
-
-// Whether the text has a `:`.
-fn has_colon(text: &[u8]) -> bool
-    ensures { result ≡ has_byte colon text.now }
-{
-    text.iter().any(|byte| *byte == b':')
-}
-
-// The place of the first `:`.
-fn place_of_colon(text: &[u8]) -> Option<usize>
-    ensures place { result ≡ position (λ byte. byte == colon) text.now }
-    ensures within { IfSome result (λ place. place < length text.now) }
-{
-    text.iter().position(|byte| *byte == b':')
 }

@@ -1,11 +1,10 @@
 pub mod DecisionLemmas
 pub mod RangeLines
-pub mod OwnedWalk
 pub mod RecordWalk
 pub mod NameWalk
 pub mod PlaceLemmas
 pub mod ReportWalk
 pub mod ReportLemmas
 pub mod SortLemmas
-pub mod PlacedWalk
+pub mod KeyedLines
 pub mod SortedOnce

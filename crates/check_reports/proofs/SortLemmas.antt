@@ -1,39 +1,39 @@
--- Claim: a stable sort by a key gives the records in the order of `sorted_placed` (`sorted-once`).
+-- Claim: a stable sort by a key gives the records in the order of `sorted_by_key` (`sorted-once`).
 -- Way: what is sorted by insertion ascends (`sorting-rises`) and keeps the order of each key
 -- (`sorting-keeps`), and of lists that do both there is one (`one-order`).
 use Rattle.std.proofs.Common.{◌≡◌, ◌∙◌, ℕ, ◌<◌, ◌≤◌, ◌==◌, Bool, true, false, List, [], ◌∷◌, inl, inr, refl, sym, ap, arith}
 use Rattle.std.specs.Prelude.{⊤, cond, filter, nat_le, nat_lt, if◌then◌else◌}
 use Rattle.std.specs.List.{AllByRecursion}
 use Rattle.std.proofs.lemmas.Bool.{cases_Bool, eq-eqb, eqb-true, leb-false, leb-true, ltb-false, ltb-true, ne_eqb}
-use Rattle.acct_tables.specs.Order.{Placed, insert_placed, sorted_placed}
+use Rattle.account_model.specs.Edits.{Keyed, insert_by_key, sorted_by_key}
 
 -- whether a record has this key
-abbrev pub has_key : ℕ → Placed → Bool
-has_key key placed = placed.key == key
+abbrev pub has_key : ℕ → Keyed → Bool
+has_key key keyed = keyed.key == key
 
 -- the keys ascend: none is less than one before it
-abbrev pub Rises : List Placed → Type 0
+abbrev pub Rises : List Keyed → Type 0
 Rises [] = ⊤
 Rises (first ∷ rest) = AllByRecursion (λ later. first.key ≤ later.key) rest × Rises rest
 
 -- the records of each key stand in the same order in both
-abbrev pub AreAlike : List Placed → List Placed → Type 0
+abbrev pub AreAlike : List Keyed → List Keyed → Type 0
 AreAlike first second = (key : ℕ) → filter (has_key key) first ≡ filter (has_key key) second
 
 -- ---- Sorting by insertion
 
 -- what holds of the new one and of all others holds of all with it, by where it goes
 all-by :
-    (P : Placed → Type 0) (new old : Placed) (rest : List Placed) (before : Bool)
-    → P new → P old → AllByRecursion P rest → AllByRecursion P (insert_placed new rest)
-    → AllByRecursion P (if before then new ∷ old ∷ rest else old ∷ insert_placed new rest)
+    (P : Keyed → Type 0) (new old : Keyed) (rest : List Keyed) (before : Bool)
+    → P new → P old → AllByRecursion P rest → AllByRecursion P (insert_by_key new rest)
+    → AllByRecursion P (if before then new ∷ old ∷ rest else old ∷ insert_by_key new rest)
 all-by P new old rest true of_new of_old of_rest later = (of_new, (of_old, of_rest))
 all-by P new old rest false of_new of_old of_rest later = (of_old, later)
 
 -- what holds of the new one and of all others holds of all with it
 pub all-inserted :
-    (P : Placed → Type 0) (new : Placed) (others : List Placed)
-    → P new → AllByRecursion P others → AllByRecursion P (insert_placed new others)
+    (P : Keyed → Type 0) (new : Keyed) (others : List Keyed)
+    → P new → AllByRecursion P others → AllByRecursion P (insert_by_key new others)
 all-inserted P new [] of_new of_others = (of_new, tt)
 all-inserted P new (old ∷ rest) of_new of_others =
     all-by P new old rest (nat_le new.key old.key) of_new of_others.0 of_others.1
@@ -41,29 +41,29 @@ all-inserted P new (old ∷ rest) of_new of_others =
 
 -- what holds of all holds of all in order
 pub all-sorted :
-    (P : Placed → Type 0) (placed : List Placed)
-    → AllByRecursion P placed → AllByRecursion P (sorted_placed placed)
+    (P : Keyed → Type 0) (keyed : List Keyed)
+    → AllByRecursion P keyed → AllByRecursion P (sorted_by_key keyed)
 all-sorted P [] of_all = tt
 all-sorted P (first ∷ rest) of_all =
-    all-inserted P first (sorted_placed rest) of_all.0 (all-sorted P rest of_all.1)
+    all-inserted P first (sorted_by_key rest) of_all.0 (all-sorted P rest of_all.1)
 
 -- keys above a key are above a lower one
 all-above :
-    (low high : ℕ) (placed : List Placed)
+    (low high : ℕ) (keyed : List Keyed)
     → low ≤ high
-    → AllByRecursion (λ later. high ≤ later.key) placed
-    → AllByRecursion (λ later. low ≤ later.key) placed
+    → AllByRecursion (λ later. high ≤ later.key) keyed
+    → AllByRecursion (λ later. low ≤ later.key) keyed
 all-above low high [] below above = tt
 all-above low high (first ∷ rest) below above =
     (omega (arith, below, above.0), all-above low high rest below above.1)
 
 -- the new one before the others or behind the first, by the test
 rises-by :
-    (new old : Placed) (rest : List Placed) (before : Bool)
+    (new old : Keyed) (rest : List Keyed) (before : Bool)
     → nat_le new.key old.key ≡ before
     → Rises (old ∷ rest)
-    → Rises (insert_placed new rest)
-    → Rises (if before then new ∷ old ∷ rest else old ∷ insert_placed new rest)
+    → Rises (insert_by_key new rest)
+    → Rises (if before then new ∷ old ∷ rest else old ∷ insert_by_key new rest)
 rises-by new old rest true test rises later =
     let below : new.key ≤ old.key = leb-true new.key old.key test in
     ((below, all-above new.key old.key rest below rises.0), rises)
@@ -72,28 +72,28 @@ rises-by new old rest false test rises later =
     (all-inserted (λ later. old.key ≤ later.key) new rest above rises.0, later)
 
 -- with one more in its place the keys ascend
-insert-rises : (new : Placed) (others : List Placed) → Rises others
-    → Rises (insert_placed new others)
+insert-rises : (new : Keyed) (others : List Keyed) → Rises others
+    → Rises (insert_by_key new others)
 insert-rises new [] rises = (tt, tt)
 insert-rises new (old ∷ rest) rises =
     rises-by new old rest (nat_le new.key old.key) refl rises (insert-rises new rest rises.1)
 
 -- sorted keys ascend
-pub sorting-rises : (placed : List Placed) → Rises (sorted_placed placed)
+pub sorting-rises : (keyed : List Keyed) → Rises (sorted_by_key keyed)
 sorting-rises [] = tt
-sorting-rises (first ∷ rest) = insert-rises first (sorted_placed rest) (sorting-rises rest)
+sorting-rises (first ∷ rest) = insert-rises first (sorted_by_key rest) (sorting-rises rest)
 
 -- ---- The order of each key
 
 -- a new one goes in front of those of its key, past others
 keeps-by :
-    (key : ℕ) (new old : Placed) (rest : List Placed) (before : Bool) (is_new is_old : Bool)
+    (key : ℕ) (new old : Keyed) (rest : List Keyed) (before : Bool) (is_new is_old : Bool)
     → has_key key new ≡ is_new
     → has_key key old ≡ is_old
     → nat_le new.key old.key ≡ before
-    → filter (has_key key) (insert_placed new rest)
+    → filter (has_key key) (insert_by_key new rest)
     ≡ cond is_new (new ∷ filter (has_key key) rest) (filter (has_key key) rest)
-    → filter (has_key key) (if before then new ∷ old ∷ rest else old ∷ insert_placed new rest)
+    → filter (has_key key) (if before then new ∷ old ∷ rest else old ∷ insert_by_key new rest)
     ≡ cond is_new (new ∷ filter (has_key key) (old ∷ rest)) (filter (has_key key) (old ∷ rest))
 keeps-by key new old rest true is_new is_old of_new of_old test later =
     ap (λ passes. cond passes (new ∷ filter (has_key key) (old ∷ rest))
@@ -113,8 +113,8 @@ keeps-by key new old rest false false is_old of_new of_old test later =
 
 -- one more in its place keeps the order of each key
 insert-keeps :
-    (key : ℕ) (new : Placed) (others : List Placed)
-    → filter (has_key key) (insert_placed new others) ≡ filter (has_key key) (new ∷ others)
+    (key : ℕ) (new : Keyed) (others : List Keyed)
+    → filter (has_key key) (insert_by_key new others) ≡ filter (has_key key) (new ∷ others)
 insert-keeps key new [] = refl
 insert-keeps key new (old ∷ rest) =
     keeps-by key new old rest (nat_le new.key old.key) (has_key key new) (has_key key old) refl refl
@@ -122,26 +122,26 @@ insert-keeps key new (old ∷ rest) =
     (insert-keeps key new rest)
 
 -- sorting keeps the order of each key
-pub sorting-keeps : (placed : List Placed) → AreAlike (sorted_placed placed) placed
+pub sorting-keeps : (keyed : List Keyed) → AreAlike (sorted_by_key keyed) keyed
 sorting-keeps [] key = refl
 sorting-keeps (first ∷ rest) key =
-    insert-keeps key first (sorted_placed rest)
+    insert-keeps key first (sorted_by_key rest)
     ∙ ap (λ back. cond (has_key key first) (first ∷ back) back) (sorting-keeps rest key)
 
 -- ---- One order
 
 -- what is found of a key behind a greater one isn't there
 none-below :
-    (key : ℕ) (placed : List Placed)
-    → AllByRecursion (λ later. key < later.key) placed
-    → filter (has_key key) placed ≡ []
+    (key : ℕ) (keyed : List Keyed)
+    → AllByRecursion (λ later. key < later.key) keyed
+    → filter (has_key key) keyed ≡ []
 none-below key [] above = refl
 none-below key (first ∷ rest) above =
     rw (ne_eqb first.key key (λ same. omega (arith, same, above.0))) (none-below key rest above.1)
 
 -- a list that rises from a greater key has none of a lower one
 none-at :
-    (key : ℕ) (first : Placed) (rest : List Placed)
+    (key : ℕ) (first : Keyed) (rest : List Keyed)
     → key < first.key
     → Rises (first ∷ rest)
     → filter (has_key key) (first ∷ rest) ≡ []
@@ -149,23 +149,23 @@ none-at key first rest below rises =
     none-below key (first ∷ rest) (below, all-over key first.key rest below rises.0)
   where
     all-over :
-        (low high : ℕ) (placed : List Placed)
+        (low high : ℕ) (keyed : List Keyed)
         → low < high
-        → AllByRecursion (λ later. high ≤ later.key) placed
-        → AllByRecursion (λ later. low < later.key) placed
+        → AllByRecursion (λ later. high ≤ later.key) keyed
+        → AllByRecursion (λ later. low < later.key) keyed
     all-over low high [] below above = tt
     all-over low high (first ∷ rest) below above =
         (omega (arith, below, above.0), all-over low high rest below above.1)
 
 -- the first of a list comes first of those of its key
 own-first :
-    (first : Placed) (rest : List Placed)
+    (first : Keyed) (rest : List Keyed)
     → filter (has_key first.key) (first ∷ rest) ≡ first ∷ filter (has_key first.key) rest
 own-first first rest = rw (eq-eqb first.key first.key refl) refl
 
 -- alike lists that rise begin with the same record
 same-first :
-    (a b : Placed) (left right : List Placed)
+    (a b : Keyed) (left right : List Keyed)
     → Rises (a ∷ left) → Rises (b ∷ right)
     → AreAlike (a ∷ left) (b ∷ right)
     → a ≡ b
@@ -194,14 +194,14 @@ same-first a b left right rises_a rises_b alike =
 
 -- behind the same first record lists are alike as before
 rest-by :
-    (passes : Bool) (first : Placed) (left right : List Placed)
+    (passes : Bool) (first : Keyed) (left right : List Keyed)
     → cond passes (first ∷ left) left ≡ cond passes (first ∷ right) right
     → left ≡ right
 rest-by true first left right same = cc
 rest-by false first left right same = same
 
 -- alike lists that rise are one
-pub one-order : (first second : List Placed) → Rises first → Rises second → AreAlike first second
+pub one-order : (first second : List Keyed) → Rises first → Rises second → AreAlike first second
     → first ≡ second
 one-order [] [] rises_a rises_b alike = refl
 one-order [] (b ∷ right) rises_a rises_b alike =

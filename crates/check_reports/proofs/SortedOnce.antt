@@ -6,9 +6,9 @@ use Rattle.std.specs.List.{AllByRecursion}
 use Rattle.std.specs.List.Sorted.{IsNonDecreasingBy, IsStableByKey, ties}
 use Rattle.std.specs.Ordering.{is_lt, nat_cmp}
 use Rattle.std.proofs.lemmas.Bool.{cases_Bool, eq-eqb, ltb-false, ltb-true, ne_eqb}
-use Rattle.acct_tables.specs.Order as order
-use Rattle.check_reports.specs.declared.sorting.Placed.{Placed}
-use Rattle.check_reports.specs.Sorted.{seen_placed}
+use Rattle.account_model.specs.Edits as model
+use Rattle.check_reports.specs.declared.sorting.Keyed.{Keyed}
+use Rattle.check_reports.specs.Sorted.{seen_keyed}
 use Rattle.check_reports.proofs.SortLemmas.{Rises, has_key, one-order, sorting-keeps, sorting-rises}
 
 -- ---- What is seen
@@ -52,9 +52,9 @@ tie-is a b = elim (cases_Bool (nat_lt a b)) [
 
 -- the keys of records that aren't less than one
 keys-above :
-    (low : ℕ) (rest : List Placed)
-    → ((j : ℕ) (d : Placed) → j < length rest → low ≤ (get_or rest j d).key)
-    → AllByRecursion (λ later. low ≤ later.key) (map seen_placed rest)
+    (low : ℕ) (rest : List Keyed)
+    → ((j : ℕ) (d : Keyed) → j < length rest → low ≤ (get_or rest j d).key)
+    → AllByRecursion (λ later. low ≤ later.key) (map seen_keyed rest)
 keys-above low [] above = tt
 keys-above low (p ∷ rest) above = (
   above 0 p (omega arith),
@@ -63,8 +63,8 @@ keys-above low (p ∷ rest) above = (
 )
 
 -- keys that don't fall ascend
-keys-rise : (placed : List Placed) → IsNonDecreasingBy (λ p. p.key) placed
-    → Rises (map seen_placed placed)
+keys-rise : (keyed : List Keyed) → IsNonDecreasingBy (λ p. p.key) keyed
+    → Rises (map seen_keyed keyed)
 keys-rise [] up = tt
 keys-rise (p ∷ rest) up = (
   keys-above p.key rest (λ j d inside. up 0 (suc j) d (omega arith) (omega (arith, inside))),
@@ -72,38 +72,30 @@ keys-rise (p ∷ rest) up = (
       (λ i j d below inside. up (suc i) (suc j) d (omega (arith, below)) (omega (arith, inside))),
 )
 
-module _ (old new : List Placed) where
+module _ (old new : List Keyed) where
   -- the records of a key stand in their order
   key-stays :
       IsStableByKey (λ p. p.key) nat_cmp old new
       → (key : ℕ)
-      → filter (λ p. has_key key (seen_placed p)) new
-      ≡ filter (λ p. has_key key (seen_placed p)) old
+      → filter (λ p. has_key key (seen_keyed p)) new
+      ≡ filter (λ p. has_key key (seen_keyed p)) old
   key-stays stable key =
-      let test_is : ties (λ (x y : Placed). is_lt (nat_cmp x.key y.key))
-      (record { key = key; place = 0 })
-      ≡ (λ p. has_key key (seen_placed p)) = λ i p. tie-is key p.key i in
+      let test_is : ties (λ (x y : Keyed). is_lt (nat_cmp x.key y.key))
+      (record { key = key; text = record { ref_ptr = (0, 0); now = [] } })
+      ≡ (λ p. has_key key (seen_keyed p)) = λ i p. tie-is key p.key i in
       ap (λ test. filter test new) (sym test_is)
-      ∙ stable (record { key = key; place = 0 })
+      ∙ stable (record { key = key; text = record { ref_ptr = (0, 0); now = [] } })
       ∙ ap (λ test. filter test old) test_is
 
   -- so there is one order
   pub sorted-once :
       IsNonDecreasingBy (λ p. p.key) new
       → IsStableByKey (λ p. p.key) nat_cmp old new
-      → map seen_placed new ≡ order.sorted_placed (map seen_placed old)
+      → map seen_keyed new ≡ model.sorted_by_key (map seen_keyed old)
   sorted-once up stable =
-      one-order (map seen_placed new) (order.sorted_placed (map seen_placed old))
-      (keys-rise new up) (sorting-rises (map seen_placed old))
-      (λ key. sym (seen-filter seen_placed (has_key key) new)
-      ∙ ap (map seen_placed) (key-stays stable key)
-      ∙ seen-filter seen_placed (has_key key) old
-      ∙ sym (sorting-keeps (map seen_placed old) key))
-
--- the places of records are those that are seen
-pub seen-places :
-    (placed : List Placed)
-    → map (λ (p : Placed). p.place) placed
-    ≡ map (λ (p : order.Placed). p.place) (map seen_placed placed)
-seen-places [] = refl
-seen-places (p ∷ rest) = ap (λ back. p.place ∷ back) (seen-places rest)
+      one-order (map seen_keyed new) (model.sorted_by_key (map seen_keyed old))
+      (keys-rise new up) (sorting-rises (map seen_keyed old))
+      (λ key. sym (seen-filter seen_keyed (has_key key) new)
+      ∙ ap (map seen_keyed) (key-stays stable key)
+      ∙ seen-filter seen_keyed (has_key key) old
+      ∙ sym (sorting-keeps (map seen_keyed old) key))

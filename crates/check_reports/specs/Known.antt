@@ -1,5 +1,5 @@
 -- What a check sees beside the line that it looks at, and how that is kept (pwck(8), grpck(8)).
-use Rattle.std.specs.Prelude.{◌≡◌, ℕ, Bool, ◌==◌, List}
+use Rattle.std.specs.Prelude.{◌≡◌, ℕ, Bool, false, ◌==◌, List, Option, Some, None}
 use Rattle.std.specs.List.{list_any}
 use Rattle.acct_text.specs.declared.files.Files.{Files}
 use Rattle.account_model.specs.declared.records.GroupRecord.{GroupRecord}
@@ -16,6 +16,11 @@ pub record Sight : Type 0 where
 -- some of the groups has the GID
 abbrev pub has_gid : List GroupRecord → ℕ → Bool
 has_gid groups gid = list_any (λ group. group.gid == gid) groups
+
+-- whether what was read is a group of the GID
+abbrev pub is_of : Option GroupRecord → ℕ → Bool
+is_of None gid = false
+is_of (Some group) gid = group.gid == gid
 
 -- the names and the GIDs that are kept are those of the tables
 pub record AreOf (files : Files) (users hashes groups group_hashes : NameSet) (gids : ℕ → Bool)

@@ -1,16 +1,16 @@
--- A record with its key as acct_tables has it: one of the program stands for one of these; and where
--- names stand among the records of a table (pwck(8), grpck(8), `-s`).
+-- The text of a record with its key as account_model has it: one of the program stands for one of
+-- these; and where names stand among the records of a table (pwck(8), grpck(8), `-s`).
 use Rattle.std.specs.Prelude.{◌≡◌, ℕ, List, Option, Some, None, bytes_eq, length, if◌then◌else◌}
 use Rattle.std.specs.HashMap as hash
 use Rattle.std.specs.List.{position_from}
 use Rattle.account_model.specs.Format.{Format, is_named}
-use Rattle.acct_tables.specs.Order as order
+use Rattle.account_model.specs.Edits as model
 use Rattle.check_reports.specs.declared.sorting.ByPlace.{ByPlace}
-use Rattle.check_reports.specs.declared.sorting.Placed.{Placed}
+use Rattle.check_reports.specs.declared.sorting.Keyed.{Keyed}
 
--- the record's key, with its place
-abbrev pub seen_placed : Placed → order.Placed
-seen_placed placed = record { key = placed.key; place = placed.place }
+-- the text, with its key
+abbrev pub seen_keyed : Keyed → model.Keyed
+seen_keyed keyed = record { key = keyed.key; text = keyed.text.now }
 
 -- the place of each name, where it has one
 abbrev pub Places : Type 0

@@ -10,12 +10,14 @@ ghost use Rattle.check_reports.specs.Decided.{DecidesBy};
 ghost use Rattle.check_reports.specs.Listed.{listed_file, range_for};
 
 use crate::decision::told;
-use account_model::{PasswdRecord, Refusal, SubidRecord};
-use acct_tables::{Decision, is_owned};
-use acct_text::{Bytes, Files, push_decimal};
+use account_model::{PasswdRecord, Refusal};
+use acct_tables::{Decision, find_record};
+use acct_text::Piece::{Number, Text};
+use acct_text::{Bytes, Files};
 use command_values::Asked;
 use std::alloc::{AllocError, Global};
-use table_edits::{file_lines, refuse};
+use subid_ranges::OwnedRanges;
+use table_edits::{refuse, text_of};
 
 /// Lists the ranges of the user in subuid(5), or with `-g` in subgid(5). `NoRanges` refuses a user
 /// who has none there.
@@ -51,8 +53,7 @@ fn listed_file<'a>(asked: &Asked, files: &'a Files) -> &'a Option<Bytes>
 fn uid_of(alloc: Global, files: &Files, name: &[u8]) -> Result<Option<u32>, AllocError>
     ensures { IfOk result (λ uid. uid ≡ uid_of name.now files.now) }
 {
-    let users = file_lines(alloc, &files.passwd)?;
-    let user: Option<PasswdRecord> = users.find(alloc, name)?;
+    let user: Option<PasswdRecord> = find_record(alloc, text_of(&files.passwd), name)?;
     Ok(user.map(|user| user.uid))
 }
 
@@ -67,17 +68,7 @@ fn ranges_of(
     ensures { IfOk result (λ ranges. ranges.items ≡ map first_and_count
         (filter (is_owned user.now uid) (table_records subid_format file.now))) }
 {
-    let lines = &file_lines(alloc, file)?;
-    let mut ranges = Vec::new(alloc);
-    for place in 0..lines.len() {
-        let found: Option<SubidRecord> = lines.record_at(alloc, place)?;
-        if let Some(range) = found {
-            if is_owned(&range, user, uid) {
-                ranges.push((range.first, range.count))?;
-            }
-        }
-    }
-    Ok(ranges)
+    OwnedRanges::new(text_of(file), user, uid).collect(alloc)
 }
 
 // A line for each range, numbered from 0.
@@ -101,12 +92,14 @@ fn push_range(
     ensures { OnOk result (lines.new ≡ lines.old ++ range_line number user.now (range_for user.now range)) }
 {
     let (first, count) = range;
-    push_decimal(lines, number as u64)?;
-    lines.push(b": ")?;
-    lines.push(user)?;
-    lines.push(b" ")?;
-    push_decimal(lines, u64::from(first))?;
-    lines.push(b" ")?;
-    push_decimal(lines, u64::from(count))?;
-    lines.push(b"\n")
+    lines.push_pieces(&[
+        Number(number as u64),
+        Text(b": "),
+        Text(user),
+        Text(b" "),
+        Number(u64::from(first)),
+        Text(b" "),
+        Number(u64::from(count)),
+        Text(b"\n"),
+    ])
 }

@@ -1,18 +1,19 @@
 // What a check looks up in the tables, found without a search of them (pwck(8), grpck(8), `-r`).
-ghost use Rattle.std.specs.Prelude.{◌≡◌, ℕ, is_some, nat_eq, IfOk};
+ghost use Rattle.std.specs.Prelude.{◌≡◌, ℕ, ◌||◌, is_some, nat_eq, IfOk, OnOk};
 ghost use Rattle.std.specs.HashSet as bag;
 ghost use Rattle.account_model.specs.Records.{group_format};
 ghost use Rattle.account_model.specs.Tables.{group_records, table_records};
 ghost use Rattle.account_model.specs.Users.{has_user, has_shadow, has_group, has_gshadow};
-ghost use Rattle.check_reports.specs.Known.{has_gid};
+ghost use Rattle.check_reports.specs.Known.{has_gid, is_of};
 
 use crate::names::NameSet;
 use account_model::{GroupRecord, GshadowRecord, PasswdRecord, ShadowRecord};
+use acct_tables::Lines;
 use acct_text::{Bytes, Files};
 use std::alloc::{AllocError, Global};
 use std::collections::HashSet;
 use std::marker::Model;
-use table_edits::file_lines;
+use table_edits::{IdRecord, text_of};
 
 /// The files of the tables and the day, with the names and GIDs that the tables have. Contracts see
 /// the files and the day.
@@ -125,13 +126,22 @@ fn gids_of(alloc: Global, file: &Option<Bytes>) -> Result<HashSet<u32>, AllocErr
     ensures { IfOk result (λ gids. (gid : ℕ) → bag.contains nat_eq gids gid
         ≡ has_gid (table_records group_format file.now) gid) }
 {
-    let groups = &file_lines(alloc, file)?;
     let mut gids = HashSet::new(alloc);
-    for place in 0..groups.len() {
-        let found: Option<GroupRecord> = groups.record_at(alloc, place)?;
-        if let Some(group) = found {
-            gids.insert(group.gid)?;
-        }
+    let mut left = Lines::of(text_of(file));
+    'lines: while let Some(line) = left.take() {
+        note_gid(&mut gids, line.text)?;
     }
     Ok(gids)
+}
+
+// Adds the GID of the group that the line is; other text has none.
+fn note_gid(gids: &mut HashSet<u32>, line: &[u8]) -> Result<(), AllocError>
+    ensures { OnOk result ((gid : ℕ) → bag.contains nat_eq gids.new gid
+        ≡ (is_of (group_format.read line.now) gid || bag.contains nat_eq gids.old gid)) }
+{
+    let Some(gid) = GroupRecord::id_in(line) else {
+        return Ok(());
+    };
+    gids.insert(gid)?;
+    Ok(())
 }

@@ -4,7 +4,8 @@ ghost use Rattle.std.specs.Fmt.{decimal};
 ghost use Rattle.account_model.specs.Problems.{is_notice, problem_text};
 ghost use Rattle.check_reports.specs.Seen.{seen_problem, unknown_problem};
 
-use acct_text::{Bytes, push_decimal};
+use acct_text::Piece::{Number, Text};
+use acct_text::{Bytes, pair, triple};
 use std::alloc::{AllocError, Global};
 
 /// What is wrong with a line.
@@ -102,40 +103,34 @@ impl<'a> Problem<'a> {
     }
 }
 
-// The text of two pieces.
-fn pair(alloc: Global, first: &[u8], second: &[u8]) -> Result<Bytes, AllocError>
-    ensures { IfOk result (λ text. text ≡ first.now ++ second.now) }
-{
-    let mut text = Bytes::of(alloc, first)?;
-    text.push(second)?;
-    Ok(text)
-}
-
-// The text of three pieces.
-fn triple(alloc: Global, first: &[u8], second: &[u8], third: &[u8]) -> Result<Bytes, AllocError>
-    ensures { IfOk result (λ text. text ≡ first.now ++ second.now ++ third.now) }
-{
-    let mut text = pair(alloc, first, second)?;
-    text.push(third)?;
-    Ok(text)
-}
-
 // No group has the primary GID of the user.
 fn no_primary_group(alloc: Global, name: &[u8], gid: u32) -> Result<Bytes, AllocError>
     ensures { IfOk result (λ text. text ≡
         codes "user " ++ name.now ++ codes " has no primary group " ++ decimal gid) }
 {
-    let mut text = triple(alloc, b"user ", name, b" has no primary group ")?;
-    push_decimal(&mut text, u64::from(gid))?;
-    Ok(text)
+    Bytes::made_of(
+        alloc,
+        &[
+            Text(b"user "),
+            Text(name),
+            Text(b" has no primary group "),
+            Number(u64::from(gid)),
+        ],
+    )
 }
 
 // What is told of a group and of a user whom it lists.
-fn listed(alloc: Global, group: &[u8], told: &[u8], user: &[u8]) -> Result<Bytes, AllocError>
+fn listed<'x>(
+    alloc: Global,
+    group: &'x [u8],
+    told: &'x [u8],
+    user: &'x [u8],
+) -> Result<Bytes, AllocError>
     ensures { IfOk result (λ text. text ≡
         codes "group " ++ group.now ++ told.now ++ user.now) }
 {
-    let mut text = triple(alloc, b"group ", group, told)?;
-    text.push(user)?;
-    Ok(text)
+    Bytes::made_of(
+        alloc,
+        &[Text(b"group "), Text(group), Text(told), Text(user)],
+    )
 }

@@ -1,28 +1,29 @@
 // The records of a table in another order (pwck(8), grpck(8), `-s`).
-ghost use Rattle.std.specs.Prelude.{◌≡◌, ◌+◌, ◌^◌, ◌<◌, ◌∷◌, [], List, ℕ, map, IfOk, OnOk};
-ghost use Rattle.account_model.specs.Edits.{Arrange};
+ghost use Rattle.std.specs.Prelude.{◌≡◌, ◌+◌, ◌^◌, ◌<◌, ◌≤◌, drop, length, ◌++◌, ◌∷◌, [], List, ℕ, map, true, option_map, option_to_list, IfOk, OnOk};
+ghost use Rattle.acct_text.specs.Lines.{Line, file_bytes, line_bytes, lines_of};
+ghost use Rattle.account_model.specs.Edits.{Arrange, edited, in_places, keyed_text, keyed_texts, sorted_by_key};
 ghost use Rattle.account_model.specs.Format.{is_named};
 ghost use Rattle.account_model.specs.Tables.{table_after, table_records};
-ghost use Rattle.acct_tables.specs.Order as order;
-ghost use Rattle.check_reports.specs.Sorted.{IsOrderOf, kept_places, seen_placed, with_place};
+ghost use Rattle.acct_tables.specs.SeenLines.{seen_line};
+ghost use Rattle.check_reports.specs.Sorted.{IsOrderOf, kept_places, seen_keyed, with_place};
 ghost use Rattle.std.specs.List.{position_or_len};
 
 use account_model::{GroupRecord, PasswdRecord};
-use acct_lines::TableRecord;
-use acct_tables::Table;
+use acct_lines::{GroupLine, PasswdLine, TableRecord};
+use acct_tables::{FileLine, Lines, is_record, name_of};
 use acct_text::Bytes;
 use std::alloc::{AllocError, Global};
 use std::collections::HashMap;
 use table_edits::file_lines;
 
 /// What the records of a table are sorted by.
-pub(crate) trait SortKey<R> {
+pub(crate) trait SortKey<R: TableRecord> {
     // the key of a record
     ghost key_of: { Self → R → ℕ };
 
-    /// The key of the record.
-    fn key(&self, item: &R) -> usize
-        ensures { result ≡ key_of self.now item.now };
+    /// The key of the record that the line is; none where it is other text.
+    fn key_in(&self, line: &[u8]) -> Option<usize>
+        ensures { result ≡ option_map (key_of self.now) (R.format.read line.now) };
 }
 
 /// The UID or the GID.
@@ -31,16 +32,22 @@ pub(crate) struct ById;
 impl SortKey<PasswdRecord> for ById {
     ghost key_of = { λ _ user. user.uid };
 
-    fn key(&self, user: &PasswdRecord) -> usize {
-        user.uid as usize
+    fn key_in(&self, line: &[u8]) -> Option<usize> {
+        match PasswdLine::read(line) {
+            Ok(user) => Some(user.uid as usize),
+            Err(_) => None,
+        }
     }
 }
 
 impl SortKey<GroupRecord> for ById {
     ghost key_of = { λ _ group. group.gid };
 
-    fn key(&self, group: &GroupRecord) -> usize {
-        group.gid as usize
+    fn key_in(&self, line: &[u8]) -> Option<usize> {
+        match GroupLine::read(line) {
+            Ok(group) => Some(group.gid as usize),
+            Err(_) => None,
+        }
     }
 }
 
@@ -102,21 +109,22 @@ impl<'a, R: TableRecord> SortKey<R> for ByPlace<'a> {
 
     ghost key_of = { λ by r. unwrap_or (kept_places by (R.format.name r)) by.count };
 
-    fn key(&self, item: &R) -> usize {
-        self.places.get(item.name()).copied().unwrap_or(self.count)
+    fn key_in(&self, line: &[u8]) -> Option<usize> {
+        let name = name_of::<R>(line)?;
+        Some(self.places.get(name).copied().unwrap_or(self.count))
     }
 }
 
-// A record by its key, and by its place in the table, counted from 0 over the lines.
+// The text of a record's line, by its key.
 #[derive(Clone, Copy)]
-struct Placed {
+struct Keyed<'a> {
     key: usize,
-    place: usize,
+    text: &'a [u8],
 }
 
 /// The bytes of a table with its records sorted by the key, stably and in the places of records; an
 /// absent table stays absent.
-pub(crate) fn sorted_file<R: TableRecord + Drop, K: SortKey<R>>(
+pub(crate) fn sorted_file<R: TableRecord, K: SortKey<R>>(
     alloc: Global,
     file: &Option<Bytes>,
     key: &K,
@@ -125,19 +133,14 @@ pub(crate) fn sorted_file<R: TableRecord + Drop, K: SortKey<R>>(
         ≡ table_after R.format (Arrange (K.key_of key.now) ∷ []) file.now) }
 {
     match file {
-        Some(text) => {
-            let mut table = Table::load(alloc, text.as_slice())?;
-            let places = sorted_places(alloc, &table, key)?;
-            table.arrange(places.as_slice())?;
-            Ok(Some(table.text(alloc)?))
-        }
+        Some(text) => Ok(Some(sorted_text::<R, K>(alloc, text.as_slice(), key)?)),
         None => Ok(None),
     }
 }
 
 /// The bytes of a table with its records sorted by the place that their names have in the main
 /// table; names that it lacks come last. An absent table stays absent.
-pub(crate) fn sorted_like<M: TableRecord + Drop, R: TableRecord + Drop>(
+pub(crate) fn sorted_like<M: TableRecord + Drop, R: TableRecord>(
     alloc: Global,
     main: &Option<Bytes>,
     file: &Option<Bytes>,
@@ -150,52 +153,115 @@ pub(crate) fn sorted_like<M: TableRecord + Drop, R: TableRecord + Drop>(
     sorted_file::<R, ByPlace>(alloc, file, &order)
 }
 
-// The places of all records, stably in the order of their keys.
-fn sorted_places<R: TableRecord + Drop, K: SortKey<R>>(
+// The text with its records sorted by the key.
+fn sorted_text<R: TableRecord, K: SortKey<R>>(
     alloc: Global,
-    table: &Table<R>,
+    text: &[u8],
     key: &K,
-) -> Result<Vec<usize>, AllocError>
-    ensures { IfOk result (λ places. places.items
-        ≡ order.sorted_places R.format (K.key_of key.now) table.now) }
+) -> Result<Bytes, AllocError>
+    ensures { IfOk result (λ sorted. sorted ≡ file_bytes
+        (edited R.format (lines_of text.now) (Arrange (K.key_of key.now)))) }
 {
-    let mut placed = placed_records(alloc, table, key)?;
-    sort_placed(&mut placed)?;
-    places_of(alloc, placed.as_slice())
+    let mut keyed = keyed_texts::<R, K>(alloc, text, key)?;
+    sort_keyed(&mut keyed)?;
+    in_places::<R>(alloc, text, keyed.as_slice())
 }
 
-// Sorts the records by their keys; of equal keys the earlier stays the earlier.
-fn sort_placed(placed: &mut Vec<Placed>) -> Result<(), AllocError>
-    ensures { OnOk result (map seen_placed placed.new.items
-        ≡ order.sorted_placed (map seen_placed placed.old.items)) }
-{
-    placed.sort_by_key(|record| record.key)
-}
-
-// Their places.
-fn places_of(alloc: Global, placed: &[Placed]) -> Result<Vec<usize>, AllocError>
-    ensures { IfOk result (λ places. places.items ≡ map (λ p. p.place) placed.now) }
-{
-    placed.iter().map(|record| record.place).collect(alloc)
-}
-
-// The records with their keys, in the order of lines.
-fn placed_records<R: TableRecord + Drop, K: SortKey<R>>(
+// The texts of all records with their keys, in the order of lines.
+fn keyed_texts<'t, R: TableRecord, K: SortKey<R>>(
     alloc: Global,
-    table: &Table<R>,
+    text: &'t [u8],
     key: &K,
-) -> Result<Vec<Placed>, AllocError>
-    ensures { IfOk result (λ placed. map seen_placed placed.items
-        ≡ order.placed_from R.format (K.key_of key.now) 0 table.now) }
+) -> Result<Vec<Keyed<'t>>, AllocError>
+    ensures { IfOk result (λ keyed. map seen_keyed keyed.items
+        ≡ keyed_texts R.format (K.key_of key.now) (lines_of text.now)) }
 {
-    let mut placed = Vec::new(alloc);
-    for place in 0..table.len() {
-        if let Some(record) = table.at(place) {
-            placed.push(Placed {
-                key: key.key(record),
-                place,
-            })?;
-        }
+    let mut keyed = Vec::new(alloc);
+    let mut left = Lines::of(text);
+    'lines: while let Some(line) = left.take() {
+        push_keyed::<R, K>(&mut keyed, line.text, key)?;
     }
-    Ok(placed)
+    Ok(keyed)
+}
+
+// Adds the text of a line with the key of its record; other text has none.
+fn push_keyed<'t, R: TableRecord, K: SortKey<R>>(
+    keyed: &mut Vec<Keyed<'t>>,
+    text: &'t [u8],
+    key: &K,
+) -> Result<(), AllocError>
+    ensures { OnOk result (map seen_keyed keyed.new.items
+        ≡ map seen_keyed keyed.old.items ++ option_to_list (keyed_text R.format (K.key_of key.now)
+        (record { text = text.now; ended = true }))) }
+{
+    let Some(key) = key.key_in(text) else {
+        return Ok(());
+    };
+    keyed.push(Keyed { key, text })?;
+    Ok(())
+}
+
+// Sorts the texts by their keys; of equal keys the earlier stays the earlier.
+fn sort_keyed(keyed: &mut Vec<Keyed<'_>>) -> Result<(), AllocError>
+    ensures { OnOk result (map seen_keyed keyed.new.items
+        ≡ sorted_by_key (map seen_keyed keyed.old.items)) }
+{
+    keyed.sort_by_key(|record| record.key)
+}
+
+// The file's bytes with these texts, one after another, in the places of records.
+fn in_places<R: TableRecord>(
+    alloc: Global,
+    text: &[u8],
+    keyed: &[Keyed<'_>],
+) -> Result<Bytes, AllocError>
+    ensures { IfOk result (λ bytes. bytes ≡ file_bytes
+        (in_places R.format (map seen_keyed keyed.now) (lines_of text.now))) }
+{
+    let mut made = Bytes::new(alloc);
+    let mut next = 0;
+    let mut left = Lines::of(text);
+    'lines: while let Some(line) = left.take() {
+        next = push_next::<R>(&mut made, &line, keyed, next)?;
+    }
+    Ok(made)
+}
+
+// Adds a line; a record's gets the text that is next. Gives the place of the text that is next then,
+// counted from 0.
+fn push_next<R: TableRecord>(
+    made: &mut Bytes,
+    line: &FileLine<'_>,
+    keyed: &[Keyed<'_>],
+    next: usize,
+) -> Result<usize, AllocError>
+    requires { next ≤ length keyed.now }
+    ensures inside { IfOk result (λ then. then ≤ length keyed.now) }
+    ensures placed { IfOk result (λ then. (rest : List Line)
+        → made.new ++ file_bytes (in_places R.format (map seen_keyed (drop then keyed.now)) rest)
+        ≡ made.old ++ file_bytes (in_places R.format (map seen_keyed (drop next keyed.now))
+        (seen_line line.now ∷ rest))) }
+{
+    let Some(first) = keyed[next..].first() else {
+        line.push_to(made)?;
+        return Ok(next);
+    };
+    if !is_record::<R>(line.text) {
+        line.push_to(made)?;
+        return Ok(next);
+    }
+    push_in_place(made, first, line)?;
+    Ok(next + 1)
+}
+
+// Adds the text in the place of a line, which keeps its end.
+fn push_in_place(made: &mut Bytes, keyed: &Keyed<'_>, line: &FileLine<'_>) -> Result<(), AllocError>
+    ensures { OnOk result (made.new ≡ made.old
+        ++ line_bytes (record { text = keyed.now.text.now; ended = line.now.ended })) }
+{
+    let placed = FileLine {
+        text: keyed.text,
+        ended: line.ended,
+    };
+    placed.push_to(made)
 }

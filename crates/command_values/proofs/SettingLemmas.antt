@@ -1,18 +1,21 @@
 -- Claim: a word of `-K` is a setting exactly where it has a `=`, and the settings take what stands
--- before and behind its first one (`setting-told`, `no_setting`). Way: the key USERGROUPS_ENAB is
--- no numeric key (`flag-unknown`), so the tests of the key come to the same in either order.
-use Rattle.std.proofs.Common.{◌≡◌, ℕ, ◌+◌, Bool, true, false, List, take, drop, refl, sym, ap, ◌∙◌, inl, inr}
-use Rattle.std.specs.Prelude.{Option, Some, None, Result, Ok, Err, is_some, is_none, is_ok, bytes_eq, position, ◌==◌, ◌&&◌, ◌||◌, if◌then◌else◌}
+-- before and behind its first one (`setting-told`, `setting-set`, `no_setting`). Way: the key
+-- USERGROUPS_ENAB is no numeric key (`flag-unknown`), so the tests of the key come to the same in
+-- either order.
+use Rattle.std.proofs.Common.{◌≡◌, ℕ, Bool, true, false, List, [], ◌∷◌, refl, sym, ap, subst, ◌∙◌, inl, inr}
+use Rattle.std.specs.Prelude.{Option, Some, None, Result, Ok, Err, OnOk, is_some, is_none, is_ok, bytes_eq, ◌&&◌, ◌||◌, if◌then◌else◌}
+use Rattle.std.specs.Bool.{OnTrue}
 use Rattle.std.specs.Option.{option_map_or}
 use Rattle.std.specs.Result.{result_err}
 use Rattle.std.proofs.lemmas.Bool.{cases_Bool}
 use Rattle.std.proofs.lemmas.Slice.Eq.{bytes_eq-Decides}
+use Rattle.acct_text.specs.Pieces.{cut_at}
+use Rattle.acct_text.proofs.CutOnce.{cut-before, cut-behind, cut-has, uncut-has}
 use Rattle.account_model.specs.declared.settings.Key.{Key}
 use Rattle.account_model.specs.Text.{equals_sign}
-use Rattle.account_model.specs.Settings.{find_key, user_groups_key, allows, allowed_value, is_allowed, is_setting_word, word_setting}
+use Rattle.account_model.specs.Settings.{Setting, find_key, user_groups_key, allows, allowed_value, is_allowed, is_setting_word, word_setting}
 use Rattle.login_defs.specs.declared.defs.KeyFault.TheVariants.{UnknownKey}
 use Rattle.login_defs.specs.Faults.{value_fault, setting_fault}
-use Rattle.option_words.proofs.CutLemmas.{position-some, position-none}
 
 -- the name of the flag is no numeric key
 flag-unknown : (key : List ℕ) → bytes_eq key user_groups_key ≡ true → find_key key ≡ None
@@ -50,30 +53,41 @@ pub is_ok-told :
 is_ok-told (Ok done) fault is = ap is_none is
 is_ok-told (Err found) fault is = ap is_none is
 
--- whether a byte is `=`
-abbrev is_equals : ℕ → Bool
-is_equals byte = byte == equals_sign
-
 -- a word with a `=` is a setting exactly where the call that takes its parts is done
 pub setting-told :
-    (word key value : List ℕ) (place : ℕ) (done : Bool)
-    → position is_equals word ≡ Some place
-    → key ≡ take place word
-    → value ≡ drop (place + 1) word
+    (word key value : List ℕ) (done : Bool)
+    → cut_at equals_sign word ≡ key ∷ cut_at equals_sign value
     → done ≡ is_none (setting_fault key value)
     → done ≡ is_setting_word word
-setting-told word key value place done found key_is value_is is =
-    let parts = position-some is_equals word place found in
-    let cut = word_setting word in
+setting-told word key value done cut is =
+    let parts = word_setting word in
     let told : is_none (setting_fault key value) ≡ tests_of true key value =
     no_fault-by value (bytes_eq key user_groups_key) (find_key key) (flag-unknown key) in
     is ∙ told
-    ∙ ap (λ key. tests_of true key value) (key_is ∙ ap (λ n. take n word) (sym parts.1))
-    ∙ ap (tests_of true cut.key) (value_is ∙ ap (λ n. drop (n + 1) word) (sym parts.1))
-    ∙ ap (λ has. tests_of has cut.key cut.value) (sym parts.0)
+    ∙ ap (λ key. tests_of true key value) (sym (cut-before equals_sign word key value cut))
+    ∙ ap (tests_of true parts.key) (sym (cut-behind equals_sign word key value cut))
+    ∙ ap (λ has. tests_of has parts.key parts.value) (sym (cut-has equals_sign word key value cut))
 
 -- a word without a `=` is no setting
-pub no_setting : (word : List ℕ) → position is_equals word ≡ None → false ≡ is_setting_word word
-no_setting word none =
-    let cut = word_setting word in
-    ap (λ has. tests_of has cut.key cut.value) (sym (position-none is_equals word none).0)
+pub no_setting :
+    (word : List ℕ) → cut_at equals_sign word ≡ word ∷ [] → false ≡ is_setting_word word
+no_setting word uncut =
+    let parts = word_setting word in
+    ap (λ has. tests_of has parts.key parts.value) (sym (uncut-has equals_sign word uncut))
+
+-- what a call that is done sets is the setting of the word
+pub setting-set :
+    {T E : Type 0} (result : Result T E) (done : Bool) (IsSet : Setting → Type 0)
+    (word key value : List ℕ)
+    → cut_at equals_sign word ≡ key ∷ cut_at equals_sign value
+    → done ≡ is_ok result
+    → OnOk result (IsSet (record { key = key; value = value }))
+    → OnTrue done (IsSet (word_setting word))
+setting-set (Ok x) done IsSet word key value cut is set =
+    let same : ◌≡◌ {A = Setting} (word_setting word) (record { key = key; value = value }) =
+    λ i. record {
+      key = cut-before equals_sign word key value cut i;
+      value = cut-behind equals_sign word key value cut i;
+    } in
+    rw is (subst IsSet (sym same) set)
+setting-set (Err fault) done IsSet word key value cut is set = rw is tt

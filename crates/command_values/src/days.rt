@@ -4,10 +4,8 @@ ghost use Rattle.account_model.specs.Values.{days_value, date_value, expiration_
 ghost use Rattle.command_values.specs.FieldNumbers.{IsFieldNumber};
 
 use crate::form::number_within;
+use account_model::GREATEST_DAYS;
 use acct_dates::read_day;
-
-// The greatest number of days.
-const GREATEST_DAYS: u32 = 2147483647;
 
 /// The number of days that a text writes, at most 2147483647. `-1` gives `Some(None)`, which
 /// empties a field (chage(1), `-m`).

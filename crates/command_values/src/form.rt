@@ -8,11 +8,9 @@ ghost use Rattle.account_model.specs.Values.{is_field as stands_in_field, is_fol
 ghost use Rattle.command_values.specs.Forms.{test_of};
 
 use crate::{read_date, read_days, read_expiration, read_range};
+use account_model::GREATEST_ID;
 use acct_lines::is_valid_name;
 use acct_text::read_decimal;
-
-// The greatest UID or GID.
-const GREATEST_ID: u32 = 4294967294;
 
 /// What the value of an option has to be.
 #[derive(Clone, Copy)]
@@ -81,7 +79,7 @@ fn is_field(text: &[u8]) -> bool
 }
 
 /// Whether the text has the byte.
-pub(crate) fn has_byte(text: &[u8], byte: u8) -> bool
+pub fn has_byte(text: &[u8], byte: u8) -> bool
     ensures { result ≡ has_byte byte text.now }
 {
     text.iter().any(|other| *other == byte)

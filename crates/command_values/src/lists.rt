@@ -1,6 +1,6 @@
 // Lists of names (gpasswd(1), `-M` and `-A`; useradd(8), `-G`).
 ghost use Rattle.std.specs.Prelude.{◌≡◌, IfOk};
-ghost use Rattle.account_model.specs.Text.{is_listed as stands_in, distinct as without_repeats};
+ghost use Rattle.account_model.specs.Text.{distinct as without_repeats};
 ghost use Rattle.account_model.specs.Values.{list_value as names_of_list};
 
 use acct_lines::cut_names;
@@ -16,20 +16,13 @@ pub fn list_value(alloc: Global, text: &[u8]) -> Result<Names, AllocError>
     distinct(alloc, names.as_slice())
 }
 
-/// Whether the name stands in the list.
-pub fn is_listed(name: &[u8], names: &[Bytes]) -> bool
-    ensures { result ≡ stands_in name.now names.now }
-{
-    names.iter().any(|other| name == other.as_slice())
-}
-
 // The names, of equal ones the first alone.
 fn distinct(alloc: Global, names: &[Bytes]) -> Result<Names, AllocError>
     ensures { IfOk result (λ kept. kept ≡ without_repeats names.now) }
 {
     let mut kept = Names::new(alloc);
     for name in names {
-        if !is_listed(name.as_slice(), kept.as_slice()) {
+        if !kept.contains(name.as_slice()) {
             kept.push(name.as_slice())?;
         }
     }

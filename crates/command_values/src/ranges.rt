@@ -1,7 +1,6 @@
 // Ranges of IDs in the values of options (usermod(8), `-v`, `-V`, `-w` and `-W`).
-ghost use Rattle.std.specs.Prelude.{◌≡◌, ◌≤◌, ◌==◌, ◌∷◌, [], map, position, option_map, option_and_then, IfOk, IfSome};
+ghost use Rattle.std.specs.Prelude.{◌≡◌, ◌≤◌, ◌∷◌, [], map, option_map, option_and_then, IfOk, IfSome};
 ghost use Rattle.account_model.specs.Records.{greatest_id};
-ghost use Rattle.account_model.specs.Text.{hyphen};
 ghost use Rattle.account_model.specs.UsermodRanges.{range_of_ids, range_value, ranges_given};
 ghost use Rattle.command_values.specs.Options.{value_at};
 ghost use Rattle.command_values.specs.Ranges.{ids_named};
@@ -9,6 +8,7 @@ ghost use Rattle.command_values.specs.Ranges.{ids_named};
 use crate::asked::value_at;
 use crate::{Asked, IdRange, read_id};
 use account_model::Given;
+use acct_text::cut_once;
 use std::alloc::{AllocError, Global};
 
 /// The IDs that a text `FIRST-LAST` names; none where it is no such text, or where the first ID
@@ -16,17 +16,8 @@ use std::alloc::{AllocError, Global};
 pub fn read_range(text: &[u8]) -> Option<IdRange>
     ensures { option_map ids_named result ≡ range_value text.now }
 {
-    match place_of_hyphen(text) {
-        Some(end) => ids_from(read_id(&text[..end]), read_id(&text[end + 1..])),
-        None => None,
-    }
-}
-
-// The place of the first hyphen.
-fn place_of_hyphen(text: &[u8]) -> Option<usize>
-    ensures { result ≡ position (λ byte. byte == hyphen) text.now }
-{
-    text.iter().position(|byte| *byte == b'-')
+    let cut = cut_once(b'-', text)?;
+    ids_from(read_id(cut.before), read_id(cut.behind))
 }
 
 // The IDs from the first to the last, where both are there and in order.

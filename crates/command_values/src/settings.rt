@@ -1,8 +1,7 @@
 // The settings of a command: those of login.defs(5), and the `-K` words behind them (useradd(8),
 // groupadd(8)).
-ghost use Rattle.std.specs.Prelude.{◌≡◌, ◌==◌, ◌<◌, not, length, position, IfOk, OnOk, IfSome};
+ghost use Rattle.std.specs.Prelude.{◌≡◌, not, IfOk, OnOk};
 ghost use Rattle.std.specs.Bool.{OnTrue};
-ghost use Rattle.account_model.specs.Text.{equals_sign};
 ghost use Rattle.account_model.specs.Settings.{is_setting_word, word_setting};
 ghost use Rattle.account_model.specs.NewAccount.{settings_for};
 ghost use Rattle.account_model.specs.Refusals.{refuse_if, bad_key};
@@ -13,7 +12,7 @@ ghost use Rattle.login_defs.specs.Held.{Adds};
 use crate::asked::value_at;
 use crate::{Asked, ToolFault};
 use account_model::{IdSort, Kind, Refusal};
-use acct_text::Bytes;
+use acct_text::{Bytes, cut_once};
 use id_choice::UsedIds;
 use login_defs::Defs;
 use std::alloc::Global;
@@ -54,18 +53,10 @@ fn set_word(settings: &mut Defs, word: &[u8]) -> bool
     ensures told { result ≡ is_setting_word word.now }
     ensures set { OnTrue result (Adds settings.old settings.new (word_setting word.now)) }
 {
-    match place_of_equals(word) {
-        Some(place) => settings.with(&word[..place], &word[place + 1..]).is_ok(),
+    match cut_once(b'=', word) {
+        Some(cut) => settings.with(cut.before, cut.behind).is_ok(),
         None => false,
     }
-}
-
-// The place of the first `=`.
-fn place_of_equals(word: &[u8]) -> Option<usize>
-    ensures place { result ≡ position (λ byte. byte == equals_sign) word.now }
-    ensures within { IfSome result (λ place. place < length word.now) }
-{
-    word.iter().position(|byte| *byte == b'=')
 }
 
 /// An ID that isn't used, chosen from the range of its sort and kind; none where there is no free

@@ -3,7 +3,7 @@
 -- (`may-commit`), and after a fault the session is as far with it as the fault's stage tells
 -- (`commit-unsure`). Way: the session has seen all inputs and backed up each table that differs,
 -- and the staged text is that of its intent.
-use Rattle.std.proofs.Common.{◌≡◌, ◌≢◌, refl, sym, ap, ◌∙◌, Bool, true, false, Option, Some, None, All, IfSome, true≢false, Result, Ok, Err}
+use Rattle.std.proofs.Common.{◌≡◌, ◌≢◌, refl, sym, ap, ◌∙◌, Bool, true, false, [], Option, Some, None, All, IfSome, true≢false, Result, Ok, Err}
 use Rattle.std.specs.Prelude.{IfErr}
 use Rattle.std.specs.Option.{option_or}
 use Rattle.std.proofs.lemmas.List.Elements.{All-nil}
@@ -49,15 +49,20 @@ module _ (change : Change) where
       HasStagedIntent change stood →
       Installs (walk_of change) (standing_step commit_call (done answer) stood)
   installs-after-commit answer stood held = record {
-    keeps = keeps-on change.inputs.keeper Knew KnowsAnything stood
-        (standing_step commit_call (done answer) stood) refl refl held.keeps tt;
+    carries = record {
+      keeps = keeps-on change.inputs.keeper Knew KnowsAnything stood
+          (standing_step commit_call (done answer) stood) refl refl held.keeps tt;
+      bytes = _;
+      reads_it = held.reads_it;
+      placed = λ table. false;
+      knows = knows-next commit_call (done answer) stood change.inputs.keeper.number
+          held.keeps.locks.owns
+          ∙ ap (λ (staged : Option Bytes). commits_bytes staged stood.knows) held.staged;
+      moved = [];
+      lists = refl;
+      in_place = All-nil (λ (new : NewTable). false ≡ true);
+    };
     committed = refl;
-    reads_it = held.reads_it;
-    placed = λ table. false;
-    knows = knows-next commit_call (done answer) stood change.inputs.keeper.number
-        held.keeps.locks.owns
-        ∙ ap (λ (staged : Option Bytes). commits_bytes staged stood.knows) held.staged;
-    in_place = All-nil (λ (new : NewTable). false ≡ true);
     staged = λ is. absurd (true≢false (sym is));
   }
 

@@ -1,5 +1,5 @@
 pub mod TablesLemmas
-pub mod LeadsLemmas
+pub mod WalksLemmas
 pub mod ReadsLemmas
 pub mod InstallLemmas
 pub mod BackupLemmas

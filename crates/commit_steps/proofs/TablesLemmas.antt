@@ -1,11 +1,11 @@
 -- Claims: the table at a place of those that differ stood before (`next-stood`), and is the last of
--- those up to it (`with-next`); where no step is left, all are done (`all-done`), else there is one at the place. One table more is
--- read, and the others stay (`with_table-same`, `with_table-other`); what was read before is before
+-- those up to it (`with-next`); where no step is left, all are done (`all-done`, `none-left`), else there
+-- is one at the place. One table more is read, and the others stay (`with_table-same`, `with_table-other`); what was read before is before
 -- the next (`before-after`); and files stay sound with one table more (`sound-on`).
 use Rattle.std.proofs.Common.{◌≡◌, refl, sym, ap, subst, ◌∙◌, ℕ, suc, ◌+◌, ◌-◌, ◌*◌, ◌<◌, ◌≤◌, Bool, true, false, ◌==◌, nat_lt, if◌then◌else◌, List, [], ◌∷◌, length, take, slice_get, Option, Some, None, All, true≢false, arith}
 use Rattle.std.specs.Prelude.{IsSome, IfSome, is_some, is_none}
 use Rattle.std.proofs.lemmas.Bool.Decides.{nat_tests}
-use Rattle.std.proofs.lemmas.List.{take_all}
+use Rattle.std.proofs.lemmas.List.{take_all, length-drop}
 use Rattle.std.proofs.lemmas.List.Elements.{All-more, All-nil, All-cons, All-get_or}
 use Rattle.std.proofs.lemmas.Option.{slice_get_within, get_or_from_slice_get}
 use Rattle.acct_text.specs.declared.Tab.{Tab}
@@ -19,7 +19,7 @@ use Rattle.acct_text.specs.Tables.{all_tables, table_place, same_table}
 use Rattle.intent_file.specs.Intent.{NewTable}
 use Rattle.intent_file.specs.ChangedTables.{with_new_table, changed_among}
 use Rattle.suite_rules.proofs.Names.{table-is}
-use Rattle.commit_steps.specs.States.{Change, Walker, AreSound, old_files, new_files, changed, with_table, table_after, is_before, steps_left}
+use Rattle.commit_steps.specs.States.{Change, Walker, AreSound, old_files, new_files, changed, with_table, table_after, is_before, steps_left, tables_left}
 use Rattle.commit_steps.specs.Outcomes.{is_missing}
 
 -- The tables that differ, where the same are absent before and after.
@@ -84,6 +84,15 @@ behind-all : (tables place : ℕ) (staged : Bool) →
     tables ≤ place
 behind-all tables place true none within = absurd (omega (arith, within refl))
 behind-all tables place false none within = omega arith
+
+-- where no step is left, no table is
+pub none-left : (walker : Walker) → steps_left walker ≡ 0 →
+    (walker.is_staged ≡ true → walker.place < length (changed walker.change)) →
+    length (tables_left walker) ≡ 0
+none-left walker none within =
+    let tables = changed walker.change in
+    let behind = behind-all (length tables) walker.place walker.is_staged none within in
+    omega (arith, length-drop walker.place tables, behind)
 
 -- where no step is left, all tables are done
 pub all-done : (walker : Walker) → steps_left walker ≡ 0 →

@@ -1,10 +1,10 @@
 -- The standing of a session in each state of a commit (docs/ARCHITECTURE.md, "Typed steps"). Each is
 -- found from the session's own events alone.
-use Rattle.std.specs.Prelude.{◌≡◌, ⊤, Bool, true, List, slice_get, take, All, Option, Some, None, IfSome, IsSomeAnd}
+use Rattle.std.specs.Prelude.{◌≡◌, ⊤, true, List, slice_get, take, All, Option, Some, None, IfSome, IsSomeAnd}
 use Rattle.acct_text.specs.declared.Tab.{Tab}
 use Rattle.acct_text.specs.declared.files.Files.{Files}
 use Rattle.acct_text.specs.Files.{table_of}
-use Rattle.acct_outside.specs.declared.Name.TheVariants.{Table, Staged, BackupStage, IntentStage, Defs}
+use Rattle.acct_outside.specs.declared.Name.TheVariants.{Table, BackupStage, IntentStage, Defs}
 use Rattle.acct_outside.specs.declared.CommitStage.{CommitStage}
 use Rattle.acct_outside.specs.declared.CommitStage.TheVariants.{Before, Unsure, Committed}
 use Rattle.acct_outside.specs.declared.StageFault.{StageFault}
@@ -13,16 +13,17 @@ use Rattle.acct_outside.specs.Calls.{Command}
 use Rattle.acct_outside.specs.Moment.{Past, Moment}
 use Rattle.intent_file.specs.Intent.{NewTable, intent_text, ReadsIntent}
 use Rattle.suite_rules.specs.Deeds.{SuiteDeeds}
-use Rattle.suite_rules.specs.Knowledge.{Seen, Knowledge, knows_none, knows_bytes}
+use Rattle.suite_rules.specs.Knowledge.{Seen, Knowledge, knows_none}
 use Rattle.suite_rules.specs.Standing.{Standing, Commit, commit_uncalled, commit_called, commit_done, standing}
 use Rattle.suite_rules.specs.Steps.{StandsIn}
 use Rattle.lock_steps.specs.States.{Kept}
-use Rattle.lock_steps.specs.Stands.{Keeps, KnowsAnything, KnowsNone, KnowsNoneYet}
+use Rattle.recovery.specs.Carrying.{Carries, HasStagedFirst}
+use Rattle.lock_steps.specs.Stands.{Keeps, KnowsNone, KnowsNoneYet}
 use Rattle.commit_steps.specs.declared.Loading.{Loading}
 use Rattle.commit_steps.specs.declared.Loading.TheVariants.{More, Done}
 use Rattle.commit_steps.specs.declared.LoadEnd.{LoadEnd}
 use Rattle.commit_steps.specs.declared.LoadEnd.TheVariants.{Fault, TooLarge, NoTable}
-use Rattle.commit_steps.specs.States.{AreSound, Reader, Inputs, Change, Walker, is_before, read_on, new_files, changed, intended, old_bytes}
+use Rattle.commit_steps.specs.States.{AreSound, Reader, Inputs, Change, Walker, is_before, read_on, new_files, changed, intended, old_bytes, tables_left}
 
 -- It knows that no intent stands, and has since seen each table before the next.
 pub record KnowsSome (reader : Reader) (knows : Knowledge) : Type 0 where
@@ -96,18 +97,13 @@ abbrev pub StandsUnsure : Option Past → Token → StageFault → Type 0
 StandsUnsure told token fault = IfSome told (λ past.
     (standing token past.history).commit ≡ commit_at fault.stage)
 
--- Its commit was done, and it knows the intent of the change. The tables before the place are in
--- place, and the new bytes of the one at the place are staged where the walker says so.
+-- Its commit was done, and it carries out the intent of the change. The tables that aren't done are
+-- left, and the new bytes of the first are staged where the walker says so.
 pub record Installs (walker : Walker) (standing : Standing) : Type 0 where
-  pub keeps : Keeps walker.change.inputs.keeper KnowsAnything standing
+  pub carries : Carries (intended walker.change) walker.change.inputs.keeper (tables_left walker)
+      standing
   pub committed : standing.commit ≡ commit_done
-  pub reads_it :
-      ReadsIntent (intent_text (intended walker.change)) (intended walker.change)
-  pub placed : Tab → Bool
-  pub knows : standing.knows ≡ knows_bytes (intent_text (intended walker.change)) placed
-  pub in_place : All (λ new. placed new.table ≡ true) (take walker.place (changed walker.change))
-  pub staged : walker.is_staged ≡ true → IsSomeAnd (slice_get (changed walker.change) walker.place)
-      (λ next. standing.staged (Staged next.table) ≡ Some next.bytes)
+  pub staged : walker.is_staged ≡ true → HasStagedFirst (tables_left walker) standing
 
 -- its commit was done, and it knows that no intent stands any more
 pub record HasCleared (keeper : Kept) (standing : Standing) : Type 0 where

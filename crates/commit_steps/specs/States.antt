@@ -1,6 +1,6 @@
 -- What contracts see of the states of a commit: the keeper, what it has read, the new files, and how
 -- far it has come with the tables that differ (docs/ARCHITECTURE.md, "The commit").
-use Rattle.std.specs.Prelude.{◌≡◌, ◌≤◌, ℕ, ◌+◌, ◌-◌, ◌*◌, nat_lt, Bool, true, false, if◌then◌else◌, List, [], length, Option, Some, None, IsSome, unwrap_or}
+use Rattle.std.specs.Prelude.{◌≡◌, ◌≤◌, ℕ, ◌+◌, ◌-◌, ◌*◌, nat_lt, Bool, true, false, if◌then◌else◌, List, [], length, drop, Option, Some, None, IsSome, unwrap_or}
 use Rattle.std.specs.Option.{option_or}
 use Rattle.acct_text.specs.declared.Tab.{Tab}
 use Rattle.acct_text.specs.declared.Tab.TheVariants.{Passwd, Shadow, Group, Gshadow, Subuid, Subgid}
@@ -152,3 +152,7 @@ step_on walker = if walker.is_staged
 abbrev pub steps_left : Walker → ℕ
 steps_left walker =
     2 * (length (changed walker.change) - walker.place) - (if walker.is_staged then 1 else 0)
+
+-- the tables that differ and aren't done
+abbrev pub tables_left : Walker → List NewTable
+tables_left walker = drop walker.place (changed walker.change)

@@ -1,21 +1,23 @@
 // The state of a keeper that backs up the tables that differ, before its commit. `back_up_next` goes
 // one step, and `stage_intent` leads to `IntentStaged` once all are backed up.
-ghost use Rattle.std.specs.Prelude.{◌≡◌, ◌<◌, false, true};
+ghost use Rattle.std.specs.Prelude.{◌≡◌, ◌<◌, false, true, IsSome};
 ghost use Rattle.acct_outside.specs.declared.Name.TheVariants.{IntentStage};
-ghost use Rattle.acct_outside.specs.Calls.{writes};
+ghost use Rattle.acct_outside.specs.Calls.{renames, writes};
+ghost use Rattle.acct_outside.specs.Contract.{CallsFolder, MayAct};
 ghost use Rattle.intent_file.specs.Intent.{intent_text};
 ghost use Rattle.suite_rules.specs.Steps.{StandsIn, own_command, TakesStep};
 ghost use Rattle.suite_rules.specs.Outcomes.{LeadsTo, before_commit};
-ghost use Rattle.commit_steps.specs.States.{intended, step_on, steps_left, walk_of};
+ghost use Rattle.commit_steps.specs.States.{intended, old_bytes, old_files, step_on, steps_left, walk_of};
 ghost use Rattle.commit_steps.specs.Stands.{BacksUp, HasStagedIntent};
 ghost use Rattle.commit_steps.specs.Outcomes.{backup_call};
 ghost use Rattle.commit_steps.specs.Walks.{WalksOn, token_of};
 
 use crate::committing::IntentStaged;
-use crate::leads::leads;
 use crate::prepared::Prepared;
 use crate::walking::Walking;
 use acct_outside::{CommitStage, Folder, FolderFault, Name, StageFault};
+use acct_text::Tab;
+use recovery::leads;
 use std::marker::Model;
 
 /// A keeper that backs up the tables that differ, and then stages the intent.
@@ -58,39 +60,10 @@ impl Backing {
         ensures { WalksOn backup_call BacksUp before_commit self (F.moment folder.old)
             (F.moment folder.new) result }
     {
-        if self.walking.is_staged() {
-            self.move_backup(folder)
-        } else {
-            self.stage_backup(folder)
-        }
-    }
-
-    /// Writes the old bytes of the next table.
-    fn stage_backup<F: Folder>(self, folder: &mut F) -> Result<Self, StageFault>
-        requires left { 0 < steps_left self }
-        requires unstaged { self.is_staged ≡ false }
-        requires stands { StandsIn (F.moment folder.old) (token_of self) (BacksUp self) }
-        ensures { WalksOn backup_call BacksUp before_commit self (F.moment folder.old)
-            (F.moment folder.new) result }
-    {
-        let prepared = self.walking.prepared();
-        let old = prepared.old(self.walking.next().table);
-        let written = folder.write(prepared.token(), Name::BackupStage, old);
-        leads(self.step_on(), written, CommitStage::Before)
-    }
-
-    /// Moves the staged bytes to the backup of the next table.
-    fn move_backup<F: Folder>(self, folder: &mut F) -> Result<Self, StageFault>
-        requires left { 0 < steps_left self }
-        requires staged { self.is_staged ≡ true }
-        requires stands { StandsIn (F.moment folder.old) (token_of self) (BacksUp self) }
-        ensures { WalksOn backup_call BacksUp before_commit self (F.moment folder.old)
-            (F.moment folder.new) result }
-    {
-        let token = self.walking.prepared().token();
         let table = self.walking.next().table;
-        let moved = folder.rename(token, Name::BackupStage, Name::Backup(table));
-        leads(self.step_on(), moved, CommitStage::Before)
+        let is_staged = self.walking.is_staged();
+        let called = back_up(self.walking.prepared(), table, is_staged, folder);
+        leads(self.step_on(), called, CommitStage::Before)
     }
 
     /// One step further.
@@ -117,5 +90,27 @@ impl Backing {
         let prepared = self.walking.into_prepared();
         let written = folder.write(prepared.token(), Name::IntentStage, prepared.text());
         leads(IntentStaged::of(prepared), written, CommitStage::Before)
+    }
+}
+
+/// Makes the next call for the backup of a table: its old bytes are staged, and once they are, moved.
+fn back_up<F: Folder>(
+    prepared: &Prepared,
+    table: Tab,
+    is_staged: bool,
+    folder: &mut F,
+) -> Result<(), FolderFault>
+    requires acts { MayAct (F.moment folder.old) prepared.now.inputs.keeper.token }
+    requires stands { IsSome (old_files prepared.now table) }
+    ensures moved { is_staged ≡ true → CallsFolder (F.moment folder.old) (F.moment folder.new)
+        prepared.now.inputs.keeper.token (renames Name.BackupStage (Name.Backup table)) result }
+    ensures staged { is_staged ≡ false → CallsFolder (F.moment folder.old) (F.moment folder.new)
+        prepared.now.inputs.keeper.token
+        (writes Name.BackupStage (old_bytes prepared.now table)) result }
+{
+    if is_staged {
+        folder.rename(prepared.token(), Name::BackupStage, Name::Backup(table))
+    } else {
+        folder.write(prepared.token(), Name::BackupStage, prepared.old(table))
     }
 }

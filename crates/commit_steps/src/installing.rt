@@ -6,18 +6,20 @@
 ghost use Rattle.std.specs.Prelude.{◌≡◌, ◌<◌, false, true};
 ghost use Rattle.acct_outside.specs.declared.Name.TheVariants.{Intent};
 ghost use Rattle.acct_outside.specs.Calls.{removes};
+ghost use Rattle.acct_outside.specs.Contract.{CallsFolder, MayAct};
 ghost use Rattle.suite_rules.specs.Steps.{StandsIn, own_command, TakesStep};
-ghost use Rattle.suite_rules.specs.Outcomes.{LeadsTo, after_commit};
+ghost use Rattle.suite_rules.specs.Outcomes.{LeadsTo, after_commit, installs, stages};
 ghost use Rattle.commit_steps.specs.States.{step_on, steps_left, walk_of};
 ghost use Rattle.commit_steps.specs.Stands.{HasCleared, Installs};
 ghost use Rattle.commit_steps.specs.Outcomes.{install_call};
 ghost use Rattle.commit_steps.specs.Walks.{WalksOn, token_of};
 
-use crate::leads::leads;
 use crate::prepared::Prepared;
 use crate::walking::Walking;
-use acct_outside::{CommitStage, Folder, FolderFault, Name, StageFault};
+use acct_outside::{CommitStage, Folder, FolderFault, StageFault, Token};
+use intent_file::NewTable;
 use lock_steps::{Clean, Keeper};
+use recovery::{leads, move_table, remove_intent, stage_table};
 use std::marker::Model;
 
 /// A keeper that has committed, and puts the tables that differ in place.
@@ -74,39 +76,10 @@ impl Installing {
         ensures { WalksOn install_call Installs after_commit self (F.moment folder.old)
             (F.moment folder.new) result }
     {
-        if self.walking.is_staged() {
-            self.move_table(folder)
-        } else {
-            self.stage_table(folder)
-        }
-    }
-
-    /// Writes the new bytes of the next table.
-    fn stage_table<F: Folder>(self, folder: &mut F) -> Result<Self, StageFault>
-        requires left { 0 < steps_left self }
-        requires unstaged { self.is_staged ≡ false }
-        requires stands { StandsIn (F.moment folder.old) (token_of self) (Installs self) }
-        ensures { WalksOn install_call Installs after_commit self (F.moment folder.old)
-            (F.moment folder.new) result }
-    {
         let token = self.walking.prepared().token();
-        let next = self.walking.next();
-        let written = folder.write(token, Name::Staged(next.table), &next.bytes);
-        leads(self.step_on(), written, CommitStage::Committed)
-    }
-
-    /// Moves the staged bytes to the next table.
-    fn move_table<F: Folder>(self, folder: &mut F) -> Result<Self, StageFault>
-        requires left { 0 < steps_left self }
-        requires staged { self.is_staged ≡ true }
-        requires stands { StandsIn (F.moment folder.old) (token_of self) (Installs self) }
-        ensures { WalksOn install_call Installs after_commit self (F.moment folder.old)
-            (F.moment folder.new) result }
-    {
-        let token = self.walking.prepared().token();
-        let table = self.walking.next().table;
-        let moved = folder.rename(token, Name::Staged(table), Name::Table(table));
-        leads(self.step_on(), moved, CommitStage::Committed)
+        let is_staged = self.walking.is_staged();
+        let called = install(token, self.walking.next(), is_staged, folder);
+        leads(self.step_on(), called, CommitStage::Committed)
     }
 
     /// One step further.
@@ -131,7 +104,7 @@ impl Installing {
             own_command (after_commit FolderFault.Failed) result }
     {
         let loaded = self.walking.into_prepared().into_loaded();
-        let removed = folder.remove(loaded.keeper().token(), Name::Intent);
+        let removed = remove_intent(loaded.keeper().token(), folder);
         let keeper = loaded.release();
         leads(Cleared { keeper }, removed, CommitStage::Committed)
     }
@@ -143,5 +116,25 @@ impl Cleared {
         ensures { result ≡ self }
     {
         self.keeper
+    }
+}
+
+/// Makes the next call for a table: its new bytes are staged, and once they are, moved.
+fn install<F: Folder>(
+    by: &Token,
+    new: &NewTable,
+    is_staged: bool,
+    folder: &mut F,
+) -> Result<(), FolderFault>
+    requires { MayAct (F.moment folder.old) by.now }
+    ensures moved { is_staged ≡ true → CallsFolder (F.moment folder.old) (F.moment folder.new)
+        by.now (installs new.now) result }
+    ensures staged { is_staged ≡ false → CallsFolder (F.moment folder.old) (F.moment folder.new)
+        by.now (stages new.now) result }
+{
+    if is_staged {
+        move_table(by, new, folder)
+    } else {
+        stage_table(by, new, folder)
     }
 }

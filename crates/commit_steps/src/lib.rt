@@ -54,6 +54,3 @@ pub enum LoadEnd {
     /// The table, passwd or group, is absent. The keeper is as it was.
     NoTable(Tab, Keeper<Clean>),
 }
-
-/// The most bytes of a table, and of login.defs, that are read.
-const TABLE_LIMIT: u64 = 16_777_216;

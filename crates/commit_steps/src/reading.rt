@@ -20,9 +20,9 @@ ghost use Rattle.commit_steps.specs.Outcomes.{Loads, LoadsContent, LoadsTable, i
 
 use crate::backing::Backing;
 use crate::prepared::Prepared;
-use crate::{LoadEnd, Loading, TABLE_LIMIT};
+use crate::{LoadEnd, Loading};
 use acct_outside::{CommitStage, Folder, FolderFault, Found, Name, StageFault};
-use acct_text::{Bytes, Files, Tab};
+use acct_text::{Bytes, Files, TABLE_LIMIT, Tab};
 use lock_steps::{Clean, Keeper};
 use std::alloc::{AllocError, Global};
 use std::marker::Model;

@@ -8,22 +8,22 @@ use acct_lines::is_digits;
 use acct_text::Names;
 use command_values::{Asked, list_value, read_id};
 use std::alloc::{AllocError, Global};
-use table_edits::Tables;
+use table_edits::{GroupIndex, Tables};
 
 /// The first group that a word names: by its GID where the word is all digits, and else by its name.
 pub fn find_group(
     alloc: Global,
-    tables: &Tables,
+    groups: &GroupIndex<'_>,
     word: &[u8],
 ) -> Result<Option<GroupRecord>, AllocError>
     ensures { IfOk result (λ found.
-        found ≡ named_by_word word.now (group_records tables.now)) }
+        found ≡ named_by_word word.now (group_records groups.now)) }
 {
     if !is_digits(word) {
-        return tables.group_named(alloc, word);
+        return groups.group_named(alloc, word);
     }
     match read_id(word) {
-        Some(gid) => tables.group_of_gid(alloc, gid),
+        Some(gid) => groups.group_of_gid(alloc, gid),
         None => Ok(None),
     }
 }
@@ -37,7 +37,7 @@ pub fn given_group(
     ensures { IfOk result (λ found. found ≡ given_group asked.now tables.now) }
 {
     match asked.value(b'g') {
-        Some(word) => find_group(alloc, tables, word),
+        Some(word) => find_group(alloc, &GroupIndex::of(alloc, tables, 1)?, word),
         None => Ok(None),
     }
 }

@@ -9,14 +9,14 @@ use account_model::Refusal;
 use acct_text::Bytes;
 use command_values::{Asked, ToolFault};
 use std::alloc::Global;
-use table_edits::Tables;
+use table_edits::{GroupIndex, Tables};
 
 /// Refuses a word of `-g` that names no group: `NoGroup`.
 pub fn check_given_group(alloc: Global, asked: &Asked, tables: &Tables) -> Result<(), ToolFault>
     ensures { StopsBy (unknown_group asked.now tables.now) result }
 {
     match asked.value(b'g') {
-        Some(word) => check_word(alloc, tables, word),
+        Some(word) => check_word(alloc, &GroupIndex::of(alloc, tables, 1)?, word),
         None => Ok(()),
     }
 }
@@ -26,26 +26,27 @@ pub fn check_given_groups(alloc: Global, asked: &Asked, tables: &Tables) -> Resu
     ensures { StopsBy (unknown_groups asked.now tables.now) result }
 {
     let words = group_words(alloc, asked)?;
-    check_words(alloc, tables, words.as_slice())
+    let groups = GroupIndex::of(alloc, tables, words.len())?;
+    check_words(alloc, &groups, words.as_slice())
 }
 
 // Refuses the first of the words that names no group: `NoGroup`.
-fn check_words(alloc: Global, tables: &Tables, words: &[Bytes]) -> Result<(), ToolFault>
+fn check_words(alloc: Global, groups: &GroupIndex<'_>, words: &[Bytes]) -> Result<(), ToolFault>
     ensures { StopsBy
-        (option_map Refusal.NoGroup (find (is_unknown_group tables.now) words.now)) result }
+        (option_map Refusal.NoGroup (find (is_unknown_group groups.now) words.now)) result }
 {
     for word in words {
-        check_word(alloc, tables, word.as_slice())?;
+        check_word(alloc, groups, word.as_slice())?;
     }
     Ok(())
 }
 
 // Refuses a word that names no group: `NoGroup`.
-fn check_word(alloc: Global, tables: &Tables, word: &[u8]) -> Result<(), ToolFault>
+fn check_word(alloc: Global, groups: &GroupIndex<'_>, word: &[u8]) -> Result<(), ToolFault>
     ensures { StopsBy
-        (refuse_if (is_unknown_group tables.now word.now) (Refusal.NoGroup word.now)) result }
+        (refuse_if (is_unknown_group groups.now word.now) (Refusal.NoGroup word.now)) result }
 {
-    if find_group(alloc, tables, word)?.is_some() {
+    if find_group(alloc, groups, word)?.is_some() {
         return Ok(());
     }
     Err(ToolFault::Refused(Refusal::NoGroup(Bytes::of(alloc, word)?)))

@@ -11,7 +11,7 @@ ghost use Rattle.table_edits.specs.Stopping.{StopsBy};
 
 use account_model::Refusal;
 use acct_text::Bytes;
-use command_values::{Asked, ToolFault, check_list_name, is_listed, list_value};
+use command_values::{Asked, ToolFault, check_list_name, list_value};
 use script::script_of;
 use std::alloc::{AllocError, Global};
 use table_edits::{Script, Tables};
@@ -93,7 +93,7 @@ fn is_group_member(
     ensures { IfOk result (λ is. is ≡ stands_in user.now (members_of group.now tables.now)) }
 {
     match tables.group_named(alloc, group)? {
-        Some(group) => Ok(is_listed(user, group.members.as_slice())),
+        Some(group) => Ok(group.members.contains(user)),
         None => Ok(false),
     }
 }
@@ -109,7 +109,7 @@ fn is_gshadow_member(
         is ≡ stands_in user.now (gshadow_members_of group.now tables.now)) }
 {
     match tables.gshadow_named(alloc, group)? {
-        Some(group) => Ok(is_listed(user, group.members.as_slice())),
+        Some(group) => Ok(group.members.contains(user)),
         None => Ok(false),
     }
 }

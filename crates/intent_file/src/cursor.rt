@@ -10,15 +10,10 @@ ghost use Rattle.intent_file.specs.Cursor.{Takes, TakesTables, TellsLack, ReadsA
 ghost use Rattle.intent_file.specs.Parts.{IsHeader, IsNext, header_part};
 
 use crate::{IntentFault, NewTable};
-use acct_text::{Bytes, Tab, read_decimal};
+use acct_outside::GREATEST_LOCK;
+use acct_text::{Bytes, TABLE_LIMIT, Tab, cut_once, read_decimal};
 use std::alloc::{AllocError, Global};
 use std::marker::Model;
-
-/// The greatest number that a lock may have.
-const GREATEST_LOCK: u64 = 999_999_999_999_999_999;
-
-/// The most bytes that a table may have.
-const TABLE_LIMIT: u64 = 16_777_216;
 
 /// What a header says.
 #[derive(Clone, Copy, Debug, PartialEq, Eq)]
@@ -82,10 +77,9 @@ impl<'text> Cursor<'text> {
     fn word(&mut self, end: u8) -> Option<&'text [u8]>
         ensures { Takes (Lacks end) (word_part end) self.old (option_copied result) self.new }
     {
-        let rest = self.rest;
-        let length = rest.iter().position(|byte| *byte == end)?;
-        self.rest = &rest[length + 1..];
-        Some(&rest[..length])
+        let cut = cut_once(end, self.rest)?;
+        self.rest = cut.behind;
+        Some(cut.before)
     }
 
     /// Takes these bytes.

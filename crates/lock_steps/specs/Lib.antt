@@ -2,3 +2,4 @@ pub mod States
 pub mod LockText
 pub mod Stands
 pub mod Outcomes
+pub mod Steps

@@ -9,9 +9,10 @@ ghost use Rattle.acct_outside.specs.declared.Name.TheVariants.{Lock};
 ghost use Rattle.acct_outside.specs.Names.{greatest_lock};
 ghost use Rattle.acct_outside.specs.Calls.{lists, creates, removes};
 ghost use Rattle.acct_outside.specs.Contract.{IsLockNumber, locks_result};
-ghost use Rattle.suite_rules.specs.Steps.{StandsIn, TakesStep, own_command};
+ghost use Rattle.suite_rules.specs.Steps.{StandsIn};
 ghost use Rattle.lock_steps.specs.Stands.{HasJudged, HasMade, WasOvertaken, HoldsConfirmed, HoldsNever};
 ghost use Rattle.lock_steps.specs.Outcomes.{folder_failed, Claims, Confirms, Withdraws};
+ghost use Rattle.lock_steps.specs.Steps.{SeeksLock};
 
 use crate::holder::Holder;
 use crate::keeping::{Keeper, Unknown};
@@ -104,9 +105,8 @@ impl Judged {
     /// At `Raced` another session made it first.
     pub fn claim<F: Folder>(self, folder: &mut F) -> Result<Claimed, LockEnd>
         requires { StandsIn (F.moment folder.old) self.token (HasJudged self) }
-        ensures { TakesStep (F.moment folder.old) (F.moment folder.new) self.token
-            (creates (self.greatest + 1)) (λ answer. Claims self answer result) HasMade own_command
-            folder_failed result }
+        ensures { SeeksLock (F.moment folder.old) (F.moment folder.new) self.token
+            (creates (self.greatest + 1)) (Claims self) HasMade result }
     {
         let created = folder.create(&self.holder.token, self.greatest + 1);
         self.after_create(created)
@@ -134,9 +134,8 @@ impl Claimed {
     /// At `Outrun` neither the own lock nor a greater one is the greatest: the own was taken away.
     pub fn confirm<F: Folder>(self, folder: &mut F) -> Result<Confirmed, LockEnd>
         requires { StandsIn (F.moment folder.old) self.token (HasMade self) }
-        ensures { TakesStep (F.moment folder.old) (F.moment folder.new) self.token lists
-            (λ answer. Confirms self answer result) HoldsConfirmed own_command folder_failed
-            result }
+        ensures { SeeksLock (F.moment folder.old) (F.moment folder.new) self.token lists
+            (Confirms self) HoldsConfirmed result }
     {
         let listed = folder.locks(&self.holder.token);
         self.after_listing(listed)
@@ -170,9 +169,9 @@ impl Loser {
     /// At `Folder` the lock may stand.
     pub fn withdraw<F: Folder>(self, folder: &mut F) -> LockEnd
         requires { StandsIn (F.moment folder.old) self.token (WasOvertaken self) }
-        ensures { TakesStep (F.moment folder.old) (F.moment folder.new) self.token
-            (removes (Lock self.number)) (λ answer. Withdraws self answer result) HoldsNever
-            own_command folder_failed (Err result) }
+        ensures { SeeksLock (F.moment folder.old) (F.moment folder.new) self.token
+            (removes (Lock self.number)) (λ answer _. Withdraws self answer result) HoldsNever
+            (Err result) }
     {
         let removed = folder.remove(&self.holder.token, Name::Lock(self.number));
         self.after_removal(removed)

@@ -10,16 +10,17 @@ ghost use Rattle.acct_outside.specs.declared.Name.TheVariants.{Lock};
 ghost use Rattle.acct_outside.specs.Calls.{lists, reads, asks};
 ghost use Rattle.acct_outside.specs.Contract.{IsLockNumber, locks_result, found_result};
 ghost use Rattle.suite_rules.specs.Standing.{Standing};
-ghost use Rattle.suite_rules.specs.Steps.{StandsIn, TakesStep, own_command};
+ghost use Rattle.suite_rules.specs.Steps.{StandsIn};
 ghost use Rattle.lock_steps.specs.Stands.{HasNoLock, HasLooked, HasReadHeld, HasJudged, HoldsTold};
 ghost use Rattle.lock_steps.specs.Outcomes.{folder_failed, Looks, Reads, ReadsText, Asks};
+ghost use Rattle.lock_steps.specs.Steps.{SeeksLock};
 
 use crate::claiming::Judged;
 use crate::holder::Holder;
 use crate::listing::greatest_of;
 use crate::lock_text::LockText;
-use crate::{GREATEST_LOCK, LOCK_LIMIT, LockEnd, LockRefusal};
-use acct_outside::{Folder, FolderFault, Found, Name, Token, Verdict};
+use crate::{LockEnd, LockRefusal};
+use acct_outside::{Folder, FolderFault, Found, GREATEST_LOCK, LOCK_LIMIT, Name, Token, Verdict};
 use std::alloc::{AllocError, Global};
 use std::marker::Model;
 
@@ -105,8 +106,8 @@ impl Looking {
     /// At `Exhausted` the greatest has the last number.
     pub fn look<F: Folder>(self, folder: &mut F) -> Result<Seen, LockEnd>
         requires { StandsIn (F.moment folder.old) self HasNoLock }
-        ensures { TakesStep (F.moment folder.old) (F.moment folder.new) self lists
-            (λ answer. Looks self answer result) HasLooked own_command folder_failed result }
+        ensures { SeeksLock (F.moment folder.old) (F.moment folder.new) self lists (Looks self)
+            HasLooked result }
     {
         let listed = folder.locks(&self.holder.token);
         self.after_listing(listed)
@@ -155,9 +156,8 @@ impl Seen {
     pub fn read<F: Folder>(self, alloc: Global, folder: &mut F) -> Result<Told, LockEnd>
         requires lock { 0 < self.greatest }
         requires stands { StandsIn (F.moment folder.old) self.token (HasLooked self) }
-        ensures { TakesStep (F.moment folder.old) (F.moment folder.new) self.token
-            (reads (Lock self.greatest)) (λ answer. Reads self answer result) HoldsTold own_command
-            folder_failed result }
+        ensures { SeeksLock (F.moment folder.old) (F.moment folder.new) self.token
+            (reads (Lock self.greatest)) (Reads self) HoldsTold result }
     {
         let found = folder.read(&self.holder.token, Name::Lock(self.greatest), LOCK_LIMIT);
         self.after_read(alloc, found)
@@ -198,8 +198,8 @@ impl Asking {
     /// At `Held` it does.
     pub fn ask<F: Folder>(self, folder: &mut F) -> Result<Judged, LockEnd>
         requires { StandsIn (F.moment folder.old) self.token (HasReadHeld self) }
-        ensures { TakesStep (F.moment folder.old) (F.moment folder.new) self.token (asks self.asked)
-            (λ answer. Asks self answer result) HasJudged own_command folder_failed result }
+        ensures { SeeksLock (F.moment folder.old) (F.moment folder.new) self.token (asks self.asked)
+            (Asks self) HasJudged result }
     {
         let verdict = folder.verdict(&self.holder.token, &self.asked);
         self.after_verdict(verdict)

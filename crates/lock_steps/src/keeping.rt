@@ -10,9 +10,10 @@ ghost use Rattle.acct_outside.specs.Tokens.{free_text};
 ghost use Rattle.acct_outside.specs.Calls.{writes, renames, removes};
 ghost use Rattle.acct_outside.specs.Contract.{IsLockNumber};
 ghost use Rattle.suite_rules.specs.Knowledge.{Knowledge};
-ghost use Rattle.suite_rules.specs.Steps.{StandsIn, work, TakesStep};
+ghost use Rattle.suite_rules.specs.Steps.{StandsIn};
 ghost use Rattle.lock_steps.specs.Stands.{Keeps, KnowsAnything, KnowsNone, HasStagedFree, HasFreed};
 ghost use Rattle.lock_steps.specs.Outcomes.{LeadsTo, cleaned_once, freeing_of, the_end};
+ghost use Rattle.lock_steps.specs.Steps.{FreesLock};
 
 use crate::holder::Holder;
 use acct_outside::{Folder, FolderFault, Name, Token};
@@ -169,10 +170,9 @@ impl<K: Knowing> Keeper<K> {
     pub fn clean_next<F: Folder>(self, folder: &mut F) -> Result<Self, FolderFault>
         requires left { 0 < length self.lower }
         requires stands { StandsIn (F.moment folder.old) self.token (Keeps self K.knows) }
-        ensures { TakesStep (F.moment folder.old) (F.moment folder.new) self.token
-            (removes (Lock (slice_index self.lower 0)))
-            (λ answer. LeadsTo (cleaned_once self) answer result) (λ keeper. Keeps keeper K.knows)
-            work FolderFault.Failed result }
+        ensures { FreesLock (F.moment folder.old) (F.moment folder.new) self.token
+            (removes (Lock (slice_index self.lower 0))) (cleaned_once self)
+            (λ keeper. Keeps keeper K.knows) result }
     {
         let removed = folder.remove(&self.holder.token, Name::Lock(self.lower[0]));
         self.after_removal(removed)
@@ -194,9 +194,8 @@ impl<K: Knowing> Keeper<K> {
     pub fn stage_free<F: Folder>(self, folder: &mut F) -> Result<Freeing, FolderFault>
         requires none_left { length self.lower ≡ 0 }
         requires stands { StandsIn (F.moment folder.old) self.token (Keeps self K.knows) }
-        ensures { TakesStep (F.moment folder.old) (F.moment folder.new) self.token
-            (writes FreeStage free_text) (λ answer. LeadsTo (freeing_of self) answer result)
-            HasStagedFree work FolderFault.Failed result }
+        ensures { FreesLock (F.moment folder.old) (F.moment folder.new) self.token
+            (writes FreeStage free_text) (freeing_of self) HasStagedFree result }
     {
         let written = folder.write(&self.holder.token, Name::FreeStage, &self.holder.free);
         self.after_write(written)
@@ -221,9 +220,8 @@ impl Freeing {
     /// At a fault the lock may be held or free.
     pub fn move_free<F: Folder>(self, folder: &mut F) -> Result<Ended, FolderFault>
         requires { StandsIn (F.moment folder.old) self.token (HasStagedFree self) }
-        ensures { TakesStep (F.moment folder.old) (F.moment folder.new) self.token
-            (renames FreeStage (Lock self.number)) (λ answer. LeadsTo the_end answer result)
-            (λ _. HasFreed self.number) work FolderFault.Failed result }
+        ensures { FreesLock (F.moment folder.old) (F.moment folder.new) self.token
+            (renames FreeStage (Lock self.number)) the_end (λ _. HasFreed self.number) result }
     {
         let moved = folder.rename(&self.holder.token, Name::FreeStage, Name::Lock(self.number));
         self.after_move(moved)

@@ -80,9 +80,3 @@ impl From<AllocError> for LockEnd {
         LockEnd::Folder(FolderFault::Memory)
     }
 }
-
-/// The greatest number that a lock can have.
-const GREATEST_LOCK: u64 = 999_999_999_999_999_999;
-
-/// The most bytes of a lock that are read.
-const LOCK_LIMIT: u64 = 256;

@@ -1,18 +1,18 @@
 // What the settings give, and what a command takes from them (login.defs(5)).
-ghost use Rattle.std.specs.Prelude.{◌≡◌, ◌≤◌, ◌==◌, List, [], length, position, IfOk, OnOk, OnErr};
+ghost use Rattle.std.specs.Prelude.{◌≡◌, ◌≤◌, List, [], length, IfOk, OnOk, OnErr};
 ghost use Rattle.acct_text.specs.Limits.{table_limit};
 ghost use Rattle.account_model.specs.Settings.{Setting, settings_of, bad_line, number as number_of, range as range_of, user_groups, default_value, range_between, one_less as lessened};
 ghost use Rattle.login_defs.specs.Places.{key_place};
 ghost use Rattle.login_defs.specs.Held.{HasSettings, Adds, Gives, held_value, signed};
 ghost use Rattle.login_defs.specs.Faults.{setting_fault, file_fault};
 ghost use Rattle.login_defs.specs.LineSetting.{AddsLine, line_fault};
-ghost use Rattle.acct_text.specs.Bytes.{newline};
 ghost use Rattle.std.specs.Result.{result_err};
 
 use crate::keys::{COUNT, find_key, place_of};
 use crate::lines::setting_of;
 use crate::values::allowed_value;
 use crate::{IdSort, Key, Kind};
+use acct_text::cut_once;
 
 /// Why a settings file is refused.
 #[derive(Clone, Copy, Debug, PartialEq, Eq)]
@@ -65,9 +65,9 @@ impl Defs {
         let mut defs = Defs::absent();
         let mut rest = text;
         let mut number = 1u32;
-        'lines: while let Some(end) = line_end(rest) {
-            defs.take_line(&rest[..end], number)?;
-            rest = &rest[end + 1..];
+        'lines: while let Some(cut) = cut_once(b'\n', rest) {
+            defs.take_line(cut.before, number)?;
+            rest = cut.behind;
             number += 1;
         }
         defs.take_line(rest, number)?;
@@ -198,11 +198,4 @@ fn one_less(number: Option<u32>) -> Option<u32>
         Some(number) => number.checked_sub(1),
         None => None,
     }
-}
-
-// The end of the first line, where a newline ends it.
-fn line_end(text: &[u8]) -> Option<usize>
-    ensures { result ≡ position (λ byte. byte == newline) text.now }
-{
-    text.iter().position(|byte| *byte == b'\n')
 }

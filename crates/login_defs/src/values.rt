@@ -4,12 +4,7 @@ ghost use Rattle.std.specs.Prelude.{◌≡◌, ◌≤◌, ◌<◌, ◌^◌};
 ghost use Rattle.account_model.specs.Settings.{allowed_value as value_allowed, setting_number, radix_number, within};
 
 use crate::keys::is_days_key;
-use account_model::Key;
-
-// The greatest ID, and the greatest number of days.
-const GREATEST_ID: u32 = 4294967294;
-
-const GREATEST_DAYS: u32 = 2147483647;
+use account_model::{GREATEST_DAYS, GREATEST_ID, Key};
 
 /// The value that the text gives the key: `None` within for -1, and none where it isn't allowed.
 pub(crate) fn allowed_value(key: Key, text: &[u8]) -> Option<Option<u32>>

@@ -1,5 +1,5 @@
--- A text is cut at the first byte that passes a test, where one does (`cut-some`, `cut-none`).
-use Rattle.std.proofs.Common.{◌≡◌, ℕ, suc, ◌+◌, ◌≤◌, Bool, true, false, List, [], ◌∷◌, length, position, Some, None, refl, sym, ◌∙◌, arith, inl, inr}
+-- A list of which no element passes a test stands before the first that does (`before_first-none`).
+use Rattle.std.proofs.Common.{◌≡◌, ℕ, suc, ◌+◌, ◌≤◌, Bool, true, false, List, [], ◌∷◌, length, refl, sym, ◌∙◌, arith, inl, inr}
 use Rattle.std.specs.Prelude.{nat_lt}
 use Rattle.std.specs.List.{list_any, position_or_len, before_first}
 use Rattle.std.proofs.lemmas.Bool.{cases_Bool, ltb-false}
@@ -23,32 +23,6 @@ module _ {X : Type 0} (test : X → Bool) where
     | inl passes ↦ rw passes (zero_before_end (length xs))
     | inr fails ↦
         rw fails (any-before_end xs ∙ before_end-suc (position_or_len test xs) (length xs))
-  ]
-
-  -- where a place is found, an element passes, and it is the place of the first
-  pub position-some :
-      (xs : List X) (place : ℕ)
-      → position test xs ≡ Some place
-      → (list_any test xs ≡ true) × (position_or_len test xs ≡ place)
-  position-some xs place found = elim (cases_Bool (nat_lt (position_or_len test xs) (length xs))) [
-    | inl before ↦
-        let same : Some (position_or_len test xs) ≡ Some place = rw before at found in
-        (any-before_end xs ∙ before, cc)
-    | inr behind ↦ let none : None ≡ Some place = rw behind at found in absurd (cc)
-  ]
-
-  -- where none is found, no element passes, and all stands before
-  pub position-none :
-      (xs : List X)
-      → position test xs ≡ None
-      → (list_any test xs ≡ false) × (before_first test xs ≡ xs)
-  position-none xs found = elim (cases_Bool (nat_lt (position_or_len test xs) (length xs))) [
-    | inl before ↦
-        let some : Some (position_or_len test xs) ≡ None = rw before at found in absurd (cc)
-    | inr behind ↦
-        let end : length xs ≤ position_or_len test xs =
-        ltb-false (position_or_len test xs) (length xs) behind in
-        (any-before_end xs ∙ behind, take_all (position_or_len test xs) xs end)
   ]
 
   -- where no element passes, all stands before

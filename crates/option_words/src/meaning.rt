@@ -1,10 +1,12 @@
 // What one word of a command is.
-ghost use Rattle.std.specs.Prelude.{◌≡◌, ◌==◌, ◌<◌, List, length, position, IfSome, Some, None, if◌then◌else◌};
+ghost use Rattle.std.specs.Prelude.{◌≡◌, List, Some, None, if◌then◌else◌};
 ghost use Rattle.std.specs.Option.{option_copied};
 ghost use Rattle.account_model.specs.Options.{OptionForm};
 ghost use Rattle.account_model.specs.Text.{equals_sign, has_byte};
 ghost use Rattle.account_model.specs.Spelling.{name_part, value_part, word_meaning};
 ghost use Rattle.option_words.specs.Meanings.{meaning_in};
+
+use acct_text::cut_once;
 
 /// What a word is where no option waits for its value.
 #[derive(Clone, Copy)]
@@ -47,21 +49,14 @@ pub(crate) fn cut_at_equals(text: &[u8]) -> LongOption<'_>
     ensures value { option_copied result.value
         ≡ (if has_byte equals_sign text.now then Some (value_part text.now) else None) }
 {
-    match place_of_equals(text) {
-        Some(place) => LongOption {
-            name: &text[..place],
-            value: Some(&text[place + 1..]),
+    match cut_once(b'=', text) {
+        Some(cut) => LongOption {
+            name: cut.before,
+            value: Some(cut.behind),
         },
         None => LongOption {
             name: text,
             value: None,
         },
     }
-}
-
-fn place_of_equals(text: &[u8]) -> Option<usize>
-    ensures place { result ≡ position (λ byte. byte == equals_sign) text.now }
-    ensures within { IfSome result (λ place. place < length text.now) }
-{
-    text.iter().position(|byte| *byte == b'=')
 }

@@ -1,21 +1,27 @@
 -- What the folder, the streams and the clock of a system tell of themselves: how often they failed,
 -- and the day that was last given; neither a history nor bytes.
-use Rattle.std.specs.Prelude.{ℕ, Option, None}
+use Rattle.std.specs.Prelude.{ℕ, Option, None, is_some}
+use Rattle.acct_outside.specs.Faults.{Faults}
 use Rattle.acct_outside.specs.Moment.{Moment}
 use Rattle.acct_outside.specs.Streams.{ClockMoment, SinkMoment, SourceMoment}
+use Rattle.real_folder.specs.declared.faults.Faults.{Faults as Noted}
 
 -- a folder that has failed so often
 abbrev pub untold : ℕ → Moment
 untold faults = record { admits = λ history event. ⊥; told = None; faults = faults }
 
--- a source that has failed so often
-abbrev pub untold_source : ℕ → SourceMoment
-untold_source faults = record { left = None; faults = faults }
+-- the count of the faults that were noted; the last call failed where its error is kept
+abbrev pub faults_of : Noted → Faults
+faults_of noted = record { count = noted.count; last_failed = is_some noted.last }
+
+-- a source with these faults
+abbrev pub untold_source : Noted → SourceMoment
+untold_source noted = record { left = None; faults = faults_of noted }
 
 -- a sink that has failed so often
 abbrev pub untold_sink : ℕ → SinkMoment
 untold_sink faults = record { holds = None; faults = faults }
 
--- a clock that last gave this day, if any, and has failed so often
-abbrev pub untold_clock : Option ℕ → ℕ → ClockMoment
-untold_clock gave faults = record { gave = gave; always = None; faults = faults }
+-- a clock that last gave this day, if any, with these faults
+abbrev pub untold_clock : Option ℕ → Noted → ClockMoment
+untold_clock gave noted = record { gave = gave; always = None; faults = faults_of noted }

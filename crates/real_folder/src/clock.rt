@@ -5,13 +5,10 @@ ghost use Rattle.acct_text.specs.Limits.{last_day};
 
 use crate::faults::{Faults, SystemError};
 use acct_outside::{Clock, ClockFault};
-use acct_text::read_decimal;
+use acct_text::{LAST_DAY, read_decimal};
 use std::env::VarError;
 use std::rt::{Clock as SystemClock, Env};
 use std::{env, io};
-
-/// 9999-12-31, counted in days from 1970-01-01.
-const LAST_DAY: u64 = 2932896;
 
 const SECONDS_OF_A_DAY: u64 = 86400;
 
@@ -39,7 +36,7 @@ impl<R: SystemClock + Env + AllocGlobal + Drop> RealClock<R> {
         }
     }
 
-    /// Why the clock last gave no day.
+    /// Why the last call gave no day, and none where it gave one.
     pub fn last_error(&self) -> Option<&SystemError> {
         self.faults.last.as_ref()
     }
@@ -99,12 +96,13 @@ fn no_time() -> SystemError {
 }
 
 impl<R: SystemClock + Env + AllocGlobal + Drop> Clock for RealClock<R> {
-    ghost moment = { λ clock. untold_clock clock.gave clock.faults.count };
+    ghost moment = { λ clock. untold_clock clock.gave clock.faults };
 
     fn day(&mut self) -> Result<u32, ClockFault> {
         match self.today() {
             Ok(day) => {
                 self.gave = Some(day);
+                self.faults.pass();
                 Ok(day)
             }
             Err(error) => {

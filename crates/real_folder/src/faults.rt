@@ -1,6 +1,6 @@
 // What the system refused an object: how often, and why it did so last.
-ghost use Rattle.std.specs.Prelude.{◌≡◌, ◌≤◌, Ok, IfOk};
-ghost use Rattle.acct_outside.specs.Faults.{HasRisen};
+ghost use Rattle.std.specs.Prelude.{◌≡◌, ◌≤◌, Ok, IfOk, IsSome};
+ghost use Rattle.acct_outside.specs.Faults.{HasRisen, next_count};
 
 use std::alloc::{AllocError, Global};
 use std::io;
@@ -93,11 +93,20 @@ impl Faults {
 
     /// Counts a fault, and keeps its error.
     pub(crate) fn note(&mut self, error: SystemError)
+        ensures counted { self.new.count ≡ next_count self.old.count }
         ensures risen { HasRisen self.old.count self.new.count }
         ensures never_falls { self.old.count ≤ self.new.count }
+        ensures last { IsSome self.new.last }
     {
         self.last = Some(error);
         self.count = self.count.saturating_add(1);
+    }
+
+    /// Lets go the error of an earlier call, as the last one didn't fail.
+    pub(crate) fn pass(&mut self)
+        ensures { self.new ≡ record self.old { last = None } }
+    {
+        self.last = None;
     }
 }
 

@@ -7,7 +7,7 @@
 // The kernel lets go of it when the last process that holds it open ends, in whichever namespace.
 use crate::files;
 use crate::names::is_own_name;
-use acct_outside::Created;
+use acct_outside::{Created, LOCK_LIMIT};
 use std::fs::{File, Permissions};
 use std::io::{ErrorKind, Read};
 use std::os::unix::fs::{MetadataExt, PermissionsExt};
@@ -22,9 +22,6 @@ const CLAIM_MODE: u32 = 0o600;
 
 /// How often a claim is begun anew before it gives up.
 const CLAIMS: usize = 100;
-
-/// The most bytes of a lock file that are read. No lock's text is as long.
-const TEXT_LIMIT: u64 = 256;
 
 /// Whether the kernel has locked a file for the session that holds it open.
 #[derive(Clone, Copy, PartialEq, Eq)]
@@ -198,7 +195,7 @@ pub(crate) fn keeping_of<R: Files<File = File> + AllocGlobal>(
         file => file?,
     };
     let mut bytes = Vec::new(rt.alloc());
-    (&file).take(TEXT_LIMIT).read_to_end(&mut bytes)?;
+    (&file).take(LOCK_LIMIT).read_to_end(&mut bytes)?;
     if bytes.as_slice() != text {
         return Ok(Keeping::Moved);
     }

@@ -5,13 +5,10 @@ ghost use Rattle.acct_outside.specs.Contract.{IsLockNumber};
 ghost use Rattle.acct_outside.specs.Names.{file_name};
 ghost use Rattle.real_folder.specs.Paths.{path_at, path_in, own_front, own_name, FindsLock};
 
-use acct_outside::Name;
+use acct_outside::{GREATEST_LOCK, Name};
 use acct_text::{Bytes, one_number, read_decimal};
 use std::alloc::{AllocError, Global};
 use std::str;
-
-/// The greatest number of a lock.
-const GREATEST_LOCK: u64 = 999999999999999999;
 
 /// The path of DIR/etc, empty where the prefix is no text.
 pub(crate) fn etc_of(alloc: Global, prefix: &Bytes) -> Result<String, AllocError>

@@ -29,14 +29,14 @@ impl<R: Read + Drop> RealSource<R> {
         }
     }
 
-    /// Why the system last refused a read.
+    /// Why the system refused the last read, and none where it didn't.
     pub fn last_error(&self) -> Option<&SystemError> {
         self.faults.last.as_ref()
     }
 }
 
 impl<R: Read + Drop> Source for RealSource<R> {
-    ghost moment = { λ source. untold_source source.faults.count };
+    ghost moment = { λ source. untold_source source.faults };
 
     fn take(&mut self, room: usize) -> Result<Bytes, SourceFault> {
         let mut buffer = [0u8; PIECE];
@@ -49,6 +49,7 @@ impl<R: Read + Drop> Source for RealSource<R> {
                 return Err(SourceFault::Failed);
             }
         };
+        self.faults.pass();
         match Bytes::of(self.alloc, &buffer[..count]) {
             Ok(piece) => Ok(piece),
             Err(_) => Err(SourceFault::Memory),

@@ -1,2 +1,4 @@
+pub mod CarryLemmas
+pub mod LeadsLemmas
 pub mod RecoversLemmas
 pub mod OutcomesLemmas

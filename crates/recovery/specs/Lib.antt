@@ -1,3 +1,4 @@
+pub mod Carrying
 pub mod States
 pub mod Stands
 pub mod Outcomes

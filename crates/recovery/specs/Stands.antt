@@ -1,12 +1,10 @@
 -- The standing of a session in each state of a recovery (docs/ARCHITECTURE.md, "Typed steps"). Each
 -- is found from the session's own events alone.
-use Rattle.std.specs.Prelude.{◌≡◌, true, List, ◌++◌, slice_get, All, Option, Some, IfSome, ⊤}
-use Rattle.acct_outside.specs.declared.Name.TheVariants.{Staged}
+use Rattle.std.specs.Prelude.{⊤}
 use Rattle.acct_outside.specs.Tokens.{Token}
 use Rattle.acct_outside.specs.Moment.{Moment}
-use Rattle.intent_file.specs.Intent.{NewTable}
+use Rattle.intent_file.specs.Intent.{Intended}
 use Rattle.suite_rules.specs.Standing.{Standing}
-use Rattle.suite_rules.specs.Rules.{KnowsIntent}
 use Rattle.suite_rules.specs.Steps.{StandsIn}
 use Rattle.lock_steps.specs.Stands.{Keeps, KnowsAnything, KnowsNoneYet}
 use Rattle.recovery.specs.declared.IntentSeen.{IntentSeen}
@@ -14,21 +12,17 @@ use Rattle.recovery.specs.declared.IntentSeen.TheVariants.{Clean, Listed}
 use Rattle.recovery.specs.declared.RecoveryEnd.{RecoveryEnd}
 use Rattle.recovery.specs.declared.RecoveryEnd.TheVariants.{Fault, Damaged, TooLarge}
 use Rattle.recovery.specs.States.{Recoverer}
+use Rattle.recovery.specs.Carrying.{Carries, HasStagedFirst}
 
--- It keeps its number and knows an intent that reads. The tables that the intent lists are first
--- those that it has put in place, and then those that are left.
+-- it carries out an intent, of whose tables these are left
 pub record Recovers (recovering : Recoverer) (standing : Standing) : Type 0 where
-  pub keeps : Keeps recovering.keeper KnowsAnything standing
-  pub knows : KnowsIntent standing
-  pub moved : List NewTable
-  pub lists : knows.intent.tables ≡ moved ++ recovering.left
-  pub in_place : All (λ new. knows.placed new.table ≡ true) moved
+  pub intent : Intended
+  pub carries : Carries intent recovering.keeper recovering.left standing
 
 -- it recovers, and has staged the bytes of the first table that is left
 pub record HasStagedNext (recovering : Recoverer) (standing : Standing) : Type 0 where
   pub recovers : Recovers recovering standing
-  pub staged : IfSome (slice_get recovering.left 0)
-      (λ next. standing.staged (Staged next.table) ≡ Some next.bytes)
+  pub staged : HasStagedFirst recovering.left standing
 
 -- after the read of the intent: none stands, or all tables of the one that stands are left
 abbrev pub HoldsSeen : IntentSeen → Standing → Type 0

@@ -13,12 +13,19 @@
 //! Until then the intent stands, so whoever becomes keeper after a death carries it out again. No
 //! state knows what stands in the folder, so any events of other sessions may come before the next
 //! call.
+//!
+//! A session carries out the intent of its own commit by the same calls ([`stage_table`],
+//! [`move_table`], [`remove_intent`]), and knows the same of it (specs/Carrying).
 #![tactic(auto)]
 
+mod carrying;
+mod leading;
 mod reading;
 mod recovering;
 
 use acct_outside::StageFault;
+pub use carrying::{move_table, remove_intent, stage_table};
+pub use leading::leads;
 use lock_steps::{Clean, Keeper, Unknown};
 pub use reading::read_intent;
 pub use recovering::{Moving, Recovering};

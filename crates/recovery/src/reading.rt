@@ -11,13 +11,10 @@ ghost use Rattle.recovery.specs.Outcomes.{FindsIntent, ReadsBytes, failed_before
 
 use crate::recovering::Recovering;
 use crate::{IntentSeen, RecoveryEnd};
-use acct_outside::{CommitStage, Folder, FolderFault, Found, Name, StageFault};
+use acct_outside::{CommitStage, Folder, FolderFault, Found, INTENT_LIMIT, Name, StageFault};
 use intent_file::{Intent, IntentFault};
 use lock_steps::{Keeper, Unknown};
 use std::alloc::Global;
-
-/// The most bytes of an intent that are read.
-const INTENT_LIMIT: u64 = 100_664_320;
 
 /// Reads the intent.
 ///

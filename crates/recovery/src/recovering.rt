@@ -6,6 +6,7 @@
 //    `Recovering` with one table less.
 // 3. `Keeper<Clean>`: no table is left. `remove_intent` leads to it from `Recovering`.
 ghost use Rattle.std.specs.Prelude.{◌≡◌, ◌<◌, length, slice_get, IsErrOf, OnOk, Some};
+ghost use Rattle.acct_outside.specs.declared.Name.TheVariants.{Intent as IntentName};
 ghost use Rattle.acct_outside.specs.Calls.{removes};
 ghost use Rattle.suite_rules.specs.Steps.{StandsIn, own_command, TakesStep, TakesNext};
 ghost use Rattle.suite_rules.specs.Outcomes.{before_commit, LeadsTo, stages, installs};
@@ -14,8 +15,10 @@ ghost use Rattle.recovery.specs.States.{moved_once};
 ghost use Rattle.recovery.specs.Stands.{Recovers, HasStagedNext};
 ghost use Rattle.recovery.specs.Outcomes.{failed_before};
 
+use crate::carrying::{move_table, remove_intent, stage_table};
+use crate::leading::leads;
 use crate::reading::at_before;
-use acct_outside::{Folder, FolderFault, Name, StageFault, Token};
+use acct_outside::{CommitStage, Folder, FolderFault, StageFault, Token};
 use intent_file::{Intent, NewTable};
 use lock_steps::{Clean, Keeper, Unknown};
 use std::collections::VecDeque;
@@ -99,35 +102,16 @@ impl Recovering {
             (slice_get self.left 0) stages (λ next answer. LeadsTo self before_commit answer result)
             HasStagedNext own_command failed_before result }
     {
-        let next = self.next();
-        let written = folder.write(self.token(), Name::Staged(next.table), &next.bytes);
-        self.after_write(written)
+        let written = stage_table(self.token(), self.next(), folder);
+        leads(Moving { recovering: self }, written, CommitStage::Before)
     }
 
-    /// What the write of the next table's bytes leads to.
-    fn after_write(self, written: Result<(), FolderFault>) -> Result<Moving, StageFault>
-        requires { 0 < length self.left }
-        ensures shown { LeadsTo self before_commit written result }
-        ensures failed { IsErrOf result failed_before → IsErrOf written FolderFault.Failed }
+    /// One table less is left.
+    fn moved_once(mut self) -> Self
+        ensures { result ≡ moved_once self }
     {
-        match written {
-            Ok(()) => Ok(Moving { recovering: self }),
-            Err(fault) => Err(at_before(fault)),
-        }
-    }
-
-    /// What the move of the next table leads to.
-    fn after_move(mut self, moved: Result<(), FolderFault>) -> Result<Self, StageFault>
-        ensures shown { LeadsTo (moved_once self) before_commit moved result }
-        ensures failed { IsErrOf result failed_before → IsErrOf moved FolderFault.Failed }
-    {
-        match moved {
-            Ok(()) => {
-                let _ = self.left.pop_front();
-                Ok(self)
-            }
-            Err(fault) => Err(at_before(fault)),
-        }
+        let _ = self.left.pop_front();
+        self
     }
 
     /// Removes the intent, once no table is left.
@@ -137,10 +121,10 @@ impl Recovering {
         requires left { length self.left ≡ 0 }
         requires stands { StandsIn (F.moment folder.old) self.keeper.token (Recovers self) }
         ensures { TakesStep (F.moment folder.old) (F.moment folder.new) self.keeper.token
-            (removes Name.Intent) (λ answer. LeadsTo self.keeper before_commit answer result)
+            (removes IntentName) (λ answer. LeadsTo self.keeper before_commit answer result)
             (λ keeper. Keeps keeper KnowsNoneYet) own_command failed_before result }
     {
-        let removed = folder.remove(self.token(), Name::Intent);
+        let removed = remove_intent(self.token(), folder);
         self.after_removal(folder, removed)
     }
 
@@ -174,8 +158,7 @@ impl Moving {
             own_command failed_before result }
     {
         let token = self.recovering.token();
-        let table = self.recovering.next().table;
-        let moved = folder.rename(token, Name::Staged(table), Name::Table(table));
-        self.recovering.after_move(moved)
+        let moved = move_table(token, self.recovering.next(), folder);
+        leads(self.recovering.moved_once(), moved, CommitStage::Before)
     }
 }

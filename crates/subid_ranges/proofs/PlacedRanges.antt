@@ -1,10 +1,8 @@
--- Claim: what a search has left at a place is by the range there, and by what is left behind it
--- (`ranges-left`, `meeting-here`, `meeting-behind`, `owned-left`). Way: what is left begins with the
--- line at the place.
-use Rattle.std.proofs.Common.{◌≡◌, ℕ, zero, suc, ◌+◌, ◌<◌, Bool, true, false, List, [], ◌∷◌, length, drop, get_or, refl, sym, ◌∙◌, ap, arith}
+-- Claim: what a search finds in the lines left is by the range of the next, and by what is left
+-- behind it (`meeting-here`, `meeting-behind`, `owned-here`, `owned-behind`).
+use Rattle.std.proofs.Common.{◌≡◌, ℕ, ◌+◌, Bool, true, false, List, [], ◌∷◌, refl, sym, ◌∙◌, ap}
 use Rattle.std.specs.Prelude.{Option, Some, None, ◌||◌, not, is_none, map, filter, if◌then◌else◌}
 use Rattle.std.specs.List.{AllByRecursion, cons_option, list_any, position_from}
-use Rattle.std.proofs.lemmas.List.{at_drop_more}
 use Rattle.std.proofs.lemmas.Bool.{le-leb, true≢false}
 use Rattle.acct_text.specs.Lines.{Line}
 use Rattle.account_model.specs.declared.records.SubidRecord.{SubidRecord}
@@ -12,26 +10,8 @@ use Rattle.account_model.specs.FreeRange.{Meeting, meets}
 use Rattle.account_model.specs.Records.{last_id, subid_format}
 use Rattle.account_model.specs.SubidOwner.{is_owned}
 use Rattle.account_model.specs.UsermodRanges.{line_meets}
-use Rattle.acct_tables.specs.TableLines.{record_at}
 use Rattle.subid_ranges.specs.Owned.{first_and_count, owned_one, owned_ranges}
 use Rattle.subid_ranges.specs.RangeLines.{ids_from, meeting_line, meets_at, ranges_of}
-
--- a line without text
-abbrev blank_line : Line
-blank_line = record { text = []; ended = false }
-
--- the line at a place
-abbrev line_here : List Line → ℕ → Line
-line_here lines place = get_or lines place blank_line
-
--- what is found at a place is what its line reads as
-record-here :
-    (lines : List Line) (place : ℕ)
-    → place < length lines
-    → record_at subid_format lines place ≡ subid_format.read (line_here lines place).text
-record-here [] place inside = absurd (omega arith)
-record-here (line ∷ lines) zero inside = refl
-record-here (line ∷ lines) (suc place) inside = record-here lines place (omega arith)
 
 -- the ranges of an owner with one more in front, by whether it is the owner's
 owned-test :
@@ -50,72 +30,56 @@ owned-by :
 owned-by name uid None rest = refl
 owned-by name uid (Some r) rest = owned-test name uid r rest (is_owned name uid r) refl
 
-module _ (lines : List Line) (place : ℕ) (inside : place < length lines) where
-  -- the ranges of the lines left
-  pub ranges-left :
-      ranges_of (drop place lines)
-      ≡ cons_option (record_at subid_format lines place) (ranges_of (drop (place + 1) lines))
-  ranges-left =
-      at_drop_more ranges_of lines place blank_line inside
-      ∙ ap (λ r. cons_option r (ranges_of (drop (place + 1) lines)))
-      (sym (record-here lines place inside))
+module _ (line : Line) (left rest : List Line) (is : left ≡ line ∷ rest) where
+  module _ (first last number : ℕ) where
+    -- by whether the next line meets the IDs
+    meeting-next :
+        (test : Bool)
+        → meets_at first last (subid_format.read line.text) ≡ test
+        → position_from (line_meets (ids_from first last)) number left
+        ≡ (if test then Some number else position_from
+        (line_meets (ids_from first last)) (number + 1) rest)
+    meeting-next test meets =
+        ap (position_from (line_meets (ids_from first last)) number) is
+        ∙ ap (λ test. if test then Some number else position_from
+        (line_meets (ids_from first last)) (number + 1) rest) meets
 
-  module _ (first last : ℕ) where
-    -- whether the line at the place meets the IDs
-    meets-here :
-        meets_at first last (record_at subid_format lines place)
-        ≡ line_meets (ids_from first last) (line_here lines place)
-    meets-here = ap (meets_at first last) (record-here lines place inside)
-
-    -- the line at the place is the first that meets the IDs
+    -- the next line is the first that meets the IDs
     pub meeting-here :
-        meets_at first last (record_at subid_format lines place) ≡ true
-        → position_from (line_meets (ids_from first last)) (place + 1) (drop place lines)
-        ≡ Some (place + 1)
-    meeting-here meets =
-        at_drop_more (position_from (line_meets (ids_from first last)) (place + 1)) lines place
-        blank_line inside
-        ∙ ap (λ test. if test then Some (place + 1) else position_from
-        (line_meets (ids_from first last)) (place + 1 + 1) (drop (place + 1) lines))
-        (sym meets-here ∙ meets)
+        meets_at first last (subid_format.read line.text) ≡ true
+        → position_from (line_meets (ids_from first last)) number left ≡ Some number
+    meeting-here meets = meeting-next true meets
 
     -- or the first is behind it
     pub meeting-behind :
-        meets_at first last (record_at subid_format lines place) ≡ false
-        → position_from (line_meets (ids_from first last)) (place + 1) (drop place lines)
-        ≡ position_from (line_meets (ids_from first last)) (place + 1 + 1) (drop (place + 1) lines)
-    meeting-behind apart =
-        at_drop_more (position_from (line_meets (ids_from first last)) (place + 1)) lines place
-        blank_line inside
-        ∙ ap (λ test. if test then Some (place + 1) else position_from
-        (line_meets (ids_from first last)) (place + 1 + 1) (drop (place + 1) lines))
-        (sym meets-here ∙ apart)
+        meets_at first last (subid_format.read line.text) ≡ false
+        → position_from (line_meets (ids_from first last)) number left
+        ≡ position_from (line_meets (ids_from first last)) (number + 1) rest
+    meeting-behind apart = meeting-next false apart
 
   module _ (name : List ℕ) (uid : Option ℕ) where
-    -- the ranges of an owner, by that at the place
-    pub owned-left :
-        owned_ranges name uid (drop place lines)
-        ≡ cons_option (owned_one name uid (record_at subid_format lines place))
-        (owned_ranges name uid (drop (place + 1) lines))
+    -- the ranges of an owner, by that of the next line
+    owned-left :
+        owned_ranges name uid left
+        ≡ cons_option (owned_one name uid (subid_format.read line.text)) (owned_ranges name uid rest)
     owned-left =
-        ap (λ rs. map first_and_count (filter (is_owned name uid) rs)) ranges-left
-        ∙ owned-by name uid (record_at subid_format lines place) (ranges_of (drop (place + 1) lines))
+        ap (owned_ranges name uid) is
+        ∙ owned-by name uid (subid_format.read line.text) (ranges_of rest)
 
-    -- the range at the place is the owner's
+    -- the range of the next line is the owner's
     pub owned-here :
         (range : ℕ × ℕ)
-        → owned_one name uid (record_at subid_format lines place) ≡ Some range
-        → owned_ranges name uid (drop place lines)
-        ≡ range ∷ owned_ranges name uid (drop (place + 1) lines)
-    owned-here range is =
-        owned-left ∙ ap (λ found. cons_option found (owned_ranges name uid (drop (place + 1) lines))) is
+        → owned_one name uid (subid_format.read line.text) ≡ Some range
+        → owned_ranges name uid left ≡ range ∷ owned_ranges name uid rest
+    owned-here range found =
+        owned-left ∙ ap (λ found. cons_option found (owned_ranges name uid rest)) found
 
     -- or there is none of the owner
     pub owned-behind :
-        owned_one name uid (record_at subid_format lines place) ≡ None
-        → owned_ranges name uid (drop place lines) ≡ owned_ranges name uid (drop (place + 1) lines)
-    owned-behind is =
-        owned-left ∙ ap (λ found. cons_option found (owned_ranges name uid (drop (place + 1) lines))) is
+        owned_one name uid (subid_format.read line.text) ≡ None
+        → owned_ranges name uid left ≡ owned_ranges name uid rest
+    owned-behind found =
+        owned-left ∙ ap (λ found. cons_option found (owned_ranges name uid rest)) found
 
 -- by whether the first line meets the IDs
 meeting-by :

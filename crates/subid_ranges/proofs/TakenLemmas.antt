@@ -1,7 +1,6 @@
--- Claims: the numbers of a table's ranges are gathered line by line (`added-place`), and numbers
--- meet the newest range (`newest-met`) or the last run that begins up to them, or are free
--- (`met-by`). Way: a number of a run is taken, and behind the last run up to a number nothing is.
-use Rattle.std.proofs.Common.{◌≡◌, ℕ, ◌+◌, ◌<◌, ◌≤◌, Bool, true, false, List, length, drop, refl, sym, ◌∙◌, ap, arith, inl, inr, lt_irrefl}
+-- Claims: the numbers of a table's ranges are gathered line by line (`added-line`), and numbers meet
+-- the newest range (`newest-met`) or the last run that begins up to them, or are free (`met-by`). Way: a number of a run is taken, and behind the last run up to a number nothing is.
+use Rattle.std.proofs.Common.{◌≡◌, ℕ, ◌+◌, ◌<◌, ◌≤◌, Bool, true, false, List, [], ◌∷◌, refl, sym, ◌∙◌, ap, arith, inl, inr, lt_irrefl}
 use Rattle.std.specs.Prelude.{Option, Some, None, MatchOption, ◌||◌, nat_le}
 use Rattle.std.specs.List.{cons_option}
 use Rattle.std.proofs.lemmas.Bool.{and_from, and_left, and_right, cases_lt, le-leb, lt-leb, or_from, or_left, or_right}
@@ -10,14 +9,12 @@ use Rattle.acct_text.specs.Lines.{Line}
 use Rattle.account_model.specs.declared.records.SubidRecord.{SubidRecord}
 use Rattle.account_model.specs.Ids.{is_used}
 use Rattle.account_model.specs.Records.{subid_format}
-use Rattle.acct_tables.specs.TableLines.{record_at}
 use Rattle.id_choice.specs.declared.runs.Run.{Run}
 use Rattle.id_choice.specs.Runs.{HasNothingUpTo, IsLastUpTo}
 use Rattle.subid_ranges.specs.declared.taken.Taken.{Taken}
 use Rattle.subid_ranges.specs.Numbers.{AddsFound, MeetsRun, MissesRun, is_of, is_ranged}
 use Rattle.subid_ranges.specs.RangeLines.{meets_at, ranges_of}
 use Rattle.subid_ranges.specs.Taken.{AreFree, AreMet}
-use Rattle.subid_ranges.proofs.PlacedRanges.{ranges-left}
 
 -- ---- The numbers of a table
 
@@ -36,24 +33,33 @@ ranged-found None rest number = refl
 ranged-found (Some r) rest number = refl
 
 -- a line's numbers go from those of the lines left to those gathered
-pub added-place :
-    (lines : List Line) (place : ℕ) (old new : List ℕ)
-    → place < length lines
-    → AddsFound (record_at subid_format lines place) old new
-    → ((number : ℕ) → (is_used old number || is_ranged (ranges_of (drop place lines)) number)
-    ≡ is_ranged (ranges_of lines) number)
+pub added-line :
+    (line : Line) (left rest : List Line) (old new : List ℕ) (total : ℕ → Bool)
+    → left ≡ line ∷ rest
+    → AddsFound (subid_format.read line.text) old new
+    → ((number : ℕ) → (is_used old number || is_ranged (ranges_of left) number) ≡ total number)
     → (number : ℕ)
-    → (is_used new number || is_ranged (ranges_of (drop (place + 1) lines)) number)
-    ≡ is_ranged (ranges_of lines) number
-added-place lines place old new inside added gathered number =
-    let found = record_at subid_format lines place
-    in let rest = ranges_of (drop (place + 1) lines)
-    in let here = meets_at number number found
-    in ap (λ (used : Bool). used || is_ranged rest number) (added number)
-    ∙ second-first here (is_used old number) (is_ranged rest number)
+    → (is_used new number || is_ranged (ranges_of rest) number) ≡ total number
+added-line line left rest old new total is added gathered number =
+    let found = subid_format.read line.text in
+    let behind = is_ranged (ranges_of rest) number in
+    let here = meets_at number number found in
+    ap (λ (used : Bool). used || behind) (added number)
+    ∙ second-first here (is_used old number) behind
     ∙ ap (λ (left : Bool). is_used old number || left)
-    (sym (ap (λ ranges. is_ranged ranges number) (ranges-left lines place inside)
-    ∙ ranged-found found rest number))
+    (sym (ap (λ lines. is_ranged (ranges_of lines) number) is
+    ∙ ranged-found found (ranges_of rest) number))
+    ∙ gathered number
+
+-- behind the last line they are all
+pub added-all :
+    (left : List Line) (used : List ℕ) (total : ℕ → Bool)
+    → left ≡ []
+    → ((number : ℕ) → (is_used used number || is_ranged (ranges_of left) number) ≡ total number)
+    → (number : ℕ)
+    → (is_used used number || false) ≡ total number
+added-all left used total none gathered number =
+    ap (λ lines. is_used used number || is_ranged (ranges_of lines) number) (sym none)
     ∙ gathered number
 
 -- ---- What numbers meet

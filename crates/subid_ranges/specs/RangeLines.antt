@@ -1,8 +1,8 @@
 -- The lines of a file of subordinate IDs, and what comes into them or goes out of them (useradd(8),
 -- usermod(8), `-v`, `-V`, `-w` and `-W`; subuid(5), subgid(5)).
-use Rattle.std.specs.Prelude.{◌≡◌, ℕ, Bool, false, ◌&&◌, ◌||◌, not, List, [], ◌∷◌, nat_le, nat_lt, map, Option, Some, None, if◌then◌else◌}
+use Rattle.std.specs.Prelude.{ℕ, Bool, false, ◌&&◌, ◌||◌, not, List, [], ◌∷◌, nat_le, nat_lt, map, Option, Some, None, if◌then◌else◌}
 use Rattle.std.specs.List.{position_from}
-use Rattle.acct_text.specs.Lines.{Line, lines_of, file_bytes}
+use Rattle.acct_text.specs.Lines.{Line}
 use Rattle.account_model.specs.declared.records.SubidRecord.{SubidRecord}
 use Rattle.account_model.specs.Edits.{edited, Add}
 use Rattle.account_model.specs.Format.{records_of}
@@ -10,10 +10,6 @@ use Rattle.account_model.specs.FreeRange.{meets}
 use Rattle.account_model.specs.Records.{greatest_id, last_id, print_subid, subid_format}
 use Rattle.account_model.specs.SubidOwner.{is_owned, left_without}
 use Rattle.account_model.specs.UsermodRanges.{IdRange, RangeOwner, cut_range, line_meets}
-
--- the lines are those of the file that they make
-abbrev pub AreOfFile : List Line → Type 0
-AreOfFile lines = lines_of (file_bytes lines) ≡ lines
 
 -- the ranges of the lines, in their order
 abbrev pub ranges_of : List Line → List SubidRecord

@@ -1,11 +1,9 @@
 -- Which numbers are taken, and the gaps between them (useradd(8), subuid(5), subgid(5)).
 use Rattle.std.specs.Prelude.{◌≡◌, ℕ, ◌+◌, ◌-◌, ◌≤◌, Bool, true, false, ◌||◌, List}
-use Rattle.acct_text.specs.Lines.{Line}
 use Rattle.account_model.specs.declared.records.SubidRecord.{SubidRecord}
 use Rattle.account_model.specs.Ids.{is_used}
 use Rattle.subid_ranges.specs.declared.taken.Taken.{Taken}
 use Rattle.subid_ranges.specs.Numbers.{is_of, is_ranged}
-use Rattle.subid_ranges.specs.RangeLines.{AreOfFile, ranges_of}
 
 -- whether the number is taken: it is one of the runs, or of the newest range
 abbrev pub is_taken : Taken → ℕ → Bool
@@ -14,11 +12,6 @@ is_taken taken number = is_used taken.runs number || is_of taken.newest number
 -- the numbers taken are those of the ranges
 pub record TakesThoseOf (ranges : List SubidRecord) (taken : Taken) : Type 0 where
   pub same : (number : ℕ) → is_taken taken number ≡ is_ranged ranges number
-
--- lines are those of a file, and the numbers taken are those of their ranges
-pub record TellsOf (lines : List Line) (taken : Taken) : Type 0 where
-  pub of_file : AreOfFile lines
-  pub takes : TakesThoseOf (ranges_of lines) taken
 
 -- none of the numbers from the first to the last is taken
 abbrev pub AreFree : Taken → ℕ → ℕ → Type 0

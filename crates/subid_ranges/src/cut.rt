@@ -8,11 +8,11 @@ ghost use Rattle.account_model.specs.FreeRange.{meets};
 ghost use Rattle.account_model.specs.Records.{subid_format};
 ghost use Rattle.account_model.specs.SubidOwner.{left_above, left_below};
 ghost use Rattle.account_model.specs.Written.{IsWritten};
-ghost use Rattle.subid_ranges.specs.RangeLines.{AreOfFile, is_cut, left_ended, left_lines, line_of, lines_of_ranges, new_range, range_cut, without_ids, without_range};
+ghost use Rattle.subid_ranges.specs.RangeLines.{is_cut, left_ended, left_lines, line_of, lines_of_ranges, new_range, range_cut, without_ids, without_range};
 
 use acct_lines::{ReadFault, SubidRecord, TableRecord};
-use acct_tables::{Table, is_owned, last_id};
-use acct_text::{Bytes, lines, push_decimal};
+use acct_tables::{FileLine, Lines, is_owned, last_id};
+use acct_text::{Bytes, push_decimal};
 use std::alloc::{AllocError, Global};
 
 /// The IDs that go, from the first to the last, and of which owner.
@@ -36,36 +36,19 @@ struct Piece<'a> {
     count: u32,
 }
 
-/// The table without the IDs of the cut.
-pub(crate) fn table_without(
-    alloc: Global,
-    table: &Table<SubidRecord>,
-    cut: &Cut<'_>,
-) -> Result<Table<SubidRecord>, AllocError>
-    requires ordered { cut.now.first ≤ cut.now.last }
-    requires of_file { AreOfFile table.now }
-    ensures { IfOk result (λ left. left ≡ without_range cut.now.owner.now cut.now.uid
-        cut.now.first cut.now.last table.now) }
-{
-    let text = table.text(alloc)?;
-    let left = text_without(alloc, text.as_slice(), cut)?;
-    Table::load(alloc, left.as_slice())
-}
-
-// The text of the file without the IDs of the cut.
-fn text_without(alloc: Global, text: &[u8], cut: &Cut<'_>) -> Result<Bytes, AllocError>
+/// The text of the file without the IDs of the cut.
+pub(crate) fn text_without(alloc: Global, text: &[u8], cut: &Cut<'_>) -> Result<Bytes, AllocError>
     requires { cut.now.first ≤ cut.now.last }
     ensures { IfOk result (λ left. left ≡ file_bytes
         (without_range cut.now.owner.now cut.now.uid cut.now.first cut.now.last
         (lines_of text.now))) }
 {
-    let places = lines(alloc, text)?;
-    let mut left = Bytes::new(alloc);
-    'lines: for (start, end) in &places {
-        let ended = *end < text.len();
-        push_cut(alloc, &mut left, &text[*start..*end], ended, cut)?;
+    let mut made = Bytes::new(alloc);
+    let mut left = Lines::of(text);
+    'lines: while let Some(line) = left.take() {
+        push_cut(alloc, &mut made, line.text, line.ended, cut)?;
     }
-    Ok(left)
+    Ok(made)
 }
 
 // Adds what a line becomes.
@@ -218,9 +201,5 @@ fn push_piece(left: &mut Bytes, piece: &Piece<'_>, ended: bool) -> Result<(), Al
 fn push_line(left: &mut Bytes, text: &[u8], ended: bool) -> Result<(), AllocError>
     ensures { OnOk result (left.new ≡ left.old ++ line_bytes (line_of text.now ended)) }
 {
-    left.push(text)?;
-    if ended {
-        left.push(b"\n")?;
-    }
-    Ok(())
+    FileLine { text, ended }.push_to(left)
 }

@@ -1,7 +1,7 @@
 //! The ranges of subordinate IDs of users: where a new one fits, and the lines that a range comes
 //! into or goes out of (useradd(8), usermod(8), subuid(5), subgid(5)).
 //!
-//! `Ranges` holds the lines of the file, and as runs the numbers that its ranges take: a gap is
+//! `Ranges` holds the bytes of the file, and as runs the numbers that its ranges take: a gap is
 //! found by these, and lines are searched only for the one that a refused range meets. Other text
 //! is never touched, and a line that loses no ID keeps its bytes. After a refusal and after want of
 //! memory all lines are as before the call.
@@ -10,6 +10,7 @@
 mod cut;
 mod fault;
 mod owned;
+mod range_line;
 mod ranges;
 mod taken;
 

@@ -1,42 +1,39 @@
 // The ranges of one owner (getsubids(1), usermod(8)).
 ghost use Rattle.std.specs.Prelude.{◌≡◌};
+ghost use Rattle.acct_text.specs.Lines.{lines_of};
 ghost use Rattle.account_model.specs.Records.{subid_format};
-ghost use Rattle.acct_tables.specs.TableLines.{record_at};
 ghost use Rattle.subid_ranges.specs.Owned.{owned_one, owned_ranges};
 
-use acct_lines::SubidRecord;
-use acct_tables::{Table, is_owned};
+use crate::range_line::range_in;
+use acct_tables::{Lines, is_owner};
 use std::marker::Model;
 
 /// The ranges of an owner that are left, in the order of lines: the first ID and the count of each.
 #[derive(Drop)]
 pub struct OwnedRanges<'a> {
-    table: &'a Table<SubidRecord>,
+    left: Lines<'a>,
     owner: &'a [u8],
     uid: Option<u32>,
-    // of the next line
-    place: usize,
 }
 
 impl<'a> Model for OwnedRanges<'a> {
-    ghost use Rattle.std.specs.Prelude.{List, ℕ, drop};
+    ghost use Rattle.std.specs.Prelude.{List, ℕ};
     ghost use Rattle.subid_ranges.specs.Owned.{owned_ranges};
 
     ghost Value = { List (ℕ × ℕ) };
 
-    ghost view = { λ s. owned_ranges s.owner.now s.uid (drop s.place s.table.now) };
+    ghost view = { λ s. owned_ranges s.owner.now s.uid s.left };
 }
 
 impl<'a> OwnedRanges<'a> {
-    /// The ranges of the table that are the owner's.
-    pub(crate) fn new(table: &'a Table<SubidRecord>, owner: &'a [u8], uid: Option<u32>) -> Self
-        ensures { result ≡ owned_ranges owner.now uid table.now }
+    /// The ranges in a file with these bytes that are the owner's.
+    pub fn new(text: &'a [u8], owner: &'a [u8], uid: Option<u32>) -> Self
+        ensures { result ≡ owned_ranges owner.now uid (lines_of text.now) }
     {
         OwnedRanges {
-            table,
+            left: Lines::of(text),
             owner,
             uid,
-            place: 0,
         }
     }
 }
@@ -51,10 +48,8 @@ impl<'a> Iterator for OwnedRanges<'a> {
     ghost remaining = { item_count (λ s. s) };
 
     fn next(&mut self) -> Option<(u32, u32)> {
-        'places: while self.place < self.table.len() {
-            let found = owned_at(self.table, self.place, self.owner, self.uid);
-            self.place += 1;
-            if let Some(range) = found {
+        'lines: while let Some(line) = self.left.take() {
+            if let Some(range) = owned_in(line.text, self.owner, self.uid) {
                 return Some(range);
             }
         }
@@ -62,17 +57,12 @@ impl<'a> Iterator for OwnedRanges<'a> {
     }
 }
 
-// The range at a place where it is the owner's.
-fn owned_at(
-    table: &Table<SubidRecord>,
-    place: usize,
-    owner: &[u8],
-    uid: Option<u32>,
-) -> Option<(u32, u32)>
-    ensures { result ≡ owned_one owner.now uid (record_at subid_format table.now place) }
+// The range that a line is, where it is the owner's.
+fn owned_in(line: &[u8], owner: &[u8], uid: Option<u32>) -> Option<(u32, u32)>
+    ensures { result ≡ owned_one owner.now uid (subid_format.read line.now) }
 {
-    let range = table.at(place)?;
-    if !is_owned(range, owner, uid) {
+    let range = range_in(line)?;
+    if !is_owner(range.owner, owner, uid) {
         return None;
     }
     Some((range.first, range.count))

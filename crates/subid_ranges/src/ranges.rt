@@ -2,21 +2,23 @@
 // subgid(5)).
 ghost use Rattle.std.specs.Prelude.{◌≡◌, ◌+◌, ◌-◌, ◌<◌, ◌≤◌, IfOk, IfSome, OnOk, OnErr, Some};
 ghost use Rattle.std.specs.List.{AllByRecursion};
+ghost use Rattle.acct_text.specs.Bytes.{newline};
 ghost use Rattle.acct_text.specs.Lines.{lines_of, file_bytes};
+ghost use Rattle.acct_text.specs.Pieces.{Lacks};
 ghost use Rattle.account_model.specs.FreeRange.{FitsAt, Meeting, free_range};
 ghost use Rattle.account_model.specs.Ids.{IsLeast};
 ghost use Rattle.account_model.specs.Records.{greatest_id, subid_format};
 ghost use Rattle.account_model.specs.Written.{IsNameField, IsSubid};
-ghost use Rattle.acct_tables.specs.TableLines.{record_at};
 ghost use Rattle.subid_ranges.specs.Owned.{owned_ranges};
 ghost use Rattle.subid_ranges.specs.RangeLines.{is_bad, meets_at, meeting_line, new_range, ranges_of, with_range, without_range};
 ghost use Rattle.subid_ranges.specs.Refusals.{AnswersRange, add_refusal, bad_refusal, gap_refusal};
 
-use crate::cut::{Cut, table_without};
+use crate::cut::{Cut, text_without};
+use crate::range_line::{end_of, range_in};
 use crate::taken::Taken;
 use crate::{OwnedRanges, RangeFault};
-use acct_lines::SubidRecord;
-use acct_tables::{Table, last_id};
+use acct_lines::{SubidRecord, TableRecord};
+use acct_tables::{FileLine, Lines, append_line};
 use acct_text::Bytes;
 use std::alloc::{AllocError, Global};
 use std::marker::Model;
@@ -27,21 +29,22 @@ const GREATEST_ID: u32 = u32::MAX - 1;
 /// The lines of a file of subordinate IDs, each a range of an owner or other text.
 #[derive(Drop)]
 pub struct Ranges {
-    table: Table<SubidRecord>,
+    text: Bytes,
     // the numbers of its ranges
     taken: Taken,
 }
 
 impl Model for Ranges {
     ghost use Rattle.std.specs.Prelude.{List};
-    ghost use Rattle.acct_text.specs.Lines.{Line};
-    ghost use Rattle.subid_ranges.specs.Taken.{TellsOf};
+    ghost use Rattle.acct_text.specs.Lines.{Line, lines_of};
+    ghost use Rattle.subid_ranges.specs.RangeLines.{ranges_of};
+    ghost use Rattle.subid_ranges.specs.Taken.{TakesThoseOf};
 
     ghost Value = { List Line };
 
-    ghost view = { λ r. r.table };
+    ghost view = { λ r. lines_of r.text };
 
-    ghost invariant = { λ r. TellsOf r.table r.taken };
+    ghost invariant = { λ r. TakesThoseOf (ranges_of (lines_of r.text)) r.taken };
 }
 
 impl Ranges {
@@ -50,9 +53,9 @@ impl Ranges {
         ensures lines { IfOk result (λ ranges. ranges ≡ lines_of text.now) }
         ensures same_bytes { IfOk result (λ ranges. file_bytes ranges ≡ text.now) }
     {
-        let table = Table::load(alloc, text)?;
-        let taken = Taken::of(alloc, &table)?;
-        Ok(Ranges { table, taken })
+        let taken = Taken::of(alloc, text)?;
+        let bytes = Bytes::of(alloc, text)?;
+        Ok(Ranges { text: bytes, taken })
     }
 
     /// The least start, from `min` on, of `count` IDs of which none passes `max` and none lies in a
@@ -157,9 +160,9 @@ impl Ranges {
             first,
             last,
         };
-        let table = table_without(alloc, &self.table, &cut)?;
-        self.taken = Taken::of(alloc, &table)?;
-        self.table = table;
+        let left = text_without(alloc, self.text.as_slice(), &cut)?;
+        self.taken = Taken::of(alloc, left.as_slice())?;
+        self.text = left;
         Ok(())
     }
 
@@ -168,14 +171,14 @@ impl Ranges {
     pub fn of_owner<'a>(&'a self, owner: &'a [u8], uid: Option<u32>) -> OwnedRanges<'a>
         ensures { result ≡ owned_ranges owner.now uid self.now }
     {
-        OwnedRanges::new(&self.table, owner, uid)
+        OwnedRanges::new(self.text.as_slice(), owner, uid)
     }
 
     /// The bytes of the file: those of its lines, one behind the other.
     pub fn text(&self, alloc: Global) -> Result<Bytes, AllocError>
         ensures { IfOk result (λ bytes. bytes ≡ file_bytes self.now) }
     {
-        self.table.text(alloc)
+        Bytes::of(alloc, self.text.as_slice())
     }
 
     // Adds a range behind the last line.
@@ -191,12 +194,14 @@ impl Ranges {
         ensures unchanged { OnErr result (self.new ≡ self.old) }
     {
         let owner = Bytes::of(alloc, owner)?;
-        self.taken.settle()?;
-        self.table.append_any(SubidRecord {
+        let range = SubidRecord {
             owner,
             first,
             count,
-        })?;
+        };
+        let line = range.print(alloc)?;
+        self.taken.settle()?;
+        append_line(alloc, &mut self.text, line.as_slice())?;
         self.taken.put(first, first + (count - 1));
         Ok(())
     }
@@ -215,22 +220,26 @@ impl Ranges {
     fn meeting_line(&self, first: u32, last: u32) -> Option<usize>
         ensures { result ≡ meeting_line first last self.now }
     {
-        'places: for place in 0..self.table.len() {
-            if self.meets_at(place, first, last) {
-                return Some(place + 1);
+        let mut number = 0usize;
+        let mut left = Lines::of(self.text.as_slice());
+        'lines: while let Some(line) = left.take() {
+            number += 1;
+            if meets_in(&line, first, last) {
+                return Some(number);
             }
         }
         None
     }
+}
 
-    // Whether the line at a place has a range with one of these IDs.
-    fn meets_at(&self, place: usize, first: u32, last: u32) -> bool
-        ensures { result ≡ meets_at first last (record_at subid_format self.now place) }
-    {
-        match self.table.at(place) {
-            Some(range) => range.first <= last && first <= last_id(range),
-            None => false,
-        }
+// Whether the line is a range with one of these IDs.
+fn meets_in(line: &FileLine<'_>, first: u32, last: u32) -> bool
+    requires { Lacks newline line.now.text.now }
+    ensures { result ≡ meets_at first last (subid_format.read line.now.text.now) }
+{
+    match range_in(line.text) {
+        Some(range) => range.first <= last && first <= end_of(&range),
+        None => false,
     }
 }
 

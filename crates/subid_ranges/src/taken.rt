@@ -2,13 +2,15 @@
 // subgid(5)).
 ghost use Rattle.std.specs.Prelude.{◌≡◌, ℕ, ◌+◌, ◌-◌, ◌<◌, ◌≤◌, ◌||◌, None, IfOk, MatchOption, OnOk};
 ghost use Rattle.std.specs.Option.{ForSome};
+ghost use Rattle.acct_text.specs.Bytes.{newline};
+ghost use Rattle.acct_text.specs.Lines.{lines_of};
+ghost use Rattle.acct_text.specs.Pieces.{Lacks};
 ghost use Rattle.account_model.specs.Ids.{in_range};
 ghost use Rattle.account_model.specs.Records.{subid_format};
-ghost use Rattle.acct_tables.specs.TableLines.{record_at};
 ghost use Rattle.subid_ranges.specs.Numbers.{AddsFound, MeetsRun, MissesRun};
 
-use acct_lines::SubidRecord;
-use acct_tables::{Table, last_id};
+use crate::range_line::{end_of, range_in};
+use acct_tables::{FileLine, Lines};
 use id_choice::{Run, Runs};
 use std::alloc::{AllocError, Global};
 
@@ -29,13 +31,14 @@ impl Taken {
     ghost use Rattle.subid_ranges.specs.RangeLines.{ranges_of};
     ghost use Rattle.subid_ranges.specs.Taken.{AreFree, AreMet, IsGap, TakesThoseOf, is_taken};
 
-    /// The numbers of the ranges of a table.
-    pub(crate) fn of(alloc: Global, table: &Table<SubidRecord>) -> Result<Taken, AllocError>
-        ensures { IfOk result (TakesThoseOf (ranges_of table.now)) }
+    /// The numbers of the ranges of a file with these bytes.
+    pub(crate) fn of(alloc: Global, text: &[u8]) -> Result<Taken, AllocError>
+        ensures { IfOk result (TakesThoseOf (ranges_of (lines_of text.now))) }
     {
         let mut runs = Runs::new(alloc);
-        'places: for place in 0..table.len() {
-            add_at(&mut runs, table, place)?;
+        let mut left = Lines::of(text);
+        'lines: while let Some(line) = left.take() {
+            add_line(&mut runs, &line)?;
         }
         Ok(Taken { runs, newest: None })
     }
@@ -94,13 +97,14 @@ impl Taken {
     }
 }
 
-// Adds the numbers of the range at a place, where there is one.
-fn add_at(runs: &mut Runs, table: &Table<SubidRecord>, place: usize) -> Result<(), AllocError>
+// Adds the numbers of the range that a line is, if it is one.
+fn add_line(runs: &mut Runs, line: &FileLine<'_>) -> Result<(), AllocError>
+    requires { Lacks newline line.now.text.now }
     ensures { OnOk result
-        (AddsFound (record_at subid_format table.now place) runs.old runs.new) }
+        (AddsFound (subid_format.read line.now.text.now) runs.old runs.new) }
 {
-    match table.at(place) {
-        Some(range) => runs.add(range.first, last_id(range)),
+    match range_in(line.text) {
+        Some(range) => runs.add(range.first, end_of(&range)),
         None => Ok(()),
     }
 }

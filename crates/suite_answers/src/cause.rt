@@ -41,7 +41,7 @@ pub enum Cause {
     LockDamaged(u64),
     /// The greatest lock has the greatest number.
     Exhausted,
-    /// This part of the intent, counted from 1, is the first that doesn't stand.
+    /// This part of the intent, counted from 0, is the first that doesn't stand.
     IntentDamaged(u32),
     /// The input or a file has more bytes than it may have, or would have.
     TooLarge(Which),

@@ -1,6 +1,7 @@
 -- Claims: a command that ran where no event of others is admitted, and whose tool decided, was one step
--- of the account model (`ran-step`); a command without input or day has no tool that decides
--- (`unsupplied-undecided`); and a lawful history stays lawful (`ran-lawful`).
+-- of the account model (`ran-step`); a command whose words have a fault, or without input or day, has no
+-- tool that decides (`faulty-undecided`, `unsupplied-undecided`); and a lawful history stays lawful
+-- (`ran-lawful`).
 -- Way: the session has a token, and was alone since the entry (`who-ran`). So its answer is the model's
 -- on the settled files of then, and these became the deed's where it changed them (`step-of`).
 use Rattle.std.proofs.Common.{◌≡◌, ◌⊎◌, refl, sym, ap, subst, ◌∙◌, ◌∷◌, ◌++◌, [], ℕ, List, inl, inr, Option, Some, None, Result, Ok, Err}
@@ -12,7 +13,7 @@ use Rattle.acct_text.specs.declared.files.Files.{Files}
 use Rattle.acct_text.specs.Bytes.{Bytes}
 use Rattle.acct_text.specs.Contents.{Contents}
 use Rattle.acct_text.specs.Files.{table_of}
-use Rattle.acct_outside.specs.declared.Name.TheVariants.{Table, Defs}
+use Rattle.acct_outside.specs.declared.Name.TheVariants.{Table, Defs, Intent}
 use Rattle.acct_outside.specs.declared.CommitStage.TheVariants.{Before}
 use Rattle.acct_outside.specs.declared.FolderFault.{FolderFault}
 use Rattle.acct_outside.specs.declared.FolderFault.TheVariants.{Failed as FolderFailed, Memory as NoFolderMemory}
@@ -26,6 +27,8 @@ use Rattle.acct_outside.specs.Moment.{Past, Moment}
 use Rattle.acct_outside.specs.Memory.{no_others}
 use Rattle.account_model.specs.declared.tool.Tool.{Tool}
 use Rattle.account_model.specs.declared.word_fault.WordFault.{WordFault}
+use Rattle.account_model.specs.declared.word_fault.WordFault.TheVariants.{Memory as NoWordMemory}
+use Rattle.account_model.specs.Options.{Word}
 use Rattle.account_model.specs.Request.{Request}
 use Rattle.account_model.specs.Words.{Asks}
 use Rattle.account_model.specs.Answer.{AnswerCause, Unusable, Refused as ModelRefused, Same as ModelSame, Changed as ModelChanged, deed, new_files}
@@ -41,7 +44,7 @@ use Rattle.suite_answers.specs.declared.cause.Cause.{Cause}
 use Rattle.suite_answers.specs.declared.cause.Cause.TheVariants.{Changed, Same, Refused, TooLarge, NoTable, BadSetting, DiskFault, InputFault, ClockFault, Memory}
 use Rattle.suite_answers.specs.declared.cause.Outcome.{Outcome}
 use Rattle.suite_answers.specs.declared.answer.Answer.{Answer}
-use Rattle.suite_answers.specs.Answers.{told}
+use Rattle.suite_answers.specs.Answers.{cause_of_words, told, told_words}
 use Rattle.suite_session.specs.Runner.{Question}
 use Rattle.suite_session.specs.Answers.{after_streams, answer_on, cause_of_answer, given_for, memory_answer, IsAnswerOn, IsTold}
 use Rattle.suite_session.specs.Locking.{cause_of_fault}
@@ -50,7 +53,7 @@ use Rattle.suite_session.specs.Grows.{Grows, none_new, others_new, own_new}
 use Rattle.suite_session.specs.Stands.{IsDecided}
 use Rattle.suite_course.specs.Streams.{Streams}
 use Rattle.suite_course.specs.Supplies.{Supplies, IsUnsupplied}
-use Rattle.suite_course.specs.Top.{EndsUnsupplied, HasChanged, HasNotRun, HasRun, HasStayed, IsAlone, IsShownAt, Ran, RunsOrNot}
+use Rattle.suite_course.specs.Top.{EndsEarly, EndsUnsupplied, HasChanged, HasNotRun, HasRun, HasStayed, IsAlone, IsShownAt, Ran, RunsOrNot}
 use Rattle.suite_clients.specs.Alone.{IsLawful, IsStep}
 
 -- ---- Causes that no tool decides
@@ -64,26 +67,45 @@ unsupplied-cause tool before now ClockFault due decided = decided
 unsupplied-cause tool before now (Memory stage) due decided = decided
 unsupplied-cause tool before now cause due decided = due
 
--- a command that got none says so, or that a stream failed, or that there was no memory
+-- an answer to no tool's cause says that, or that a stream failed, or that there was no memory
+early-undecided : (tool : Option Tool) (answer : Answer) (was holds : Streams) (outcome : Outcome) →
+    (IsDecided answer.outcome.cause → ⊥) → EndsEarly tool answer was holds outcome →
+    IsDecided outcome.cause → ⊥
+early-undecided tool answer was holds outcome none early decided =
+    by-put early.ends.put (subst (λ (one : Outcome). IsDecided one.cause) early.ends.left decided)
+  where
+    by-given : (given : Answer) → (given ≡ answer) ⊎ (given ≡ memory_answer Before) →
+        IsDecided given.outcome.cause → ⊥
+    by-given given (inl is) one =
+        none (subst (λ (other : Answer). IsDecided other.outcome.cause) is one)
+    by-given given (inr is) one =
+        subst (λ (other : Answer). IsDecided other.outcome.cause) is one
+
+    by-put : (put : Result (Unit {0}) SinkFault) →
+        IsDecided (after_streams put early.given).outcome.cause → ⊥
+    by-put (Ok unit) one = by-given early.given early.is one
+    by-put (Err Failed) one = one
+    by-put (Err NoMemory) one = one
+
+-- a command that got no input or no day
 pub unsupplied-undecided : (tool : Tool) (before now : Supplies) (was holds : Streams)
     (outcome : Outcome) → EndsUnsupplied tool before now was holds outcome →
     IsDecided outcome.cause → ⊥
-unsupplied-undecided tool before now was holds outcome ends decided =
-    by-put ends.ends.ends.put
-    (subst (λ (one : Outcome). IsDecided one.cause) ends.ends.ends.left decided)
-  where
-    by-given : (given : Answer) → (given ≡ told tool ends.cause) ⊎ (given ≡ memory_answer Before) →
-        IsDecided given.outcome.cause → ⊥
-    by-given given (inl is) one = unsupplied-cause tool before now ends.cause ends.due
-        (subst (λ (answer : Answer). IsDecided answer.outcome.cause) is one)
-    by-given given (inr is) one =
-        subst (λ (answer : Answer). IsDecided answer.outcome.cause) is one
+unsupplied-undecided tool before now was holds outcome ends =
+    early-undecided (Some tool) (told tool ends.cause) was holds outcome
+    (unsupplied-cause tool before now ends.cause ends.due) ends.ends
 
-    by-put : (put : Result (Unit {0}) SinkFault) →
-        IsDecided (after_streams put ends.ends.given).outcome.cause → ⊥
-    by-put (Ok unit) one = by-given ends.ends.given ends.ends.is one
-    by-put (Err Failed) one = one
-    by-put (Err NoMemory) one = one
+-- the cause of words with a fault is none of a tool
+words-cause : (found : WordFault) → IsDecided (cause_of_words found) → ⊥
+words-cause NoWordMemory decided = decided
+words-cause found decided = decided
+
+-- a command whose words have a fault
+pub faulty-undecided : (tool : Option Tool) (words : List Word) (found : WordFault)
+    (was holds : Streams) (outcome : Outcome) →
+    EndsEarly tool (told_words words found) was holds outcome → IsDecided outcome.cause → ⊥
+faulty-undecided tool words found was holds outcome =
+    early-undecided tool (told_words words found) was holds outcome (words-cause found)
 
 -- an answer that a tool decided came whole to the streams
 decided-whole : (put : Result (Unit {0}) SinkFault) (given : Answer) →
@@ -240,20 +262,21 @@ module _ (deeds : SuiteDeeds) (ours : AreOfTools deeds) (asked : Question)
     answer-by (inl changed) = (changed.alone old alone).is_answer
     answer-by (inr stayed) = (stayed.0.alone old alone).is_answer
 
-    -- so it was one step
+    -- so it was one step, where no intent stands
     step-of : Lawful deeds first old → Lawful deeds first new →
         ChangedOrStayed deeds asked first new token given given.outcome.cause →
-        IsStep asked.request (record { first = first; history = old })
+        (after first new).file Intent ≡ None →
+        IsStep asked.request asked.command.input asked.command.day
+        (record { first = first; history = old })
         (record { first = first; history = new }) given.outcome
-    step-of before lawful shown = record {
-      input = asked.command.input;
-      day = asked.command.day;
+    step-of before lawful shown none = record {
       cause = (answer-by shown).has_cause;
       status = (answer-by shown).has_status;
       files = files-are (settled (after first new)) (unwrap_or made (files_of was))
           (settled-by shown);
       settings = (file-facts deeds first new lawful).settings
           ∙ sym (file-facts deeds first old before).settings;
+      intent = none;
     }
 
 -- ---- The run
@@ -298,9 +321,13 @@ module _ (asked : Question) (old new : Past) (one other : ℕ) (was holds : Stre
             alone = record { newer = own.0; parts = own.1; own = own.2; fresh = run.1.fresh };
           }
 
+  -- one step of the request, with the input and on the day
+  abbrev Step : Past → Past → Outcome → Type 0
+  Step = IsStep asked.request asked.command.input asked.command.day
+
   -- the claim
   pub ran-step : IsLawful old → Asks asked.command.words asked.request → IsDecided outcome.cause →
-      IsStep asked.request old new outcome
+      Step old new outcome
   ran-step is asks decided =
       let whole = decided-whole ran.ends.put ran.given
       (subst (λ (last : Outcome). IsDecided last.cause) ran.ends.left decided) in
@@ -312,7 +339,8 @@ module _ (asked : Question) (old new : Past) (one other : ℕ) (was holds : Stre
       let longer = ran.lawful.1 is.0 is.1 others is.2 in
       let step = step-of is.0 is.1 asked asks old.first old.history new.history who.token ran.given
       who.alone is.2 longer.lawful (decided-shown is.0 asked old.first new.history who.token
-      ran.given ran.given.outcome.cause own (who.run.shown is.0 is.1 others is.2)) in
-      subst (λ (last : Outcome). IsStep asked.request old new last) (sym same)
-      (subst (λ (first : Folder). IsStep asked.request old
-      (record { first = first; history = new.history }) ran.given.outcome) (sym ran.lawful.0) step)
+      ran.given ran.given.outcome.cause own (who.run.shown is.0 is.1 others is.2))
+      ((who.run.leaves is.0 is.1 others is.2 old.history who.alone).intent own) in
+      subst (λ (last : Outcome). Step old new last) (sym same)
+      (subst (λ (first : Folder). Step old (record { first = first; history = new.history })
+      ran.given.outcome) (sym ran.lawful.0) step)

@@ -24,7 +24,7 @@ use Rattle.suite_answers.specs.declared.cause.Outcome.{Outcome}
 use Rattle.suite_session.specs.Answers.{cause_of_answer}
 use Rattle.suite_session.specs.Deeds.{AreOfTools}
 use Rattle.suite_session.specs.Stands.{IsDecided}
-use Rattle.suite_clients.specs.Alone.{IsLawful, IsStep, files_at, defs_at}
+use Rattle.suite_clients.specs.Alone.{IsLawful, IsSomeStep, files_at, defs_at}
 use Rattle.suite_clients.specs.Twice.{HasNoAccounts, empty_tables, files_with_groups, gid_in_use, group_words}
 
 -- ---- The answers
@@ -92,23 +92,23 @@ module _ (start between end : Past) (none : HasNoAccounts start) where
 
   -- after the first step staff is the one group
   staff-stands : (request : Request) (outcome : Outcome) →
-      Asks (group_words (codes "staff")) request → IsStep request start between outcome →
+      Asks (group_words (codes "staff")) request → IsSomeStep request start between outcome →
       files_at between ≡ staff_alone
-  staff-stands request outcome asks step =
+  staff-stands request outcome asks (input, day, step) =
       step.files
       ∙ ap (λ (given : Answer). unwrap_or (new_files given.cause) (files_at start))
-      (step-answer request start (files_with_groups []) none.files none.settings step.input step.day
-      ∙ answer-of (codes "staff") request asks step.input step.day (files_with_groups []) _
-      (first-answer step.input step.day))
+      (step-answer request start (files_with_groups []) none.files none.settings input day
+      ∙ answer-of (codes "staff") request asks input day (files_with_groups []) _
+      (first-answer input day))
 
   -- so the second is refused
   refused-then : (request : Request) (outcome : Outcome) →
       Asks (group_words (codes "other")) request → files_at between ≡ staff_alone →
-      defs_at between ≡ None → IsStep request between end outcome → outcome ≡ gid_in_use
-  refused-then request outcome asks files settings step =
-      let given = step-answer request between staff_alone files settings step.input step.day
-      ∙ answer-of (codes "other") request asks step.input step.day staff_alone _
-      (second-answer step.input step.day) in
+      defs_at between ≡ None → IsSomeStep request between end outcome → outcome ≡ gid_in_use
+  refused-then request outcome asks files settings (input, day, step) =
+      let given = step-answer request between staff_alone files settings input day
+      ∙ answer-of (codes "other") request asks input day staff_alone _
+      (second-answer input day) in
       let cause = step.cause ∙ ap (λ (one : Answer). cause_of_answer one.cause) given in
       let status = step.status ∙ ap (λ (one : Answer). one.status) given in
       λ i. record { status = status i; cause = cause i }
@@ -116,16 +116,16 @@ module _ (start between end : Past) (none : HasNoAccounts start) where
   -- the claim
   pub second-refused : (first second : Outcome) →
       ((request : Request) → Asks (group_words (codes "staff")) request → IsDecided first.cause →
-      IsStep request start between first) →
+      IsSomeStep request start between first) →
       ((request : Request) → Asks (group_words (codes "other")) request → IsDecided second.cause →
-      IsStep request between end second) →
+      IsSomeStep request between end second) →
       first.cause ≡ IsChanged → IsDecided second.cause → second ≡ gid_in_use
   second-refused first second one other changed decided =
       let staff = asked-by (codes "staff") refl in
       let others = asked-by (codes "other") refl in
       let step = one staff.0 staff.1 (subst IsDecided (sym changed) tt) in
       refused-then others.0 second others.1 (staff-stands staff.0 first staff.1 step)
-      (step.settings ∙ none.settings) (other others.0 others.1 decided)
+      (step.2.settings ∙ none.settings) (other others.0 others.1 decided)
 
 -- ---- Where they begin
 

@@ -1,7 +1,8 @@
 -- A command that is alone in its folder: what it answers, and what it makes of the files.
-use Rattle.std.specs.Prelude.{◌≡◌, ℕ, Option, unwrap_or}
+use Rattle.std.specs.Prelude.{◌≡◌, ℕ, Option, None, unwrap_or}
 use Rattle.acct_text.specs.Bytes.{Bytes}
 use Rattle.acct_text.specs.declared.files.Files.{Files}
+use Rattle.acct_outside.specs.declared.Name.TheVariants.{Intent}
 use Rattle.acct_outside.specs.Folder.{settings_file}
 use Rattle.acct_outside.specs.History.{after}
 use Rattle.acct_outside.specs.Moment.{Past}
@@ -13,6 +14,7 @@ use Rattle.suite_rules.specs.Settled.{settled}
 use Rattle.suite_answers.specs.declared.cause.Outcome.{Outcome}
 use Rattle.suite_session.specs.Answers.{cause_of_answer}
 use Rattle.suite_session.specs.Deeds.{AreOfTools, files_of}
+use Rattle.suite_course.specs.Supplies.{Supplies, AreSupplied}
 
 -- the told history keeps the rules, for the deeds of the tools
 abbrev pub IsLawful : Past → Type 0
@@ -27,14 +29,30 @@ files_at past = files_of (settled (after past.first past.history))
 abbrev pub defs_at : Past → Option Bytes
 defs_at past = settings_file (after past.first past.history)
 
--- With some input, on some day, the outcome is that of the request's answer on the settled files of
--- before, and these became what the answer makes of them; login.defs stays.
-pub record IsStep (request : Request) (old new : Past) (outcome : Outcome) : Type 0 where
-  pub input : Bytes
-  pub day : ℕ
+-- a lawful history, after which these files are settled, and no login.defs stands
+pub record HasFiles (settles : Files) (past : Past) : Type 0 where
+  pub lawful : IsLawful past
+  pub files : files_at past ≡ settles
+  pub settings : defs_at past ≡ None
+
+-- The outcome is that of the request's answer, with this input and on this day, on the settled files of
+-- before, and these became what the answer makes of them. No intent stands, and login.defs stays.
+pub record IsStep (request : Request) (input : Bytes) (day : ℕ) (old new : Past) (outcome : Outcome)
+    : Type 0 where
   pub cause : outcome.cause
       ≡ cause_of_answer (answer request input day (files_at old) (defs_at old)).cause
   pub status : outcome.status ≡ (answer request input day (files_at old) (defs_at old)).status
   pub files : files_at new
       ≡ unwrap_or (deed request input day (files_at old) (defs_at old)) (files_at old)
   pub settings : defs_at new ≡ defs_at old
+  pub intent : (after new.first new.history).file Intent ≡ None
+
+-- so it is with some input, on some day
+abbrev pub IsSomeStep : Request → Past → Past → Outcome → Type 0
+IsSomeStep request old new outcome =
+    (input : Bytes) × (day : ℕ) × IsStep request input day old new outcome
+
+-- so it is with the input and on the day that came
+abbrev pub IsSuppliedStep : Request → Supplies → Supplies → Past → Past → Outcome → Type 0
+IsSuppliedStep request before now old new outcome = (input : Bytes) × (day : ℕ)
+    × AreSupplied request.tool before now input day × IsStep request input day old new outcome

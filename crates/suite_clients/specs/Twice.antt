@@ -1,6 +1,6 @@
 -- Two commands that ask for one GID in a row: their words, where they begin, and how the second ends
 -- (groupadd(8), `-g` and "EXIT VALUES").
-use Rattle.std.specs.Prelude.{◌≡◌, [], ◌∷◌, List, codes, Some, None}
+use Rattle.std.specs.Prelude.{[], ◌∷◌, List, codes, Some, None}
 use Rattle.acct_text.specs.Bytes.{Bytes}
 use Rattle.acct_text.specs.declared.files.Files.{Files}
 use Rattle.acct_text.specs.declared.Tab.TheVariants.{Passwd, Group}
@@ -11,7 +11,7 @@ use Rattle.account_model.specs.declared.refusal.Refusal.TheVariants.{GidInUse}
 use Rattle.account_model.specs.Options.{Word}
 use Rattle.suite_answers.specs.declared.cause.Cause.TheVariants.{Refused}
 use Rattle.suite_answers.specs.declared.cause.Outcome.{Outcome}
-use Rattle.suite_clients.specs.Alone.{IsLawful, files_at, defs_at}
+use Rattle.suite_clients.specs.Alone.{HasFiles}
 
 -- the words `groupadd -P R -g 1500 NAME`
 abbrev pub group_words : Bytes → List Word
@@ -32,11 +32,9 @@ files_with_groups groups = record {
   subgid = None;
 }
 
--- a lawful history, after which no accounts are settled, and no login.defs stands
-pub record HasNoAccounts (past : Past) : Type 0 where
-  pub lawful : IsLawful past
-  pub files : files_at past ≡ files_with_groups []
-  pub settings : defs_at past ≡ None
+-- no accounts are settled
+abbrev pub HasNoAccounts : Past → Type 0
+HasNoAccounts past = HasFiles (files_with_groups []) past
 
 -- a group has the GID already, which the tool refuses with status 4
 abbrev pub gid_in_use : Outcome

@@ -3,7 +3,8 @@ ghost use Rattle.account_model.specs.Request.{Request};
 ghost use Rattle.account_model.specs.Words.{Asks};
 ghost use Rattle.acct_outside.specs.Memory.{past_of};
 ghost use Rattle.suite_session.specs.Stands.{IsDecided};
-ghost use Rattle.suite_clients.specs.Alone.{IsLawful, IsStep};
+ghost use Rattle.suite_course.specs.Supplies.{supplies};
+ghost use Rattle.suite_clients.specs.Alone.{IsLawful, IsSuppliedStep};
 
 use acct_outside::{Clock, MemoryFolder, Sink, Source};
 use acct_text::Word;
@@ -12,8 +13,9 @@ use suite_core::{Outcome, run_suite};
 
 /// Runs a command in a folder in memory, where no other session runs meanwhile.
 ///
-/// Where its tool decided, its outcome is that of the account model's answer on the settled files of
-/// before, and the settled files afterwards are those that the model makes of them.
+/// Where its tool decided, the words ask for something; the outcome is that of the account model's
+/// answer, to the input and the day that came, on the settled files of before; the settled files
+/// afterwards are those that the model makes of them, and no intent stands.
 pub fn run_alone<S: Source, O: Sink, E: Sink, C: Clock>(
     alloc: Global,
     words: &[Word],
@@ -25,8 +27,11 @@ pub fn run_alone<S: Source, O: Sink, E: Sink, C: Clock>(
 ) -> Outcome
     requires { IsLawful (past_of folder.old) }
     ensures lawful { IsLawful (past_of folder.new) }
+    ensures asks { IsDecided result.cause → (request : Request) × Asks words.now request }
     ensures step { (request : Request) → Asks words.now request → IsDecided result.cause →
-        IsStep request (past_of folder.old) (past_of folder.new) result }
+        IsSuppliedStep request (supplies (S.moment input.old) (C.moment clock.old))
+        (supplies (S.moment input.new) (C.moment clock.new))
+        (past_of folder.old) (past_of folder.new) result }
 {
     run_suite(alloc, words, folder, input, out, err, clock)
 }

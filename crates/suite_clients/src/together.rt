@@ -1,16 +1,24 @@
-// Two sessions in one folder in memory, turned in alternation.
-ghost use Rattle.std.specs.Prelude.{◌≡◌, IsSome, is_none, ◌||◌};
-ghost use Rattle.acct_outside.specs.Memory.{past_of};
-ghost use Rattle.suite_session.specs.Session.{answer_of, outcome_of};
-ghost use Rattle.suite_clients.specs.Together.{IsFoldOfCommitted, StandTogether, StandsLawfully, TurnsTo};
+// Sessions in one folder in memory: two that are turned in alternation, and one that dies beside others.
+ghost use Rattle.std.specs.Prelude.{◌≡◌, ◌<◌, None, IsSome, is_none, ◌||◌};
+ghost use Rattle.acct_outside.specs.Memory.{Runs, moment_of, past_of};
+ghost use Rattle.acct_outside.specs.Events.{IsLaterCall};
+ghost use Rattle.suite_session.specs.Belongs.{Belongs};
+ghost use Rattle.suite_session.specs.Session.{answer_of, outcome_of, phase_left};
+ghost use Rattle.suite_clients.specs.Alone.{IsLawful};
+ghost use Rattle.suite_clients.specs.Together.{BelongTogether, HasPromised, IsFoldOfCommitted, OthersBelong, StayTogether};
 
-use acct_outside::MemoryFolder;
-use suite_core::Session;
+use acct_outside::{Call, Effect, MemoryFolder, Token};
+use std::alloc::AllocError;
+use suite_core::{Session, answers_keep_promises};
+use suite_session::belonging_stays;
 
-/// Makes one call of a session. Each other session that stands in the folder stands there still.
+/// Makes one call of a session. Each other session that belongs to the folder together with it does so
+/// still.
 pub fn turn_once(session: &mut Session, folder: &mut MemoryFolder)
-    requires { StandsLawfully folder.old session.old }
-    ensures turned { TurnsTo folder.old folder.new session.old session.new }
+    requires lawful { IsLawful (past_of folder.old) }
+    requires belongs { Belongs (moment_of folder.old) session.old }
+    ensures together { StayTogether folder.old folder.new session.old session.new }
+    ensures nearer { answer_of session.old ≡ None → phase_left session.new < phase_left session.old }
     ensures ends { IsSome (answer_of session.old) → IsSome (outcome_of session.new) }
 {
     session.turn(folder);
@@ -19,20 +27,40 @@ pub fn turn_once(session: &mut Session, folder: &mut MemoryFolder)
 /// Turns two sessions in alternation, call by call, until both have answered.
 ///
 /// Then the settled files are those of the folder's first moment as the committed commands changed
-/// them, in the order of their locks.
+/// them, in the order of their locks. Each session has what the top call promises of its answer, also
+/// the one that answered long before the other.
 pub fn turn_both(one: &mut Session, other: &mut Session, folder: &mut MemoryFolder)
-    requires { StandTogether folder.old one.old other.old }
-    ensures together { StandTogether folder.new one.new other.new }
+    requires { BelongTogether folder.old one.old other.old }
+    ensures together { BelongTogether folder.new one.new other.new }
     ensures one_answered { IsSome (outcome_of one.new) }
     ensures other_answered { IsSome (outcome_of other.new) }
     ensures settled { IsFoldOfCommitted (past_of folder.new) }
+    ensures one_promised { HasPromised (past_of folder.new) one.new }
+    ensures other_promised { HasPromised (past_of folder.new) other.new }
 {
+    answers_keep_promises::<MemoryFolder>();
     'turns: while is_any_going(one, other) {
-        one.turn(folder);
-        other.turn(folder);
+        turn_once(one, folder);
+        turn_once(other, folder);
     }
-    one.turn(folder);
-    other.turn(folder);
+    turn_once(one, folder);
+    turn_once(other, folder);
+}
+
+/// Lets the session of a token die within a call. Each other session that belongs to the folder does so
+/// still.
+pub fn die_beside(
+    by: &Token,
+    call: Call,
+    effect: Effect,
+    folder: &mut MemoryFolder,
+) -> Result<(), AllocError>
+    requires running { Runs folder.old by.now }
+    requires call { IsLaterCall call }
+    ensures { OthersBelong folder.old folder.new by.now }
+{
+    belonging_stays::<MemoryFolder>();
+    folder.die(by, call, effect)
 }
 
 // Whether one of them has calls left before that of its answer.

@@ -4,7 +4,7 @@ ghost use Rattle.account_model.specs.Request.{Request};
 ghost use Rattle.account_model.specs.Words.{Asks};
 ghost use Rattle.acct_outside.specs.Memory.{past_of};
 ghost use Rattle.suite_session.specs.Stands.{IsDecided};
-ghost use Rattle.suite_clients.specs.Alone.{IsLawful, IsStep};
+ghost use Rattle.suite_clients.specs.Alone.{IsLawful, IsSomeStep};
 ghost use Rattle.suite_clients.specs.Twice.{HasNoAccounts, empty_tables, gid_in_use, group_words};
 
 use crate::alone::run_alone;
@@ -67,7 +67,7 @@ fn add_group(alloc: Global, name: &[u8], folder: &mut MemoryFolder) -> Result<Ou
     ensures lawful { IsLawful (past_of folder.new) }
     ensures step { IfOk result (λ outcome. (request : Request) →
         Asks (group_words name.now) request → IsDecided outcome.cause →
-        IsStep request (past_of folder.old) (past_of folder.new) outcome) }
+        IsSomeStep request (past_of folder.old) (past_of folder.new) outcome) }
 {
     let words = group_words(alloc, name)?;
     Ok(run_alone(

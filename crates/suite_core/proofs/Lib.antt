@@ -1,2 +1,3 @@
+mod ApartLemmas
 mod DecidingLemmas
 mod TopLemmas

@@ -13,7 +13,7 @@ ghost use Rattle.suite_core.specs.Deciding.{AnswersDecision, ToolDecides, bad_li
 
 use acct_outside::Name;
 use acct_tables::{Decision, Output};
-use acct_text::{Bytes, Files, Tab};
+use acct_text::{Bytes, Files, TABLE_LIMIT, Tab};
 use aging_commands::AgingRequest;
 use check_reports::CheckRequest;
 use group_commands::GroupRequest;
@@ -23,9 +23,6 @@ use std::alloc::{AllocError, Global};
 use suite_answers::{Answer, Cause, Outcome, Which};
 use suite_session::{Asked, Decided, Tools};
 use user_commands::UserRequest;
-
-/// The most bytes of a table.
-const TABLE_LIMIT: usize = 16_777_216;
 
 /// The twelve tools of the suite, as one.
 #[derive(Drop)]
@@ -156,7 +153,7 @@ fn is_large(table: Option<&Bytes>) -> bool
     ensures { result ≡ is_large (option_copied table.entry) }
 {
     match table {
-        Some(bytes) => bytes.as_slice().len() > TABLE_LIMIT,
+        Some(bytes) => bytes.as_slice().len() as u64 > TABLE_LIMIT,
         None => false,
     }
 }

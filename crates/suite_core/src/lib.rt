@@ -4,9 +4,11 @@
 //! what they ask for; a `Session` of these tools can also be turned call by call.
 #![tactic(auto)]
 
+mod apart;
 mod deciding;
 mod top;
 
+pub use apart::ids_stay_apart;
 pub use deciding::Suite;
 pub use suite_answers::{Answer, Cause, Outcome, Which};
 pub use suite_course::{answers_keep_promises, tools_have_deeds};

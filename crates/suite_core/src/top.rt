@@ -1,14 +1,8 @@
 // The top call: a command from its words to its outcome.
-ghost use Rattle.std.specs.Prelude.{◌≡◌, ◌⊎◌, ℕ, false, Some};
-ghost use Rattle.acct_text.specs.Bytes.{Bytes as Text};
-ghost use Rattle.account_model.specs.Request.{Request};
-ghost use Rattle.account_model.specs.Words.{Asks, fault as first_fault};
-ghost use Rattle.account_model.specs.declared.word_fault.WordFault.{WordFault as Fault};
-ghost use Rattle.suite_answers.specs.Answers.{told_words};
-ghost use Rattle.suite_session.specs.Runner.{question};
+ghost use Rattle.std.specs.Prelude.{◌≡◌};
 ghost use Rattle.suite_course.specs.Streams.{streams};
-ghost use Rattle.suite_course.specs.Supplies.{AreSupplied, reads_input, supplies};
-ghost use Rattle.suite_course.specs.Top.{EndsEarly, EndsUnsupplied, Ran, named_tool};
+ghost use Rattle.suite_course.specs.Supplies.{supplies};
+ghost use Rattle.suite_core.specs.Top.{RefusesFaulty, RunsAsked, TakesNone};
 
 use crate::deciding::Suite;
 use acct_outside::{Clock, Folder, Sink, Source};
@@ -39,26 +33,16 @@ pub fn run_suite<F: Folder, S: Source, O: Sink, E: Sink, C: Clock>(
     err: &mut E,
     clock: &mut C,
 ) -> Outcome
-    ensures syntax { (found : Fault) → first_fault words.now ≡ Some found →
-        (folder.new ≡ folder.old) × (input.new ≡ input.old) × (clock.new ≡ clock.old)
-        × EndsEarly (named_tool words.now) (told_words words.now found)
-        (streams (O.moment out.old) (E.moment err.old))
+    ensures syntax { RefusesFaulty words.now (folder.new ≡ folder.old) (input.new ≡ input.old)
+        (clock.new ≡ clock.old) (streams (O.moment out.old) (E.moment err.old))
         (streams (O.moment out.new) (E.moment err.new)) result }
-    ensures ran { (request : Request) → Asks words.now request →
-        ((folder.new ≡ folder.old) × EndsUnsupplied request.tool
+    ensures ran { RunsAsked words.now (folder.new ≡ folder.old)
         (supplies (S.moment input.old) (C.moment clock.old))
         (supplies (S.moment input.new) (C.moment clock.new))
+        (F.moment folder.old) (F.moment folder.new)
         (streams (O.moment out.old) (E.moment err.old))
-        (streams (O.moment out.new) (E.moment err.new)) result)
-        ⊎ ((text : Text) × (day : ℕ) × AreSupplied request.tool
-        (supplies (S.moment input.old) (C.moment clock.old))
-        (supplies (S.moment input.new) (C.moment clock.new)) text day
-        × Ran (question words.now request text day) (F.moment folder.old) (F.moment folder.new)
-        (streams (O.moment out.old) (E.moment err.old))
-        (streams (O.moment out.new) (E.moment err.new)) result) }
-    ensures no_input { (request : Request) → Asks words.now request →
-        reads_input request.tool ≡ false →
-        input.new ≡ input.old }
+        (streams (O.moment out.new) (E.moment err.new)) result }
+    ensures no_input { TakesNone words.now (input.new ≡ input.old) }
 {
     match read_words(alloc, words) {
         Ok(parsed) => run_request::<Suite, F, S, O, E, C>(

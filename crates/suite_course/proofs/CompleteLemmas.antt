@@ -5,6 +5,8 @@
 -- others leave it doesn't meet (OpenLemmas); and each fault is counted.
 use Rattle.std.proofs.Common.{◌≡◌, refl, sym, ap, subst, ◌∙◌, ◌∷◌, ◌++◌, [], ◌+◌, ◌≤◌, length, ◌⊎◌, inl, inr, Option, Some, None, Result, Ok, Err, arith}
 use Rattle.std.specs.List.{AllByRecursion}
+use Rattle.std.proofs.Math.Nat.{min-eq_left, min-eq_right}
+use Rattle.std.proofs.lemmas.Bool.{cases_lt}
 use Rattle.std.proofs.lemmas.List.{length-append}
 use Rattle.acct_text.specs.Bytes.{Bytes}
 use Rattle.acct_text.specs.Limits.{table_limit}
@@ -14,7 +16,7 @@ use Rattle.acct_outside.specs.declared.FolderFault.{FolderFault}
 use Rattle.acct_outside.specs.declared.FolderFault.TheVariants.{Failed as FolderFailed, Memory as NoFolderMemory}
 use Rattle.acct_outside.specs.declared.streams.SinkFault.{SinkFault}
 use Rattle.acct_outside.specs.declared.streams.SinkFault.TheVariants.{Failed, Memory as NoMemory}
-use Rattle.acct_outside.specs.Faults.{HasRisen}
+use Rattle.acct_outside.specs.Faults.{Faults, HasRisen, LastFailed, last_count}
 use Rattle.acct_outside.specs.Streams.{WhereBytesTold}
 use Rattle.acct_outside.specs.Tokens.{Token}
 use Rattle.acct_outside.specs.Folder.{Folder}
@@ -43,7 +45,7 @@ use Rattle.suite_session.specs.Locking.{cause_of_fault}
 use Rattle.suite_session.specs.Stands.{IsDiskFault}
 use Rattle.suite_course.specs.Open.{StandsOpen}
 use Rattle.suite_course.specs.Streams.{Streams, Serves}
-use Rattle.suite_course.specs.Supplies.{Supplies, CountsSupplies, IsTooMuch, IsUnsupplied, LacksNothing}
+use Rattle.suite_course.specs.Supplies.{Supplies, IsTooMuch, IsUnsupplied, LacksNothing}
 use Rattle.suite_course.specs.Top.{Answered, AnswersOnOld, EndsEarly, EndsUnsupplied, ExtendsLawfully, IfLawful, IsAlone, IsShownAt, RunsOrNot, StreamsServe, WhereLawful}
 use Rattle.suite_course.proofs.OpenLemmas.{some-event, never-last, never-gone, never-damaged, never-held, never-raced, never-outrun, never-unread, never-large}
 
@@ -226,6 +228,22 @@ ran-complete asked before now was holds outcome given says failed put served end
 
 -- ---- A command without input or day
 
+-- a fault that was noted is counted
+last-failed-rises : (before now : Faults) → LastFailed before now →
+    HasRisen before.count now.count
+last-failed-rises before now is =
+    let counted = ap (λ (one : Faults). one.count) is in
+    elim (cases_lt before.count last_count) [
+      | inl below ↦ inl (omega (
+        arith,
+        below,
+        counted,
+        min-eq_left {n = before.count + 1} {m = last_count} (omega (arith, below)),
+      ))
+      | inr past ↦ inr (counted
+          ∙ min-eq_right {n = last_count} {m = before.count + 1} (omega (arith, past)))
+    ]
+
 -- the input wasn't too large
 never-too-much : (was left : Option Bytes) (bytes : Bytes) → was ≡ Some bytes →
     length bytes ≤ table_limit → WhereBytesTold was left IsTooMuch → ⊥
@@ -241,11 +259,13 @@ never-too-much (Some all) (Some rest) bytes is within much =
 -- it lacks memory
 unsupplied-memory : (tool : Tool) (before now : Supplies) (cause : Cause) →
     IsUnsupplied tool before now cause → LacksNothing tool before now → cause ≡ Memory Before
-unsupplied-memory tool before now InputFault due lacks = absurd (lacks.source due.1)
+unsupplied-memory tool before now InputFault due lacks = absurd
+    (lacks.source (last-failed-rises before.input_faults now.input_faults due.1))
 unsupplied-memory tool before now (TooLarge Input) due lacks =
     let all = lacks.within due.0 in
-    absurd (never-too-much before.left now.left all.0 all.1 all.2 due.1.1)
-unsupplied-memory tool before now ClockFault due lacks = absurd (lacks.clock due.rose)
+    absurd (never-too-much before.left now.left all.0 all.1 all.2 due.2.1)
+unsupplied-memory tool before now ClockFault due lacks = absurd
+    (lacks.clock (last-failed-rises before.clock_faults now.clock_faults due.clock))
 unsupplied-memory tool before now (Memory Before) due lacks = refl
 unsupplied-memory tool before now cause due lacks = absurd due
 
@@ -274,12 +294,11 @@ unsupplied-complete tool before now was holds outcome cause due early lacks serv
 -- the second claim
 pub ends-unsupplied : (tool : Tool) (before now : Supplies) (was holds : Streams)
     (outcome : Outcome) (cause : Cause) → IsUnsupplied tool before now cause →
-    CountsSupplies before now → EndsEarly (Some tool) (told tool cause) was holds outcome →
+    EndsEarly (Some tool) (told tool cause) was holds outcome →
     EndsUnsupplied tool before now was holds outcome
-ends-unsupplied tool before now was holds outcome cause due counts early = record {
+ends-unsupplied tool before now was holds outcome cause due early = record {
   cause = cause;
   due = due;
-  counts = counts;
   ends = early;
   complete = unsupplied-complete tool before now was holds outcome cause due early;
 }

@@ -17,18 +17,16 @@ use Rattle.suite_rules.specs.Lawful.{Lawful}
 use Rattle.suite_rules.specs.Steps.{LawfulOthers, StaysLawful}
 use Rattle.suite_answers.specs.declared.answer.Answer.{Answer}
 use Rattle.suite_session.specs.declared.session.Phase.{Phase}
-use Rattle.suite_session.specs.declared.session.Phase.TheVariants.{Waiting, Begun, Over}
+use Rattle.suite_session.specs.declared.session.Phase.TheVariants.{Waiting, Begun, Over, Unbegun}
 use Rattle.suite_session.specs.Runner.{Question, Runner}
 use Rattle.acct_outside.specs.Moment.{Past, Moment, Narrows}
 use Rattle.suite_rules.proofs.Parts.{StaysLawfulWhere}
-use Rattle.suite_session.specs.Session.{RemembersNow, IsNew, IsWaiting, SessionStands, SessionTurns, IsUnbegun, answer_of, given_in, phase_left}
-use Rattle.suite_session.specs.Stands.{Extends, StandsAs, TellsOutside, TurnsTo}
-use Rattle.suite_session.specs.Counts.{SessionCounts}
-use Rattle.suite_session.proofs.OthersLemmas.{state-own}
+use Rattle.suite_session.specs.Belongs.{Belongs, IsLedTo}
+use Rattle.suite_session.specs.Session.{IsWaiting, answer_of, given_in}
+use Rattle.suite_session.specs.Stands.{Extends, TellsOutside, TurnsTo}
+use Rattle.suite_session.specs.Turning.{IsNew, IsUnbegun, SessionTurns}
 use Rattle.suite_session.proofs.GrowsLemmas.{grew-extends, grew-none, grew-nothing, grew-then, second-empty}
-use Rattle.suite_course.specs.Bound.{PhaseCalled}
 use Rattle.suite_course.specs.Course.{Comes, Reached}
-use Rattle.suite_course.proofs.BoundLemmas.{called-first, called-then}
 
 -- ---- One after another
 
@@ -187,16 +185,11 @@ new-from token (Some was) (Some past) extends new =
     ∙ (ap (λ (one : History). own_events token one) (sym extends.1.1) ∙ new))
 new-from token (Some was) None extends new = absurd extends
 
--- nothing holds of a told history
-told-any : (told : Option Past) → IfSome told (λ past. Unit {0})
-told-any None = tt
-told-any (Some past) = tt
-
 -- a turn of a session that has no answer yet
 pub comes-turn : (asked : Question) (entry between now : Moment) (old new : Phase) →
     Comes asked entry between old → answer_of old ≡ None → SessionTurns between now old new →
-    phase_left new < phase_left old → SessionCounts now.told old new → Comes asked entry now new
-comes-turn asked entry between now (Waiting question) (Begun runner state) comes none turns nearer counts =
+    Comes asked entry now new
+comes-turn asked entry between now (Waiting question) (Begun runner state) comes none turns =
     let first = turns-none entry between [] runner.token comes.turns in
     let both = turns-then entry between now runner.token 0 1 first turns.1.turns in
     record {
@@ -207,11 +200,9 @@ comes-turn asked entry between now (Waiting question) (Begun runner state) comes
             stands,
             new-from runner.token entry.told between.told
                 (grew-extends entry.admits runner.token 0 entry.told between.told first.grew) turns.2,
-            turns.1.remembers,
           )) both.risen both;
-      called = called-first runner state now.told counts;
     }
-comes-turn asked entry between now (Waiting question) (Over answer) comes none turns nearer counts =
+comes-turn asked entry between now (Waiting question) (Unbegun answer) comes none turns =
     let both = turns-then entry between now [] 0 1 comes.turns turns in
     record {
       made = 1;
@@ -219,9 +210,8 @@ comes-turn asked entry between now (Waiting question) (Over answer) comes none t
           (λ unbegun. unbegun-from asked entry between now answer comes.turns.stands.1
           comes.turns.narrows (subst (λ (one : Question). IsUnbegun one between now answer)
           comes.turns.stands.0 unbegun)) both.risen both;
-      called = told-any now.told;
     }
-comes-turn asked entry between now (Begun runner state) (Begun same next) comes none turns nearer counts =
+comes-turn asked entry between now (Begun runner state) (Begun same next) comes none turns =
     let both = turns-then entry between now runner.token comes.made 1 comes.turns turns.1.turns in
     record {
       made = comes.made + 1;
@@ -230,43 +220,39 @@ comes-turn asked entry between now (Begun runner state) (Begun same next) comes 
           (turns-as entry now runner.token (comes.made + 1)
           (λ stands. (
             ap (λ (one : Runner). one.asked) turns.0 ∙ comes.turns.stands.0,
-            subst (λ (one : Runner). StandsAs now one next) (sym turns.0) stands,
+            subst (λ (one : Runner). IsLedTo now one next) (sym turns.0) stands,
             subst (λ (one : Runner). IsNew entry.told one.token) (sym turns.0) comes.turns.stands.2,
-            subst (λ (one : Runner). RemembersNow now one next) (sym turns.0) turns.1.remembers,
           )) both.risen both);
-      called = subst (λ (one : Runner). IfSome now.told (PhaseCalled (Begun one next)))
-          (sym turns.0)
-          (called-then between.admits runner next state between.told now.told nearer counts
-          turns.1.turns.grew (state-own between runner state comes.turns.stands.1) comes.called);
     }
-comes-turn asked entry between now (Begun runner state) (Over answer) comes none turns nearer counts =
-    let has : given_in state ≡ Some answer = ap given_in turns.0 in
+comes-turn asked entry between now (Begun runner state) (Over same answer) comes none turns =
+    let has : given_in state ≡ Some answer = ap given_in turns.1 in
     let wrong : None ≡ Some answer = sym none ∙ has in absurd (cc)
-comes-turn asked entry between now (Over answer) new comes none turns nearer counts = absurd (cc)
-comes-turn asked entry between now (Waiting question) (Waiting other) comes none turns nearer counts =
+comes-turn asked entry between now (Over runner answer) new comes none turns = absurd (cc)
+comes-turn asked entry between now (Unbegun answer) new comes none turns = absurd (cc)
+comes-turn asked entry between now (Waiting question) (Waiting other) comes none turns =
     absurd turns
-comes-turn asked entry between now (Begun runner state) (Waiting other) comes none turns nearer counts =
+comes-turn asked entry between now (Waiting question) (Over runner answer) comes none turns =
+    absurd turns
+comes-turn asked entry between now (Begun runner state) (Waiting other) comes none turns =
+    absurd turns
+comes-turn asked entry between now (Begun runner state) (Unbegun answer) comes none turns =
     absurd turns
 
 -- a session that hasn't begun was asked something
 pub waiting-is : (phase : Phase) → IsWaiting phase → (asked : Question) × (phase ≡ Waiting asked)
 waiting-is (Waiting asked) waits = (asked, refl)
 waiting-is (Begun runner state) waits = absurd waits
-waiting-is (Over answer) waits = absurd waits
+waiting-is (Over runner answer) waits = absurd waits
+waiting-is (Unbegun answer) waits = absurd waits
 
--- a session on its way stands so
-pub comes-stands : (asked : Question) (entry now : Moment) (phase : Phase) →
-    Comes asked entry now phase → SessionStands now phase
-comes-stands asked entry now (Waiting question) comes = tt
-comes-stands asked entry now (Begun runner state) comes =
-    record {
-      own = state;
-      stands = comes.turns.stands.1;
-      remembers = comes.turns.stands.3;
-      put = Ok tt;
-      left = refl;
-    }
-comes-stands asked entry now (Over answer) comes = tt
+-- a session on its way belongs to the folder
+pub comes-belongs : (asked : Question) (entry now : Moment) (phase : Phase) →
+    Comes asked entry now phase → Belongs now phase
+comes-belongs asked entry now (Waiting question) comes = tt
+comes-belongs asked entry now (Begun runner state) comes =
+    record { own = state; led = comes.turns.stands.1; put = Ok tt; left = refl }
+comes-belongs asked entry now (Over runner answer) comes = absurd comes.turns.stands
+comes-belongs asked entry now (Unbegun answer) comes = tt
 
 -- at its entry it has come to where it is
 pub comes-first : (asked : Question) (entry : Moment) (phase : Phase) → phase ≡ Waiting asked →
@@ -282,7 +268,6 @@ comes-first asked entry phase is =
         never_falls = omega arith;
         risen = λ fault. absurd fault;
       };
-      called = told-any entry.told;
     })
   where
     still-lawful : (deeds : SuiteDeeds) (admits : Admission) (was : Option Past) →

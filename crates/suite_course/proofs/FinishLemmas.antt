@@ -1,55 +1,76 @@
 -- Claim: a session that came to its answer, whose streams were served, and that then made its last
 -- call, finished (`finishes`).
--- Way: the session stands as the streams left it (`streams-stand`); its last call leads to its end
--- alone (`ends-begun`).
-use Rattle.std.proofs.Common.{◌≡◌, ℕ, ◌+◌, ◌≤◌, [], inl, inr, refl, sym, ap, subst, ◌∙◌, Some, IfSome, IsSome, Result, Ok, Err, arith}
+-- Way: the session belongs to the folder as the streams left it (`streams-belong`), and where one failed
+-- it had a text to take (`is-to-put`); its last call leads to its end alone (`ends-begun`).
+use Rattle.std.proofs.Common.{◌≡◌, ◌≢◌, ◌⊎◌, ℕ, ◌+◌, ◌≤◌, [], inl, inr, refl, sym, ap, subst, ◌∙◌, Option, Some, None, IfSome, IsSome, Result, Ok, Err, arith}
 use Rattle.std.proofs.lemmas.Bool.{cases_lt}
+use Rattle.acct_outside.specs.declared.CommitStage.{CommitStage}
 use Rattle.acct_outside.specs.declared.streams.SinkFault.{SinkFault}
 use Rattle.acct_outside.specs.Faults.{HasRisen, last_count}
 use Rattle.account_model.specs.declared.tool.Tool.{Tool}
+use Rattle.suite_answers.specs.declared.cause.Cause.{Cause}
+use Rattle.suite_answers.specs.declared.cause.Cause.TheVariants.{Memory}
 use Rattle.suite_answers.specs.declared.cause.Outcome.{Outcome}
 use Rattle.suite_answers.specs.declared.answer.Answer.{Answer}
+use Rattle.suite_answers.specs.Reasons.{memory_message}
+use Rattle.suite_session.specs.Stands.{IsMemory}
 use Rattle.suite_session.specs.declared.state.State.{State}
 use Rattle.suite_session.specs.declared.state.State.TheVariants.{Answering}
 use Rattle.suite_session.specs.declared.session.Phase.{Phase}
-use Rattle.suite_session.specs.declared.session.Phase.TheVariants.{Waiting, Begun, Over}
+use Rattle.suite_session.specs.declared.session.Phase.TheVariants.{Waiting, Begun, Over, Unbegun}
 use Rattle.suite_session.specs.Runner.{Question, Runner}
 use Rattle.acct_outside.specs.Moment.{Moment}
-use Rattle.suite_session.specs.Session.{HasAnswered, SessionStands, SessionTurns, answer_of, given_in, outcome_of, state_failed}
+use Rattle.suite_session.specs.Belongs.{Belongs}
+use Rattle.suite_session.specs.Session.{HasMessage, HasText, IsToPut, answer_of, given_in, outcome_of, state_failed}
+use Rattle.suite_session.specs.Turning.{HasAnswered, SessionTurns}
 use Rattle.suite_session.specs.Answers.{Says, after_streams}
-use Rattle.suite_session.proofs.MetLemmas.{told-as}
-use Rattle.suite_session.proofs.OthersLemmas.{state-own}
-use Rattle.suite_course.specs.Streams.{Streams, Serves}
+use Rattle.suite_session.proofs.BelongsLemmas.{output-stays}
+use Rattle.suite_course.specs.Streams.{Streams, Serves, memory_stage, text_of}
 use Rattle.suite_course.specs.Course.{Comes, Concludes, Finished, phase_after}
-use Rattle.suite_course.proofs.BoundLemmas.{called-last}
-use Rattle.suite_course.proofs.CourseLemmas.{turns-then, turns-as, unbegun-stays}
+use Rattle.suite_course.proofs.CourseLemmas.{comes-belongs, turns-then, turns-as, unbegun-stays}
 use Rattle.suite_course.proofs.RanLemmas.{stays-turns}
 
 -- ---- A fault of a stream
 
--- the session stands as the streams left it
-pub streams-stand : (asked : Question) (entry now : Moment) (put : Result (Unit {0}) SinkFault)
-    (phase : Phase) → Comes asked entry now phase → SessionStands now (phase_after put phase)
-streams-stand asked entry now (Ok unit) (Waiting question) comes = tt
-streams-stand asked entry now (Err fault) (Waiting question) comes = tt
-streams-stand asked entry now (Ok unit) (Begun runner state) comes =
-    record {
-      own = state;
-      stands = comes.turns.stands.1;
-      remembers = comes.turns.stands.3;
-      put = Ok unit;
-      left = refl;
-    }
-streams-stand asked entry now (Err fault) (Begun runner state) comes =
-    record {
-      own = state;
-      stands = comes.turns.stands.1;
-      remembers = comes.turns.stands.3;
-      put = Err fault;
-      left = refl;
-    }
-streams-stand asked entry now (Ok unit) (Over answer) comes = tt
-streams-stand asked entry now (Err fault) (Over answer) comes = tt
+-- the session belongs to the folder as the streams left it
+pub streams-belong : (asked : Question) (entry now : Moment) (put : Result (Unit {0}) SinkFault)
+    (phase : Phase) → Comes asked entry now phase → Belongs now (phase_after put phase)
+streams-belong asked entry now (Ok unit) phase comes = comes-belongs asked entry now phase comes
+streams-belong asked entry now (Err fault) phase comes =
+    output-stays now fault phase (comes-belongs asked entry now phase comes)
+
+-- an answer of which the streams were to take a message has one
+has-message : (tool : Option Tool) (cause : Cause) (answer : Answer) → answer.outcome.cause ≡ cause →
+    text_of tool answer ≢ [] → HasMessage answer
+has-message tool (Memory stage) answer is some =
+    inr (subst (λ (one : Cause). IsMemory one) (sym is) tt)
+has-message tool cause answer is some = inl (subst
+    (λ (one : Option CommitStage). (elim one [
+      | Some stage ↦ memory_message tool stage
+      | None ↦ answer.err
+    ]) ≢ []) (ap memory_stage is) some)
+
+-- so one of which they were to take something has a text
+has-text : (tool : Option Tool) (answer : Answer) →
+    (answer.out ≢ []) ⊎ (text_of tool answer ≢ []) → HasText answer
+has-text tool answer (inl some) = inl some
+has-text tool answer (inr some) = inr (has-message tool answer.outcome.cause answer refl some)
+
+-- where a stream failed, the session had an answer with a text, and hasn't answered
+pub is-to-put : (asked : Question) (entry now : Moment) (tool : Tool) (was holds : Streams)
+    (put : Result (Unit {0}) SinkFault) (phase : Phase) → Comes asked entry now phase →
+    IsSome (answer_of phase) → IfSome (answer_of phase) (λ given. Serves (Some tool) given was holds put) →
+    (fault : SinkFault) → put ≡ Err fault → IsToPut phase
+is-to-put asked entry now tool was holds put (Begun runner (Answering given)) comes some served fault is =
+    has-text (Some tool) given (served.texted fault is)
+is-to-put asked entry now tool was holds put (Unbegun given) comes some served fault is =
+    has-text (Some tool) given (served.texted fault is)
+is-to-put asked entry now tool was holds put (Waiting question) comes some served fault is =
+    absurd (cc some)
+is-to-put asked entry now tool was holds put (Over runner given) comes some served fault is =
+    absurd comes.turns.stands
+is-to-put asked entry now tool was holds put (Begun runner state) comes some served fault is =
+    absurd (cc some)
 
 -- and has an answer
 state-answers : (fault : SinkFault) (state : State) → IsSome (given_in state) →
@@ -62,7 +83,8 @@ pub streams-answer : (put : Result (Unit {0}) SinkFault) (phase : Phase) →
 streams-answer (Ok unit) phase some = some
 streams-answer (Err fault) (Waiting asked) some = absurd (cc some)
 streams-answer (Err fault) (Begun runner state) some = state-answers fault state some
-streams-answer (Err fault) (Over answer) some = refl
+streams-answer (Err fault) (Over runner answer) some = refl
+streams-answer (Err fault) (Unbegun answer) some = refl
 
 -- the streams leave a session that answers as one that answers so
 answers-after : (put : Result (Unit {0}) SinkFault) (runner : Runner) (given : Answer) →
@@ -71,10 +93,10 @@ answers-after : (put : Result (Unit {0}) SinkFault) (runner : Runner) (given : A
 answers-after (Ok unit) runner given = refl
 answers-after (Err fault) runner given = refl
 
-over-after : (put : Result (Unit {0}) SinkFault) (given : Answer) →
-    phase_after put (Over given) ≡ Over (after_streams put given)
-over-after (Ok unit) given = refl
-over-after (Err fault) given = refl
+unbegun-after : (put : Result (Unit {0}) SinkFault) (given : Answer) →
+    phase_after put (Unbegun given) ≡ Unbegun (after_streams put given)
+unbegun-after (Ok unit) given = refl
+unbegun-after (Err fault) given = refl
 
 -- ---- The end
 
@@ -101,17 +123,15 @@ module _ (asked : Question) (entry between now : Moment) (was holds : Streams) (
       by-last : (last : Phase) →
           SessionTurns between now (Begun runner (Answering (after_streams put given))) last →
           outcome_of last ≡ Some outcome → Finished asked entry now was holds outcome
-      by-last (Over final) turns ends =
-          let same : after_streams put given ≡ final = cc turns.0 in
+      by-last (Over same_runner final) turns ends =
+          let same : after_streams put given ≡ final = cc turns.1 in
           let is : outcome ≡ (after_streams put given).outcome =
           (let one : final.outcome ≡ outcome = cc ends in sym one)
           ∙ ap (λ (one : Answer). one.outcome) (sym same) in
-          let called = called-last between.admits runner given between.told now.told turns.1.grew
-          (state-own between runner (Answering given) comes.turns.stands.1) comes.called in
           record {
             given = given;
             says = subst (λ (one : Question). Says one given given.outcome.cause)
-                comes.turns.stands.0 comes.turns.stands.1.gives.says;
+                comes.turns.stands.0 comes.turns.stands.1.stands.gives.says;
             put = put;
             served = served;
             ends = is;
@@ -125,28 +145,28 @@ module _ (asked : Question) (entry between now : Moment) (was holds : Streams) (
                   fresh = comes.turns.stands.2;
                   answered = subst (λ (one : Answer).
                       IfSome now.told (HasAnswered runner given one.outcome.status)) (sym same)
-                      (gave given put comes.turns.stands.1 comes.turns.stands.3 (sym same)).answered;
-                  within = told-as now.told (λ past both. both.0) called;
-                  backed = told-as now.told (λ past both. both.1) called;
+                      (gave given put comes.turns.stands.1.stands comes.turns.stands.1.came
+                      (sym same)).answered;
                 }))
                 (λ outside. risen-later entry.faults between.faults now.faults
-                comes.turns.never_falls (comes.turns.risen outside) turns.1.never_falls)
-                (turns-then entry between now runner.token comes.made 1 comes.turns turns.1);
+                comes.turns.never_falls (comes.turns.risen outside) turns.2.never_falls)
+                (turns-then entry between now runner.token comes.made 1 comes.turns turns.2);
           }
       by-last (Waiting question) turns ends = absurd turns
       by-last (Begun same next) turns ends = absurd (cc ends)
+      by-last (Unbegun final) turns ends = absurd turns
 
   -- one whose begin gave no token
-  ends-over : (given : Answer) → Comes asked entry between (Over given) →
+  ends-unbegun : (given : Answer) → Comes asked entry between (Unbegun given) →
       Serves (Some asked.request.tool) given was holds put →
-      Concludes between now (Over (after_streams put given)) outcome →
+      Concludes between now (Unbegun (after_streams put given)) outcome →
       Finished asked entry now was holds outcome
-  ends-over given comes served concludes =
+  ends-unbegun given comes served concludes =
       by-last concludes.last concludes.turns concludes.ends
     where
-      by-last : (last : Phase) → SessionTurns between now (Over (after_streams put given)) last →
+      by-last : (last : Phase) → SessionTurns between now (Unbegun (after_streams put given)) last →
           outcome_of last ≡ Some outcome → Finished asked entry now was holds outcome
-      by-last (Over final) turns ends =
+      by-last (Unbegun final) turns ends =
           let is : outcome ≡ (after_streams put given).outcome =
           (let one : final.outcome ≡ outcome = cc ends in sym one)
           ∙ ap (λ (one : Answer). one.outcome) turns.0 in
@@ -170,6 +190,7 @@ module _ (asked : Question) (entry between now : Moment) (was holds : Streams) (
           }
       by-last (Waiting question) turns ends = absurd turns
       by-last (Begun same next) turns ends = absurd turns
+      by-last (Over runner final) turns ends = absurd turns
 
   -- by the session's phase
   finishes-as : (phase : Phase) → Comes asked entry between phase → IsSome (answer_of phase) →
@@ -182,8 +203,9 @@ module _ (asked : Question) (entry between now : Moment) (was holds : Streams) (
       (subst (λ (one : Phase). Concludes between now one outcome) (answers-after put runner given)
       concludes)
   finishes-as (Begun runner state) comes some served concludes = absurd (cc some)
-  finishes-as (Over given) comes some served concludes = ends-over given comes served
-      (subst (λ (one : Phase). Concludes between now one outcome) (over-after put given) concludes)
+  finishes-as (Unbegun given) comes some served concludes = ends-unbegun given comes served
+      (subst (λ (one : Phase). Concludes between now one outcome) (unbegun-after put given) concludes)
+  finishes-as (Over runner given) comes some served concludes = absurd comes.turns.stands
 
   -- the claim, by the tool that the streams were served for
   pub finishes : (tool : Tool) (phase left : Phase) → tool ≡ asked.request.tool →

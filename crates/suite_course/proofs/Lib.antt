@@ -5,7 +5,6 @@ mod AloneLocks
 mod AloneStays
 mod AloneSteps
 mod BackupLemmas
-mod BoundLemmas
 pub mod CompleteLemmas
 mod CourseLemmas
 mod DeedLemmas

@@ -28,14 +28,12 @@ use Rattle.acct_outside.specs.Moment.{Past, Moment, Narrows}
 use Rattle.suite_rules.proofs.Parts.{StaysLawfulWhere}
 use Rattle.suite_session.specs.Moment.{commit_at}
 use Rattle.suite_session.specs.Deeds.{AreOfTools}
-use Rattle.suite_session.specs.Session.{HasAnswered, IsNew, IsUnbegun}
+use Rattle.suite_session.specs.Turning.{HasAnswered, IsNew, IsUnbegun}
 use Rattle.suite_session.specs.Answers.{after_streams, memory_answer}
 use Rattle.suite_session.specs.Grows.{Grew, Grows}
-use Rattle.suite_session.specs.Backing.{BackedUpChanges}
 use Rattle.suite_session.proofs.Parts.{StaysOursWhere}
 use Rattle.suite_session.specs.Stands.{Extends, IsDiskFault, IsOutside, TurnsTo}
 use Rattle.suite_session.proofs.GrowsLemmas.{grew-extends, grew-nothing}
-use Rattle.suite_course.specs.Bound.{IsWithin}
 use Rattle.suite_course.specs.Streams.{Streams, Serves}
 use Rattle.suite_course.specs.Course.{AnsweredAs, Finished}
 use Rattle.suite_course.specs.Top.{Answered, ExtendsLawfully, HasRun, IfLawful, IsAlwaysSettled, IsShownAt, Ran, RunsOrNot}
@@ -94,8 +92,8 @@ module _ (asked : Question) (entry now : Moment) where
         call = answers one.status;
         result = done tt;
       } in event ∷ answered.older) (sym ends);
-      began = answered.due.asked ∙ ap (λ (one : Question). Some one.command) same;
-      commits = answered.due.commits ∙ ap commit_at (sym (stage-left put given))
+      began = answered.ended.due.asked ∙ ap (λ (one : Question). Some one.command) same;
+      commits = answered.ended.due.commits ∙ ap commit_at (sym (stage-left put given))
           ∙ ap (λ (one : Outcome). commit_at (stage_of one.cause)) (sym ends);
     }
 
@@ -106,29 +104,29 @@ module _ (asked : Question) (entry now : Moment) where
         IsShownAt deeds asked first past.history runner.token given given.outcome.cause
     answered-shown runner past same answered deeds first lawful =
         shown-at deeds first past.history lawful asked runner given same
-        (answered.due.asked ∙ ap (λ (one : Question). Some one.command) same)
-        given.outcome.cause refl answered.due.commits answered.due.shown
+        (answered.ended.due.asked ∙ ap (λ (one : Question). Some one.command) same)
+        given.outcome.cause refl answered.ended.due.commits answered.ended.due.shown
 
     -- the session that answered has run
     has-run : (runner : Runner) (was past : Past) (made : ℕ) → runner.asked ≡ asked →
         own_events runner.token was.history ≡ [] → HasAnswered runner given last_status past →
         Grows entry.admits runner.token was.history made past.history →
-        IsWithin runner.token past.history → BackedUpChanges runner.token past.history →
         ((deeds : SuiteDeeds) → AreOfTools deeds → LawfulOthers deeds entry.admits was.first →
         Lawful deeds was.first was.history → Lawful deeds was.first past.history) →
         HasRun asked entry.admits given outcome was.first was.history past.history runner.token
-    has-run runner was past made same fresh answered grows within backed stays = record {
+    has-run runner was past made same fresh answered grows stays = record {
       answered = answered-as runner past same answered;
       fresh = fresh;
-      bounded = record { made = made; grows = grows; within = within };
+      bounded = record { made = made; grows = grows; within = answered.ended.within };
       shown = λ deeds ours others lawful. answered-shown runner past same answered deeds was.first
           (stays deeds ours others lawful);
-      drops_nothing = answered.drops_nothing;
+      drops_nothing = answered.ended.drops_nothing;
       leaves = λ deeds ours others lawful earlier alone.
           let lawful_now = stays deeds ours others lawful in
           leaves-alone deeds asked was.first past runner.token given lawful_now ours earlier alone
-          given.outcome.cause answered.due.commits
-          (answered-shown runner past same answered deeds was.first lawful_now) answered.left backed;
+          given.outcome.cause answered.ended.due.commits
+          (answered-shown runner past same answered deeds was.first lawful_now)
+          answered.ended.left answered.ended.backed;
     }
 
     -- it has run, or its begin gave no token
@@ -147,11 +145,6 @@ module _ (asked : Question) (entry now : Moment) where
             (sym told_is) gave.answered)
             (subst (λ (token : Token). Grows entry.admits token was.history made past.history)
             (sym gave.same_token) grew.1)
-            (subst (λ (one : Option Past). IfSome one (λ past. IsWithin gave.runner.token past.history))
-            (sym told_is) gave.within)
-            (subst (λ (one : Option Past).
-            IfSome one (λ past. BackedUpChanges gave.runner.token past.history)) (sym told_is)
-            gave.backed)
             (λ deeds ours. (stays deeds ours).1),
       ),
     )
@@ -233,8 +226,6 @@ answered-from asked entry between now by given status told narrows (inl gave) = 
   same_token = gave.same_token;
   fresh = subst (λ (one : Option Past). IsNew one gave.runner.token) told gave.fresh;
   answered = gave.answered;
-  within = gave.within;
-  backed = gave.backed;
 })
 answered-from asked entry between now by given status told narrows (inr unbegun) =
     inr (unbegun-from asked entry between now given told narrows unbegun)

@@ -5,26 +5,26 @@ use Rattle.std.proofs.Common.{◌≡◌, ◌≤◌, ◌++◌, [], length, refl, 
 use Rattle.acct_text.specs.Bytes.{Bytes}
 use Rattle.acct_text.specs.Limits.{table_limit}
 use Rattle.acct_outside.specs.declared.CommitStage.TheVariants.{Before}
-use Rattle.acct_outside.specs.Faults.{HasRisen}
 use Rattle.acct_outside.specs.Streams.{WhereBytesTold}
 use Rattle.account_model.specs.declared.tool.Tool.{Tool}
 use Rattle.suite_answers.specs.declared.cause.Which.TheVariants.{Input}
 use Rattle.suite_answers.specs.declared.cause.Cause.{Cause}
 use Rattle.suite_answers.specs.declared.cause.Cause.TheVariants.{TooLarge, InputFault, Memory}
-use Rattle.suite_course.specs.Supplies.{Supplies, AllCame, ClockStays, IsOfInput, IsUnsupplied, SomeCame, TakesAll, reads_input}
+use Rattle.suite_course.specs.Supplies.{Supplies, AllCame, ClockStays, IsOfInput, IsUnsupplied, NotesInput, SomeCame, TakesAll, reads_input}
 
 -- the first claim
 pub lacks-input : (tool : Tool) (before now : Supplies) (cause : Cause) →
     (reads_input tool ≡ true) × IsOfInput cause →
     (reads_input tool ≡ true → WhereBytesTold before.left now.left (TakesAll (Err cause))) →
-    (cause ≡ InputFault → HasRisen before.input_faults now.input_faults) →
+    NotesInput (Err cause) before.input_faults now.input_faults →
     ClockStays before now → IsUnsupplied tool before now cause
-lacks-input tool before now (TooLarge Input) lacks took rose stays =
-    (lacks.0, (stays, took lacks.0))
-lacks-input tool before now InputFault lacks took rose stays =
-    (lacks.0, rose refl, (stays, took lacks.0))
-lacks-input tool before now (Memory Before) lacks took rose stays = (stays, took lacks.0)
-lacks-input tool before now cause lacks took rose stays = absurd lacks.1
+lacks-input tool before now (TooLarge Input) lacks took noted stays =
+    (lacks.0, noted, (stays, took lacks.0))
+lacks-input tool before now InputFault lacks took noted stays =
+    (lacks.0, noted, (stays, took lacks.0))
+lacks-input tool before now (Memory Before) lacks took noted stays =
+    (noted, (stays, took lacks.0))
+lacks-input tool before now cause lacks took noted stays = absurd lacks.1
 
 -- the second claim
 pub all-came : (input : Bytes) → length input ≤ table_limit → (was left : Option Bytes) →

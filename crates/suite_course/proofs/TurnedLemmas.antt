@@ -1,29 +1,91 @@
--- Claim: what the top call promises of its session holds of each that is turned and has an answer that is
--- due (`answers-keep-promises`).
+-- Claim: what the top call promises of its session holds of each that belongs to a folder and has its
+-- answer to give, or gave it (`answers-keep-promises`).
 -- Way: what its own events show a lawful history shows of its place (PlaceLemmas), and where it was alone
 -- of the folder as it stood (CompleteLemmas, LeavesLemmas).
-use Rattle.std.proofs.Common.{refl, subst}
+use Rattle.std.proofs.Common.{refl, subst, Option, Some, None, IfSome}
+use Rattle.acct_outside.specs.Moment.{Past, Moment}
+use Rattle.suite_rules.specs.Deeds.{SuiteDeeds}
+use Rattle.suite_rules.specs.Lawful.{Lawful}
 use Rattle.suite_rules.proofs.Cut.{lawful-prefix}
 use Rattle.suite_rules.proofs.Settles.{lawful-settles}
-use Rattle.suite_rules.specs.Lawful.{Lawful}
-use Rattle.suite_course.specs.Turned.{AnswersKeepPromises}
+use Rattle.suite_answers.specs.declared.answer.Answer.{Answer}
+use Rattle.suite_session.specs.declared.state.State.TheVariants.{Answering}
+use Rattle.suite_session.specs.declared.session.Phase.{Phase}
+use Rattle.suite_session.specs.declared.session.Phase.TheVariants.{Waiting, Begun, Over, Unbegun}
+use Rattle.suite_session.specs.Runner.{Runner}
+use Rattle.suite_session.specs.Answers.{Says}
+use Rattle.suite_session.specs.Backing.{BackedUpChanges}
+use Rattle.suite_session.specs.Belongs.{Belongs, CameTo}
+use Rattle.suite_session.specs.Deeds.{AreOfTools}
+use Rattle.suite_session.specs.Due.{IsDue}
+use Rattle.suite_session.specs.Stands.{HasLeft, IsStopped}
+use Rattle.suite_session.proofs.MetLemmas.{told-as}
+use Rattle.suite_session.proofs.StreamLemmas.{left-given}
+use Rattle.suite_course.specs.Turned.{AnswersKeepPromises, KeepsPromises, Promises}
 use Rattle.suite_course.proofs.CompleteLemmas.{answers-as}
 use Rattle.suite_course.proofs.LeavesLemmas.{leaves-alone}
 use Rattle.suite_course.proofs.PlaceLemmas.{shown-at}
 
+module _ (deeds : SuiteDeeds) (ours : AreOfTools deeds) where
+  module _ (runner : Runner) (answer : Answer) where
+    -- of an answer that is due
+    promises-of : (past : Past) → Lawful deeds past.first past.history →
+        Says runner.asked answer answer.outcome.cause → IsDue runner answer past →
+        ((IsStopped answer.outcome.cause → ⊥) → HasLeft runner.token answer.outcome.cause past) →
+        BackedUpChanges runner.token past.history → Promises deeds runner answer past
+    promises-of past lawful says due left backed =
+        let shown = shown-at deeds past.first past.history lawful runner.asked runner answer refl
+        due.asked answer.outcome.cause refl due.commits due.shown in
+        record {
+          settles = λ newer older parts table. lawful-settles.is_fold deeds past.first older
+              (lawful-prefix deeds past.first newer older
+              (subst (Lawful deeds past.first) parts lawful)) table;
+          shown = shown;
+          leaves = λ old alone. leaves-alone deeds runner.asked past.first past runner.token
+              answer lawful ours old alone answer.outcome.cause due.commits shown left backed;
+          complete = λ old alone opened inside. answers-as deeds runner.asked past.first old
+              past.history runner.token lawful alone opened answer answer.outcome.cause refl
+              due.commits says inside shown;
+        }
+
+    -- of one that a session has to give, where the folder tells its history
+    promises-told : Says runner.asked answer answer.outcome.cause → (told : Option Past) →
+        IfSome told (IsDue runner answer) →
+        ((IsStopped answer.outcome.cause → ⊥) →
+        IfSome told (HasLeft runner.token answer.outcome.cause)) →
+        IfSome told (CameTo runner (Answering answer)) →
+        IfSome told (λ past. Lawful deeds past.first past.history →
+        Promises deeds runner answer past)
+    promises-told says None due left came = tt
+    promises-told says (Some past) due left came =
+        λ lawful. promises-of past lawful says due left came.backed
+
+  -- of none that has no answer
+  nothing-promised : (told : Option Past) → IfSome told (λ past. Lawful deeds past.first past.history →
+      Unit {0})
+  nothing-promised None = tt
+  nothing-promised (Some past) = λ lawful. tt
+
+  -- of each session
+  keeps-promises : (now : Moment) (session : Phase) → Belongs now session →
+      IfSome now.told (λ past. Lawful deeds past.first past.history →
+      KeepsPromises deeds past session)
+  keeps-promises now (Begun runner (Answering answer)) belongs =
+      let had = left-given now runner answer belongs in
+      told-as now.told (λ past promises lawful.
+      record { given = had.given; put = had.put; left = had.left; promises = promises lawful })
+      (promises-told runner had.given had.may.gives.says now.told had.may.gives.due had.may.left
+      had.came)
+  keeps-promises now (Over runner answer) belongs = told-as now.told (λ past ended lawful. record {
+    given = belongs.given;
+    put = belongs.put;
+    left = belongs.left;
+    promises = promises-of runner belongs.given past lawful belongs.says ended.due ended.left
+        ended.backed;
+  }) belongs.ended
+  keeps-promises now session belongs = nothing-promised now.told
+
 -- the claim
-pub answers-keep-promises : AnswersKeepPromises
-answers-keep-promises deeds ours runner answer past lawful says due =
-    let shown = shown-at deeds past.first past.history lawful runner.asked runner answer refl due.asked
-    answer.outcome.cause refl due.commits due.shown in
-    record {
-      settles = λ newer older parts table. lawful-settles.is_fold deeds past.first older
-          (lawful-prefix deeds past.first newer older (subst (Lawful deeds past.first) parts lawful))
-          table;
-      shown = shown;
-      leaves = λ old alone left backed. leaves-alone deeds runner.asked past.first past runner.token
-          answer lawful ours old alone answer.outcome.cause due.commits shown left backed;
-      complete = λ old alone opened inside. answers-as deeds runner.asked past.first old past.history
-          runner.token lawful alone opened answer answer.outcome.cause refl due.commits says inside
-          shown;
-    }
+pub answers-keep-promises : {F : Type 0} (moment : F → Moment) → AnswersKeepPromises moment
+answers-keep-promises moment deeds ours folder session belongs =
+    keeps-promises deeds ours (moment folder) session belongs

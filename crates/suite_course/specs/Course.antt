@@ -1,34 +1,40 @@
 -- The course of a session from its entry: its turns one after another, and its end.
-use Rattle.std.specs.Prelude.{◌≡◌, ◌⊎◌, ℕ, Some, IfSome, Result, Ok, Err}
+use Rattle.std.specs.Prelude.{◌≡◌, ◌⊎◌, [], ℕ, Some, IfSome, Result, Ok, Err}
 use Rattle.acct_outside.specs.Tokens.{Token}
 use Rattle.acct_outside.specs.declared.streams.SinkFault.{SinkFault}
 use Rattle.suite_answers.specs.declared.cause.Outcome.{Outcome}
 use Rattle.suite_answers.specs.declared.answer.Answer.{Answer}
 use Rattle.suite_session.specs.declared.session.Phase.{Phase}
-use Rattle.suite_session.specs.declared.session.Phase.TheVariants.{Waiting, Begun, Over}
+use Rattle.suite_session.specs.declared.session.Phase.TheVariants.{Waiting, Begun, Over, Unbegun}
 use Rattle.suite_session.specs.Runner.{Question, Runner}
-use Rattle.suite_session.specs.Backing.{BackedUpChanges}
 use Rattle.acct_outside.specs.Moment.{Moment}
 use Rattle.suite_session.specs.Answers.{Says, after_streams}
-use Rattle.suite_session.specs.Session.{HasAnswered, IsNew, IsUnbegun, RemembersNow, SessionTurns, outcome_of, output_failed, phase_token}
-use Rattle.suite_session.specs.Stands.{IsOutside, StandsAs, TellsOutside, TurnsTo}
-use Rattle.suite_course.specs.Bound.{IsWithin, PhaseCalled}
+use Rattle.suite_session.specs.Belongs.{IsLedTo}
+use Rattle.suite_session.specs.Session.{outcome_of, output_failed}
+use Rattle.suite_session.specs.Stands.{IsOutside, TellsOutside, TurnsTo}
+use Rattle.suite_session.specs.Turning.{HasAnswered, IsNew, IsUnbegun, SessionTurns}
 use Rattle.suite_course.specs.Streams.{Streams, Serves}
 
--- The session, which was asked this, stands so before its last call, and drops nothing that it has met.
--- Until its begin the folder tells what it told at the entry; its token is new since then.
+-- The session, which was asked this, came so far before its last call: its events led to its state. Until
+-- its begin the folder tells what it told at the entry; its token is new since then.
 abbrev pub Reached : Question → Moment → Moment → Phase → Type 0
 Reached asked entry now (Waiting question) = (question ≡ asked) × (now.told ≡ entry.told)
 Reached asked entry now (Begun runner state) =
-    (runner.asked ≡ asked) × StandsAs now runner state × IsNew entry.told runner.token
-    × RemembersNow now runner state
-Reached asked entry now (Over answer) = IsUnbegun asked entry now answer
+    (runner.asked ≡ asked) × IsLedTo now runner state × IsNew entry.told runner.token
+Reached asked entry now (Over runner answer) = ⊥
+Reached asked entry now (Unbegun answer) = IsUnbegun asked entry now answer
 
 -- the session tells of a fault of what lies outside it
 abbrev pub PhaseTells : Phase → Type 0
 PhaseTells (Waiting question) = ⊥
 PhaseTells (Begun runner state) = TellsOutside state
-PhaseTells (Over answer) = IsOutside answer.outcome.cause
+PhaseTells (Over runner answer) = ⊥
+PhaseTells (Unbegun answer) = IsOutside answer.outcome.cause
+
+-- the token of a session on its way; none before its begin, and where that gave none
+abbrev pub phase_token : Phase → Token
+phase_token (Begun runner state) = runner.token
+phase_token phase = []
 
 -- the events of a session that has made at most so many; none before its begin
 abbrev pub made_in : Phase → ℕ → ℕ
@@ -40,7 +46,6 @@ pub record Comes (asked : Question) (entry now : Moment) (phase : Phase) : Type 
   pub made : ℕ
   pub turns : TurnsTo entry now (phase_token phase) (made_in phase made)
       (Reached asked entry now phase) (PhaseTells phase)
-  pub called : IfSome now.told (PhaseCalled phase)
 
 -- the session as the streams left it
 abbrev pub phase_after : Result (Unit {0}) SinkFault → Phase → Phase
@@ -54,8 +59,7 @@ pub record Concludes (before now : Moment) (phase : Phase) (outcome : Outcome) :
   pub ends : outcome_of last ≡ Some outcome
 
 -- The session of the token, which is new since its entry, was asked this, had this answer to give, and
--- answered with the status by its last event. Its events are within the bound, and it has backed up
--- tables that it was to change alone.
+-- answered with the status by its last event.
 pub record AnsweredAs (asked : Question) (entry now : Moment) (token : Token) (given : Answer)
     (status : ℕ) : Type 0 where
   pub runner : Runner
@@ -63,8 +67,6 @@ pub record AnsweredAs (asked : Question) (entry now : Moment) (token : Token) (g
   pub same_token : runner.token ≡ token
   pub fresh : IsNew entry.told runner.token
   pub answered : IfSome now.told (HasAnswered runner given status)
-  pub within : IfSome now.told (λ past. IsWithin runner.token past.history)
-  pub backed : IfSome now.told (λ past. BackedUpChanges runner.token past.history)
 
 -- The session came to an answer, which the streams left so, and the outcome is that. It answered with
 -- its last event, or its begin gave no token.

@@ -1,5 +1,4 @@
 pub mod Open
-pub mod Bound
 pub mod Streams
 pub mod Supplies
 pub mod Course

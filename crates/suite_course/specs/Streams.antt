@@ -47,12 +47,14 @@ pub record FailsAt (text : Bytes) (before now : ℕ) : Type 0 where
   pub some : text ≢ []
 
 -- Output and message came whole; or where a stream failed or found no memory, a front of each. One that
--- failed had a text to take. No count of faults falls.
+-- did had a text to take. No count of faults falls.
 pub record Serves (tool : Option Tool) (answer : Answer) (before now : Streams)
     (result : Result (Unit {0}) SinkFault) : Type 0 where
   pub output : WhereBytesTold before.out now.out (PutsFront answer.out result)
   pub message : WhereBytesTold before.err now.err (PutsFront (text_of tool answer) result)
   pub failed : result ≡ Err Failed → FailsAt answer.out before.out_faults now.out_faults
       ⊎ FailsAt (text_of tool answer) before.err_faults now.err_faults
+  pub texted : (fault : SinkFault) → result ≡ Err fault →
+      (answer.out ≢ []) ⊎ (text_of tool answer ≢ [])
   pub out_counts : before.out_faults ≤ now.out_faults
   pub err_counts : before.err_faults ≤ now.err_faults

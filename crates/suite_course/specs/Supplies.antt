@@ -6,7 +6,7 @@ use Rattle.acct_text.specs.Limits.{table_limit}
 use Rattle.acct_outside.specs.declared.CommitStage.TheVariants.{Before}
 use Rattle.acct_outside.specs.declared.streams.SourceFault.{SourceFault}
 use Rattle.acct_outside.specs.declared.streams.SourceFault.TheVariants.{Failed, Memory as NoMemory}
-use Rattle.acct_outside.specs.Faults.{HasRisen}
+use Rattle.acct_outside.specs.Faults.{Faults, HasRisen, LastFailed, NoneFailed}
 use Rattle.acct_outside.specs.Streams.{ClockMoment, SourceMoment, WhereBytesTold}
 use Rattle.account_model.specs.declared.tool.Tool.{Tool}
 use Rattle.account_model.specs.declared.tool.Tool.TheVariants.{Chpasswd}
@@ -19,13 +19,12 @@ abbrev pub reads_input : Tool → Bool
 reads_input Chpasswd = true
 reads_input tool = false
 
--- what a source has left where it tells, and how often it failed; the day that a clock last gave, and
--- how often it failed
+-- what a source has left where it tells, and its faults; the day that a clock last gave, and its faults
 pub record Supplies : Type 0 where
   pub left : Option Bytes
-  pub input_faults : ℕ
+  pub input_faults : Faults
   pub gave : Option ℕ
-  pub clock_faults : ℕ
+  pub clock_faults : Faults
 
 -- the source and the clock, by what each tells of itself
 abbrev pub supplies : SourceMoment → ClockMoment → Supplies
@@ -35,11 +34,6 @@ supplies source clock = record {
   gave = clock.gave;
   clock_faults = clock.faults;
 }
-
--- no count of faults falls
-pub record CountsSupplies (before now : Supplies) : Type 0 where
-  pub source : before.input_faults ≤ now.input_faults
-  pub clock : before.clock_faults ≤ now.clock_faults
 
 -- the cause of a fault of the source
 abbrev pub cause_of_source : SourceFault → Cause
@@ -63,6 +57,11 @@ TakesAll (Ok input) before now = (before ≡ input) × (now ≡ [])
 TakesAll (Err (TooLarge Input)) before now = IsTooMuch before now
 TakesAll (Err cause) before now = (came : Bytes) × Came came before now
 
+-- where the source is told as the cause its last take failed, and no other; else none failed
+abbrev pub NotesInput : Result Bytes Cause → Faults → Faults → Type 0
+NotesInput (Err InputFault) before now = LastFailed before now
+NotesInput result before now = NoneFailed before now
+
 -- the causes of a command that got no input
 abbrev pub IsOfInput : Cause → Type 0
 IsOfInput (TooLarge Input) = ⊤
@@ -71,13 +70,14 @@ IsOfInput (Memory Before) = ⊤
 IsOfInput cause = ⊥
 
 -- The command has this input and this day: all that the source had left, for a tool that reads it, and
--- the day that the clock gave.
+-- the day that the clock gave. Neither failed.
 pub record AreSupplied (tool : Tool) (before now : Supplies) (input : Bytes) (day : ℕ) : Type 0 where
   pub all_input : reads_input tool ≡ true → WhereBytesTold before.left now.left (TakesAll (Ok input))
   pub no_input : reads_input tool ≡ false → input ≡ []
   pub within : length input ≤ table_limit
   pub on_day : now.gave ≡ Some day
-  pub counts : CountsSupplies before now
+  pub source : NoneFailed before.input_faults now.input_faults
+  pub clock : NoneFailed before.clock_faults now.clock_faults
 
 -- the clock wasn't asked
 pub record ClockStays (before now : Supplies) : Type 0 where
@@ -96,27 +96,30 @@ AllCame before now = (length before ≤ table_limit) × (now ≡ [])
 abbrev pub LacksInput : Supplies → Supplies → (Bytes → Bytes → Type 0) → Type 0
 LacksInput before now P = ClockStays before now × WhereBytesTold before.left now.left P
 
--- The clock failed, and gave no day. Before it was asked the whole input came, where the tool reads one.
+-- The clock failed, gave no day, and wasn't asked again. Before it was asked the whole input came, where
+-- the tool reads one.
 pub record LacksDay (tool : Tool) (before now : Supplies) : Type 0 where
-  pub rose : HasRisen before.clock_faults now.clock_faults
+  pub clock : LastFailed before.clock_faults now.clock_faults
   pub gave : now.gave ≡ before.gave
+  pub source : NoneFailed before.input_faults now.input_faults
   pub all_input : reads_input tool ≡ true → WhereBytesTold before.left now.left AllCame
 
--- why the command has no input or no day: the source or the clock failed, more came than an input may
--- have, or there was no memory
+-- Why the command has no input or no day: the source or the clock failed, and was called no more; more
+-- came than an input may have; or there was no memory.
 abbrev pub IsUnsupplied : Tool → Supplies → Supplies → Cause → Type 0
 IsUnsupplied tool before now InputFault = (reads_input tool ≡ true)
-    × HasRisen before.input_faults now.input_faults × LacksInput before now SomeCame
-IsUnsupplied tool before now (TooLarge Input) =
-    (reads_input tool ≡ true) × LacksInput before now IsTooMuch
+    × LastFailed before.input_faults now.input_faults × LacksInput before now SomeCame
+IsUnsupplied tool before now (TooLarge Input) = (reads_input tool ≡ true)
+    × NoneFailed before.input_faults now.input_faults × LacksInput before now IsTooMuch
 IsUnsupplied tool before now ClockFault = LacksDay tool before now
-IsUnsupplied tool before now (Memory Before) = LacksInput before now SomeCame
+IsUnsupplied tool before now (Memory Before) =
+    NoneFailed before.input_faults now.input_faults × LacksInput before now SomeCame
 IsUnsupplied tool before now cause = ⊥
 
 -- nothing lacks: no fault of the source or of the clock was counted, and what the source had left, where
 -- the tool reads it, is within the limit of an input
 pub record LacksNothing (tool : Tool) (before now : Supplies) : Type 0 where
-  pub source : HasRisen before.input_faults now.input_faults → ⊥
-  pub clock : HasRisen before.clock_faults now.clock_faults → ⊥
+  pub source : HasRisen before.input_faults.count now.input_faults.count → ⊥
+  pub clock : HasRisen before.clock_faults.count now.clock_faults.count → ⊥
   pub within : reads_input tool ≡ true →
       (bytes : Bytes) × (before.left ≡ Some bytes) × (length bytes ≤ table_limit)

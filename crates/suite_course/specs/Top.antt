@@ -35,16 +35,16 @@ use Rattle.suite_answers.specs.Answers.{told}
 use Rattle.suite_session.specs.Runner.{Question}
 use Rattle.acct_outside.specs.Moment.{Moment, Narrows}
 use Rattle.suite_session.specs.Moment.{commit_at}
+use Rattle.suite_session.specs.Bound.{IsBounded}
 use Rattle.suite_session.specs.Answers.{IsAnswerOn, IsTold, Says, after_streams, memory_answer}
 use Rattle.suite_session.specs.Causes.{HasMet, MetGreater}
 use Rattle.suite_session.specs.Deeds.{AreOfTools, files_of}
 use Rattle.suite_session.specs.Telling.{DropsNothing}
 use Rattle.suite_session.specs.Stands.{IsDecided, IsDiskFault, IsStopped}
 use Rattle.suite_session.specs.Locking.{cause_of_fault}
-use Rattle.suite_course.specs.Bound.{IsBounded}
 use Rattle.suite_course.specs.Open.{StandsOpen}
 use Rattle.suite_course.specs.Streams.{Streams, Serves}
-use Rattle.suite_course.specs.Supplies.{Supplies, CountsSupplies, IsUnsupplied, LacksNothing}
+use Rattle.suite_course.specs.Supplies.{Supplies, IsUnsupplied, LacksNothing}
 
 -- ---- What the history shows
 
@@ -240,7 +240,6 @@ pub record EndsUnsupplied (tool : Tool) (before now : Supplies) (was holds : Str
     (outcome : Outcome) : Type 0 where
   pub cause : Cause
   pub due : IsUnsupplied tool before now cause
-  pub counts : CountsSupplies before now
   pub ends : EndsEarly (Some tool) (told tool cause) was holds outcome
   pub complete : LacksNothing tool before now → StreamsServe was holds →
       outcome.cause ≡ Memory Before

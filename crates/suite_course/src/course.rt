@@ -1,8 +1,10 @@
 // The course of a session: it is turned to its answer, the streams are served, and it answers.
-ghost use Rattle.std.specs.Prelude.{◌≡◌, Some, IfSome, IsSome};
+ghost use Rattle.std.specs.Prelude.{◌≡◌, Some, Err, IfSome, IsSome};
+ghost use Rattle.acct_outside.specs.declared.streams.SinkFault.{SinkFault as Fault};
 ghost use Rattle.suite_session.specs.declared.session.Phase.TheVariants.{Waiting};
 ghost use Rattle.suite_session.specs.Runner.{Question};
-ghost use Rattle.suite_session.specs.Session.{IsWaiting, SessionStands, answer_of};
+ghost use Rattle.suite_session.specs.Belongs.{Belongs};
+ghost use Rattle.suite_session.specs.Session.{IsToPut, IsWaiting, answer_of};
 ghost use Rattle.suite_course.specs.Course.{Comes, Concludes, Finished, phase_after};
 ghost use Rattle.suite_course.specs.Streams.{Serves, streams};
 
@@ -49,6 +51,7 @@ fn put_answer<T: Tools, O: Sink, E: Sink>(
 
 /// The session as the streams left it.
 fn after_streams<T: Tools>(mut session: Session<T>, put: Result<(), SinkFault>) -> Session<T>
+    requires { (fault : Fault) → put ≡ Err fault → IsToPut session }
     ensures { result ≡ phase_after put session }
 {
     if let Err(fault) = put {
@@ -59,7 +62,7 @@ fn after_streams<T: Tools>(mut session: Session<T>, put: Result<(), SinkFault>) 
 
 /// Lets the session answer, and gives its outcome.
 fn conclude<T: Tools, F: Folder>(mut session: Session<T>, folder: &mut F) -> Outcome
-    requires stands { SessionStands (F.moment folder.old) session }
+    requires belongs { Belongs (F.moment folder.old) session }
     requires answers { IsSome (answer_of session) }
     ensures { Concludes (F.moment folder.old) (F.moment folder.new) session result }
 {

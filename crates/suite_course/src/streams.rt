@@ -2,6 +2,7 @@
 ghost use Rattle.std.specs.Prelude.{◌≡◌, ◌≢◌, [], Err};
 ghost use Rattle.acct_outside.specs.Faults.{CountsFailure};
 ghost use Rattle.acct_outside.specs.Streams.{WhereBytesTold};
+ghost use Rattle.acct_outside.specs.declared.streams.SinkFault.{SinkFault as Fault};
 ghost use Rattle.suite_answers.specs.Fronts.{PutsFront};
 ghost use Rattle.suite_course.specs.Streams.{Serves, memory_stage, streams, text_of};
 
@@ -31,7 +32,7 @@ pub(crate) fn serve<O: Sink, E: Sink>(
 fn put_message<E: Sink>(tool: Option<Tool>, answer: &Answer, err: &mut E) -> Result<(), SinkFault>
     ensures holds { WhereBytesTold (E.moment err.old).holds (E.moment err.new).holds
         (PutsFront (text_of tool answer.now) result) }
-    ensures some { result ≡ Err SinkFault.Failed → text_of tool answer.now ≢ [] }
+    ensures some { (fault : Fault) → result ≡ Err fault → text_of tool answer.now ≢ [] }
     ensures faults { CountsFailure SinkFault.Failed (E.moment err.old).faults
         (E.moment err.new).faults result }
 {
@@ -55,7 +56,7 @@ fn memory_stage(answer: &Answer) -> Option<CommitStage>
 fn put_text<S: Sink>(sink: &mut S, text: &[u8]) -> Result<(), SinkFault>
     ensures holds { WhereBytesTold (S.moment sink.old).holds (S.moment sink.new).holds
         (PutsFront text.now result) }
-    ensures some { result ≡ Err SinkFault.Failed → text.now ≢ [] }
+    ensures some { (fault : Fault) → result ≡ Err fault → text.now ≢ [] }
     ensures faults { CountsFailure SinkFault.Failed (S.moment sink.old).faults
         (S.moment sink.new).faults result }
 {

@@ -1,9 +1,8 @@
 // What a command takes beside its words: its input, to the end, and the day.
 ghost use Rattle.std.specs.Prelude.{◌≡◌, ◌≤◌, true, false, [], length, IfErr, IfOk};
 ghost use Rattle.acct_text.specs.Limits.{last_day, table_limit};
-ghost use Rattle.acct_outside.specs.Faults.{CountsFailure};
 ghost use Rattle.acct_outside.specs.Streams.{WhereBytesTold};
-ghost use Rattle.suite_course.specs.Supplies.{AreSupplied, CountsSupplies, IsOfInput, IsUnsupplied, TakesAll, cause_of_source, reads_input, supplies};
+ghost use Rattle.suite_course.specs.Supplies.{AreSupplied, IsOfInput, IsUnsupplied, NotesInput, TakesAll, cause_of_source, reads_input, supplies};
 
 use acct_outside::{Clock, CommitStage, Source, SourceFault};
 use acct_text::Bytes;
@@ -27,7 +26,8 @@ pub(crate) struct Supplied {
 
 /// Takes the input, for a tool that reads one, and then asks the clock for the day.
 ///
-/// The error is the cause of the command that lacks one of them.
+/// The error is the cause of the command that lacks one of them. After a fault of the source or of the
+/// clock neither is called again.
 pub(crate) fn supply<S: Source, C: Clock>(
     alloc: Global,
     tool: Tool,
@@ -40,8 +40,6 @@ pub(crate) fn supply<S: Source, C: Clock>(
     ensures lacks { IfErr result (IsUnsupplied tool
         (supplies (S.moment source.old) (C.moment clock.old))
         (supplies (S.moment source.new) (C.moment clock.new))) }
-    ensures counts { CountsSupplies (supplies (S.moment source.old) (C.moment clock.old))
-        (supplies (S.moment source.new) (C.moment clock.new)) }
     ensures untouched { reads_input tool ≡ false → source.new ≡ source.old }
 {
     let input = input_of(alloc, tool, source)?;
@@ -58,8 +56,8 @@ fn input_of<S: Source>(alloc: Global, tool: Tool, source: &mut S) -> Result<Byte
     ensures no_input { reads_input tool ≡ false → IfOk result (λ input. input ≡ []) }
     ensures within { IfOk result (λ input. length input ≤ table_limit) }
     ensures lacks { IfErr result (λ cause. (reads_input tool ≡ true) × IsOfInput cause) }
-    ensures faults { CountsFailure Cause.InputFault (S.moment source.old).faults
-        (S.moment source.new).faults result }
+    ensures faults { NotesInput result (S.moment source.old).faults
+        (S.moment source.new).faults }
     ensures untouched { reads_input tool ≡ false → source.new ≡ source.old }
 {
     if reads_input(tool) {
@@ -81,15 +79,15 @@ fn reads_input(tool: Tool) -> bool
 
 /// Takes all that the source has left.
 ///
-/// It is too large once one byte came beyond the limit: no more is taken then. At `InputFault` the
-/// source's count of faults rose.
+/// It is too large once one byte came beyond the limit. At `InputFault` the last take failed. No more is
+/// taken after either.
 fn take_all<S: Source>(alloc: Global, source: &mut S) -> Result<Bytes, Cause>
     ensures taken { WhereBytesTold (S.moment source.old).left (S.moment source.new).left
         (TakesAll result) }
     ensures within { IfOk result (λ input. length input ≤ table_limit) }
     ensures lacks { IfErr result IsOfInput }
-    ensures faults { CountsFailure Cause.InputFault (S.moment source.old).faults
-        (S.moment source.new).faults result }
+    ensures faults { NotesInput result (S.moment source.old).faults
+        (S.moment source.new).faults }
 {
     let mut input = Bytes::new(alloc);
     'pieces: while input.as_slice().len() <= INPUT_LIMIT {

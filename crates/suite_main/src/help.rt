@@ -28,12 +28,17 @@ pub(crate) const VERSION: &str = "accounts 0.2.0\n";
 pub(crate) const HELP: &str = "\
 Usage: accounts TOOL -P DIR [options] [operand]
        accounts TOOL --help
+       accounts rehearse SEED COUNT
        accounts --help
        accounts --version
 
 Read, check and change the account files of the system image in DIR: passwd,
 shadow, group, gshadow, subuid and subgid in DIR/etc. A command makes its whole
 change or none of it, also where it is killed.
+
+A rehearsal carries out COUNT commands, 1 to 20000, on tables in memory, and
+sums up what they leave; the numbers in their names begin at SEED, 0 to
+999999999.
 
 Tools:
   useradd    create a user
@@ -50,9 +55,9 @@ Tools:
   getsubids  list the subordinate IDs of a user
 
 Exit status, where no tool has answered:
-  0    a text was asked for
+  0    a text or a rehearsal was asked for
   2    no tool or an unknown one, more than 512 words, a word of more than 4096
-       bytes, or one that is not UTF-8
+       bytes, one that is not UTF-8, or rehearse without SEED and COUNT
   100  want of memory
   102  the output or the message can't be written
 ";

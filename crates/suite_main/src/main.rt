@@ -1,22 +1,25 @@
 //! The program `accounts`: the suite on the folder, the streams and the clock of the system.
 //!
-//! What is decided is decided below, in `suite_core`, and what is asked of the system is asked in
-//! `real_folder`. Where the system refused something, a second line on the error stream says why.
+//! What is decided is decided below, in `suite_core` and for a rehearsal in `rehearsal`, and what is
+//! asked of the system is asked in `real_folder`. Where the system refused something, a second line on
+//! the error stream says why.
 #![tactic(auto)]
 
 mod help;
+mod program;
 mod words;
 
 use acct_outside::Sink;
 use acct_text::Word;
 use help::{HELP, VERSION, text_of};
+use program::{Ended, run_program};
 use real_folder::{RealClock, RealFolder, RealSink, RealSource, SystemError};
 use std::alloc::{AllocError, Global};
 use std::fs::File;
 use std::io::{ErrorKind, Write};
 use std::process::ExitCode;
 use std::rt::{Clock, Env, Files};
-use suite_core::{Cause, run_suite};
+use suite_core::{Cause, Outcome};
 use words::{Request, request_of, words_of};
 
 /// The status where main itself found no memory.
@@ -61,7 +64,7 @@ fn tell<S: Sink>(sink: &mut S, text: &str, status: u8) -> u8 {
     }
 }
 
-/// Runs the suite on the real objects, and gives its status. After a fault it says why.
+/// Runs the program on the real objects, and gives its status. After a fault it says why.
 fn run<
     R: Files<File = File> + Input + Clock + Env + AllocGlobal + Clone + Drop,
     O: Write + Drop,
@@ -70,7 +73,7 @@ fn run<
     let mut folder = RealFolder::new(rt.clone()?);
     let mut input = RealSource::new(rt.alloc(), rt.reader());
     let mut clock = RealClock::new(rt.clone()?);
-    let outcome = run_suite(
+    let ended = run_program(
         rt.alloc(),
         words,
         &mut folder,
@@ -79,14 +82,18 @@ fn run<
         err,
         &mut clock,
     );
-    match outcome.cause {
-        Cause::DiskFault(_) => tell_why(rt.alloc(), err, folder.last_error()),
-        Cause::InputFault => tell_why(rt.alloc(), err, input.last_error()),
-        Cause::OutputFault(_) => tell_why(rt.alloc(), err, out.last_error()),
-        Cause::ClockFault => tell_why(rt.alloc(), err, clock.last_error()),
-        _ => {}
+    match &ended {
+        Ended::Suite(Outcome { cause, .. }) => match cause {
+            Cause::DiskFault(_) => tell_why(rt.alloc(), err, folder.last_error()),
+            Cause::InputFault => tell_why(rt.alloc(), err, input.last_error()),
+            Cause::OutputFault(_) => tell_why(rt.alloc(), err, out.last_error()),
+            Cause::ClockFault => tell_why(rt.alloc(), err, clock.last_error()),
+            _ => {}
+        },
+        Ended::Rehearsal(OUTPUT_FAULT) => tell_why(rt.alloc(), err, out.last_error()),
+        Ended::Rehearsal(_) => {}
     }
-    Ok(outcome.status)
+    Ok(ended.status())
 }
 
 /// Writes the reason of a fault, where one is known and there is memory for it. The status stays that

@@ -1,7 +1,7 @@
 -- Claim: each turn leaves a call fewer (`look-calls` to `moved-calls`), and the second listing as many
 -- more as it shows lower locks (`listing-calls`). Way: by the state that follows, whose keeper is the
 -- one before; six tables at most are listed or differ.
-use Rattle.std.proofs.Common.{◌≡◌, refl, sym, ap, subst, ◌∙◌, ◌<◌, ◌≤◌, ◌+◌, ℕ, Bool, true, false, List, length, length-drop, drop, inl, inr, Option, Some, None, IfSome, Result, Ok, Err, if◌then◌else◌, arith, rules}
+use Rattle.std.proofs.Common.{◌≡◌, refl, sym, ap, subst, ◌∙◌, ◌<◌, ◌≤◌, ◌+◌, ℕ, zero, suc, Bool, true, false, List, length, length-drop, drop, inl, inr, Option, Some, None, IfSome, Result, Ok, Err, if◌then◌else◌, arith, rules}
 use Rattle.acct_text.specs.declared.Tab.{Tab}
 use Rattle.acct_text.specs.declared.Tab.TheVariants.{Passwd, Shadow, Group, Gshadow, Subuid, Subgid}
 use Rattle.acct_text.specs.Tables.{all_tables}
@@ -9,12 +9,13 @@ use Rattle.acct_outside.specs.declared.FolderFault.{FolderFault}
 use Rattle.acct_outside.specs.declared.Name.TheVariants.{Intent}
 use Rattle.acct_outside.specs.Calls.{Found, found_absent, found_bytes, found_too_large, lists}
 use Rattle.acct_outside.specs.Moment.{Past}
+use Rattle.acct_outside.specs.Tokens.{Token}
 use Rattle.account_model.specs.declared.tool.Tool.{Tool}
 use Rattle.acct_text.specs.Bytes.{Bytes}
 use Rattle.intent_file.specs.Intent.{Intended, ReadsIntent}
 use Rattle.intent_file.proofs.Reading.{allowed_parts, at_most_six}
 use Rattle.lock_steps.specs.Stands.{HasMade}
-use Rattle.lock_steps.specs.States.{Lister, Kept, Maker}
+use Rattle.lock_steps.specs.States.{Asker, Lister, Kept, Maker}
 use Rattle.lock_steps.specs.Outcomes.{Confirms, cleaned_once}
 use Rattle.lock_steps.specs.declared.judging.Told.{Told}
 use Rattle.lock_steps.specs.declared.judging.Told.TheVariants.{Judged, Ask}
@@ -37,18 +38,25 @@ use Rattle.suite_answers.specs.declared.cause.Cause.TheVariants.{IntentDamaged, 
 use Rattle.suite_answers.specs.declared.cause.Which.TheVariants.{File}
 use Rattle.suite_answers.specs.declared.answer.Answer.{Answer as FinalAnswer}
 use Rattle.suite_session.specs.declared.state.State.{State}
-use Rattle.suite_session.specs.declared.state.State.TheVariants.{Reading, Claiming, Unlocking, Answering, BackingUp, Committing, Confirming, Installing, Loading, Moving, ReadingIntent, Recovering}
+use Rattle.suite_session.specs.declared.state.State.TheVariants.{Looking, Reading, Asking, Claiming, Unlocking, Answering, BackingUp, Committing, Confirming, Installing, Loading, Moving, ReadingIntent, Recovering}
 use Rattle.suite_session.specs.Runner.{Runner}
 use Rattle.suite_session.specs.Causes.{Met}
-use Rattle.suite_session.specs.Counts.{CountsLower, Listed}
+use Rattle.suite_session.specs.Counts.{CountsLower, Listed, Nears}
 use Rattle.suite_session.specs.Left.{calls_left, change_calls, commit_calls, leaving_calls, loading_calls, reads_left, table_calls}
 use Rattle.suite_session.specs.Loading.{DecidesTo, EndsAt, LoadsTo}
-use Rattle.suite_session.specs.Locking.{after_look, after_read, after_listing}
+use Rattle.suite_session.specs.Locking.{ShowsFew, after_look, after_read, after_listing}
 use Rattle.suite_session.specs.Recovering.{after_intent, Refuses}
 use Rattle.suite_session.specs.Stands.{AnswersWith, LeavesWith}
 use Rattle.suite_session.proofs.MetLemmas.{told-as}
 use Rattle.suite_session.proofs.CommittingTurns.{changed-most, fewer-steps, step-change}
 use Rattle.suite_session.proofs.LoadingLemmas.{done-keeper, large-shown, missing-shown, more-shown}
+
+-- ---- What is left
+
+-- where a number of what is left isn't 0, some is left
+pub some-left : (count left : ℕ) → count ≡ left → (count ≡ 0 → ⊥) → 0 < left
+some-left zero left is some = absurd (some refl)
+some-left (suc count) left is some = omega (arith, is)
 
 -- ---- To the answer
 
@@ -64,14 +72,23 @@ pub answers-fewer : (tool : Tool) (cause : Cause) (state : State) → AnswersWit
 answers-fewer tool cause state told old more =
     let one = answers-calls tool cause state told in omega (arith, one, more)
 
--- also where it was to list the locks again
+-- also where the second listing was still to come
+pub answers-near : (tool : Tool) (cause : Cause) (old state : State) →
+    AnswersWith tool cause state → 1 < calls_left old → Nears old state
+answers-near tool cause old state told more = record {
+  fewer = answers-fewer tool cause state told (calls_left old) more;
+  next = inr (answers-calls tool cause state told);
+}
+
+-- or next
 pub answers-listed : (now : Option Past) (runner : Runner) (claimed : Maker) (tool : Tool)
     (cause : Cause) (state : State) → AnswersWith tool cause state →
     Listed now runner (Confirming claimed) state
 answers-listed now runner claimed tool cause state told = record {
   lower = 0;
+  most = omega arith;
   counts = told-none now;
-  fewer = answers-fewer tool cause state told _ (search (arith, rules));
+  fewer = (let one = answers-calls tool cause state told in omega (arith, one));
 }
   where
     told-none : (past : Option Past) →
@@ -117,27 +134,35 @@ leaves-calls tool keeper cause state told = absurd told
 -- ---- To the lock
 
 -- after the first listing
-looked-calls : (seen : Lister) (is_none : Bool) →
-    calls_left (if is_none then Claiming seen else Reading seen) < 56
-looked-calls seen true = omega arith
-looked-calls seen false = omega arith
+looked-calls : (looking : Token) (seen : Lister) (is_none : Bool) →
+    Nears (Looking looking) (if is_none then Claiming seen else Reading seen)
+looked-calls looking seen true = record { fewer = omega arith; next = inl tt }
+looked-calls looking seen false = record { fewer = omega arith; next = inl tt }
 
-pub look-calls : (seen : Lister) → calls_left (after_look seen) < 56
-look-calls seen = looked-calls seen _
+pub look-calls : (looking : Token) (seen : Lister) → Nears (Looking looking) (after_look seen)
+look-calls looking seen = looked-calls looking seen _
 
 -- after the read of the greatest lock
-pub read-calls : (told : Told) → calls_left (after_read told) < 55
-read-calls (Judged judged) = omega arith
-read-calls (Ask asking) = omega arith
+pub read-calls : (seen : Lister) (told : Told) → Nears (Reading seen) (after_read told)
+read-calls seen (Judged judged) = record { fewer = omega arith; next = inl tt }
+read-calls seen (Ask asking) = record { fewer = omega arith; next = inl tt }
+
+-- after the verdict, and after the create
+pub ask-calls : (asking : Asker) (judged : Lister) → Nears (Asking asking) (Claiming judged)
+ask-calls asking judged = record { fewer = omega arith; next = inl tt }
+
+pub claim-calls : (judged : Lister) (claimed : Maker) → Nears (Claiming judged) (Confirming claimed)
+claim-calls judged claimed = record { fewer = omega arith; next = inl tt }
 
 -- after the second listing
 pub listing-calls : (told : Option Past) (runner : Runner) (claimed : Maker)
     (answer : Result (List ℕ) FolderFault) (confirmed : Confirmed) →
     Confirms claimed answer (Ok confirmed) → ((numbers : List ℕ) → answer ≡ Ok numbers →
     IfSome told (λ past. Met runner.token lists numbers (HasMade claimed) past.history)) →
-    Listed told runner (Confirming claimed) (after_listing confirmed)
-listing-calls told runner claimed (Ok numbers) (Keeper keeper) shown got = record {
+    ShowsFew confirmed → Listed told runner (Confirming claimed) (after_listing confirmed)
+listing-calls told runner claimed (Ok numbers) (Keeper keeper) shown got few = record {
   lower = length keeper.lower;
+  most = few;
   counts = told-as told (λ past met. inr (record {
     number = claimed.number;
     numbers = numbers;
@@ -147,12 +172,13 @@ listing-calls told runner claimed (Ok numbers) (Keeper keeper) shown got = recor
   })) (got numbers refl);
   fewer = omega arith;
 }
-listing-calls told runner claimed (Ok numbers) (Loser loser) shown got = record {
+listing-calls told runner claimed (Ok numbers) (Loser loser) shown got few = record {
   lower = 0;
+  most = omega arith;
   counts = told-as told (λ past met. inl refl) (got numbers refl);
   fewer = omega arith;
 }
-listing-calls told runner claimed (Err fault) confirmed shown got = absurd shown
+listing-calls told runner claimed (Err fault) confirmed shown got few = absurd shown
 
 -- ---- A recovery
 

@@ -49,7 +49,6 @@ use Rattle.suite_session.specs.Answers.{cause_of_answer, IsTold, Says}
 use Rattle.suite_session.specs.Deeds.{AreOfTools}
 use Rattle.suite_session.specs.Due.{AnsweredAll, IsShown, IsDue}
 use Rattle.suite_session.specs.Grows.{Grew}
-use Rattle.suite_session.specs.Left.{most_steps, ranked}
 use Rattle.suite_session.specs.Locking.{cause_of_fault}
 use Rattle.suite_session.specs.Stands.{AnswersWith, IsOutside, IsOfChange, Gives, Extends, StandsAs, StandsChanging, StandsInstalling, StandsUnlocking}
 use Rattle.suite_session.proofs.BackingLemmas.{IsTurnCall, is-to-change, made-deed}
@@ -60,7 +59,6 @@ use Rattle.suite_session.proofs.TurnLemmas.{HasMetNow, goes-on, extended, told-l
 use Rattle.suite_session.proofs.LeadsLemmas.{leads-on, leads-fault}
 use Rattle.suite_session.proofs.DueLemmas.{earlier-stays}
 use Rattle.suite_session.proofs.GrowsLemmas.{grew-extends, tells-grow}
-use Rattle.suite_session.proofs.LeftLemmas.{steps-drop}
 
 -- ---- A fault of the commit
 
@@ -198,12 +196,6 @@ changed-most (table ∷ tables) old new =
     (changed-most tables old new) (same_content (old table) (new table)) table (new table) in
     omega (arith, more)
 
--- so the steps count within one rank
-few-steps : (count place : ℕ) (staged : Bool) → count ≤ 6 →
-    2 * (count - place) - (if staged then 1 else 0) ≤ most_steps
-few-steps count place true few = omega (arith, few)
-few-steps count place false few = omega (arith, few)
-
 -- a step on leaves fewer
 pub fewer-steps : (change : Change) (place : ℕ) (staged : Bool) →
     0 < steps_left (record { change = change; place = place; is_staged = staged }) →
@@ -211,15 +203,6 @@ pub fewer-steps : (change : Change) (place : ℕ) (staged : Bool) →
     < steps_left (record { change = change; place = place; is_staged = staged })
 fewer-steps change place true some = omega (arith, some)
 fewer-steps change place false some = omega (arith, some)
-
-pub walks-nearer : (rank : ℕ) (walker next : Walker) → next ≡ step_on walker →
-    0 < steps_left walker → ranked rank (steps_left next) < ranked rank (steps_left walker)
-walks-nearer rank walker next is some =
-    steps-drop rank (steps_left walker) (steps_left next)
-    (subst (λ (one : Walker). steps_left one < steps_left walker) (sym is)
-    (fewer-steps walker.change walker.place walker.is_staged some))
-    (few-steps (length (changed walker.change)) walker.place walker.is_staged
-    (changed-most all_tables (old_files walker.change) (new_files walker.change)))
 
 -- a step on keeps the change
 pub step-change : (walker : Walker) → (step_on walker).change ≡ walker.change

@@ -1,6 +1,10 @@
 pub mod Parts
 pub mod AnswerLemmas
 pub mod BackingLemmas
+pub mod BeginTurns
+mod BelongingTurns
+pub mod BelongsLemmas
+mod BoundLemmas
 mod CallsLemmas
 mod CauseLemmas
 mod CommittingTurns
@@ -8,19 +12,17 @@ pub mod DueLemmas
 pub mod GrowsLemmas
 mod LeadsLemmas
 mod LeavingLemmas
-mod LeftLemmas
 mod LoadingLemmas
 mod LoadingTurns
 mod LockingLemmas
 mod LockingTurns
 mod MeetingLemmas
 pub mod MetLemmas
-pub mod OthersLemmas
 mod OwnCallLemmas
 mod RecoveringTurns
 mod RuleLemmas
 mod SessionTurns
-mod StreamLemmas
+pub mod StreamLemmas
 pub mod TellingLemmas
 mod TurnLemmas
 mod UnlockingTurns

@@ -1,6 +1,6 @@
 -- Claims: a read of the inputs leads to the next read, or to what the tool decides on them
 -- (`loads-stands`), and one that leads no further to the way out or to the answer of a fault
--- (`ended-stands`). Each is nearer to the answer (`loads-left`, `ended-left`).
+-- (`ended-stands`).
 -- Way: what the read shows (proofs/LoadingLemmas) names the keeper and what comes next; the typed
 -- step gives the standing, of which the answer is due (proofs/AnswerLemmas).
 use Rattle.std.proofs.Common.{◌≡◌, refl, sym, ap, subst, ◌∙◌, ◌<◌, ℕ, false, true, inr, Option, Some, None, IfSome, Result, Ok, Err, arith, rules}
@@ -49,7 +49,6 @@ use Rattle.suite_session.specs.Moment.{commit_at, Runs, At}
 use Rattle.suite_session.specs.Answers.{answer_on, IsAnswerOn, given_for}
 use Rattle.suite_session.specs.Deeds.{is_change}
 use Rattle.suite_session.specs.Due.{ShowsLarge, IsShown, IsDue}
-use Rattle.suite_session.specs.Left.{ranked, reads_left, turns_left}
 use Rattle.suite_session.specs.Loading.{DecidesOn, DecidesTo, EndsAt, LoadsTo}
 use Rattle.suite_session.specs.Locking.{cause_of_fault}
 use Rattle.suite_session.specs.Stands.{IsOutside, LeavesWith, StandsAs, StandsChanging, StandsUnlocking, TellsOutside}
@@ -59,7 +58,6 @@ use Rattle.suite_session.proofs.LeavingLemmas.{clean-known, fault-stopped}
 use Rattle.suite_session.proofs.MeetingLemmas.{MeetsBy, fault-ends, quiet-on, reads-quiet}
 use Rattle.suite_session.proofs.TurnLemmas.{ended, goes-on, got, answers-turn, memory-met}
 use Rattle.suite_session.proofs.LoadingLemmas.{more-shown, done-keeper, missing-shown, large-shown, fault-before}
-use Rattle.suite_session.proofs.LeftLemmas.{rank-drops, steps-drop, answer-drops, answers-left, leaves-left}
 use Rattle.suite_session.proofs.AnswerLemmas.{answer-says, answer-quiet, stay-stage, stay-shown, missed-shown}
 
 -- ---- What the read shows
@@ -423,56 +421,3 @@ of-change runner inputs new answer asks decides walker is =
       refl,
       record { asks = asks; is_answer = decides.0; is_change = decides.1 },
     )
-
--- ---- What is left
-
--- a table read leaves fewer reads
-reads-drop : (table : Tab) →
-    ranked 6 (reads_left (table_after table)) < ranked 6 (reads_left (Some table))
-reads-drop Passwd = steps-drop 6 7 6 (search (arith, rules)) (search (arith, rules))
-reads-drop Shadow = steps-drop 6 6 5 (search (arith, rules)) (search (arith, rules))
-reads-drop Group = steps-drop 6 5 4 (search (arith, rules)) (search (arith, rules))
-reads-drop Gshadow = steps-drop 6 4 3 (search (arith, rules)) (search (arith, rules))
-reads-drop Subuid = steps-drop 6 3 2 (search (arith, rules)) (search (arith, rules))
-reads-drop Subgid = steps-drop 6 2 1 (search (arith, rules)) (search (arith, rules))
-
--- what the tool decides is of a lower rank
-decided-left : (runner : Runner) (inputs : Inputs) (state : State) →
-    DecidesTo runner inputs state → (more : ℕ) → turns_left state < ranked 6 more
-decided-left runner inputs (Answering answer) decided more =
-    answer-drops 6 more (search (arith, rules))
-decided-left runner inputs (BackingUp walker answer) decided more =
-    rank-drops 5 6 (steps_left walker) more (search (arith, rules))
-decided-left runner inputs (Unlocking keeper answer) decided more =
-    rank-drops 2 6 _ more (search (arith, rules))
-decided-left runner inputs state decided more = absurd decided
-
-pub loads-left : (runner : Runner) (reader : Reader) (loading : Loaded) (state : State)
-    (answer : Result Found FolderFault) → LoadsTo runner loading state →
-    Loads reader answer (Ok loading) → turns_left state < ranked 6 (reads_left reader.next)
-loads-left runner reader (More more) state answer leads shown =
-    let next = (more-shown reader more answer shown).1 in
-    subst (λ (one : State). turns_left one < ranked 6 (reads_left reader.next)) (sym leads)
-    (subst (λ (one : Reader). ranked 6 (reads_left one.next) < ranked 6 (reads_left reader.next))
-    (sym next.2)
-    (subst (λ (one : Option Tab).
-    ranked 6 (reads_left (table_after next.0)) < ranked 6 (reads_left one)) (sym next.1)
-    (reads-drop next.0)))
-loads-left runner reader (Done inputs) state answer leads shown =
-    decided-left runner inputs state leads (reads_left reader.next)
-
--- so is a way out, and an answer
-pub ended-left : (tool : Tool) (end : LoadEnd) (state : State) → EndsAt tool end state →
-    (more : ℕ) → turns_left state < ranked 6 more
-ended-left tool (Fault fault) state ends more =
-    subst (λ (left : ℕ). left < ranked 6 more)
-    (sym (answers-left tool (cause_of_fault fault.stage fault.fault) state ends))
-    (answer-drops 6 more (search (arith, rules)))
-ended-left tool (TooLarge name kept) state ends more =
-    let leaves = leaves-left tool kept (IsTooLarge (File name)) state ends in
-    let lower = rank-drops 3 6 0 more (search (arith, rules)) in
-    omega (arith, leaves, lower)
-ended-left tool (NoTable table kept) state ends more =
-    let leaves = leaves-left tool kept (HasNoTable table) state ends in
-    let lower = rank-drops 3 6 0 more (search (arith, rules)) in
-    omega (arith, leaves, lower)

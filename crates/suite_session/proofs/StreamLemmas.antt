@@ -1,6 +1,6 @@
--- Claims: a state that doesn't answer has a turn left (`goes-on`), and is none that the streams left, so
--- it stands and drops nothing (`going-stands`, `going-remembers`); and where the streams left an answer, the session had one to give
--- (`left-given`).
+-- Claims: a state that doesn't answer has a call left before that (`goes-on`), and is none that the streams left, so
+-- the session's events lead to it (`going-led`); and where the streams left an answer, the session had
+-- one to give (`left-given`).
 -- Way: by the state; a fault of a stream changes an answer alone.
 use Rattle.std.proofs.Common.{◌≡◌, ◌<◌, refl, sym, ap, subst, ◌∙◌, Some, None, IfSome, Result, Ok, Err, arith, rules}
 use Rattle.acct_outside.specs.declared.streams.SinkFault.{SinkFault}
@@ -10,33 +10,32 @@ use Rattle.suite_session.specs.declared.state.State.TheVariants.{Looking, Readin
 use Rattle.suite_session.specs.Runner.{Runner}
 use Rattle.acct_outside.specs.Moment.{Moment}
 use Rattle.suite_session.specs.Answers.{after_fault, after_streams}
-use Rattle.suite_session.specs.Left.{turns_left}
-use Rattle.suite_session.proofs.LeftLemmas.{answer-drops}
-use Rattle.suite_session.specs.Session.{RemembersNow, StandsLeft, given_in, state_after, state_failed}
-use Rattle.suite_session.specs.Telling.{DropsNothing}
-use Rattle.suite_session.specs.Stands.{MayGive, StandsAs}
+use Rattle.suite_session.specs.Left.{calls_left}
+use Rattle.suite_session.specs.Belongs.{CameTo, IsLedTo, IsOnItsWay}
+use Rattle.suite_session.specs.Session.{given_in, state_after, state_failed}
+use Rattle.suite_session.specs.Stands.{MayGive}
 
 -- the state gives no answer
 abbrev pub IsNoAnswer : State → Type 0
 IsNoAnswer state = (answer : Answer) → state ≡ Answering answer → ⊥
 
 -- the first claim
-pub goes-on : (state : State) → IsNoAnswer state → 0 < turns_left state
-goes-on (Looking looking) apart = answer-drops 13 0 (search (arith, rules))
-goes-on (Reading seen) apart = answer-drops 12 0 (search (arith, rules))
-goes-on (Asking asking) apart = answer-drops 11 0 (search (arith, rules))
-goes-on (Claiming judged) apart = answer-drops 10 0 (search (arith, rules))
-goes-on (Confirming claimed) apart = answer-drops 9 0 (search (arith, rules))
-goes-on (Withdrawing loser) apart = answer-drops 8 0 (search (arith, rules))
-goes-on (ReadingIntent keeper) apart = answer-drops 8 0 (search (arith, rules))
-goes-on (Recovering recovering) apart = answer-drops 7 _ (search (arith, rules))
-goes-on (Moving moving) apart = answer-drops 7 _ (search (arith, rules))
-goes-on (Loading reader) apart = answer-drops 6 _ (search (arith, rules))
-goes-on (BackingUp walker answer) apart = answer-drops 5 _ (search (arith, rules))
-goes-on (Committing change answer) apart = answer-drops 4 0 (search (arith, rules))
-goes-on (Installing walker answer) apart = answer-drops 3 _ (search (arith, rules))
-goes-on (Unlocking keeper answer) apart = answer-drops 2 _ (search (arith, rules))
-goes-on (Freeing freeing answer) apart = answer-drops 1 0 (search (arith, rules))
+pub goes-on : (state : State) → IsNoAnswer state → 1 < calls_left state
+goes-on (Looking looking) apart = omega arith
+goes-on (Reading seen) apart = omega arith
+goes-on (Asking asking) apart = omega arith
+goes-on (Claiming judged) apart = omega arith
+goes-on (Confirming claimed) apart = omega arith
+goes-on (Withdrawing loser) apart = omega arith
+goes-on (ReadingIntent keeper) apart = omega arith
+goes-on (Recovering recovering) apart = omega arith
+goes-on (Moving moving) apart = omega arith
+goes-on (Loading reader) apart = omega arith
+goes-on (BackingUp walker answer) apart = omega arith
+goes-on (Committing change answer) apart = omega arith
+goes-on (Installing walker answer) apart = omega arith
+goes-on (Unlocking keeper answer) apart = omega arith
+goes-on (Freeing freeing answer) apart = omega arith
 goes-on (Answering answer) apart = absurd (apart answer refl)
 
 -- so it has none
@@ -53,57 +52,52 @@ module _ (now : Moment) (runner : Runner) where
       let wrong : None ≡ Some (after_fault fault answer) = sym none ∙ has in absurd (cc)
   failed-same fault state own none is = sym is
 
-  left-same : (state : State) → IsNoAnswer state → (left : StandsLeft now runner state) →
-      left.own ≡ state
-  left-same state apart left = by-put left.put left.left
+  left-same : (state : State) → IsNoAnswer state → (way : IsOnItsWay now runner state) →
+      way.own ≡ state
+  left-same state apart way = by-put way.put way.left
     where
-      by-put : (put : Result (Unit {0}) SinkFault) → state ≡ state_after put left.own →
-          left.own ≡ state
+      by-put : (put : Result (Unit {0}) SinkFault) → state ≡ state_after put way.own →
+          way.own ≡ state
       by-put (Ok unit) is = sym is
-      by-put (Err fault) is = failed-same fault state left.own (none-given state apart) is
+      by-put (Err fault) is = failed-same fault state way.own (none-given state apart) is
 
   -- the second claim
-  pub going-stands : (state : State) → IsNoAnswer state → StandsLeft now runner state →
-      StandsAs now runner state
-  going-stands state apart left =
-      subst (StandsAs now runner) (left-same state apart left) left.stands
-
-  pub going-remembers : (state : State) → IsNoAnswer state → StandsLeft now runner state →
-      RemembersNow now runner state
-  going-remembers state apart left =
-      subst (RemembersNow now runner) (left-same state apart left) left.remembers
+  pub going-led : (state : State) → IsNoAnswer state → IsOnItsWay now runner state →
+      IsLedTo now runner state
+  going-led state apart way = subst (IsLedTo now runner) (left-same state apart way) way.led
 
   -- which answer it had to give
   pub record Had (answer : Answer) : Type 0 where
     pub given : Answer
     pub put : Result (Unit {0}) SinkFault
     pub may : MayGive now runner given
-    pub drops :
-        IfSome now.told (λ past. DropsNothing runner.token given.outcome.cause past.history)
+    pub came : IfSome now.told (CameTo runner (Answering given))
     pub left : answer ≡ after_streams put given
 
-  failed-given : (fault : SinkFault) (answer : Answer) (own : State) → StandsAs now runner own →
-      RemembersNow now runner own → Answering answer ≡ state_failed fault own → Had answer
-  failed-given fault answer (Answering given) stands remembers is = record {
+  failed-given : (fault : SinkFault) (answer : Answer) (own : State) → IsLedTo now runner own →
+      Answering answer ≡ state_failed fault own → Had answer
+  failed-given fault answer (Answering given) led is = record {
     given = given;
     put = Err fault;
-    may = stands;
-    drops = remembers;
+    may = led.stands;
+    came = led.came;
     left = (let same : answer ≡ after_fault fault given = cc is in same);
   }
-  failed-given fault answer own stands remembers is = absurd (cc is)
+  failed-given fault answer own led is = absurd (cc is)
 
   -- the third claim
-  pub left-given : (answer : Answer) → StandsLeft now runner (Answering answer) → Had answer
-  left-given answer left = by-put left.put left.left
+  pub left-given : (answer : Answer) → IsOnItsWay now runner (Answering answer) → Had answer
+  left-given answer way = by-put way.put way.left
     where
-      by-put : (put : Result (Unit {0}) SinkFault) → Answering answer ≡ state_after put left.own →
+      by-put : (put : Result (Unit {0}) SinkFault) → Answering answer ≡ state_after put way.own →
           Had answer
-      by-put (Ok unit) is = record {
-        given = answer;
-        put = Ok tt;
-        may = subst (StandsAs now runner) (sym is) left.stands;
-        drops = subst (RemembersNow now runner) (sym is) left.remembers;
-        left = λ i. answer;
-      }
-      by-put (Err fault) is = failed-given fault answer left.own left.stands left.remembers is
+      by-put (Ok unit) is =
+          let led = subst (IsLedTo now runner) (sym is) way.led in
+          record {
+            given = answer;
+            put = Ok tt;
+            may = led.stands;
+            came = led.came;
+            left = λ i. answer;
+          }
+      by-put (Err fault) is = failed-given fault answer way.own way.led is

@@ -13,4 +13,7 @@ pub mod Recovering
 pub mod Loading
 pub mod Left
 pub mod Counts
+pub mod Bound
 pub mod Session
+pub mod Belongs
+pub mod Turning

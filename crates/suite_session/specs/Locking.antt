@@ -1,6 +1,6 @@
 -- Where a session goes on the way to its lock, and the causes of answers that tell of a lock or of
 -- a fault of the folder.
-use Rattle.std.specs.Prelude.{if◌then◌else◌, ◌==◌}
+use Rattle.std.specs.Prelude.{⊤, ◌≤◌, if◌then◌else◌, ◌==◌, length}
 use Rattle.acct_outside.specs.declared.CommitStage.{CommitStage}
 use Rattle.acct_outside.specs.declared.CommitStage.TheVariants.{Before}
 use Rattle.acct_outside.specs.declared.FolderFault.{FolderFault}
@@ -14,6 +14,7 @@ use Rattle.lock_steps.specs.declared.judging.Told.{Told}
 use Rattle.lock_steps.specs.declared.judging.Told.TheVariants.{Judged, Ask}
 use Rattle.lock_steps.specs.declared.claiming.Confirmed.{Confirmed}
 use Rattle.lock_steps.specs.declared.claiming.Confirmed.TheVariants.{Keeper, Loser}
+use Rattle.suite_session.specs.Left.{most_lower}
 use Rattle.suite_session.specs.declared.state.State.{State}
 use Rattle.suite_session.specs.declared.state.State.TheVariants.{Reading, Claiming, Asking, ReadingIntent, Withdrawing}
 use Rattle.suite_answers.specs.declared.cause.Cause.{Cause}
@@ -32,6 +33,11 @@ after_read (Ask asking) = Asking asking
 abbrev pub after_listing : Confirmed → State
 after_listing (Keeper keeper) = ReadingIntent keeper
 after_listing (Loser loser) = Withdrawing loser
+
+-- a second listing shows no more lower locks than one can
+abbrev pub ShowsFew : Confirmed → Type 0
+ShowsFew (Keeper keeper) = length keeper.lower ≤ most_lower
+ShowsFew (Loser loser) = ⊤
 
 -- the cause of a fault of the folder at a stage
 abbrev pub cause_of_fault : CommitStage → FolderFault → Cause

@@ -5,8 +5,8 @@
 // 3. It puts the tables in place, and removes the intent (`install`).
 ghost use Rattle.std.specs.Prelude.{◌≡◌, ◌<◌};
 ghost use Rattle.commit_steps.specs.States.{steps_left};
-ghost use Rattle.suite_session.specs.Left.{calls_left, turns_left};
-ghost use Rattle.suite_session.specs.Stands.{StandsAs, Turns};
+ghost use Rattle.suite_session.specs.Stands.{StandsAs};
+ghost use Rattle.suite_session.specs.Turning.{TakesTurn};
 
 use crate::runner::Runner;
 use crate::state::State;
@@ -25,33 +25,12 @@ pub(crate) fn back_up<F: Folder>(
     folder: &mut F,
 ) -> State
     requires { StandsAs (F.moment folder.old) runner.now (State.BackingUp backing answer) }
-    ensures turns { Turns (F.moment folder.old) (F.moment folder.new) runner.now
+    ensures { TakesTurn (F.moment folder.old) (F.moment folder.new) runner.now
         (State.BackingUp backing answer) result }
-    ensures nearer { turns_left result < turns_left (State.BackingUp backing answer) }
-    ensures counted { calls_left result < calls_left (State.BackingUp backing answer) }
 {
-    if backing.left() > 0 {
-        back_up_next(alloc, runner, backing, answer, folder)
-    } else {
-        stage_intent(alloc, runner, backing, answer, folder)
+    if backing.left() == 0 {
+        return stage_intent(alloc, runner, backing, answer, folder);
     }
-}
-
-/// Stages or moves the next backup.
-fn back_up_next<F: Folder>(
-    alloc: Global,
-    runner: &Runner,
-    backing: Backing,
-    answer: Answer,
-    folder: &mut F,
-) -> State
-    requires left { 0 < steps_left backing }
-    requires stands { StandsAs (F.moment folder.old) runner.now (State.BackingUp backing answer) }
-    ensures turns { Turns (F.moment folder.old) (F.moment folder.new) runner.now
-        (State.BackingUp backing answer) result }
-    ensures nearer { turns_left result < turns_left (State.BackingUp backing answer) }
-    ensures counted { calls_left result < calls_left (State.BackingUp backing answer) }
-{
     match backing.back_up_next(folder) {
         Ok(backing) => State::BackingUp(backing, answer),
         Err(fault) => given_up(alloc, runner, answer, fault.stage, fault.fault),
@@ -68,10 +47,8 @@ fn stage_intent<F: Folder>(
 ) -> State
     requires left { steps_left backing ≡ 0 }
     requires stands { StandsAs (F.moment folder.old) runner.now (State.BackingUp backing answer) }
-    ensures turns { Turns (F.moment folder.old) (F.moment folder.new) runner.now
+    ensures { TakesTurn (F.moment folder.old) (F.moment folder.new) runner.now
         (State.BackingUp backing answer) result }
-    ensures nearer { turns_left result < turns_left (State.BackingUp backing answer) }
-    ensures counted { calls_left result < calls_left (State.BackingUp backing answer) }
 {
     match backing.stage_intent(folder) {
         Ok(staged) => State::Committing(staged, answer),
@@ -88,10 +65,8 @@ pub(crate) fn commit<F: Folder>(
     folder: &mut F,
 ) -> State
     requires { StandsAs (F.moment folder.old) runner.now (State.Committing staged answer) }
-    ensures turns { Turns (F.moment folder.old) (F.moment folder.new) runner.now
+    ensures { TakesTurn (F.moment folder.old) (F.moment folder.new) runner.now
         (State.Committing staged answer) result }
-    ensures nearer { turns_left result < turns_left (State.Committing staged answer) }
-    ensures counted { calls_left result < calls_left (State.Committing staged answer) }
 {
     match staged.commit(folder) {
         Ok(installing) => State::Installing(installing, answer),
@@ -108,34 +83,12 @@ pub(crate) fn install<F: Folder>(
     folder: &mut F,
 ) -> State
     requires { StandsAs (F.moment folder.old) runner.now (State.Installing installing answer) }
-    ensures turns { Turns (F.moment folder.old) (F.moment folder.new) runner.now
+    ensures { TakesTurn (F.moment folder.old) (F.moment folder.new) runner.now
         (State.Installing installing answer) result }
-    ensures nearer { turns_left result < turns_left (State.Installing installing answer) }
-    ensures counted { calls_left result < calls_left (State.Installing installing answer) }
 {
-    if installing.left() > 0 {
-        install_next(alloc, runner, installing, answer, folder)
-    } else {
-        clear(alloc, runner, installing, answer, folder)
+    if installing.left() == 0 {
+        return clear(alloc, runner, installing, answer, folder);
     }
-}
-
-/// Stages or moves the next table.
-fn install_next<F: Folder>(
-    alloc: Global,
-    runner: &Runner,
-    installing: Installing,
-    answer: Answer,
-    folder: &mut F,
-) -> State
-    requires left { 0 < steps_left installing }
-    requires stands { StandsAs (F.moment folder.old) runner.now
-        (State.Installing installing answer) }
-    ensures turns { Turns (F.moment folder.old) (F.moment folder.new) runner.now
-        (State.Installing installing answer) result }
-    ensures nearer { turns_left result < turns_left (State.Installing installing answer) }
-    ensures counted { calls_left result < calls_left (State.Installing installing answer) }
-{
     match installing.install_next(folder) {
         Ok(installing) => State::Installing(installing, answer),
         Err(fault) => given_up(alloc, runner, answer, fault.stage, fault.fault),
@@ -153,10 +106,8 @@ fn clear<F: Folder>(
     requires left { steps_left installing ≡ 0 }
     requires stands { StandsAs (F.moment folder.old) runner.now
         (State.Installing installing answer) }
-    ensures turns { Turns (F.moment folder.old) (F.moment folder.new) runner.now
+    ensures { TakesTurn (F.moment folder.old) (F.moment folder.new) runner.now
         (State.Installing installing answer) result }
-    ensures nearer { turns_left result < turns_left (State.Installing installing answer) }
-    ensures counted { calls_left result < calls_left (State.Installing installing answer) }
 {
     match installing.clear(folder) {
         Ok(cleared) => State::Unlocking(cleared.release().forget(), answer),

@@ -7,6 +7,7 @@
 #![tactic(auto)]
 
 mod committing;
+mod laws;
 mod loading;
 mod locking;
 mod recovering;
@@ -17,6 +18,7 @@ mod tools;
 mod turning;
 mod unlocking;
 
+pub use laws::belonging_stays;
 pub use runner::{Asked, memory_answer};
 pub use session::{Session, outcome_after};
 pub use suite_answers::{Answer, Cause, Outcome, Which};

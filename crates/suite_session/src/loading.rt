@@ -1,8 +1,7 @@
 // The turns in which a keeper loads the files. After the last read the tool decides.
-ghost use Rattle.std.specs.Prelude.{◌<◌};
-ghost use Rattle.suite_session.specs.Left.{calls_left, turns_left};
 ghost use Rattle.suite_session.specs.Loading.{DecidesOn, DecidesTo, EndsAt, LoadsTo};
-ghost use Rattle.suite_session.specs.Stands.{StandsAs, Turns};
+ghost use Rattle.suite_session.specs.Stands.{StandsAs};
+ghost use Rattle.suite_session.specs.Turning.{TakesTurn};
 
 use crate::recovering::stopped;
 use crate::runner::Runner;
@@ -23,10 +22,8 @@ pub(crate) fn load<T: Tools, F: Folder>(
     folder: &mut F,
 ) -> State
     requires { StandsAs (F.moment folder.old) runner.now (State.Loading loader) }
-    ensures turns { Turns (F.moment folder.old) (F.moment folder.new) runner.now
+    ensures { TakesTurn (F.moment folder.old) (F.moment folder.new) runner.now
         (State.Loading loader) result }
-    ensures nearer { turns_left result < turns_left (State.Loading loader) }
-    ensures counted { calls_left result < calls_left (State.Loading loader) }
 {
     loader.is_sound();
     match loader.load_next(folder) {

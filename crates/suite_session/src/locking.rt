@@ -1,9 +1,8 @@
 // The turns in which a session takes the lock.
-ghost use Rattle.std.specs.Prelude.{◌≡◌, ◌<◌};
-ghost use Rattle.suite_session.specs.Locking.{after_look, after_read, after_listing, cause_of_end, cause_of_fault, cause_of_refusal};
-ghost use Rattle.suite_session.specs.Counts.{Listed};
-ghost use Rattle.suite_session.specs.Left.{calls_left, turns_left};
-ghost use Rattle.suite_session.specs.Stands.{AnswersWith, StandsAs, Turns};
+ghost use Rattle.std.specs.Prelude.{◌≡◌};
+ghost use Rattle.suite_session.specs.Locking.{ShowsFew, after_look, after_read, after_listing, cause_of_end, cause_of_fault, cause_of_refusal};
+ghost use Rattle.suite_session.specs.Stands.{AnswersWith, StandsAs};
+ghost use Rattle.suite_session.specs.Turning.{TakesTurn};
 
 use crate::runner::Runner;
 use crate::state::State;
@@ -22,10 +21,8 @@ pub(crate) fn look<F: Folder>(
     folder: &mut F,
 ) -> State
     requires { StandsAs (F.moment folder.old) runner.now (State.Looking looking) }
-    ensures turns { Turns (F.moment folder.old) (F.moment folder.new) runner.now
+    ensures { TakesTurn (F.moment folder.old) (F.moment folder.new) runner.now
         (State.Looking looking) result }
-    ensures nearer { turns_left result < turns_left (State.Looking looking) }
-    ensures counted { calls_left result < calls_left (State.Looking looking) }
 {
     match looking.look(folder) {
         Ok(seen) => after_look(seen),
@@ -47,10 +44,8 @@ fn after_look(seen: Seen) -> State
 /// Reads the greatest lock.
 pub(crate) fn read<F: Folder>(alloc: Global, runner: &Runner, seen: Seen, folder: &mut F) -> State
     requires { StandsAs (F.moment folder.old) runner.now (State.Reading seen) }
-    ensures turns { Turns (F.moment folder.old) (F.moment folder.new) runner.now
+    ensures { TakesTurn (F.moment folder.old) (F.moment folder.new) runner.now
         (State.Reading seen) result }
-    ensures nearer { turns_left result < turns_left (State.Reading seen) }
-    ensures counted { calls_left result < calls_left (State.Reading seen) }
 {
     match seen.read(alloc, folder) {
         Ok(told) => after_read(told),
@@ -76,10 +71,8 @@ pub(crate) fn ask<F: Folder>(
     folder: &mut F,
 ) -> State
     requires { StandsAs (F.moment folder.old) runner.now (State.Asking asking) }
-    ensures turns { Turns (F.moment folder.old) (F.moment folder.new) runner.now
+    ensures { TakesTurn (F.moment folder.old) (F.moment folder.new) runner.now
         (State.Asking asking) result }
-    ensures nearer { turns_left result < turns_left (State.Asking asking) }
-    ensures counted { calls_left result < calls_left (State.Asking asking) }
 {
     match asking.ask(folder) {
         Ok(judged) => State::Claiming(judged),
@@ -95,10 +88,8 @@ pub(crate) fn claim<F: Folder>(
     folder: &mut F,
 ) -> State
     requires { StandsAs (F.moment folder.old) runner.now (State.Claiming judged) }
-    ensures turns { Turns (F.moment folder.old) (F.moment folder.new) runner.now
+    ensures { TakesTurn (F.moment folder.old) (F.moment folder.new) runner.now
         (State.Claiming judged) result }
-    ensures nearer { turns_left result < turns_left (State.Claiming judged) }
-    ensures counted { calls_left result < calls_left (State.Claiming judged) }
 {
     match judged.claim(folder) {
         Ok(claimed) => State::Confirming(claimed),
@@ -114,11 +105,8 @@ pub(crate) fn confirm<F: Folder>(
     folder: &mut F,
 ) -> State
     requires { StandsAs (F.moment folder.old) runner.now (State.Confirming claimed) }
-    ensures turns { Turns (F.moment folder.old) (F.moment folder.new) runner.now
+    ensures { TakesTurn (F.moment folder.old) (F.moment folder.new) runner.now
         (State.Confirming claimed) result }
-    ensures nearer { turns_left result < turns_left (State.Confirming claimed) }
-    ensures counted { Listed (F.moment folder.new).told runner.now (State.Confirming claimed)
-        result }
 {
     match claimed.confirm(folder) {
         Ok(confirmed) => after_listing(confirmed),
@@ -128,10 +116,15 @@ pub(crate) fn confirm<F: Folder>(
 
 /// The own lock is the greatest, or a greater one stands.
 fn after_listing(confirmed: Confirmed) -> State
-    ensures { result ≡ after_listing confirmed }
+    ensures next { result ≡ after_listing confirmed }
+    ensures few { ShowsFew confirmed }
 {
     match confirmed {
-        Confirmed::Keeper(keeper) => State::ReadingIntent(keeper),
+        Confirmed::Keeper(keeper) => {
+            // The lower locks aren't asked for: that a number counts them is a clause of it.
+            let _ = keeper.lower();
+            State::ReadingIntent(keeper)
+        }
         Confirmed::Loser(loser) => State::Withdrawing(loser),
     }
 }
@@ -144,10 +137,8 @@ pub(crate) fn withdraw<F: Folder>(
     folder: &mut F,
 ) -> State
     requires { StandsAs (F.moment folder.old) runner.now (State.Withdrawing loser) }
-    ensures turns { Turns (F.moment folder.old) (F.moment folder.new) runner.now
+    ensures { TakesTurn (F.moment folder.old) (F.moment folder.new) runner.now
         (State.Withdrawing loser) result }
-    ensures nearer { turns_left result < turns_left (State.Withdrawing loser) }
-    ensures counted { calls_left result < calls_left (State.Withdrawing loser) }
 {
     stopped(alloc, runner, loser.withdraw(folder))
 }

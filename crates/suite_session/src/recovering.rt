@@ -1,9 +1,9 @@
 // The turns in which a keeper reads the intent, and carries out one that another session left.
 ghost use Rattle.std.specs.Prelude.{◌≡◌, ◌<◌, length};
 ghost use Rattle.suite_session.specs.Locking.{cause_of_fault};
-ghost use Rattle.suite_session.specs.Left.{calls_left, turns_left};
 ghost use Rattle.suite_session.specs.Recovering.{after_intent, Refuses};
-ghost use Rattle.suite_session.specs.Stands.{AnswersWith, StandsAs, Turns};
+ghost use Rattle.suite_session.specs.Stands.{AnswersWith, StandsAs};
+ghost use Rattle.suite_session.specs.Turning.{TakesTurn};
 
 use crate::runner::Runner;
 use crate::state::State;
@@ -23,10 +23,8 @@ pub(crate) fn read_intent<F: Folder>(
     folder: &mut F,
 ) -> State
     requires { StandsAs (F.moment folder.old) runner.now (State.ReadingIntent keeper) }
-    ensures turns { Turns (F.moment folder.old) (F.moment folder.new) runner.now
+    ensures { TakesTurn (F.moment folder.old) (F.moment folder.new) runner.now
         (State.ReadingIntent keeper) result }
-    ensures nearer { turns_left result < turns_left (State.ReadingIntent keeper) }
-    ensures counted { calls_left result < calls_left (State.ReadingIntent keeper) }
 {
     match recovery::read_intent(alloc, keeper, folder) {
         Ok(seen) => after_intent(seen),
@@ -72,32 +70,12 @@ pub(crate) fn recover<F: Folder>(
     folder: &mut F,
 ) -> State
     requires { StandsAs (F.moment folder.old) runner.now (State.Recovering recovering) }
-    ensures turns { Turns (F.moment folder.old) (F.moment folder.new) runner.now
+    ensures { TakesTurn (F.moment folder.old) (F.moment folder.new) runner.now
         (State.Recovering recovering) result }
-    ensures nearer { turns_left result < turns_left (State.Recovering recovering) }
-    ensures counted { calls_left result < calls_left (State.Recovering recovering) }
 {
-    if recovering.left() > 0 {
-        stage_table(alloc, runner, recovering, folder)
-    } else {
-        remove_intent(alloc, runner, recovering, folder)
+    if recovering.left() == 0 {
+        return remove_intent(alloc, runner, recovering, folder);
     }
-}
-
-/// Stages the next table that the intent lists.
-fn stage_table<F: Folder>(
-    alloc: Global,
-    runner: &Runner,
-    recovering: Recovering,
-    folder: &mut F,
-) -> State
-    requires left { 0 < length recovering.left }
-    requires stands { StandsAs (F.moment folder.old) runner.now (State.Recovering recovering) }
-    ensures turns { Turns (F.moment folder.old) (F.moment folder.new) runner.now
-        (State.Recovering recovering) result }
-    ensures nearer { turns_left result < turns_left (State.Recovering recovering) }
-    ensures counted { calls_left result < calls_left (State.Recovering recovering) }
-{
     match recovering.stage_next(folder) {
         Ok(moving) => State::Moving(moving),
         Err(fault) => stopped(alloc, runner, fault),
@@ -113,10 +91,8 @@ fn remove_intent<F: Folder>(
 ) -> State
     requires none { length recovering.left ≡ 0 }
     requires stands { StandsAs (F.moment folder.old) runner.now (State.Recovering recovering) }
-    ensures turns { Turns (F.moment folder.old) (F.moment folder.new) runner.now
+    ensures { TakesTurn (F.moment folder.old) (F.moment folder.new) runner.now
         (State.Recovering recovering) result }
-    ensures nearer { turns_left result < turns_left (State.Recovering recovering) }
-    ensures counted { calls_left result < calls_left (State.Recovering recovering) }
 {
     match recovering.remove_intent(folder) {
         Ok(keeper) => State::Loading(Loader::start(keeper)),
@@ -132,10 +108,8 @@ pub(crate) fn move_table<F: Folder>(
     folder: &mut F,
 ) -> State
     requires { StandsAs (F.moment folder.old) runner.now (State.Moving moving) }
-    ensures turns { Turns (F.moment folder.old) (F.moment folder.new) runner.now
+    ensures { TakesTurn (F.moment folder.old) (F.moment folder.new) runner.now
         (State.Moving moving) result }
-    ensures nearer { turns_left result < turns_left (State.Moving moving) }
-    ensures counted { calls_left result < calls_left (State.Moving moving) }
 {
     match moving.move_next(folder) {
         Ok(recovering) => State::Recovering(recovering),

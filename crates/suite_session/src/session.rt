@@ -4,8 +4,9 @@ ghost use Rattle.std.specs.Option.{option_copied};
 ghost use Rattle.acct_text.specs.Limits.{last_day, table_limit};
 ghost use Rattle.account_model.specs.Words.{Asks, fault as first_fault};
 ghost use Rattle.option_words.specs.Parsed.{request_in};
-ghost use Rattle.suite_session.specs.Counts.{SessionCounts};
-ghost use Rattle.suite_session.specs.Session.{IsStarted, OthersStand, SessionStands, SessionTurns, answer_of, outcome_of, output_failed, phase_left, state_failed};
+ghost use Rattle.suite_session.specs.Belongs.{Belongs};
+ghost use Rattle.suite_session.specs.Session.{IsStarted, IsToPut, answer_of, outcome_of, output_failed, phase_left, state_failed};
+ghost use Rattle.suite_session.specs.Turning.{KeepsOthers, SessionTurns};
 ghost use Rattle.suite_session.specs.Answers.{after_fault, left_by, status_left};
 
 use crate::runner::{Asked, Runner, copy_words, memory_answer};
@@ -27,8 +28,10 @@ pub(crate) enum Phase {
     Waiting(Asked),
     /// It has begun, and stands in a state.
     Begun(Runner, State),
-    /// It has answered; or its begin gave no token, so that it has nothing to call.
-    Over(Answer),
+    /// It has answered.
+    Over(Runner, Answer),
+    /// Its begin gave no token, so it has nothing to call.
+    Unbegun(Answer),
 }
 
 /// A session of a command of these tools, which makes one call of the folder a turn.
@@ -103,7 +106,9 @@ impl<T: Tools> Session<T> {
         ensures { option_copied result ≡ answer_of self.now }
     {
         match &self.phase {
-            Phase::Begun(_, State::Answering(answer)) | Phase::Over(answer) => Some(answer),
+            Phase::Begun(_, State::Answering(answer))
+            | Phase::Over(_, answer)
+            | Phase::Unbegun(answer) => Some(answer),
             _ => None,
         }
     }
@@ -117,19 +122,19 @@ impl<T: Tools> Session<T> {
 
     /// Makes the session's next call of the folder; none once it has answered.
     ///
-    /// A fault of the folder, and want of memory, become its answer. Every other session stands where it
-    /// stood, so sessions can be turned in any order.
+    /// A fault of the folder, and want of memory, become its answer. The session belongs to the folder
+    /// still, and so does every other one, so sessions can be turned in any order.
     pub fn turn<F: Folder>(&mut self, folder: &mut F)
-        requires { SessionStands (F.moment folder.old) self.old }
+        requires { Belongs (F.moment folder.old) self.old }
         ensures turns { SessionTurns (F.moment folder.old) (F.moment folder.new) self.old self.new }
-        ensures others { OthersStand (F.moment folder.old) (F.moment folder.new) self.old self.new }
+        ensures belongs { Belongs (F.moment folder.new) self.new }
+        ensures others { KeepsOthers (F.moment folder.old) (F.moment folder.new) self.old self.new }
         ensures nearer { answer_of self.old ≡ None → phase_left self.new < phase_left self.old }
-        ensures counted { SessionCounts (F.moment folder.new).told self.old self.new }
         ensures ends { IsSome (answer_of self.old) → IsSome (outcome_of self.new) }
     {
         let alloc = self.alloc;
         // No other call sees what stands here meanwhile.
-        let meanwhile = Phase::Over(memory_answer(alloc, CommitStage::Before));
+        let meanwhile = Phase::Unbegun(memory_answer(alloc, CommitStage::Before));
         let phase = mem::replace(&mut self.phase, meanwhile);
         let next = turned::<T, F>(alloc, phase, folder);
         // What stood here meanwhile has empty texts, so nothing is lost where it is forgotten.
@@ -140,23 +145,23 @@ impl<T: Tools> Session<T> {
 impl<T: Tools> Session<T> {
     /// Says that a stream failed, or found no memory, when it was to take the session's answer: this
     /// becomes the cause, at the stage that was reached, and the texts stay.
-    ///
-    /// Before the session has an answer it says nothing.
     pub fn output_failed(&mut self, fault: SinkFault)
+        requires to_put { IsToPut self.old }
         ensures { self.new ≡ output_failed fault self.old }
     {
-        let meanwhile = Phase::Over(memory_answer(self.alloc, CommitStage::Before));
+        let meanwhile = Phase::Unbegun(memory_answer(self.alloc, CommitStage::Before));
         let next = failed_phase(fault, mem::replace(&mut self.phase, meanwhile));
         mem::forget(mem::replace(&mut self.phase, next));
     }
 
-    /// The outcome of a session that has answered.
+    /// The outcome of a session that has no call left.
     pub fn into_outcome(self) -> Outcome
         requires { IsSome (outcome_of self) }
         ensures { outcome_of self ≡ Some result }
     {
         match self.phase {
-            Phase::Over(answer) => answer.outcome,
+            Phase::Over(_runner, answer) => answer.outcome,
+            Phase::Unbegun(answer) => answer.outcome,
             _ => unreachable!(),
         }
     }
@@ -169,7 +174,8 @@ fn failed_phase(fault: SinkFault, phase: Phase) -> Phase
     match phase {
         Phase::Waiting(asked) => Phase::Waiting(asked),
         Phase::Begun(runner, state) => Phase::Begun(runner, failed_state(fault, state)),
-        Phase::Over(answer) => Phase::Over(failed_answer(fault, answer)),
+        Phase::Over(runner, answer) => Phase::Over(runner, answer),
+        Phase::Unbegun(answer) => Phase::Unbegun(failed_answer(fault, answer)),
     }
 }
 

@@ -3,10 +3,11 @@ ghost use Rattle.std.specs.Prelude.{◌≡◌, ◌<◌, None, Ok, IfOk, IsSome};
 ghost use Rattle.account_model.specs.Words.{request_of};
 ghost use Rattle.suite_session.specs.Answers.{IsTold};
 ghost use Rattle.suite_session.specs.Locking.{cause_of_fault};
-ghost use Rattle.suite_session.specs.Counts.{CountsTo, SessionCounts};
-ghost use Rattle.suite_session.specs.Left.{turns_left};
-ghost use Rattle.suite_session.specs.Session.{IsFirst, SessionStands, SessionTurns, StandsLeft, answer_of, given_in, outcome_of, phase_left};
-ghost use Rattle.suite_session.specs.Stands.{StandsAs, Turns};
+ghost use Rattle.suite_session.specs.Belongs.{Belongs};
+ghost use Rattle.suite_session.specs.Left.{calls_left};
+ghost use Rattle.suite_session.specs.Session.{answer_of, given_in, outcome_of, phase_left};
+ghost use Rattle.suite_session.specs.Stands.{StandsAs};
+ghost use Rattle.suite_session.specs.Turning.{IsFirst, SessionTurns, TakesTurn};
 
 use crate::committing::{back_up, commit, install};
 use crate::loading::load;
@@ -25,16 +26,16 @@ use suite_answers::Answer;
 
 /// The phase after its one turn.
 pub(crate) fn turned<T: Tools, F: Folder>(alloc: Global, phase: Phase, folder: &mut F) -> Phase
-    requires { SessionStands (F.moment folder.old) phase }
+    requires { Belongs (F.moment folder.old) phase }
     ensures turns { SessionTurns (F.moment folder.old) (F.moment folder.new) phase result }
     ensures nearer { answer_of phase ≡ None → phase_left result < phase_left phase }
-    ensures counted { SessionCounts (F.moment folder.new).told phase result }
     ensures ends { IsSome (answer_of phase) → IsSome (outcome_of result) }
 {
     match phase {
         Phase::Waiting(asked) => begin(alloc, asked, folder),
         Phase::Begun(runner, state) => stepped::<T, F>(alloc, runner, state, folder),
-        Phase::Over(answer) => Phase::Over(answer),
+        Phase::Over(runner, answer) => Phase::Over(runner, answer),
+        Phase::Unbegun(answer) => Phase::Unbegun(answer),
     }
 }
 
@@ -45,11 +46,10 @@ fn stepped<T: Tools, F: Folder>(
     state: State,
     folder: &mut F,
 ) -> Phase
-    requires { SessionStands (F.moment folder.old) (Phase.Begun runner state) }
+    requires { Belongs (F.moment folder.old) (Phase.Begun runner state) }
     ensures turns { SessionTurns (F.moment folder.old) (F.moment folder.new)
         (Phase.Begun runner state) result }
-    ensures nearer { given_in state ≡ None → phase_left result < turns_left state }
-    ensures counted { SessionCounts (F.moment folder.new).told (Phase.Begun runner state) result }
+    ensures nearer { given_in state ≡ None → phase_left result < calls_left state }
     ensures ends { IsSome (given_in state) → IsSome (outcome_of result) }
 {
     match state {
@@ -66,7 +66,6 @@ fn begin<F: Folder>(alloc: Global, asked: Asked, folder: &mut F) -> Phase
     ensures turns { SessionTurns (F.moment folder.old) (F.moment folder.new) (Phase.Waiting asked)
         result }
     ensures nearer { phase_left result < phase_left (Phase.Waiting asked) }
-    ensures counted { SessionCounts (F.moment folder.new).told (Phase.Waiting asked) result }
 {
     match folder.begin(&asked.words, &asked.input, asked.day) {
         Ok(token) => {
@@ -74,7 +73,7 @@ fn begin<F: Folder>(alloc: Global, asked: Asked, folder: &mut F) -> Phase
             let state = first_state(alloc, &runner);
             Phase::Begun(runner, state)
         }
-        Err(fault) => Phase::Over(unbegun(alloc, asked, fault)),
+        Err(fault) => Phase::Unbegun(unbegun(alloc, asked, fault)),
     }
 }
 
@@ -107,11 +106,9 @@ fn looking(alloc: Global, token: &Token) -> Result<Looking, AllocError>
 
 /// Makes the one call of a state that doesn't answer, and gives the next state.
 fn go_on<T: Tools, F: Folder>(alloc: Global, runner: &Runner, state: State, folder: &mut F) -> State
-    requires going { 0 < turns_left state }
+    requires going { 1 < calls_left state }
     requires stands { StandsAs (F.moment folder.old) runner.now state }
-    ensures turns { Turns (F.moment folder.old) (F.moment folder.new) runner.now state result }
-    ensures nearer { turns_left result < turns_left state }
-    ensures counted { CountsTo (F.moment folder.new).told runner.now state result }
+    ensures { TakesTurn (F.moment folder.old) (F.moment folder.new) runner.now state result }
 {
     match state {
         State::Looking(looking) => look(alloc, runner, looking, folder),
@@ -137,14 +134,14 @@ fn go_on<T: Tools, F: Folder>(alloc: Global, runner: &Runner, state: State, fold
 
 /// Gives the answer, the session's last call.
 fn answered<F: Folder>(runner: Runner, answer: Answer, folder: &mut F) -> Phase
-    requires { SessionStands (F.moment folder.old) (Phase.Begun runner (State.Answering answer)) }
+    requires { Belongs (F.moment folder.old) (Phase.Begun runner (State.Answering answer)) }
     ensures turns { SessionTurns (F.moment folder.old) (F.moment folder.new)
         (Phase.Begun runner (State.Answering answer)) result }
     ensures ends { IsSome (outcome_of result) }
 {
     asks_once(&runner.asked);
     folder.answered(&runner.token, answer.outcome.status);
-    Phase::Over(answer)
+    Phase::Over(runner, answer)
 }
 
 /// A law: the words of what was asked have one reading, which is its request.

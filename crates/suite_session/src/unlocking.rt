@@ -7,8 +7,8 @@
 ghost use Rattle.std.specs.Prelude.{◌≡◌, ◌<◌, length};
 ghost use Rattle.suite_answers.specs.Reasons.{stage_of};
 ghost use Rattle.suite_session.specs.Locking.{cause_of_fault};
-ghost use Rattle.suite_session.specs.Left.{calls_left, turns_left};
-ghost use Rattle.suite_session.specs.Stands.{AnswersWith, LeavesWith, StandsAs, Turns};
+ghost use Rattle.suite_session.specs.Stands.{AnswersWith, LeavesWith, StandsAs};
+ghost use Rattle.suite_session.specs.Turning.{TakesTurn};
 
 use crate::locking::cause_of_fault;
 use crate::runner::Runner;
@@ -27,33 +27,12 @@ pub(crate) fn unlock<F: Folder>(
     folder: &mut F,
 ) -> State
     requires { StandsAs (F.moment folder.old) runner.now (State.Unlocking keeper answer) }
-    ensures turns { Turns (F.moment folder.old) (F.moment folder.new) runner.now
+    ensures { TakesTurn (F.moment folder.old) (F.moment folder.new) runner.now
         (State.Unlocking keeper answer) result }
-    ensures nearer { turns_left result < turns_left (State.Unlocking keeper answer) }
-    ensures counted { calls_left result < calls_left (State.Unlocking keeper answer) }
 {
-    if keeper.lower() > 0 {
-        remove_lower(alloc, runner, keeper, answer, folder)
-    } else {
-        stage_free(alloc, runner, keeper, answer, folder)
+    if keeper.lower() == 0 {
+        return stage_free(alloc, runner, keeper, answer, folder);
     }
-}
-
-/// Removes the first of the lower locks that are left.
-fn remove_lower<F: Folder>(
-    alloc: Global,
-    runner: &Runner,
-    keeper: Keeper<Unknown>,
-    answer: Answer,
-    folder: &mut F,
-) -> State
-    requires left { 0 < length keeper.lower }
-    requires stands { StandsAs (F.moment folder.old) runner.now (State.Unlocking keeper answer) }
-    ensures turns { Turns (F.moment folder.old) (F.moment folder.new) runner.now
-        (State.Unlocking keeper answer) result }
-    ensures nearer { turns_left result < turns_left (State.Unlocking keeper answer) }
-    ensures counted { calls_left result < calls_left (State.Unlocking keeper answer) }
-{
     match keeper.clean_next(folder) {
         Ok(keeper) => State::Unlocking(keeper, answer),
         Err(fault) => replaced(alloc, runner, answer, fault),
@@ -70,10 +49,8 @@ fn stage_free<F: Folder>(
 ) -> State
     requires left { length keeper.lower ≡ 0 }
     requires stands { StandsAs (F.moment folder.old) runner.now (State.Unlocking keeper answer) }
-    ensures turns { Turns (F.moment folder.old) (F.moment folder.new) runner.now
+    ensures { TakesTurn (F.moment folder.old) (F.moment folder.new) runner.now
         (State.Unlocking keeper answer) result }
-    ensures nearer { turns_left result < turns_left (State.Unlocking keeper answer) }
-    ensures counted { calls_left result < calls_left (State.Unlocking keeper answer) }
 {
     match keeper.stage_free(folder) {
         Ok(freeing) => State::Freeing(freeing, answer),
@@ -90,10 +67,8 @@ pub(crate) fn free<F: Folder>(
     folder: &mut F,
 ) -> State
     requires { StandsAs (F.moment folder.old) runner.now (State.Freeing freeing answer) }
-    ensures turns { Turns (F.moment folder.old) (F.moment folder.new) runner.now
+    ensures { TakesTurn (F.moment folder.old) (F.moment folder.new) runner.now
         (State.Freeing freeing answer) result }
-    ensures nearer { turns_left result < turns_left (State.Freeing freeing answer) }
-    ensures counted { calls_left result < calls_left (State.Freeing freeing answer) }
 {
     match freeing.move_free(folder) {
         Ok(_) => State::Answering(answer),

@@ -1,20 +1,20 @@
--- Claim: what is done with the line at a place is what the record there becomes (`change-other`, `change-left`, `change-stays`,
--- `change-sets`, `change-goes`, `change-splits`). Way: the line at the place reads as the record that was found there
--- (`record-here`), so the line becomes what `line_becomes` says of it (`becomes-read`).
-use Rattle.std.proofs.Common.{◌≡◌, ℕ, ◌+◌, ◌<◌, Bool, true, false, List, [], ◌∷◌, ◌++◌, length, map, take, drop, get_or, refl, sym, ◌∙◌, ap}
+-- Claim: what is done with the line at a place is what the record there becomes (`change-other`,
+-- `change-left`, `change-stays`, `change-sets`), and what is done with a line alone too (`left-line`,
+-- `other-line`, `record-line`, `same-line`). Way: the line at the place reads as the record that was
+-- found there (`record-here`), so it becomes what `line_becomes` says of it (`becomes-read`).
+use Rattle.std.proofs.Common.{◌≡◌, ℕ, ◌+◌, ◌<◌, Bool, true, false, List, [], ◌∷◌, ◌++◌, length, map, take, drop, get_or, refl, sym, ◌∙◌, ap, append-nil}
 use Rattle.std.specs.Prelude.{Option, Some, None, if◌then◌else◌}
-use Rattle.std.specs.List.{remove}
 use Rattle.std.proofs.lemmas.List.{drop_more}
 use Rattle.std.proofs.lemmas.Option.{slice_get-get_or}
-use Rattle.acct_text.specs.Lines.{Line}
+use Rattle.acct_text.specs.Lines.{Line, file_bytes, line_bytes}
 use Rattle.account_model.specs.Format.{Format}
-use Rattle.account_model.specs.Edits.{becomes, line_becomes, printed_line}
+use Rattle.account_model.specs.Edits.{becomes, line_becomes}
 use Rattle.account_model.specs.RecordEdits.{TellsSame}
 use Rattle.acct_tables.specs.Order.{text_at}
 use Rattle.acct_tables.specs.TableLines.{record_at, changed_at, with_record}
 use Rattle.table_edits.specs.Naming.{Leaves}
 use Rattle.table_edits.specs.Places.{spliced_at}
-use Rattle.table_edits.proofs.Splices.{blank_line, spliced-is, spliced-same, spliced-one, spliced-none}
+use Rattle.table_edits.proofs.Splices.{blank_line, spliced-same, spliced-one}
 
 -- the line at a place
 abbrev pub line_here : List Line → ℕ → Line
@@ -146,22 +146,64 @@ module _ {R : Type 0} (format : Format R) where
           ∙ ap (λ l. l ∷ []) (sym (with-record line (format.read line.text) r s
           (sym (record-here lines place inside) ∙ found))))
 
-      -- the line goes
-      pub change-goes : f r ≡ [] → remove lines place ≡ spliced_at (becomes format f) place lines
-      change-goes none =
-          let line = line_here lines place in
-          spliced-none (becomes format f) lines place line from-here
-          (becomes-here ∙ ap (line_becomes format line r) none)
+-- ---- A change that leaves names
 
-      -- two lines in place of one
-      pub change-splits :
-          (s t : R)
-          → f r ≡ s ∷ t ∷ []
-          → spliced_at (λ _. map (printed_line format) (s ∷ t ∷ [])) place lines
-          ≡ spliced_at (becomes format f) place lines
-      change-splits s t two =
-          let line = line_here lines place in
-          spliced-is (λ _. map (printed_line format) (s ∷ t ∷ [])) lines place line from-here
-          ∙ ap (λ middle. take place lines ++ middle ++ drop (place + 1) lines)
-          (sym (becomes-here ∙ ap (line_becomes format line r) two))
-          ∙ sym (spliced-is (becomes format f) lines place line from-here)
+-- doesn't take a record away
+pub none-named :
+    {R : Type 0} (format : Format R) (f : R → List R) (r : R)
+    → map format.name (f r) ≡ format.name r ∷ []
+    → f r ≡ []
+    → ⊥
+none-named format f r named none =
+    let one : [] ≡ format.name r ∷ [] = sym (ap (map format.name) none) ∙ named in absurd cc
+
+-- nor puts two in its place
+pub two-named :
+    {R : Type 0} (format : Format R) (f : R → List R) (r s t : R)
+    → map format.name (f r) ≡ format.name r ∷ []
+    → f r ≡ s ∷ t ∷ []
+    → ⊥
+two-named format f r s t named two =
+    let one : format.name s ∷ format.name t ∷ [] ≡ format.name r ∷ [] =
+    sym (ap (map format.name) two) ∙ named in absurd cc
+
+-- ---- The bytes of a line
+
+module _ {R : Type 0} (format : Format R) (f : R → List R) (line : Line) where
+  -- a line that stays, as bytes
+  pub stays-bytes :
+      (lines : List Line) → lines ≡ line ∷ [] → line_bytes line ≡ file_bytes lines
+  stays-bytes lines is = sym (append-nil (line_bytes line)) ∙ ap file_bytes (sym is)
+
+  -- a line whose record is left, if it is one
+  left-line-by :
+      (found : Option R)
+      → format.read line.text ≡ found
+      → TellsSame format
+      → ((r : R) → found ≡ Some r → f r ≡ r ∷ [])
+      → becomes format f line ≡ line ∷ []
+  left-line-by None is tells left =
+      ap (λ kept. elim kept [ None ↦ line ∷ [] | Some r ↦ line_becomes format line r (f r) ]) is
+  left-line-by (Some r) is tells left =
+      becomes-read format f line (format.read line.text) r is
+      ∙ ap (line_becomes format line r) (left r refl)
+      ∙ stays format line r (format.same r r) ((tells r r).1 refl)
+
+  -- a line that the change leaves
+  pub left-line : TellsSame format → Leaves format f line.text → becomes format f line ≡ line ∷ []
+  left-line tells left = left-line-by (format.read line.text) refl tells left
+
+  -- other text stays
+  pub other-line : format.read line.text ≡ None → becomes format f line ≡ line ∷ []
+  other-line none =
+      ap (λ kept. elim kept [ None ↦ line ∷ [] | Some r ↦ line_becomes format line r (f r) ]) none
+
+  -- the line of a record becomes what the record does
+  pub record-line :
+      (r : R) → format.read line.text ≡ Some r → becomes format f line ≡ line_becomes format line r (f r)
+  record-line r is = becomes-read format f line (format.read line.text) r is
+
+  -- a record that stays leaves its line
+  pub same-line : (r : R) → TellsSame format → f r ≡ r ∷ [] → line_becomes format line r (f r) ≡ line ∷ []
+  same-line r tells same =
+      ap (line_becomes format line r) same ∙ stays format line r (format.same r r) ((tells r r).1 refl)

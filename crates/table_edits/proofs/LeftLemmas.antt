@@ -7,7 +7,7 @@ use Rattle.account_model.specs.Format.{Format, is_named}
 use Rattle.account_model.specs.Members.{without_name}
 use Rattle.account_model.specs.Text.{is_listed}
 use Rattle.account_model.proofs.RenamingLaws.{flipped}
-use Rattle.acct_lines.specs.Naming.{NamesFirst, first_field}
+use Rattle.account_model.specs.Naming.{NamesFirst, first_field}
 
 -- what isn't so is false
 pub isn't : (test : Bool) → not test ≡ true → test ≡ false

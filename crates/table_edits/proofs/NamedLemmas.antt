@@ -1,19 +1,20 @@
--- Claim: an edit of one name makes of the lines what it makes of those at the places of the name
+-- Claim: an edit of one name makes of the lines what it makes of those that are told of the name
 -- (`none-there`, `only-there`), and leaves the names and ends of all lines (`lines-kept`). Way: line
 -- by line, where another name leaves the line, and a record that can be written has its name again.
-use Rattle.std.proofs.Common.{◌≡◌, ℕ, suc, ◌+◌, ◌<◌, Bool, true, false, List, [], ◌∷◌, ◌++◌, length, map, take, drop, refl, sym, ◌∙◌, ap, ap₂, subst, arith, add-one, append-nil}
-use Rattle.std.specs.Prelude.{Option, Some, None, option_map, flat_map, if◌then◌else◌}
-use Rattle.std.specs.List.{AllByRecursion}
+use Rattle.std.proofs.Common.{◌≡◌, ℕ, suc, ◌+◌, ◌<◌, ◌≤◌, Bool, true, false, List, [], ◌∷◌, ◌++◌, length, map, take, drop, refl, sym, ◌∙◌, ap, ap₂, subst, arith, add-one, append-nil, cond}
+use Rattle.std.specs.Prelude.{Option, Some, None, count_by, option_map, flat_map, if◌then◌else◌}
+use Rattle.std.specs.List.{AllByRecursion, position_from}
+use Rattle.std.proofs.lemmas.List.Sums.{sum_by-cons}
 use Rattle.acct_text.specs.Lines.{Line}
 use Rattle.account_model.specs.Edits.{becomes, line_becomes}
 use Rattle.account_model.specs.Edits.Edit.{Become}
 use Rattle.account_model.specs.Format.{Format}
 use Rattle.account_model.specs.RecordEdits.{IsWrittenEdit, TellsSame}
 use Rattle.account_model.specs.Written.{IsWritten}
-use Rattle.table_edits.specs.declared.name_places.NamePlace.{NamePlace}
-use Rattle.table_edits.specs.declared.name_places.NamePlace.TheVariants.{Nowhere, Only, Several}
-use Rattle.table_edits.specs.NamePlaces.{has_name, place_from, with_place}
-use Rattle.table_edits.specs.NamedLines.{AllEnded, AreWritten, IsWrittenLine, IsWrittenRead, line_name, line_names}
+use Rattle.acct_tables.specs.declared.name_index.NamedLines.{NamedLines}
+use Rattle.acct_tables.specs.NameIndex.{has_name, line_name, line_names, lines_named, records_at}
+use Rattle.acct_tables.proofs.NameIndexLemmas.{none-counts}
+use Rattle.table_edits.specs.NamedLines.{AllEnded, AreWritten, IsWrittenLine, IsWrittenRead}
 use Rattle.table_edits.specs.Naming.{ChangesOnly}
 use Rattle.table_edits.specs.Places.{spliced_at}
 use Rattle.table_edits.proofs.ChangedLines.{stays}
@@ -125,27 +126,34 @@ module _ {R : Type 0} (format : Format R) (f : R → List R) where
 
     -- one more line that stays, by whether it has the name
     none-by :
-        (line : Line) (rest : List Line) (start : ℕ) (named : Bool) (behind : NamePlace)
+        (line : Line) (rest : List Line) (named : Bool) (count : ℕ)
         → has_name name (line_name format line) ≡ named
-        → (if named then with_place start behind else behind) ≡ Nowhere
-        → (behind ≡ Nowhere → flat_map (becomes format f) rest ≡ rest)
+        → cond named 1 0 + count ≡ 0
+        → (count ≡ 0 → flat_map (becomes format f) rest ≡ rest)
         → becomes format f line ++ flat_map (becomes format f) rest ≡ line ∷ rest
-    none-by line rest start true Nowhere is none later = absurd cc
-    none-by line rest start true (Only place) is none later = absurd cc
-    none-by line rest start true Several is none later = absurd cc
-    none-by line rest start false behind is none later =
-        ap₂ (λ here rest. here ++ rest) (other-line line is) (later none)
+    none-by line rest true count is none later = absurd (omega arith)
+    none-by line rest false count is none later =
+        ap₂ (λ here rest. here ++ rest) (other-line line is) (later (omega arith))
+
+    -- the lines of the name are that of one more line, where it has the name, and those of the others
+    counted :
+        (line : Line) (rest : List Line)
+        → count_by (has_name name) (line_names format (line ∷ rest))
+        ≡ cond (has_name name (line_name format line)) 1 0
+        + count_by (has_name name) (line_names format rest)
+    counted line rest =
+        sum_by-cons (λ x. cond (has_name name x) 1 0) (line_name format line) (line_names format rest)
 
     -- where no line has the name, all stay
-    pub none-there :
-        (lines : List Line) (start : ℕ)
-        → place_from name start (line_names format lines) ≡ Nowhere
+    none-counted :
+        (lines : List Line)
+        → count_by (has_name name) (line_names format lines) ≡ 0
         → flat_map (becomes format f) lines ≡ lines
-    none-there [] start none = refl
-    none-there (line ∷ rest) start none =
-        none-by line rest start (has_name name (line_name format line))
-        (place_from name (suc start) (line_names format rest)) refl none
-        (none-there rest (suc start))
+    none-counted [] none = refl
+    none-counted (line ∷ rest) none =
+        none-by line rest (has_name name (line_name format line))
+        (count_by (has_name name) (line_names format rest)) refl (sym (counted line rest) ∙ none)
+        (none-counted rest)
 
     -- the place is so far behind the start, and to change the line there is to make the edit
     pub record IsThere (lines : List Line) (start place : ℕ) : Type 0 where
@@ -166,23 +174,23 @@ module _ {R : Type 0} (format : Format R) (f : R → List R) where
 
     -- by whether the first line has the name, and where the others stand
     there-by :
-        (line : Line) (rest : List Line) (start place : ℕ) (named : Bool) (behind : NamePlace)
+        (line : Line) (rest : List Line) (start place : ℕ) (named : Bool) (behind : Option ℕ)
+        (count : ℕ)
         → has_name name (line_name format line) ≡ named
-        → (if named then with_place start behind else behind) ≡ Only place
-        → (behind ≡ Nowhere → flat_map (becomes format f) rest ≡ rest)
-        → (behind ≡ Only place → IsThere rest (suc start) place)
+        → (if named then Some start else behind) ≡ Some place
+        → cond named 1 0 + count ≤ 1
+        → (count ≡ 0 → flat_map (becomes format f) rest ≡ rest)
+        → (behind ≡ Some place → count ≤ 1 → IsThere rest (start + 1) place)
         → IsThere (line ∷ rest) start place
-    there-by line rest start place true Nowhere is found none later = record {
+    there-by line rest start place true behind count is found few none later = record {
       behind = 0;
       is = (let same : start ≡ place = cc in omega arith);
       inside = omega arith;
       spliced = ap (λ front. front ++ rest) (append-nil (becomes format f line))
-          ∙ ap (λ rest. becomes format f line ++ rest) (sym (none refl));
+          ∙ ap (λ rest. becomes format f line ++ rest) (sym (none (omega arith)));
     }
-    there-by line rest start place true (Only other) is found none later = absurd cc
-    there-by line rest start place true Several is found none later = absurd cc
-    there-by line rest start place false behind is found none later =
-        let there = later found in
+    there-by line rest start place false behind count is found few none later =
+        let there = later found (omega arith) in
         record {
           behind = suc there.behind;
           is = omega (arith, there.is);
@@ -194,25 +202,66 @@ module _ {R : Type 0} (format : Format R) (f : R → List R) where
     -- where one line has the name, it alone is changed
     there-from :
         (lines : List Line) (start place : ℕ)
-        → place_from name start (line_names format lines) ≡ Only place
+        → position_from (has_name name) start (line_names format lines) ≡ Some place
+        → count_by (has_name name) (line_names format lines) ≤ 1
         → IsThere lines start place
-    there-from [] start place found = absurd cc
-    there-from (line ∷ rest) start place found =
+    there-from [] start place found few = absurd cc
+    there-from (line ∷ rest) start place found few =
         there-by line rest start place (has_name name (line_name format line))
-        (place_from name (suc start) (line_names format rest)) refl found
-        (none-there rest (suc start)) (there-from rest (suc start) place)
+        (position_from (has_name name) (start + 1) (line_names format rest))
+        (count_by (has_name name) (line_names format rest)) refl found
+        (subst (λ n. n ≤ 1) (counted line rest) few) (none-counted rest)
+        (there-from rest (start + 1) place)
 
-    module _ (lines : List Line) (place : ℕ)
-        (found : place_from name 0 (line_names format lines) ≡ Only place) where
-      -- the place is one of the lines
-      pub only-inside : place < length lines
-      only-inside =
-          let there = there-from lines 0 place found in omega (arith, there.is, there.inside)
+    -- ---- What is told of the name
 
-      -- to change the line there is to make the edit
-      pub only-there :
-          spliced_at (becomes format f) place lines ≡ flat_map (becomes format f) lines
-      only-there =
-          let there = there-from lines 0 place found in
-          let same : place ≡ there.behind = omega (arith, there.is) in
-          ap (λ n. spliced_at (becomes format f) n lines) same ∙ there.spliced
+    module _ (lines : List Line) where
+      -- the names of the lines
+      abbrev names : List (Option (List ℕ))
+      names = line_names format lines
+
+      -- nothing is told, by whether there is a first line
+      none-told : (first : Option ℕ) (count : ℕ) → None ≡ records_at first count → first ≡ None
+      none-told None count none = refl
+      none-told (Some place) count none = absurd cc
+
+      -- where nothing is told, all lines stay
+      pub none-there :
+          None ≡ lines_named name names
+          → flat_map (becomes format f) lines ≡ lines
+      none-there none =
+          none-counted lines (none-counts (has_name name) 0 names
+          (none-told (position_from (has_name name) 0 names) (count_by (has_name name) names) none))
+
+      -- one record at most is told, by whether there is a first line
+      one-told :
+          (there : NamedLines) (first : Option ℕ) (count : ℕ)
+          → Some there ≡ records_at first count
+          → there.count ≤ 1
+          → (first ≡ Some there.first) × (count ≤ 1)
+      one-told there None count is few = absurd cc
+      one-told there (Some place) count is few =
+          let same : there ≡ record { first = place; count = count } = cc in (
+            ap Some (sym (ap (λ told. told.first) same)),
+            subst (λ n. n ≤ 1) (ap (λ told. told.count) same) few,
+          )
+
+      module _ (there : NamedLines) (is : Some there ≡ lines_named name names)
+          (few : there.count ≤ 1) where
+        -- the line that is told is the only one
+        alone : IsThere lines 0 there.first
+        alone =
+            let one = one-told there (position_from (has_name name) 0 names)
+            (count_by (has_name name) names) is few in
+            there-from lines 0 there.first one.0 one.1
+
+        -- its place is one of the lines
+        pub only-inside : there.first < length lines
+        only-inside = omega (arith, alone.is, alone.inside)
+
+        -- to change the line there is to make the edit
+        pub only-there :
+            spliced_at (becomes format f) there.first lines ≡ flat_map (becomes format f) lines
+        only-there =
+            let same : there.first ≡ alone.behind = omega (arith, alone.is) in
+            ap (λ n. spliced_at (becomes format f) n lines) same ∙ alone.spliced

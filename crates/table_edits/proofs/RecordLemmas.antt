@@ -1,10 +1,9 @@
--- Claim: the records of the lines from a place on begin with the record there (`records-from`), so
--- a table is searched place by place (`find-accepted`, `find-refused`), and its IDs are
--- gathered so (`ids-more`, `ids-other`, `ids-end`); and a name is that of a record (`record-named`).
-use Rattle.std.proofs.Common.{◌≡◌, ℕ, zero, suc, ◌+◌, ◌<◌, ◌≤◌, Bool, true, false, List, [], ◌∷◌, length, drop, map, refl, sym, ◌∙◌, ap, arith, add-one}
+-- Claim: the records of the lines from a place on begin with the record there (`records-from`); a
+-- table is searched line by line (`find-accepted`, `find-refused`), and its IDs are gathered so
+-- (`ids-found`, `ids-end`); and a name is that of a record (`record-named`).
+use Rattle.std.proofs.Common.{◌≡◌, ℕ, zero, suc, ◌+◌, ◌<◌, Bool, true, false, List, [], ◌∷◌, length, drop, map, refl, sym, ◌∙◌, ap, arith, add-one}
 use Rattle.std.specs.Prelude.{Option, Some, None, option_map, find, ◌||◌, ◌==◌}
 use Rattle.std.specs.List.{cons_option}
-use Rattle.std.proofs.Math.ListN.{drop_of_length-le}
 use Rattle.acct_text.specs.Lines.{Line}
 use Rattle.account_model.specs.Format.{Format, records_of}
 use Rattle.account_model.specs.Ids.{is_used}
@@ -66,51 +65,21 @@ module _ {R : Type 0} (format : Format R) (lines : List Line) (place : ℕ)
       records-from format lines place inside
       ∙ ap (λ found. cons_option found (records_of format (drop (place + 1) lines))) is
 
-  -- a record that passes is the first that is found
-  find-met :
-      (test : R → Bool) (r : R)
-      → record_at format lines place ≡ Some r
-      → test r ≡ true
-      → find test (records_of format (drop place lines)) ≡ Some r
-  find-met test r is passes = ap (find test) (records-by (Some r) is) ∙ rw passes refl
+-- a record that is accepted is the first that is found
+pub find-accepted :
+    {R : Type 0} (test : R → Bool) (found : Option R) (rest : List R)
+    → is_accepted test found ≡ true
+    → find test (cons_option found rest) ≡ found
+find-accepted test None rest accepted = absurd cc
+find-accepted test (Some r) rest accepted = rw accepted refl
 
-  -- one that doesn't isn't
-  find-passed :
-      (test : R → Bool) (r : R)
-      → record_at format lines place ≡ Some r
-      → test r ≡ false
-      → find test (records_of format (drop (place + 1) lines))
-      ≡ find test (records_of format (drop place lines))
-  find-passed test r is fails = sym (ap (find test) (records-by (Some r) is) ∙ rw fails refl)
-
-  -- and other text isn't
-  find-other :
-      (test : R → Bool)
-      → record_at format lines place ≡ None
-      → find test (records_of format (drop (place + 1) lines))
-      ≡ find test (records_of format (drop place lines))
-  find-other test is = sym (ap (find test) (records-by None is))
-
-module _ {R : Type 0} (format : Format R) (lines : List Line) (place : ℕ)
-    (inside : place < length lines) (test : R → Bool) where
-  -- a record that is accepted is the first that is found
-  pub find-accepted :
-      (found : Option R)
-      → record_at format lines place ≡ found
-      → is_accepted test found ≡ true
-      → find test (records_of format (drop place lines)) ≡ found
-  find-accepted None is accepted = absurd cc
-  find-accepted (Some r) is accepted = find-met format lines place inside test r is accepted
-
-  -- and else the first is one behind it
-  pub find-refused :
-      (found : Option R)
-      → record_at format lines place ≡ found
-      → is_accepted test found ≡ false
-      → find test (records_of format (drop (place + 1) lines))
-      ≡ find test (records_of format (drop place lines))
-  find-refused None is refused = find-other format lines place inside test is
-  find-refused (Some r) is refused = find-passed format lines place inside test r is refused
+-- and else the first is one behind it
+pub find-refused :
+    {R : Type 0} (test : R → Bool) (found : Option R) (rest : List R)
+    → is_accepted test found ≡ false
+    → find test (cons_option found rest) ≡ find test rest
+find-refused test None rest refused = refl
+find-refused test (Some r) rest refused = rw refused refl
 
 -- the tests of three parts in another order
 reordered :
@@ -133,65 +102,69 @@ map-cons_option :
 map-cons_option told None rest = refl
 map-cons_option told (Some x) rest = refl
 
-module _ {R : Type 0} (format : Format R) (number : R → ℕ) (lines : List Line) where
-  -- the IDs of the records from a place on
-  abbrev pub ids_from : ℕ → List ℕ
-  ids_from place = map number (records_of format (drop place lines))
-
-  -- the IDs that are used, with those from a place on, are those of all records
-  abbrev pub Gathers : List ℕ → ℕ → Type 0
-  Gathers used place =
+module _ {R : Type 0} (format : Format R) (number : R → ℕ) (total : List ℕ) where
+  -- the IDs that are used, with those of the lines left, are these in all
+  abbrev pub Gathers : List ℕ → List Line → Type 0
+  Gathers used left =
       (id : ℕ)
-      → (is_used used id || is_used (ids_from place) id)
-      ≡ is_used (map number (records_of format lines)) id
+      → (is_used used id || is_used (map number (records_of format left)) id) ≡ is_used total id
 
-  -- the IDs from a place on begin with that of the record there
-  ids-by :
-      (place : ℕ) (found : Option ℕ)
-      → place < length lines
-      → found ≡ option_map number (record_at format lines place)
-      → ids_from place ≡ cons_option found (ids_from (place + 1))
-  ids-by place found inside is =
-      ap (map number) (records-from format lines place inside)
-      ∙ map-cons_option number (record_at format lines place)
-      (records_of format (drop (place + 1) lines))
-      ∙ ap (λ found. cons_option found (ids_from (place + 1))) (sym is)
+  module _ (line : Line) (left rest : List Line) where
+    -- the IDs of the lines left begin with that of the first
+    ids-by :
+        (found : Option ℕ)
+        → left ≡ line ∷ rest
+        → found ≡ option_map number (format.read line.text)
+        → map number (records_of format left)
+        ≡ cons_option found (map number (records_of format rest))
+    ids-by found is has =
+        ap (λ lines. map number (records_of format lines)) is
+        ∙ map-cons_option number (format.read line.text) (records_of format rest)
+        ∙ ap (λ found. cons_option found (map number (records_of format rest))) (sym has)
 
-  -- the ID of the record at a place is one more that is used
-  pub ids-more :
-      (old new : List ℕ) (place found : ℕ)
-      → place < length lines
-      → Some found ≡ option_map number (record_at format lines place)
-      → AreThoseOf new (found ∷ old)
-      → Gathers old place
-      → Gathers new (place + 1)
-  ids-more old new place found inside is added gathers = λ id.
-      let rest = is_used (ids_from (place + 1)) id in
-      let from : is_used (ids_from place) id ≡ ((found == id) || rest) =
-      ap (λ ids. is_used ids id) (ids-by place (Some found) inside is)
-      in ap (λ used. used || rest) (added id)
-      ∙ reordered (found == id) (is_used old id) rest
-      ∙ ap (λ behind. is_used old id || behind) (sym from) ∙ gathers id
+    -- the ID of the record that the line is is one more that is used
+    ids-more :
+        (old new : List ℕ) (found : ℕ)
+        → left ≡ line ∷ rest
+        → Some found ≡ option_map number (format.read line.text)
+        → AreThoseOf new (found ∷ old)
+        → Gathers old left
+        → Gathers new rest
+    ids-more old new found is has added gathers = λ id.
+        let behind = is_used (map number (records_of format rest)) id in
+        let from : is_used (map number (records_of format left)) id ≡ ((found == id) || behind) =
+        ap (λ ids. is_used ids id) (ids-by (Some found) is has)
+        in ap (λ used. used || behind) (added id)
+        ∙ reordered (found == id) (is_used old id) behind
+        ∙ ap (λ behind. is_used old id || behind) (sym from) ∙ gathers id
 
-  -- other text has none
-  pub ids-other :
-      (used : List ℕ) (place : ℕ)
-      → place < length lines
-      → None ≡ option_map number (record_at format lines place)
-      → Gathers used place
-      → Gathers used (place + 1)
-  ids-other used place inside is gathers = λ id.
-      ap (λ ids. is_used used id || is_used ids id) (sym (ids-by place None inside is))
-      ∙ gathers id
+    -- other text has none
+    ids-other :
+        (used : List ℕ)
+        → left ≡ line ∷ rest
+        → None ≡ option_map number (format.read line.text)
+        → Gathers used left
+        → Gathers used rest
+    ids-other used is has gathers = λ id.
+        ap (λ ids. is_used used id || is_used ids id) (sym (ids-by None is has)) ∙ gathers id
+
+    -- by whether there is an ID
+    pub ids-found :
+        (old new : List ℕ) (found : Option ℕ)
+        → left ≡ line ∷ rest
+        → found ≡ option_map number (format.read line.text)
+        → AreThoseOf new (cons_option found old)
+        → Gathers old left
+        → Gathers new rest
+    ids-found old new None is has added gathers = λ id.
+        ap (λ used. used || is_used (map number (records_of format rest)) id) (added id)
+        ∙ ids-other old is has gathers id
+    ids-found old new (Some found) is has added gathers = ids-more old new found is has added gathers
 
   -- behind the last line those that are used are all
   pub ids-end :
-      (used : List ℕ) (place : ℕ)
-      → length lines ≤ place
-      → Gathers used place
-      → AreThoseOf used (map number (records_of format lines))
-  ids-end used place past gathers = λ id.
-      let none : ids_from place ≡ [] =
-      ap (λ left. map number (records_of format left)) (drop_of_length-le lines past) in
-      sym (ap (λ left. is_used used id || is_used left id) none ∙ alone (is_used used id))
+      (used : List ℕ) (left : List Line) → left ≡ [] → Gathers used left → AreThoseOf used total
+  ids-end used left none gathers = λ id.
+      sym (ap (λ lines. is_used used id || is_used (map number (records_of format lines)) id) none
+      ∙ alone (is_used used id))
       ∙ gathers id

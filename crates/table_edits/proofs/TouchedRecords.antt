@@ -1,15 +1,18 @@
 -- Claim: the first record that is met among those from a place on is the one at the place, or else the first behind it
--- (`met-here`, `passed-here`); one whose name has no other isn't met (`met-single`); without edits none is (`none-met`).
+-- (`met-here`, `passed-here`); one whose name has no other isn't met (`met-single`), nor one that isn't touched (`met-untouched`);
+-- without edits none is (`none-met`).
 -- Way: by the line at the place.
 use Rattle.std.proofs.Common.{◌≡◌, ℕ, ◌+◌, ◌<◌, Bool, true, false, List, [], ◌∷◌, length, drop, refl, sym, ◌∙◌, ap}
-use Rattle.std.specs.Prelude.{◌&&◌, Option, Some, None, option_map, find, if◌then◌else◌}
+use Rattle.std.specs.Prelude.{◌&&◌, IfSome, Option, Some, None, option_map, find, if◌then◌else◌}
 use Rattle.std.specs.List.{cons_option}
 use Rattle.std.proofs.lemmas.List.{at_drop_more}
 use Rattle.acct_text.specs.Lines.{Line}
 use Rattle.account_model.specs.Format.{Format, records_of}
 use Rattle.account_model.specs.Edits.{Edit, first_multiple, is_multiple, touches}
 use Rattle.acct_tables.specs.TableLines.{record_at}
-use Rattle.table_edits.specs.Touching.{is_met, first_touched, met_at}
+use Rattle.std.specs.HashSet.{HashSet}
+use denote.Ref.{Bor}
+use Rattle.table_edits.specs.Touching.{LacksName, TouchOnly, is_met, first_touched, met_at}
 use Rattle.table_edits.proofs.Splices.{blank_line}
 use Rattle.table_edits.proofs.ChangedLines.{line_here, record-here}
 
@@ -93,6 +96,31 @@ met-single format edits lines place r is single =
     ]) is
     ∙ ap (λ met. if met then Some (format.name r) else None)
     (single-by (touches format edits r) (is_multiple format (records_of format lines) r) single)
+
+-- nor is one that the edits don't touch
+pub met-untouched :
+    {R : Type 0} (format : Format R) (edits : List (Edit R)) (lines : List Line) (place : ℕ) (r : R)
+    → record_at format lines place ≡ Some r
+    → touches format edits r ≡ false
+    → met_at format edits lines place ≡ None
+met-untouched format edits lines place r is untouched =
+    ap (λ found. elim found [
+      | None ↦ None
+      | Some r ↦ if is_met format edits (records_of format lines) r then Some (format.name r) else None
+    ]) is
+    ∙ ap (λ touched. if touched && is_multiple format (records_of format lines) r
+    then Some (format.name r)
+    else None) untouched
+
+-- where the names that the edits touch are told and lack that of a record, it isn't touched
+pub untouched :
+    {R S : Type 0} (format : Format R) (edits : List (Edit R)) (r : R)
+    (names : Option (HashSet (Bor (List ℕ)) S))
+    → IfSome names (TouchOnly format edits)
+    → LacksName names (format.name r)
+    → touches format edits r ≡ false
+untouched format edits r None only lacks = absurd lacks
+untouched format edits r (Some names) only lacks = only r lacks
 
 -- no edit touches a record
 pub none-met :

@@ -1,5 +1,5 @@
 -- What the changes of groups make of a record of group (group(5)).
-use Rattle.std.specs.Prelude.{List, [], ◌∷◌, if◌then◌else◌}
+use Rattle.std.specs.Prelude.{Bool, true, false, List, [], ◌∷◌, if◌then◌else◌}
 use Rattle.account_model.specs.declared.records.GroupRecord.{GroupRecord}
 use Rattle.account_model.specs.Format.{is_named}
 use Rattle.account_model.specs.Members.{with_name, without_name}
@@ -19,6 +19,11 @@ group_after (AddMember user) r = record r { members = with_name user r.members }
 group_after (RemoveMember user) r = record r { members = without_name user r.members }
 group_after (SetMembers members) r = record r { members = members }
 group_after (SetMembership membership) r = group_by membership r
+
+-- whether the act leaves the name
+abbrev pub keeps_group_name : GroupAct → Bool
+keeps_group_name (Rename name) = false
+keeps_group_name _ = true
 
 -- the records that a record becomes by a change
 abbrev pub group_becomes : GroupChange → GroupRecord → List GroupRecord

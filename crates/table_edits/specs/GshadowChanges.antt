@@ -1,5 +1,5 @@
 -- What the changes of groups make of a record of gshadow (gshadow(5)).
-use Rattle.std.specs.Prelude.{ℕ, List, [], ◌∷◌, if◌then◌else◌}
+use Rattle.std.specs.Prelude.{ℕ, Bool, true, false, List, [], ◌∷◌, if◌then◌else◌}
 use Rattle.account_model.specs.declared.records.GshadowRecord.{GshadowRecord}
 use Rattle.account_model.specs.Format.{is_named}
 use Rattle.account_model.specs.Members.{with_name, without_name}
@@ -27,6 +27,11 @@ gshadow_after (RemoveMember user) r = record r { members = without_name user r.m
 gshadow_after (SetMembers members) r = record r { members = members }
 gshadow_after (RemoveUser user) r = without_user user r
 gshadow_after (SetMembership membership) r = gshadow_by membership r
+
+-- whether the act leaves the name
+abbrev pub keeps_gshadow_name : GshadowAct → Bool
+keeps_gshadow_name (Rename name) = false
+keeps_gshadow_name _ = true
 
 -- the records that a record becomes by a change
 abbrev pub gshadow_becomes : GshadowChange → GshadowRecord → List GshadowRecord

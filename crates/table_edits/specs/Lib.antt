@@ -13,9 +13,8 @@ pub mod TablesOfLines
 pub mod Stopping
 pub mod HashChanges
 pub mod Memberships
-pub mod Repeats
 pub mod Naming
 pub mod Accepting
-pub mod NamePlaces
 pub mod NamedLines
-pub mod FirstRecords
+pub mod IndexedLines
+pub mod NameSets

@@ -1,29 +1,28 @@
-// The edits of a table, carried out in the lines of its file one after another.
-ghost use Rattle.std.specs.Prelude.{◌≡◌, ◌<◌, [], ◌∷◌, length, map, IfOk, OnOk};
-ghost use Rattle.std.specs.List.{AllByRecursion, position_from};
+// The edits of a table, carried out in the text of its file one after another.
+ghost use Rattle.std.specs.Prelude.{◌≡◌, ◌≤◌, drop, length, IfOk, OnOk};
+ghost use Rattle.std.specs.List.{AllByRecursion};
 ghost use Rattle.acct_text.specs.Lines.{file_bytes, lines_of};
-ghost use Rattle.account_model.specs.Edits.{becomes, edited, edited_by, printed_line};
+ghost use Rattle.account_model.specs.Edits.{edited, edited_by, put_first, with_line};
 ghost use Rattle.account_model.specs.Edits as model;
 ghost use Rattle.account_model.specs.RecordEdits.{IsWrittenEdit};
 ghost use Rattle.account_model.specs.Written.{IsWritten};
-ghost use Rattle.acct_tables.specs.TableLines.{line_is_named};
+ghost use Rattle.acct_tables.specs.SeenLines.{AreOfFile};
 ghost use Rattle.table_edits.specs.NamedLines.{IsKnown};
-ghost use Rattle.table_edits.specs.Places.{spliced_at};
 ghost use Rattle.table_edits.specs.SeenEdits.{seen_edit, seen_edits};
 
-use crate::named_edits::{Known, apply_there, known_before, place_of};
-use crate::{Becoming, Edit, EditedRecord};
-use acct_tables::EditedLines;
+use crate::indexed_lines::MANY;
+use crate::line_changes::{changed_text, push_record};
+use crate::named_edits::{Known, apply_there, known_before, only_name};
+use crate::{Edit, EditedRecord};
+use acct_tables::{EditedLines, Lines, append_line, has_record, is_named};
 use acct_text::Bytes;
 use std::alloc::{AllocError, Global};
-
-// From so many edits on it pays to look for the places of all names at once.
-const MANY_EDITS: usize = 8;
 
 /// The bytes of a table's file after the edits, in their order: the lines that they don't touch keep
 /// their bytes.
 ///
-/// Many edits that each name the records that they touch take one pass over the file in all.
+/// Many edits that each name the records that they touch take one pass over the file in all, and
+/// each other edit takes one.
 pub fn edited_text<R: EditedRecord + Drop>(
     alloc: Global,
     text: &[u8],
@@ -33,191 +32,151 @@ pub fn edited_text<R: EditedRecord + Drop>(
     ensures { IfOk result (λ bytes. bytes ≡ file_bytes
         (edited_by R.format (seen_edits R.becomes edits.now) (lines_of text.now))) }
 {
-    if edits.is_empty() {
-        return Bytes::of(alloc, text);
+    if edits.len() < MANY {
+        return edited_in_order(alloc, Bytes::of(alloc, text)?, edits);
     }
-    let mut lines = EditedLines::of(alloc, text)?;
-    apply_edits(alloc, text, &mut lines, edits)?;
-    lines.text()
+    edited_by_name(alloc, text, edits)
 }
 
-// Carries out the edits in the lines of the text. At `AllocError` some of them may be done.
-fn apply_edits<R: EditedRecord + Drop>(
+// The text after the edits, of which those that each name the records that they touch are carried
+// out where these stand.
+fn edited_by_name<'a, R: EditedRecord + Drop>(
     alloc: Global,
-    text: &[u8],
-    lines: &mut EditedLines<'_>,
-    edits: &[Edit<R, R::Change>],
-) -> Result<(), AllocError>
-    requires of_text { lines.old ≡ lines_of text.now }
-    requires written { AllByRecursion (IsWrittenEdit R.format) (seen_edits R.becomes edits.now) }
-    ensures { OnOk result (lines.new ≡
-        edited_by R.format (seen_edits R.becomes edits.now) lines.old) }
+    text: &'a [u8],
+    edits: &'a [Edit<R, R::Change>],
+) -> Result<Bytes, AllocError>
+    requires { AllByRecursion (IsWrittenEdit R.format) (seen_edits R.becomes edits.now) }
+    ensures { IfOk result (λ bytes. bytes ≡ file_bytes
+        (edited_by R.format (seen_edits R.becomes edits.now) (lines_of text.now))) }
 {
-    if edits.len() < MANY_EDITS {
-        return apply_in_order(alloc, lines, edits);
-    }
-    let known = known_before(alloc, text, edits)?;
-    apply_by_name(alloc, lines, edits, known)
+    let mut lines = EditedLines::of(alloc, text)?;
+    let known = known_before::<R>(alloc, text)?;
+    let done = apply_by_name(alloc, &mut lines, edits, known)?;
+    edited_in_order(alloc, lines.text()?, &edits[done..])
 }
 
-// Carries out the edits where the records of their names stand, and from the first on that may
-// touch others one after another.
-fn apply_by_name<'e, R: EditedRecord + Drop>(
+// Carries out the edits where the records of their names stand, up to the first that may touch
+// others, and gives how many these are.
+fn apply_by_name<'a, R: EditedRecord + Drop>(
     alloc: Global,
     lines: &mut EditedLines<'_>,
-    edits: &'e [Edit<R, R::Change>],
-    mut known: Known<'e>,
-) -> Result<(), AllocError>
+    edits: &'a [Edit<R, R::Change>],
+    mut known: Known<'a>,
+) -> Result<usize, AllocError>
     requires known { IsKnown R.format lines.old known }
+    requires of_file { AreOfFile lines.old }
     requires written { AllByRecursion (IsWrittenEdit R.format) (seen_edits R.becomes edits.now) }
-    ensures { OnOk result (lines.new ≡
-        edited_by R.format (seen_edits R.becomes edits.now) lines.old) }
+    ensures inside { IfOk result (λ done. done ≤ length edits.now) }
+    ensures made { IfOk result (λ done.
+        edited_by R.format (seen_edits R.becomes (drop done edits.now)) lines.new
+        ≡ edited_by R.format (seen_edits R.becomes edits.now) lines.old) }
+    ensures of_file { OnOk result (AreOfFile lines.new) }
 {
     'edits: for index in 0..edits.len() {
         let edit = &edits[index];
-        let Some(place) = place_of(&known, edit) else {
-            return apply_in_order(alloc, lines, &edits[index..]);
+        let Some(name) = only_name(edit) else {
+            return Ok(index);
         };
-        apply_there(alloc, lines, edit, place, &mut known)?;
+        apply_there(alloc, lines, edit, name, &mut known)?;
     }
-    Ok(())
+    Ok(edits.len())
 }
 
-// Carries out the edits, one after another.
-fn apply_in_order<R: EditedRecord + Drop>(
+// The text after the edits, one after another.
+fn edited_in_order<R: EditedRecord + Drop>(
     alloc: Global,
-    lines: &mut EditedLines<'_>,
+    mut text: Bytes,
     edits: &[Edit<R, R::Change>],
-) -> Result<(), AllocError>
+) -> Result<Bytes, AllocError>
     requires { AllByRecursion (IsWrittenEdit R.format) (seen_edits R.becomes edits.now) }
-    ensures { OnOk result (lines.new ≡
-        edited_by R.format (seen_edits R.becomes edits.now) lines.old) }
+    ensures { IfOk result (λ bytes. bytes ≡ file_bytes
+        (edited_by R.format (seen_edits R.becomes edits.now) (lines_of text))) }
 {
     'edits: for edit in edits {
-        apply_edit(alloc, lines, edit)?;
+        apply_edit(alloc, &mut text, edit)?;
     }
-    Ok(())
+    Ok(text)
 }
 
 // Carries out one edit.
 fn apply_edit<R: EditedRecord + Drop>(
     alloc: Global,
-    lines: &mut EditedLines<'_>,
+    text: &mut Bytes,
     edit: &Edit<R, R::Change>,
 ) -> Result<(), AllocError>
     requires { IsWrittenEdit R.format (seen_edit R.becomes edit.now) }
-    ensures { OnOk result (lines.new ≡ edited R.format lines.old (seen_edit R.becomes edit.now)) }
+    ensures { OnOk result (text.new ≡ file_bytes
+        (edited R.format (lines_of text.old) (seen_edit R.becomes edit.now))) }
 {
     match edit {
-        Edit::Become(change) => change_each::<R>(alloc, lines, change),
-        Edit::Add(item) => lines.append_any(item),
-        Edit::AddMissing(item) => add_missing(lines, item),
-        Edit::Put(item) => put(lines, item),
+        Edit::Become(change) => {
+            *text = changed_text::<R>(alloc, text.as_slice(), change)?;
+            Ok(())
+        }
+        Edit::Add(item) => add(alloc, text, item),
+        Edit::AddMissing(item) => add_missing(alloc, text, item),
+        Edit::Put(item) => put(alloc, text, item),
     }
+}
+
+// Adds the record behind the last line.
+fn add<R: EditedRecord + Drop>(alloc: Global, text: &mut Bytes, item: &R) -> Result<(), AllocError>
+    requires { IsWritten R.format item.now }
+    ensures { OnOk result (text.new ≡ file_bytes
+        (with_line (R.format.print item.now) (lines_of text.old))) }
+{
+    let line = item.print(alloc)?;
+    append_line(alloc, text, line.as_slice())
 }
 
 // Adds the record where no record has its name.
 fn add_missing<R: EditedRecord + Drop>(
-    lines: &mut EditedLines<'_>,
+    alloc: Global,
+    text: &mut Bytes,
     item: &R,
 ) -> Result<(), AllocError>
     requires { IsWritten R.format item.now }
-    ensures { OnOk result (lines.new ≡ edited R.format lines.old (model.AddMissing item.now)) }
+    ensures { OnOk result (text.new ≡ file_bytes
+        (edited R.format (lines_of text.old) (model.AddMissing item.now))) }
 {
-    match first_place::<R>(lines, item.name()) {
-        Some(_) => Ok(()),
-        None => lines.append_any(item),
+    if has_record::<R>(text.as_slice(), item.name()) {
+        return Ok(());
     }
+    add(alloc, text, item)
 }
 
 // Puts the record in place of the first of its name, or adds it.
-fn put<R: EditedRecord + Drop>(lines: &mut EditedLines<'_>, item: &R) -> Result<(), AllocError>
+fn put<R: EditedRecord + Drop>(alloc: Global, text: &mut Bytes, item: &R) -> Result<(), AllocError>
     requires { IsWritten R.format item.now }
-    ensures { OnOk result (lines.new ≡ edited R.format lines.old (model.Put item.now)) }
+    ensures { OnOk result (text.new ≡ file_bytes
+        (edited R.format (lines_of text.old) (model.Put item.now))) }
 {
-    match first_place::<R>(lines, item.name()) {
-        Some(place) => lines.set_at(place, item),
-        None => lines.append_any(item),
+    if !has_record::<R>(text.as_slice(), item.name()) {
+        return add(alloc, text, item);
     }
-}
-
-// The place of the first record of the name.
-fn first_place<R: EditedRecord>(lines: &EditedLines<'_>, name: &[u8]) -> Option<usize>
-    ensures { result ≡ position_from (line_is_named R.format name.now) 0 lines.now }
-{
-    'places: for place in 0..lines.len() {
-        if lines.is_named_at::<R>(place, name) {
-            return Some(place);
-        }
-    }
-    None
-}
-
-/// Puts in place of each record what becomes of it. The places go down, so that those to come stay.
-pub(crate) fn change_each<R: EditedRecord + Drop>(
-    alloc: Global,
-    lines: &mut EditedLines<'_>,
-    change: &R::Change,
-) -> Result<(), AllocError>
-    requires { IsWrittenEdit R.format (model.Become (R.becomes change.now)) }
-    ensures { OnOk result (lines.new ≡
-        edited R.format lines.old (model.Become (R.becomes change.now))) }
-{
-    let mut place = lines.len();
-    'places: while place > 0 {
-        place -= 1;
-        change_at::<R>(alloc, lines, place, change)?;
-    }
+    *text = text_with(alloc, text.as_slice(), item)?;
     Ok(())
 }
 
-/// Puts in place of the record at a place what becomes of it. A line that the change leaves isn't
-/// read.
-pub(crate) fn change_at<R: EditedRecord + Drop>(
+// The text with the record in place of the first of its name.
+fn text_with<R: EditedRecord + Drop>(
     alloc: Global,
-    lines: &mut EditedLines<'_>,
-    place: usize,
-    change: &R::Change,
-) -> Result<(), AllocError>
-    requires inside { place < length lines.old }
-    requires written { IsWrittenEdit R.format (model.Become (R.becomes change.now)) }
-    ensures { OnOk result (lines.new ≡
-        spliced_at (becomes R.format (R.becomes change.now)) place lines.old) }
+    text: &[u8],
+    item: &R,
+) -> Result<Bytes, AllocError>
+    requires { IsWritten R.format item.now }
+    ensures { IfOk result (λ bytes. bytes ≡ file_bytes
+        (put_first R.format item.now (lines_of text.now))) }
 {
-    if R::leaves(change, lines.text_at(place)) {
-        return Ok(());
-    }
-    let Some(item) = lines.record_at::<R>(place)? else {
-        return Ok(());
-    };
-    match item.becoming(alloc, change)? {
-        Becoming::Stays => Ok(()),
-        Becoming::Changes(new) => lines.set_at(place, &new),
-        Becoming::Goes => {
-            lines.remove_at(place);
-            Ok(())
+    let mut made = Bytes::new(alloc);
+    let mut left = Lines::of(text);
+    'lines: while let Some(line) = left.take() {
+        if is_named::<R>(line.text, item.name()) {
+            push_record(alloc, &mut made, &line, item)?;
+            made.push(left.bytes())?;
+            return Ok(made);
         }
-        Becoming::Splits(first, second) => split_at(lines, place, &first, &second),
+        line.push_to(&mut made)?;
     }
-}
-
-// Puts two lines in place of one. They go in front of it before it goes: behind the last line a new
-// one would end all others.
-fn split_at<R: EditedRecord + Drop>(
-    lines: &mut EditedLines<'_>,
-    place: usize,
-    first: &R,
-    second: &R,
-) -> Result<(), AllocError>
-    requires inside { place < length lines.old }
-    requires first_written { IsWritten R.format first.now }
-    requires second_written { IsWritten R.format second.now }
-    ensures { OnOk result (lines.new ≡ spliced_at
-        (λ _. map (printed_line R.format) (first.now ∷ second.now ∷ [])) place lines.old) }
-{
-    let from_here = lines.len() - place;
-    lines.insert_at(place, second)?;
-    lines.insert_at(place, first)?;
-    lines.remove_at(lines.len() - from_here);
-    Ok(())
+    Ok(made)
 }

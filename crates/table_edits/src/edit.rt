@@ -1,5 +1,5 @@
 // The edits of a table as data, and what a record has so that edits can be made of it.
-ghost use Rattle.std.specs.Prelude.{◌≡◌, true, List, IfOk, IfSome};
+ghost use Rattle.std.specs.Prelude.{◌≡◌, true, List, [], None, IfOk, IfSome};
 ghost use Rattle.account_model.specs.Written.{IsWritten};
 ghost use Rattle.table_edits.specs.Naming.{ChangesOnly, Leaves};
 ghost use Rattle.table_edits.specs.SeenEdits.{records_in};
@@ -61,4 +61,7 @@ pub trait EditedRecord: TableRecord {
     fn only_name(change: &Self::Change) -> Option<&[u8]>
         ensures { IfSome result (λ name.
             ChangesOnly Self.format (becomes change.now) name.now) };
+
+    // an empty line is no record
+    ghost no_blank: { Self.TableRecord.format.read [] ≡ None };
 }

@@ -1,6 +1,6 @@
 // Fields of records that a tool sets or leaves as they are, and those of a line by which one is left.
 ghost use Rattle.std.specs.Prelude.{◌≡◌, not, bytes_eq, IfOk, unwrap_or};
-ghost use Rattle.acct_lines.specs.Naming.{first_field as first_of};
+ghost use Rattle.account_model.specs.Naming.{first_field as first_of};
 
 use acct_lines::first_field;
 use acct_text::Bytes;

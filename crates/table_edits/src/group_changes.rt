@@ -3,7 +3,7 @@ ghost use Rattle.std.specs.Prelude.{◌≡◌, true, Some, IfOk, OnOk};
 ghost use Rattle.account_model.specs.Records.{group_format};
 ghost use Rattle.account_model.specs.Text.{is_listed};
 ghost use Rattle.account_model.specs.declared.records.GroupRecord.{GroupRecord};
-ghost use Rattle.table_edits.specs.GroupChanges.{group_after};
+ghost use Rattle.table_edits.specs.GroupChanges.{group_after, keeps_group_name};
 ghost use Rattle.table_edits.specs.Memberships.{group_by};
 
 use crate::fields::has_other_name;
@@ -44,6 +44,7 @@ pub enum GroupChange {
 }
 
 impl EditedRecord for GroupRecord {
+    ghost use Rattle.std.specs.Prelude.{refl};
     ghost use Rattle.table_edits.specs.GroupChanges.{group_becomes};
 
     type Change = GroupChange;
@@ -78,8 +79,23 @@ impl EditedRecord for GroupRecord {
         }
     }
 
-    fn only_name(_change: &GroupChange) -> Option<&[u8]> {
-        None
+    fn only_name(change: &GroupChange) -> Option<&[u8]> {
+        match change {
+            GroupChange::Named(name, act) if keeps_name(act) => Some(name.as_slice()),
+            _ => None,
+        }
+    }
+
+    ghost no_blank = { refl };
+}
+
+// Whether the act leaves the name of the group.
+fn keeps_name(act: &GroupAct) -> bool
+    ensures { result ≡ keeps_group_name act.now }
+{
+    match act {
+        GroupAct::Rename(_) => false,
+        _ => true,
     }
 }
 

@@ -3,7 +3,7 @@ ghost use Rattle.std.specs.Prelude.{◌≡◌, ◌||◌, true, Some, IfOk, OnOk}
 ghost use Rattle.account_model.specs.declared.records.GshadowRecord.{GshadowRecord};
 ghost use Rattle.account_model.specs.Records.{gshadow_format};
 ghost use Rattle.account_model.specs.Text.{is_listed};
-ghost use Rattle.table_edits.specs.GshadowChanges.{gshadow_after, without_user};
+ghost use Rattle.table_edits.specs.GshadowChanges.{gshadow_after, keeps_gshadow_name, without_user};
 ghost use Rattle.table_edits.specs.Memberships.{gshadow_by};
 
 use crate::fields::has_other_name;
@@ -46,6 +46,7 @@ pub enum GshadowChange {
 }
 
 impl EditedRecord for GshadowRecord {
+    ghost use Rattle.std.specs.Prelude.{refl};
     ghost use Rattle.table_edits.specs.GshadowChanges.{gshadow_becomes};
 
     type Change = GshadowChange;
@@ -84,8 +85,23 @@ impl EditedRecord for GshadowRecord {
         }
     }
 
-    fn only_name(_change: &GshadowChange) -> Option<&[u8]> {
-        None
+    fn only_name(change: &GshadowChange) -> Option<&[u8]> {
+        match change {
+            GshadowChange::Named(name, act) if keeps_name(act) => Some(name.as_slice()),
+            _ => None,
+        }
+    }
+
+    ghost no_blank = { refl };
+}
+
+// Whether the act leaves the name of the group.
+fn keeps_name(act: &GshadowAct) -> bool
+    ensures { result ≡ keeps_gshadow_name act.now }
+{
+    match act {
+        GshadowAct::Rename(_) => false,
+        _ => true,
     }
 }
 

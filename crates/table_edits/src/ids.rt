@@ -1,16 +1,18 @@
 // The IDs that users and groups have by their records (passwd(5), group(5)).
-ghost use Rattle.std.specs.Prelude.{◌≡◌, ℕ, map, option_map, IfOk};
+ghost use Rattle.std.specs.Prelude.{◌≡◌, ℕ, map, option_map, IfOk, OnOk};
+ghost use Rattle.std.specs.List.{cons_option};
 ghost use Rattle.account_model.specs.Tables.{table_records};
 ghost use Rattle.id_choice.specs.Used.{AreThoseOf};
 
-use crate::file_lines;
+use crate::text_of;
 use acct_lines::{GroupLine, GroupRecord, PasswdLine, PasswdRecord, TableRecord};
+use acct_tables::Lines;
 use acct_text::Bytes;
 use id_choice::UsedIds;
 use std::alloc::{AllocError, Global};
 
 /// A record with an ID of its own.
-pub(crate) trait IdRecord: TableRecord {
+pub trait IdRecord: TableRecord {
     // its ID
     ghost id_of: { Self → ℕ };
 
@@ -49,12 +51,21 @@ pub(crate) fn used_ids<R: IdRecord>(
     ensures { IfOk result (λ used.
         AreThoseOf used (map R.id_of (table_records R.format file.now))) }
 {
-    let lines = &file_lines(alloc, file)?;
     let mut used = UsedIds::new(alloc);
-    for place in 0..lines.len() {
-        if let Some(id) = R::id_in(lines.text_at(place)) {
-            used.add(id)?;
-        }
+    let mut left = Lines::of(text_of(file));
+    'lines: while let Some(line) = left.take() {
+        note_id::<R>(&mut used, line.text)?;
     }
     Ok(used)
+}
+
+// Adds the ID of the record that the line is; other text has none.
+fn note_id<R: IdRecord>(used: &mut UsedIds, line: &[u8]) -> Result<(), AllocError>
+    ensures { OnOk result (AreThoseOf used.new
+        (cons_option (option_map R.id_of (R.format.read line.now)) used.old)) }
+{
+    match R::id_in(line) {
+        Some(id) => used.add(id),
+        None => Ok(()),
+    }
 }

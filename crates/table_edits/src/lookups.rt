@@ -5,10 +5,10 @@ ghost use Rattle.account_model.specs.Refusals.{missing_group};
 ghost use Rattle.account_model.specs.Users.{find_user, find_shadow, group_named as group_of_name, gshadow_named as gshadow_of_name};
 ghost use Rattle.table_edits.specs.Stopping.{StopsBy};
 
-use crate::{Tables, file_lines};
+use crate::{Tables, text_of};
 use account_model::Refusal;
 use acct_lines::{GroupRecord, GshadowRecord, PasswdRecord, ShadowRecord};
-use acct_tables::ToolFault;
+use acct_tables::{ToolFault, find_record};
 use acct_text::Bytes;
 use std::alloc::{AllocError, Global};
 
@@ -17,7 +17,7 @@ impl Tables<'_> {
     pub fn user_named(&self, alloc: Global, name: &[u8]) -> Result<Option<PasswdRecord>, AllocError>
         ensures { IfOk result (λ found. found ≡ find_user name.now self.now) }
     {
-        file_lines(alloc, &self.files().passwd)?.find(alloc, name)
+        find_record(alloc, text_of(&self.files().passwd), name)
     }
 
     /// The first record of shadow that has the name.
@@ -28,14 +28,14 @@ impl Tables<'_> {
     ) -> Result<Option<ShadowRecord>, AllocError>
         ensures { IfOk result (λ found. found ≡ find_shadow name.now self.now) }
     {
-        file_lines(alloc, &self.files().shadow)?.find(alloc, name)
+        find_record(alloc, text_of(&self.files().shadow), name)
     }
 
     /// The first record of group that has the name.
     pub fn group_named(&self, alloc: Global, name: &[u8]) -> Result<Option<GroupRecord>, AllocError>
         ensures { IfOk result (λ found. found ≡ group_of_name name.now self.now) }
     {
-        file_lines(alloc, &self.files().group)?.find(alloc, name)
+        find_record(alloc, text_of(&self.files().group), name)
     }
 
     /// The first record of gshadow that has the name.
@@ -46,7 +46,7 @@ impl Tables<'_> {
     ) -> Result<Option<GshadowRecord>, AllocError>
         ensures { IfOk result (λ found. found ≡ gshadow_of_name name.now self.now) }
     {
-        file_lines(alloc, &self.files().gshadow)?.find(alloc, name)
+        find_record(alloc, text_of(&self.files().gshadow), name)
     }
 
     /// Refuses a name that no group has: `NoGroup`.

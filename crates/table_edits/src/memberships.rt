@@ -2,7 +2,8 @@
 ghost use Rattle.std.specs.Prelude.{◌≡◌, IfOk};
 ghost use Rattle.table_edits.specs.Memberships.{keeps_groups, members_with};
 
-use crate::lists::{is_listed, with_name, without_name};
+use crate::NameSet;
+use crate::lists::{with_name, without_name};
 use acct_tables::ListRecord;
 use acct_text::{Bytes, Names};
 use std::alloc::{AllocError, Global};
@@ -24,9 +25,9 @@ pub enum UserGroups {
     /// Of those as before.
     Kept,
     /// Of these, and of others as before (usermod(8), `-a -G`).
-    Also(Names),
+    Also(NameSet),
     /// Of these alone (usermod(8), `-G`).
-    Only(Names),
+    Only(NameSet),
 }
 
 impl Membership {
@@ -52,8 +53,9 @@ impl Membership {
     {
         let user = self.user.as_slice();
         match &self.groups {
-            UserGroups::Also(groups) | UserGroups::Only(groups)
-                if is_listed(groups.as_slice(), group) => { with_name(members, user) }
+            UserGroups::Also(groups) | UserGroups::Only(groups) if groups.has(group) => {
+                with_name(members, user)
+            }
             UserGroups::Only(_) => without_name(alloc, members, user),
             UserGroups::Kept | UserGroups::Also(_) => members.copy(),
         }

@@ -6,21 +6,19 @@ ghost use Rattle.account_model.specs.Edits as model;
 ghost use Rattle.account_model.specs.Format.{count_named, records_of};
 ghost use Rattle.account_model.specs.RecordEdits.{IsWrittenEdit};
 ghost use Rattle.account_model.specs.Written.{IsWritten};
+ghost use Rattle.acct_tables.specs.NameIndex.{Tells, line_names, told};
 ghost use Rattle.acct_tables.specs.TableLines.{record_at};
 ghost use Rattle.table_edits.specs.SeenEdits.{seen_edit, seen_edits};
-ghost use Rattle.table_edits.specs.Repeats.{TellsRepeats};
-ghost use Rattle.table_edits.specs.Touching.{LeavesTo, met_at, touches_alone};
+ghost use Rattle.table_edits.specs.Touching.{LacksName, LeavesTo, TouchOnly, met_at, touches_alone};
 
 use crate::fields::has_other_name;
-use crate::repeats::{is_repeated, repeats};
+use crate::indexed_lines::MANY;
+use crate::touched::touched_names;
 use crate::{Becoming, Edit, EditedRecord};
-use acct_tables::FileLines;
+use acct_tables::{FileLines, NameIndex};
 use acct_text::Bytes;
+use indexmap::IndexSet;
 use std::alloc::{AllocError, Global};
-use std::collections::HashMap;
-
-// From so many edits, or so many lines that they may touch, it pays to note the names of all records.
-const MANY: usize = 8;
 
 /// The name of the first record that the edits touch and whose name has two or more records; none
 /// where there is no such record.
@@ -33,29 +31,30 @@ pub fn first_multiple<R: EditedRecord + Drop>(
     ensures { IfOk result (λ name. name ≡
         first_multiple R.format (seen_edits R.becomes edits.now) (records_of R.format lines.now)) }
 {
-    let repeats = &repeats_for(alloc, lines, edits)?;
+    let names = &names_for(alloc, lines, edits)?;
+    let touched = &touched_names(alloc, edits)?;
     'places: for place in 0..lines.len() {
-        if let Some(name) = met_at(alloc, lines, edits, repeats, place)? {
+        if let Some(name) = met_at(alloc, lines, edits, names, touched, place)? {
             return Ok(Some(name));
         }
     }
     Ok(None)
 }
 
-// For each name that a record has, whether several have it; none where the edits ask for few names,
-// of which each is counted then.
-fn repeats_for<'a, R: EditedRecord>(
+// Where the records of each name stand; none where the edits ask for few names, of which each is
+// counted then.
+fn names_for<'a, R: EditedRecord>(
     alloc: Global,
     lines: &FileLines<'a>,
     edits: &[Edit<R, R::Change>],
-) -> Result<Option<HashMap<&'a [u8], bool>>, AllocError>
-    ensures { IfOk result (λ repeats.
-        IfSome repeats (TellsRepeats R.format (records_of R.format lines.now))) }
+) -> Result<Option<NameIndex<'a>>, AllocError>
+    ensures { IfOk result (λ names. IfSome names (λ names.
+        Tells (line_names R.format lines.now) (told names))) }
 {
     if edits.len() < MANY && open_lines(lines, edits) < MANY {
         return Ok(None);
     }
-    Ok(Some(repeats::<R>(alloc, lines)?))
+    Ok(Some(NameIndex::of::<R>(alloc, lines)?))
 }
 
 // The number of lines that the edits may touch.
@@ -76,15 +75,18 @@ fn met_at<R: EditedRecord + Drop>(
     alloc: Global,
     lines: &FileLines<'_>,
     edits: &[Edit<R, R::Change>],
-    repeats: &Option<HashMap<&[u8], bool>>,
+    names: &Option<NameIndex<'_>>,
+    touched: &Option<IndexSet<&[u8]>>,
     place: usize,
 ) -> Result<Option<Bytes>, AllocError>
     requires edits { AllByRecursion (IsWrittenEdit R.format) (seen_edits R.becomes edits.now) }
-    requires told { IfSome repeats.now (TellsRepeats R.format (records_of R.format lines.now)) }
+    requires told { IfSome names.now (λ names.
+        Tells (line_names R.format lines.now) (told names)) }
+    requires only { IfSome touched.now (TouchOnly R.format (seen_edits R.becomes edits.now)) }
     ensures { IfOk result (λ name. name ≡
         met_at R.format (seen_edits R.becomes edits.now) lines.now place) }
 {
-    if !may_meet(lines, edits, repeats, place) {
+    if !may_meet(lines, edits, names, touched, place) {
         return Ok(None);
     }
     let Some(item) = lines.record_at::<R>(alloc, place)? else {
@@ -100,35 +102,52 @@ fn met_at<R: EditedRecord + Drop>(
 fn may_meet<R: EditedRecord>(
     lines: &FileLines<'_>,
     edits: &[Edit<R, R::Change>],
-    repeats: &Option<HashMap<&[u8], bool>>,
+    names: &Option<NameIndex<'_>>,
+    touched: &Option<IndexSet<&[u8]>>,
     place: usize,
 ) -> bool
-    requires { IfSome repeats.now (TellsRepeats R.format (records_of R.format lines.now)) }
+    requires told { IfSome names.now (λ names.
+        Tells (line_names R.format lines.now) (told names)) }
+    requires only { IfSome touched.now (TouchOnly R.format (seen_edits R.becomes edits.now)) }
     ensures passed { result ≡ false →
         met_at R.format (seen_edits R.becomes edits.now) lines.now place ≡ None }
     ensures several { result ≡ true → (r : R) → record_at R.format lines.now place ≡ Some r
         → is_multiple R.format (records_of R.format lines.now) r ≡ true }
 {
-    if repeats.is_none() && leave(edits, lines.text_at(place)) {
+    if names.is_none() && leave(edits, lines.text_at(place)) {
         return false;
     }
-    match lines.name_at::<R>(place) {
-        Some(name) => has_several::<R>(lines, repeats, name),
-        None => false,
+    let Some(name) = lines.name_at::<R>(place) else {
+        return false;
+    };
+    if !may_touch(touched, name) {
+        return false;
+    }
+    has_several::<R>(lines, names, name)
+}
+
+// Whether the edits may touch a record of the name.
+fn may_touch(touched: &Option<IndexSet<&[u8]>>, name: &[u8]) -> bool
+    ensures { result ≡ false → LacksName touched.now name.now }
+{
+    match touched {
+        Some(names) => names.contains(name),
+        None => true,
     }
 }
 
-// Whether several records have the name, by what is told or else by counting them.
+// Whether several records have the name, by the index or else by counting them.
 fn has_several<R: EditedRecord>(
     lines: &FileLines<'_>,
-    repeats: &Option<HashMap<&[u8], bool>>,
+    names: &Option<NameIndex<'_>>,
     name: &[u8],
 ) -> bool
-    requires { IfSome repeats.now (TellsRepeats R.format (records_of R.format lines.now)) }
+    requires { IfSome names.now (λ names.
+        Tells (line_names R.format lines.now) (told names)) }
     ensures { result ≡ nat_le 2 (count_named R.format name.now (records_of R.format lines.now)) }
 {
-    match repeats {
-        Some(repeats) => is_repeated(repeats, name),
+    match names {
+        Some(names) => names.has_several(name),
         None => lines.has_several::<R>(name),
     }
 }
@@ -213,8 +232,12 @@ fn changes<R: EditedRecord + Drop>(
     }
 }
 
-// Whether the records differ: their lines do.
-fn differ<R: EditedRecord + Drop>(alloc: Global, old: &R, new: &R) -> Result<bool, AllocError>
+/// Whether the records differ: their lines do.
+pub(crate) fn differ<R: EditedRecord + Drop>(
+    alloc: Global,
+    old: &R,
+    new: &R,
+) -> Result<bool, AllocError>
     requires old_written { IsWritten R.format old.now }
     requires new_written { IsWritten R.format new.now }
     ensures { IfOk result (λ differ. differ ≡ not (R.format.same old.now new.now)) }

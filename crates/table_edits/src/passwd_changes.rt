@@ -50,6 +50,7 @@ pub enum PasswdChange {
 }
 
 impl EditedRecord for PasswdRecord {
+    ghost use Rattle.std.specs.Prelude.{refl};
     ghost use Rattle.table_edits.specs.PasswdChanges.{passwd_becomes};
 
     type Change = PasswdChange;
@@ -95,6 +96,8 @@ impl EditedRecord for PasswdRecord {
             _ => None,
         }
     }
+
+    ghost no_blank = { refl };
 }
 
 // Whether the act leaves the name of the user.

@@ -1,11 +1,12 @@
 // The lines of a table, and the first record among them that passes a test.
 ghost use Rattle.std.specs.Prelude.{◌≡◌, Bool, find, IfOk};
+ghost use Rattle.acct_text.specs.Lines.{lines_of};
 ghost use Rattle.account_model.specs.Tables.{table_records};
 ghost use Rattle.table_edits.specs.Accepting.{is_accepted};
 ghost use Rattle.table_edits.specs.TablesOfLines.{lines_in};
 
 use acct_lines::{GroupLine, GroupRecord, PasswdLine, PasswdRecord, TableRecord};
-use acct_tables::FileLines;
+use acct_tables::{FileLines, Lines, read_record};
 use acct_text::Bytes;
 use std::alloc::{AllocError, Global};
 
@@ -61,6 +62,16 @@ pub fn file_lines(alloc: Global, file: &Option<Bytes>) -> Result<FileLines<'_>, 
     }
 }
 
+/// The bytes of a table's file; an absent one has none.
+pub fn text_of(file: &Option<Bytes>) -> &[u8]
+    ensures { lines_of result.now ≡ lines_in file.now }
+{
+    match file {
+        Some(text) => text.as_slice(),
+        None => b"",
+    }
+}
+
 /// The first record of the file that passes the test.
 pub fn first_passing<R: TableRecord + Drop, T: RecordTest<R>>(
     alloc: Global,
@@ -70,10 +81,10 @@ pub fn first_passing<R: TableRecord + Drop, T: RecordTest<R>>(
     ensures { IfOk result (λ found.
         found ≡ find (T.accepts test.now) (table_records R.format file.now)) }
 {
-    let lines = &file_lines(alloc, file)?;
-    for place in 0..lines.len() {
-        if test.passes(lines.text_at(place)) {
-            return lines.record_at(alloc, place);
+    let mut left = Lines::of(text_of(file));
+    'lines: while let Some(line) = left.take() {
+        if test.passes(line.text) {
+            return read_record(alloc, line.text);
         }
     }
     Ok(None)

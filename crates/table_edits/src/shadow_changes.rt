@@ -76,6 +76,7 @@ pub enum ShadowChange {
 }
 
 impl EditedRecord for ShadowRecord {
+    ghost use Rattle.std.specs.Prelude.{refl};
     ghost use Rattle.table_edits.specs.ShadowChanges.{shadow_becomes};
 
     type Change = ShadowChange;
@@ -119,6 +120,8 @@ impl EditedRecord for ShadowRecord {
             _ => None,
         }
     }
+
+    ghost no_blank = { refl };
 }
 
 // Whether the act leaves the name of the user.

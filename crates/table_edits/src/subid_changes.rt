@@ -38,6 +38,7 @@ pub struct RangeCut {
 }
 
 impl EditedRecord for SubidRecord {
+    ghost use Rattle.std.specs.Prelude.{refl};
     ghost use Rattle.table_edits.specs.SubidChanges.{subid_becomes};
 
     type Change = SubidChange;
@@ -84,6 +85,8 @@ impl EditedRecord for SubidRecord {
     fn only_name(_change: &SubidChange) -> Option<&[u8]> {
         None
     }
+
+    ghost no_blank = { refl };
 }
 
 // What is left of a range without the IDs.

@@ -4,9 +4,9 @@ use std::alloc::{AllocError, Global};
 use std::test::Fail;
 use table_edits::{
     Becoming, EditedRecord, FileLines, GroupAct, GroupChange, GroupRecord, GshadowAct,
-    GshadowChange, GshadowRecord, HashChange, Membership, PasswdAct, PasswdChange, PasswdRecord,
-    RangeCut, Script, ShadowAct, ShadowChange, ShadowFields, ShadowRecord, SubidChange,
-    SubidRecord, Tables, UserFields, UserGroups, UserIndex,
+    GshadowChange, GshadowRecord, HashChange, Membership, NameSet, PasswdAct, PasswdChange,
+    PasswdRecord, RangeCut, Script, ShadowAct, ShadowChange, ShadowFields, ShadowRecord,
+    SubidChange, SubidRecord, Tables, UserFields, UserGroups, UserIndex,
 };
 
 // The lines that the record of a line becomes by the change, each with a newline; `=` where it
@@ -125,8 +125,8 @@ fn a_hash_is_unlocked(rt: HostRuntime) -> Result<(), Fail> {
 
 #[test]
 fn a_user_leaves_other_groups(rt: HostRuntime) -> Result<(), Fail> {
-    let groups = UserGroups::Only(one_name(rt.alloc(), b"b")?);
-    let left = group_after(rt.alloc(), groups)?;
+    let groups = NameSet::of(rt.alloc(), one_name(rt.alloc(), b"b")?)?;
+    let left = group_after(rt.alloc(), UserGroups::Only(groups))?;
     assert_eq!(rt; left.as_slice(), b"a:x:5:eve\n".as_slice());
     let kept = group_after(rt.alloc(), UserGroups::Kept)?;
     assert_eq!(rt; kept.as_slice(), b"a:x:5:eve,bea\n".as_slice());

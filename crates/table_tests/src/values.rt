@@ -1,7 +1,7 @@
 // What a command reads from its options.
 use crate::words::words_of;
 use command_values::{
-    Asked, Form, check_list_name, check_name, free_id, is_listed, list_value, read_date, read_days,
+    Asked, Form, check_list_name, check_name, free_id, list_value, read_date, read_days,
     read_expiration, read_range,
 };
 use id_choice::UsedIds;
@@ -99,8 +99,8 @@ fn a_list_has_each_name_once(rt: HostRuntime) -> Result<(), Fail> {
     let names = list_value(rt.alloc(), b"bob,,ann,bob,")?;
     assert_eq!(rt; names.len(), 2);
     assert_eq!(rt; names.at(0), Some(b"bob".as_slice()));
-    assert!(rt; is_listed(b"ann", names.as_slice()));
-    assert!(rt; !is_listed(b"an", names.as_slice()));
+    assert!(rt; names.contains(b"ann"));
+    assert!(rt; !names.contains(b"an"));
     Ok(())
 }
 

@@ -2,11 +2,8 @@
 ghost use Rattle.std.specs.Prelude.{IfSome};
 ghost use Rattle.acct_outside.specs.Contract.{IsName};
 
-use acct_outside::Name;
+use acct_outside::{GREATEST_LOCK, Name};
 use acct_text::{Tab, read_decimal};
-
-/// The greatest number of a lock.
-const GREATEST_LOCK: u64 = 999_999_999_999_999_999;
 
 /// How the name of a lock begins.
 const LOCK: &[u8] = b"accounts.lock.";

@@ -17,7 +17,8 @@ use command_values::Asked;
 use given_groups::{find_group, group_words};
 use std::alloc::{AllocError, Global};
 use table_edits::{
-    Edit, GroupAct, GroupChange, GshadowAct, GshadowChange, Membership, Script, Tables, UserGroups,
+    Edit, GroupAct, GroupChange, GroupIndex, GshadowAct, GshadowChange, Membership, NameSet,
+    Script, Tables, UserGroups,
 };
 
 /// Changes the lists of all groups, in group and in gshadow.
@@ -106,7 +107,7 @@ fn user_groups(alloc: Global, asked: &Asked, tables: &Tables) -> Result<UserGrou
     if !asked.has(b'G') {
         return Ok(UserGroups::Kept);
     }
-    let groups = group_names(alloc, asked, tables)?;
+    let groups = NameSet::of(alloc, group_names(alloc, asked, tables)?)?;
     if asked.has(b'a') {
         Ok(UserGroups::Also(groups))
     } else {
@@ -123,9 +124,10 @@ pub(crate) fn group_names(
     ensures { IfOk result (λ names. names ≡ group_names asked.now tables.now) }
 {
     let words = group_words(alloc, asked)?;
+    let groups = GroupIndex::of(alloc, tables, words.len())?;
     let mut names = Names::new(alloc);
     for word in words.as_slice() {
-        if let Some(group) = find_group(alloc, tables, word.as_slice())? {
+        if let Some(group) = find_group(alloc, &groups, word.as_slice())? {
             names.push(group.name.as_slice())?;
         }
     }

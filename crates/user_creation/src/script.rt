@@ -22,7 +22,7 @@ use acct_text::Bytes;
 use command_values::Asked;
 use given_groups::{find_group, group_words};
 use std::alloc::{AllocError, Global};
-use table_edits::{Edit, Script, SubidChange, Tables};
+use table_edits::{Edit, GroupIndex, Script, SubidChange, Tables};
 
 /// The edits that make a user of these IDs with this line of shadow, by the plan: the lines of the
 /// user, a group of its own, the groups of `-G` and the subordinate ranges.
@@ -97,22 +97,23 @@ fn join_groups(
     ensures { OnOk result (HasAlso (joined_groups asked.now tables.now) script.old script.new) }
 {
     let words = group_words(alloc, asked)?;
-    join_all(alloc, script, tables, words.as_slice(), asked.operand())
+    let groups = GroupIndex::of(alloc, tables, words.len())?;
+    join_all(alloc, script, &groups, words.as_slice(), asked.operand())
 }
 
 // The user joins the groups that the words name.
 fn join_all(
     alloc: Global,
     script: &mut Script,
-    tables: &Tables,
+    groups: &GroupIndex<'_>,
     words: &[Bytes],
     user: &[u8],
 ) -> Result<(), AllocError>
     ensures { OnOk result
-        (HasAlso (joining_all tables.now user.now words.now) script.old script.new) }
+        (HasAlso (joining_all groups.now user.now words.now) script.old script.new) }
 {
     for word in words {
-        join(alloc, script, tables, word.as_slice(), user)?;
+        join(alloc, script, groups, word.as_slice(), user)?;
     }
     Ok(())
 }
@@ -121,13 +122,13 @@ fn join_all(
 fn join(
     alloc: Global,
     script: &mut Script,
-    tables: &Tables,
+    groups: &GroupIndex<'_>,
     word: &[u8],
     user: &[u8],
 ) -> Result<(), AllocError>
-    ensures { OnOk result (HasAlso (joining tables.now user.now word.now) script.old script.new) }
+    ensures { OnOk result (HasAlso (joining groups.now user.now word.now) script.old script.new) }
 {
-    match find_group(alloc, tables, word)? {
+    match find_group(alloc, groups, word)? {
         Some(group) => script.add_to_group(alloc, group.name.as_slice(), user),
         None => Ok(()),
     }

@@ -1,10 +1,13 @@
-// Commands beside others: sessions that have their turns between those of others, in one folder.
-ghost use Rattle.std.specs.Prelude.{IfOk};
-ghost use Rattle.whole_commands.specs.Untold.{StandsUntold};
+// Commands beside others: sessions that have their turns between those of others, in one folder that
+// tells its history. Each belongs there whatever the others do.
+ghost use Rattle.std.specs.Prelude.{IfOk, OnOk};
+ghost use Rattle.acct_outside.specs.Memory.{moment_of};
+ghost use Rattle.suite_session.specs.Belongs.{Belongs};
+ghost use Rattle.suite_session.specs.Turning.{KeepsOthers};
+ghost use Rattle.whole_commands.specs.Beside.{AllBelong, ComesApart, OthersBelong};
 
 use crate::play::session_of;
-use crate::silent::SilentFolder;
-use crate::{folder_of, no_accounts, put, text_at};
+use crate::{no_accounts, put, sound_folder, text_at};
 use acct_outside::{MemoryFolder, Name};
 use acct_text::{Bytes, Tab, push_decimal};
 use std::alloc::{AllocError, Global};
@@ -36,19 +39,20 @@ fn after(calls: usize, command: &'static [u8]) -> Between {
 }
 
 // A folder with no accounts, in which lock 4 has this text, and none stands where that is empty.
-fn folder(alloc: Global, lock: &[u8]) -> Result<SilentFolder, AllocError> {
+fn folder(alloc: Global, lock: &[u8]) -> Result<MemoryFolder, AllocError> {
     let mut files = no_accounts(alloc)?;
     if !lock.is_empty() {
         put(&mut files, Name::Lock(4), lock)?;
     }
-    let files = folder_of(alloc, files, Vec::new(alloc))?;
-    Ok(SilentFolder { files })
+    sound_folder(alloc, files)
 }
 
 // The session makes so many calls of the folder, as far as it has them left.
-fn turns(session: &mut Session, folder: &mut SilentFolder, calls: usize)
-    requires { StandsUntold session.old }
-    ensures { StandsUntold session.new }
+fn turns(session: &mut Session, folder: &mut MemoryFolder, calls: usize)
+    requires { Belongs (moment_of folder.old) session.old }
+    ensures belongs { Belongs (moment_of folder.new) session.new }
+    ensures others { KeepsOthers (moment_of folder.old) (moment_of folder.new) session.old
+        session.new }
 {
     for _ in 0..calls {
         session.turn(folder);
@@ -58,11 +62,12 @@ fn turns(session: &mut Session, folder: &mut SilentFolder, calls: usize)
 // A session that has made so many calls.
 fn begun(
     alloc: Global,
-    folder: &mut SilentFolder,
+    folder: &mut MemoryFolder,
     command: &[u8],
     calls: usize,
 ) -> Result<Session, Fail>
-    ensures { IfOk result StandsUntold }
+    ensures belongs { IfOk result (Belongs (moment_of folder.new)) }
+    ensures others { IfOk result (ComesApart folder.old folder.new) }
 {
     let mut session = session_of(alloc, command)?;
     turns(&mut session, folder, calls);
@@ -73,9 +78,10 @@ fn begun(
 fn push_end(
     told: &mut Bytes,
     mut session: Session,
-    folder: &mut SilentFolder,
+    folder: &mut MemoryFolder,
 ) -> Result<(), AllocError>
-    requires { StandsUntold session }
+    requires { Belongs (moment_of folder.old) session }
+    ensures { OthersBelong folder.old folder.new session }
 {
     turns(&mut session, folder, ALL);
     let pushed = push_answer(told, &session);
@@ -102,9 +108,11 @@ fn push_answer(told: &mut Bytes, session: &Session) -> Result<(), AllocError> {
 fn push_told(
     told: &mut Bytes,
     alloc: Global,
-    folder: &mut SilentFolder,
+    folder: &mut MemoryFolder,
     command: &[u8],
-) -> Result<(), Fail> {
+) -> Result<(), Fail>
+    ensures { OnOk result (AllBelong folder.old folder.new) }
+{
     push_end(told, begun(alloc, folder, command, 0)?, folder)?;
     Ok(())
 }
@@ -112,7 +120,7 @@ fn push_told(
 // What a command and the others tell, which run between its calls: a line for each, as they end.
 fn told_among(
     alloc: Global,
-    folder: &mut SilentFolder,
+    folder: &mut MemoryFolder,
     command: &[u8],
     others: &[Between],
 ) -> Result<Bytes, Fail> {
@@ -147,9 +155,9 @@ fn push_standing(standing: &mut Bytes, files: &MemoryFolder) -> Result<(), Alloc
 fn report(alloc: Global, lock: &[u8], others: &[Between]) -> Result<Bytes, Fail> {
     let mut folder = folder(alloc, lock)?;
     let mut report = told_among(alloc, &mut folder, STAFF, others)?;
-    push_standing(&mut report, &folder.files)?;
+    push_standing(&mut report, &folder)?;
     push_told(&mut report, alloc, &mut folder, STAFF)?;
-    push_standing(&mut report, &folder.files)?;
+    push_standing(&mut report, &folder)?;
     Ok(report)
 }
 
@@ -253,7 +261,7 @@ fn crosswise(alloc: Global, calls: usize, other_calls: usize) -> Result<Bytes, F
             return Err(fault);
         }
     }
-    push_standing(&mut told, &folder.files)?;
+    push_standing(&mut told, &folder)?;
     Ok(told)
 }
 

@@ -16,7 +16,7 @@ mod inputs;
 mod limits;
 mod play;
 #[cfg(test)]
-mod silent;
+mod rehearsals;
 mod transcript;
 
 pub use images::{Contents, IMAGE, folder_of, image, no_accounts, put, sound_folder, with_file};

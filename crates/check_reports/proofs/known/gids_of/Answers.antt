@@ -1,59 +1,58 @@
-use Rattle.std.proofs.Common.{◌≡◌, ◌∙◌, ◌<◌, ◌==◌, ℕ, Bool, true, false, List, [], ◌∷◌, ◌++◌, length, nat_eq, take, refl, sym, ap, arith, append-nil}
-use Rattle.std.specs.Prelude.{◌||◌, None, Some, cond}
+use Rattle.std.proofs.Common.{◌≡◌, ◌∙◌, ℕ, Bool, true, false, List, [], ◌∷◌, length, nat_eq, refl, sym, ap, arith}
+use Rattle.std.specs.Prelude.{◌||◌, Option, None, Some}
 use Rattle.std.specs.HashSet as bag
-use Rattle.std.proofs.lemmas.List.Folds.{list_any-append}
+use Rattle.std.specs.List.{cons_option}
 use Rattle.account_model.specs.declared.records.GroupRecord.{GroupRecord}
 use Rattle.account_model.specs.Format.{records_of}
 use Rattle.account_model.specs.Records.{group_format}
-use Rattle.check_reports.specs.Known.{has_gid}
+use Rattle.acct_tables.specs.SeenLines.{seen_line}
+use Rattle.check_reports.specs.Known.{has_gid, is_of}
 use Rattle.table_edits.proofs.FileLemmas.{records-in}
-use Rattle.check_reports.proofs.RecordWalk.{records-all, records-more}
 use Rattle.check_reports.proofs.known.gids_of.Goals as goal
-use Rattle.check_reports.proofs.known.gids_of.Goals.{in-Some+in_ok-insert, in_default}
 
--- the last or an earlier one
-last-or : (last before : Bool) → cond last true before ≡ (before || (last || false))
-last-or true true = refl
-last-or true false = refl
-last-or false true = refl
-last-or false false = refl
+-- three tests, of which the second comes first
+second-first : (one other behind : Bool) → ((one || other) || behind) ≡ (other || (one || behind))
+second-first true true behind = refl
+second-first true false behind = refl
+second-first false other behind = refl
 
--- a GID more is that of one more group
-gid-more :
-    (groups : List GroupRecord) (group : GroupRecord) (gid : ℕ) (before : Bool)
-    → before ≡ has_gid groups gid
-    → cond (nat_eq group.gid gid) true before ≡ has_gid (groups ++ group ∷ []) gid
-gid-more groups group gid before is =
-    ap (cond (group.gid == gid) true) is
-    ∙ last-or (group.gid == gid) (has_gid groups gid)
-    ∙ sym (list_any-append (λ (group : GroupRecord). group.gid == gid) groups (group ∷ []))
+-- groups with the GID, by the first
+first-of :
+    (found : Option GroupRecord) (rest : List GroupRecord) (gid : ℕ)
+    → has_gid (cons_option found rest) gid ≡ (is_of found gid || has_gid rest gid)
+first-of None rest gid = refl
+first-of (Some group) rest gid = refl
 
-pub loop-place-preserved : goal.loop-place-preserved
-loop-place-preserved c =
-    let lines = c.in_ok-groups.field-0 in
-    let place = c.loop-place.place in
-    let inside : place < length lines = omega arith in
-    let done = records_of group_format (take place lines) in
-    elim c.match-found.branch [
-      | in-Some+in_ok-insert w ↦ λ gid.
-          ap (λ gids. bag.contains nat_eq gids gid) w.gids-is
-          ∙ w.in_ok-insert.ensures.updates.0 gid
-          ∙ gid-more done w.in-Some.group gid (bag.contains nat_eq c.loop-place.gids gid)
-          (c.loop-place.invariant gid)
-          ∙ ap (λ groups. has_gid groups gid)
-          (sym (records-more group_format lines place (Some w.in-Some.group) inside
-          (sym c.in_ok-found.ensures.found ∙ w.in-Some.is)))
-      | in_default w ↦ λ gid.
-          ap (λ gids. bag.contains nat_eq gids gid) w.gids-is
-          ∙ c.loop-place.invariant gid
-          ∙ ap (λ groups. has_gid groups gid)
-          (sym (records-more group_format lines place None inside
-          (sym c.in_ok-found.ensures.found ∙ w.in_default.is) ∙ append-nil done))
-    ]
+-- none behind
+or-none : (test : Bool) → (test || false) ≡ test
+or-none true = refl
+or-none false = refl
+
+pub lines-init : goal.lines-init
+lines-init c = λ gid.
+    rw c.new-gids.ensures.empty
+    (ap (λ groups. has_gid groups gid)
+    (records-in group_format c.of-left.result c.args.file.now (c.of-left.ensures ∙ c.text_of.ensures)))
+
+pub lines-preserved : goal.lines-preserved
+lines-preserved c = λ gid.
+    let line = seen_line c.in-Some.line in
+    let found = group_format.read line.text in
+    let rest = records_of group_format c.take.new.self in
+    let before = bag.contains nat_eq c.lines.gids gid in
+    ap (λ now. now || has_gid rest gid) (c.in_ok-note_gid.ensures gid)
+    ∙ second-first (is_of found gid) before (has_gid rest gid)
+    ∙ ap (λ behind. before || behind)
+    (sym (ap (λ lines. has_gid (records_of group_format lines) gid) c.in-Some.ensures.taken
+    ∙ first-of found rest gid))
+    ∙ c.lines.invariant gid
+
+pub lines-smaller : goal.lines-smaller
+lines-smaller c = omega (arith, ap length c.in-Some.ensures.taken)
 
 pub returns : goal.returns
 returns c = λ gid.
-    c.loop-place.invariant gid
-    ∙ ap (λ groups. has_gid groups gid)
-    (records-all group_format c.in_ok-groups.field-0 c.loop-place.place (omega arith)
-    ∙ records-in group_format c.in_ok-groups.field-0 c.args.file.now c.in_ok-groups.ensures)
+    sym (ap (λ lines. bag.contains nat_eq c.lines.gids gid || has_gid (records_of group_format lines) gid)
+    c.in_default.ensures.taken
+    ∙ or-none (bag.contains nat_eq c.lines.gids gid))
+    ∙ c.lines.invariant gid

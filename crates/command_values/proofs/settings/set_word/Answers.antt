@@ -1,19 +1,20 @@
-use Rattle.std.proofs.Common.{◌+◌, ◌-◌, ◌∙◌, ◌≤◌, sym, refl, length, drop, arith}
-use Rattle.std.proofs.lemmas.List.{take_all, length-drop}
-use Rattle.command_values.proofs.SettingLemmas.{is_ok-told, setting-told, no_setting}
+use Rattle.std.proofs.Common.{◌∙◌}
+use Rattle.login_defs.specs.Held.{Adds}
+use Rattle.command_values.proofs.SettingLemmas.{is_ok-told, setting-told, setting-set, no_setting}
 use Rattle.command_values.proofs.settings.set_word.Goals as goal
 
 pub returns-in-Some-clause-told : goal.returns-in-Some-clause-told
 returns-in-Some-clause-told c =
-    let word = c.args.word.now in
-    let place = c.in-Some.place in
-    let behind = drop (place + 1) word in
-    let fits : length behind ≤ length word - (place + 1) =
-    omega (arith, length-drop (place + 1) word) in
-    setting-told word _ _ place c.is_ok.result (sym c.place_of_equals.ensures.place ∙ c.in-Some.is)
-    refl (take_all (length word - (place + 1)) behind fits)
+    let cut = c.in-Some.cut in
+    setting-told c.args.word.now cut.before.now cut.behind.now c.is_ok.result c.in-Some.ensures.cut
     (c.is_ok.ensures.value ∙ is_ok-told _ _ c.with.ensures.fault)
 
+pub returns-in-Some-clause-set : goal.returns-in-Some-clause-set
+returns-in-Some-clause-set c =
+    let cut = c.in-Some.cut in
+    setting-set c.with.result c.is_ok.result (Adds c.args.settings.now c.with.new.self)
+    c.args.word.now cut.before.now cut.behind.now c.in-Some.ensures.cut
+    c.is_ok.ensures.value c.with.ensures.set
+
 pub returns-in-None-clause-told : goal.returns-in-None-clause-told
-returns-in-None-clause-told c =
-    no_setting c.args.word.now (sym c.place_of_equals.ensures.place ∙ c.in-None.is)
+returns-in-None-clause-told c = no_setting c.args.word.now c.in-None.ensures.cut

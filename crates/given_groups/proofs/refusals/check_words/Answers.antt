@@ -5,7 +5,7 @@ use Rattle.account_model.specs.declared.refusal.Refusal.TheVariants.{NoGroup}
 use Rattle.account_model.specs.GivenGroups.{is_unknown_group}
 use Rattle.account_model.specs.Refusals.{refuse_if}
 use Rattle.table_edits.specs.Stopping.{StopsBy}
-use Rattle.given_groups.proofs.StoppingLemmas.{handed-stops, stopped-first}
+use Rattle.table_edits.proofs.StoppingLemmas.{handed-stops, stopped-first}
 use Rattle.given_groups.proofs.refusals.check_words.Goals as goal
 
 pub returns-in_err-check_word : goal.returns-in_err-check_word
@@ -15,7 +15,7 @@ returns-in_err-check_word c =
     let word = c.word-item.result in
     let rest = drop (place + 1) words in
     let fault = c.in_err-check_word.field-0.0 in
-    let test = is_unknown_group c.args.tables.now in
+    let test = is_unknown_group c.args.groups.now in
     let inside : place < length words = omega arith in
     let from = drop_more words place word inside ∙ ap (λ w. w ∷ rest) (sym c.word-item.is) in
     let stopped = stopped-first test NoGroup word rest fault

@@ -4,8 +4,12 @@ use Rattle.acct_outside.specs.Calls.{reads}
 use Rattle.acct_outside.specs.Contract.{found_result}
 use Rattle.suite_rules.specs.Rules.{free_read}
 use Rattle.suite_rules.specs.Steps.{own_command}
-use Rattle.suite_rules.proofs.StepLemmas.{told-of, makes-call, leaves, stays-lawful, read-tells}
+use Rattle.suite_rules.proofs.StepLemmas.{told-of, read-tells, takes-step}
 use Rattle.lock_steps.specs.Stands.{Keeps, KnowsAnything}
+use Rattle.lock_steps.proofs.OutcomesLemmas.{counts}
+use Rattle.recovery.specs.declared.RecoveryEnd.TheVariants.{Fault}
+use Rattle.recovery.specs.Stands.{HoldsSeen}
+use Rattle.recovery.specs.Outcomes.{FindsIntent, failed_before}
 use Rattle.recovery.proofs.OutcomesLemmas.{read-leads, read-refuses, absent-clean}
 use Rattle.recovery.proofs.reading.read_intent.Goals as goal
 
@@ -29,25 +33,18 @@ returns g c =
     let answer = found_result found in
     let keeps = Keeps c.args.keeper KnowsAnything in
     let narrows = c.read-found.ensures.call.narrows in
-    let counts = c.read-found.ensures.call.faults in
     let shown = c.after_read.ensures.shown in
     let told = told-of before now _ token (reads Intent) answer c.token.ensures
     (read-tells before now _ Intent found c.read-found.ensures.call.told) in
     record {
-      step = record {
-        call = makes-call before now narrows token (reads Intent) tt keeps _
-            answer c.requires told shown;
-        next = read-leads before now narrows token c.args.keeper
-            answer c.after_read.result shown c.requires told;
-        left = leaves before.admits now.admits narrows token (reads Intent) tt keeps
-            own_command (λ result stood held. refl) answer before.told now.told c.requires told;
-        lawful = λ deeds. stays-lawful deeds before.admits token (reads Intent) tt keeps
-            (λ stood kept. free_read Intent) answer before.told now.told c.requires told;
-        faults = record {
-          never_falls = counts.never_falls;
-          failed = λ is. counts.failed (c.after_read.ensures.failed is);
-        };
-      };
+      step = takes-step before now narrows token (reads Intent) tt tt keeps
+          (λ deeds stood kept. free_read Intent) own_command (λ result stood held. refl)
+          (λ answer. FindsIntent c.args.keeper answer c.after_read.result) HoldsSeen
+          (Fault failed_before) c.after_read.result answer c.requires told shown
+          (read-leads before now narrows token c.args.keeper answer c.after_read.result shown
+          c.requires told)
+          (counts (Fault failed_before) _ _ found c.after_read.result c.after_read.ensures.failed
+          c.read-found.ensures.call.faults);
       refused = read-refuses before now narrows token c.args.keeper
           answer c.after_read.result shown c.requires told;
     }

@@ -1,24 +1,23 @@
-use Rattle.std.proofs.Common.{◌∙◌, map, ap, arith}
-use Rattle.std.proofs.lemmas.List.{take_all}
-use Rattle.acct_text.specs.Bytes.{part_of}
-use Rattle.acct_text.specs.Lines.{file_bytes}
-use Rattle.acct_tables.proofs.LoadedLines.{line_at, line-lacks, lines-at}
-use Rattle.subid_ranges.specs.RangeLines.{without_range}
+use Rattle.std.proofs.Common.{length, ap, arith}
+use Rattle.account_model.specs.Edits.{becomes}
+use Rattle.account_model.specs.Records.{subid_format}
+use Rattle.acct_tables.specs.SeenLines.{seen_line}
+use Rattle.acct_tables.proofs.LinesAhead.{walked, walked-all}
+use Rattle.subid_ranges.specs.RangeLines.{without_ids}
 use Rattle.subid_ranges.proofs.cut.text_without.Goals as goal
 
-pub push_cut-requires-clause-one_line : goal.push_cut-requires-clause-one_line
-push_cut-requires-clause-one_line c =
-    let text = c.args.text.now in
-    line-lacks text c.in_ok-places.places.items c.deref-start-items.result.now c.lines.start-index
-    c.deref-start-items.ensures.value c.in_ok-places.ensures.texts (omega arith)
+pub lines-preserved : goal.lines-preserved
+lines-preserved c =
+    let cut = c.args.cut.now in
+    walked (becomes subid_format (without_ids cut.owner.now cut.uid cut.first cut.last))
+    (seen_line c.in-Some.line) c.lines.left c.take.new.self c.lines.made c.push_cut.new.left _
+    c.in-Some.ensures.taken c.in_ok-push_cut.ensures c.lines.invariant
+
+pub lines-smaller : goal.lines-smaller
+lines-smaller c = omega (arith, ap length c.in-Some.ensures.taken)
 
 pub returns : goal.returns
 returns c =
-    let text = c.args.text.now in
     let cut = c.args.cut.now in
-    let places = c.deref-start-items.result.now in
-    c.lines.invariant
-    ∙ ap (λ lines. file_bytes (without_range cut.owner.now cut.uid cut.first cut.last lines))
-    (ap (map (line_at text)) (take_all c.lines.start-index places (omega arith))
-    ∙ lines-at text places (c.deref-start-items.ensures.value ∙ c.in_ok-places.ensures.places)
-    (ap (map (part_of text)) c.deref-start-items.ensures.value ∙ c.in_ok-places.ensures.texts))
+    walked-all (becomes subid_format (without_ids cut.owner.now cut.uid cut.first cut.last))
+    c.lines.left c.lines.made _ c.in_default.ensures.taken c.lines.invariant

@@ -3,7 +3,7 @@ use Rattle.acct_outside.specs.declared.memory.MemoryFolder.{MemoryFolder}
 use Rattle.acct_outside.specs.Memory.{past_of}
 use Rattle.account_model.proofs.AsksLaws.{request_or_fault}
 use Rattle.suite_clients.specs.Alone.{IsLawful}
-use Rattle.suite_clients.proofs.AloneLemmas.{ran-lawful, ran-step, unsupplied-undecided}
+use Rattle.suite_clients.proofs.AloneLemmas.{faulty-undecided, ran-lawful, ran-step, unsupplied-undecided}
 use Rattle.suite_clients.proofs.alone.run_alone.Goals as goal
 
 pub returns-clause-lawful : goal.returns-clause-lawful
@@ -19,8 +19,20 @@ returns-clause-lawful g c =
       ]
     ]
 
+pub returns-clause-asks : goal.returns-clause-asks
+returns-clause-asks g c = λ decided. elim (request_or_fault c.args.words.now) [
+  | inl asked ↦ asked
+  | inr found ↦ absurd (faulty-undecided _ c.args.words.now found.0 _ _ _
+      (c.run_suite.ensures.syntax found.0 found.1).3 decided)
+]
+
 pub returns-clause-step : goal.returns-clause-step
 returns-clause-step g c = λ request asks decided. elim (c.run_suite.ensures.ran request asks) [
   | inl early ↦ absurd (unsupplied-undecided _ _ _ _ _ _ early.1 decided)
-  | inr ran ↦ ran-step _ _ _ _ _ _ _ _ ran.3 c.requires asks decided
+  | inr ran ↦ (
+    ran.0,
+    ran.1,
+    ran.2,
+    ran-step _ _ _ _ _ _ _ _ ran.3 c.requires asks decided,
+  )
 ]

@@ -1,48 +1,74 @@
 use Rattle.std.proofs.Common.{sym, ◌∙◌}
 use Rattle.acct_outside.specs.Memory.{past_of}
 use Rattle.suite_session.specs.Session.{answer_of}
-use Rattle.suite_clients.proofs.TogetherLemmas.{one-turned, both-turned, left-falls, both-some, settles-so}
+use Rattle.suite_clients.proofs.TogetherLemmas.{both-some, both-turned, left-falls, promised-so, settles-so, together-also}
 use Rattle.suite_clients.proofs.together.turn_both.Goals as goal
 
 pub turns-init : goal.turns-init
 turns-init c = c.requires
 
-pub turn-requires : goal.turn-requires
-turn-requires c = c.turns.invariant.one_stands.stands
+pub turn_once-requires : goal.turn_once-requires
+turn_once-requires c = record {
+  lawful = c.turns.invariant.lawful;
+  belongs = c.turns.invariant.one_belongs;
+}
 
-pub turn-requires-in-turns : goal.turn-requires-in-turns
-turn-requires-in-turns c = (one-turned c.turns.folder c.turn.new.folder c.turns.one c.turns.other
-    c.turn.new.self c.turns.invariant c.turn.ensures.turns c.turn.ensures.others).other_stands
+pub turn_once-requires-in-turns : goal.turn_once-requires-in-turns
+turn_once-requires-in-turns c =
+    let together = c.turn_once.ensures.together c.turns.other c.turns.invariant in
+    record { lawful = together.lawful; belongs = together.other_belongs }
 
 pub turns-smaller : goal.turns-smaller
-turns-smaller c = left-falls c.turns.one c.turn.new.self c.turns.other c.turn-in-turns.new.self
-    c.turn.ensures.nearer c.turn.ensures.ends c.turn-in-turns.ensures.nearer
-    c.turn-in-turns.ensures.ends (sym c.is_any_going.ensures ∙ c.turns-test.true)
+turns-smaller c = left-falls c.turns.one c.turn_once.new.session c.turns.other
+    c.turn_once-in-turns.new.session c.turn_once.ensures.nearer c.turn_once.ensures.ends
+    c.turn_once-in-turns.ensures.nearer c.turn_once-in-turns.ensures.ends
+    (sym c.is_any_going.ensures ∙ c.turns-test.true)
 
 pub turns-preserved : goal.turns-preserved
-turns-preserved c = both-turned c.turns.folder c.turn.new.folder c.turn-in-turns.new.folder
-    c.turns.one c.turns.other c.turn.new.self c.turn-in-turns.new.self c.turns.invariant
-    c.turn.ensures.turns c.turn.ensures.others c.turn-in-turns.ensures.turns
-    c.turn-in-turns.ensures.others
+turns-preserved c = both-turned c.turns.folder c.turn_once.new.folder
+    c.turn_once-in-turns.new.folder c.turns.one c.turns.other c.turn_once.new.session
+    c.turn_once-in-turns.new.session c.turns.invariant c.turn_once.ensures.together
+    c.turn_once-in-turns.ensures.together
 
-pub turn-requires-2 : goal.turn-requires-2
-turn-requires-2 c = c.turns.invariant.one_stands.stands
+pub turn_once-requires-2 : goal.turn_once-requires-2
+turn_once-requires-2 c = record {
+  lawful = c.turns.invariant.lawful;
+  belongs = c.turns.invariant.one_belongs;
+}
 
-pub turn-requires-3 : goal.turn-requires-3
-turn-requires-3 c = (one-turned c.turns.folder c.turn-2.new.folder c.turns.one c.turns.other
-    c.turn-2.new.self c.turns.invariant c.turn-2.ensures.turns c.turn-2.ensures.others).other_stands
+pub turn_once-requires-3 : goal.turn_once-requires-3
+turn_once-requires-3 c =
+    let together = c.turn_once-2.ensures.together c.turns.other c.turns.invariant in
+    record { lawful = together.lawful; belongs = together.other_belongs }
 
 pub returns-clause-together : goal.returns-clause-together
-returns-clause-together c = both-turned c.turns.folder c.turn-2.new.folder c.turn-3.new.folder
-    c.turns.one c.turns.other c.turn-2.new.self c.turn-3.new.self c.turns.invariant
-    c.turn-2.ensures.turns c.turn-2.ensures.others c.turn-3.ensures.turns c.turn-3.ensures.others
+returns-clause-together c = both-turned c.turns.folder c.turn_once-2.new.folder
+    c.turn_once-3.new.folder c.turns.one c.turns.other c.turn_once-2.new.session
+    c.turn_once-3.new.session c.turns.invariant c.turn_once-2.ensures.together
+    c.turn_once-3.ensures.together
 
 pub returns-clause-other_answered : goal.returns-clause-other_answered
-returns-clause-other_answered c = c.turn-3.ensures.ends (both-some (answer_of c.turns.one)
+returns-clause-other_answered c = c.turn_once-3.ensures.ends (both-some (answer_of c.turns.one)
     (answer_of c.turns.other) (sym c.is_any_going.ensures ∙ c.turns-test.false))
 
 pub returns-clause-settled : goal.returns-clause-settled
-returns-clause-settled c = settles-so (past_of c.turn-3.new.folder) (both-turned c.turns.folder
-    c.turn-2.new.folder c.turn-3.new.folder c.turns.one c.turns.other c.turn-2.new.self
-    c.turn-3.new.self c.turns.invariant c.turn-2.ensures.turns c.turn-2.ensures.others
-    c.turn-3.ensures.turns c.turn-3.ensures.others).one_stands.lawful
+returns-clause-settled c = settles-so (past_of c.turn_once-3.new.folder) (both-turned
+    c.turns.folder c.turn_once-2.new.folder c.turn_once-3.new.folder c.turns.one c.turns.other
+    c.turn_once-2.new.session c.turn_once-3.new.session c.turns.invariant
+    c.turn_once-2.ensures.together c.turn_once-3.ensures.together).lawful
+
+pub returns-clause-one_promised : goal.returns-clause-one_promised
+returns-clause-one_promised c =
+    let together = both-turned c.turns.folder c.turn_once-2.new.folder c.turn_once-3.new.folder
+    c.turns.one c.turns.other c.turn_once-2.new.session c.turn_once-3.new.session
+    c.turns.invariant c.turn_once-2.ensures.together c.turn_once-3.ensures.together in
+    promised-so c.turn_once-3.new.folder c.turn_once-2.new.session
+    c.answers_keep_promises.ensures together.lawful together.one_belongs
+
+pub returns-clause-other_promised : goal.returns-clause-other_promised
+returns-clause-other_promised c =
+    let together = both-turned c.turns.folder c.turn_once-2.new.folder c.turn_once-3.new.folder
+    c.turns.one c.turns.other c.turn_once-2.new.session c.turn_once-3.new.session
+    c.turns.invariant c.turn_once-2.ensures.together c.turn_once-3.ensures.together in
+    promised-so c.turn_once-3.new.folder c.turn_once-3.new.session
+    c.answers_keep_promises.ensures together.lawful together.other_belongs

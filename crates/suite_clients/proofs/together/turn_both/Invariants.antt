@@ -1,11 +1,11 @@
 use Rattle.std.proofs.Common.{◌+◌}
 use Rattle.suite_session.specs.Session.{phase_left}
-use Rattle.suite_clients.specs.Together.{StandTogether}
+use Rattle.suite_clients.specs.Together.{BelongTogether}
 use Rattle.suite_clients.proofs.together.turn_both.Given as goal
 
--- both stand in the folder
+-- both belong to the folder
 abbrev pub invariant-turns : goal.invariant-turns
-invariant-turns l = StandTogether l.folder l.one l.other
+invariant-turns l = BelongTogether l.folder l.one l.other
 
 -- the turns that are left
 abbrev pub decreases-turns : goal.decreases-turns

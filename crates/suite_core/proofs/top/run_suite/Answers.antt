@@ -1,4 +1,4 @@
-use Rattle.std.proofs.Common.{◌≡◌, ◌⊎◌, ◌∙◌, ℕ, inl, inr, refl, sym, ap, subst, Option, Some, arith}
+use Rattle.std.proofs.Common.{◌≡◌, ◌⊎◌, ◌∙◌, ℕ, inl, inr, refl, sym, ap, subst, Option, Some}
 use Rattle.acct_text.specs.Bytes.{Bytes}
 use Rattle.account_model.specs.declared.word_fault.WordFault.TheVariants.{Memory as NoMemory}
 use Rattle.acct_outside.specs.declared.CommitStage.TheVariants.{Before}
@@ -41,8 +41,7 @@ returns-in-Err-clause-ran g c = λ request asks.
     inl (
       refl,
       ends-unsupplied request.tool _ _ was holds c.refuse_words.result (Memory Before)
-          (record { gave = refl; faults = refl }, none-came (g.S.Source.moment c.args.input.now).left)
-          (record { source = omega arith; clock = omega arith })
+          (refl, (record { gave = refl; faults = refl }, none-came (g.S.Source.moment c.args.input.now).left))
           (subst (λ (one : Option Tool).
           EndsEarly one (told request.tool (Memory Before)) was holds c.refuse_words.result)
           (named-asked c.args.words.now request asks)

@@ -1,10 +1,24 @@
 use Rattle.std.proofs.Common.{sym, subst, IsSome}
 use Rattle.suite_session.specs.declared.session.Phase.{Phase}
-use Rattle.suite_session.specs.Session.{SessionStands, answer_of}
+use Rattle.suite_session.specs.Belongs.{Belongs}
+use Rattle.suite_session.specs.Session.{answer_of}
 use Rattle.suite_course.specs.Streams.{streams}
 use Rattle.suite_course.proofs.CourseLemmas.{waiting-is}
-use Rattle.suite_course.proofs.FinishLemmas.{finishes, streams-answer, streams-stand}
+use Rattle.suite_course.proofs.FinishLemmas.{finishes, is-to-put, streams-answer, streams-belong}
 use Rattle.suite_course.proofs.course.finish.Goals as goal
+
+-- a stream that failed had a text to take
+pub after_streams-requires : goal.after_streams-requires
+after_streams-requires g c =
+    let entry = g.F.Folder.moment c.args.folder.now in
+    let between = g.F.Folder.moment c.to_answer-session.new.folder in
+    let waits = waiting-is c.args.session c.requires in
+    λ fault is. is-to-put waits.0 entry between c.args.tool
+    (streams (g.O.Sink.moment c.args.out.now) (g.E.Sink.moment c.args.err.now))
+    (streams (g.O.Sink.moment c.put_answer-put.new.out) (g.E.Sink.moment c.put_answer-put.new.err))
+    c.put_answer-put.result c.to_answer-session.result
+    (c.to_answer-session.ensures.comes waits.0 waits.1) c.to_answer-session.ensures.answers
+    c.put_answer-put.ensures fault is
 
 pub conclude-requires : goal.conclude-requires
 conclude-requires g c =
@@ -13,8 +27,8 @@ conclude-requires g c =
     let session = c.to_answer-session.result in
     let waits = waiting-is c.args.session c.requires in
     record {
-      stands = subst (λ (one : Phase). SessionStands between one) (sym c.after_streams.ensures)
-          (streams-stand waits.0 entry between c.put_answer-put.result session
+      belongs = subst (λ (one : Phase). Belongs between one) (sym c.after_streams.ensures)
+          (streams-belong waits.0 entry between c.put_answer-put.result session
           (c.to_answer-session.ensures.comes waits.0 waits.1));
       answers = subst (λ (one : Phase). IsSome (answer_of one)) (sym c.after_streams.ensures)
           (streams-answer c.put_answer-put.result session c.to_answer-session.ensures.answers);

@@ -18,55 +18,60 @@ use Rattle.suite_session.proofs.MeetingLemmas.{quiet-on, leads-done, leads-ended
 use Rattle.suite_session.proofs.CallsLemmas.{answers-fewer, cleared-calls, installing-some}
 use Rattle.suite_session.proofs.committing.clear.Goals as goal
 
-pub returns-in-Ok-clause-turns : goal.returns-in-Ok-clause-turns
-returns-in-Ok-clause-turns g c =
-    let before = g.F.Folder.moment c.args.folder.now in
-    let now = g.F.Folder.moment c.clear.new.folder in
-    let done = leads-done c.args.installing.change.inputs.keeper after_commit _ c.in-Ok.cleared
-    c.in-Ok.ensures.call.shown in
-    subst (λ (kept : Kept). Turns before now c.args.runner.now
-    (Installing c.args.installing c.args.answer) (Unlocking kept c.args.answer))
-    (sym (c.forget.ensures ∙ c.release.ensures))
-    (turns before now c.args.runner.now commit_done (Installs c.args.installing)
-    c.requires.stands.stands (token_of c.args.installing) c.requires.stands.same
-    (removes Intent) tt _ (λ result stood. refl) c.in-Ok.ensures.call
-    c.clear.ensures.lawful c.clear.ensures.faults.never_falls
-    (Installing c.args.installing c.args.answer) (Unlocking c.in-Ok.cleared c.args.answer)
-    (quiet-on (removes Intent) (λ given one met shows. shows) c.in-Ok.ensures.call.answer done.0 _ _
-    done.1)
-    (λ met none. absurd none)
-    (clears before now c.args.runner.now c.args.answer c.args.installing c.requires.stands
-    (removes Intent) tt _ (λ result stood. refl) c.in-Ok.ensures.call c.in-Ok.cleared
-    (leads-on c.args.installing.change.inputs.keeper after_commit c.in-Ok.ensures.call.answer
-    c.in-Ok.cleared c.in-Ok.ensures.call.shown) c.in-Ok.ensures.next)
-    (λ fault. fault))
+pub returns-in-Ok : goal.returns-in-Ok
+returns-in-Ok g c = record {
+  turns =
+      let before = g.F.Folder.moment c.args.folder.now in
+      let now = g.F.Folder.moment c.clear.new.folder in
+      let done = leads-done c.args.installing.change.inputs.keeper after_commit _ c.in-Ok.cleared
+      c.in-Ok.ensures.call.shown in
+      subst (λ (kept : Kept). Turns before now c.args.runner.now
+      (Installing c.args.installing c.args.answer) (Unlocking kept c.args.answer))
+      (sym (c.forget.ensures ∙ c.release.ensures))
+      (turns before now c.args.runner.now commit_done (Installs c.args.installing)
+      c.requires.stands.stands (token_of c.args.installing) c.requires.stands.same
+      (removes Intent) tt _ (λ result stood. refl) c.in-Ok.ensures.call
+      c.clear.ensures.lawful c.clear.ensures.faults.never_falls
+      (Installing c.args.installing c.args.answer) (Unlocking c.in-Ok.cleared c.args.answer)
+      (quiet-on (removes Intent) (λ given one met shows. shows) c.in-Ok.ensures.call.answer done.0 _
+      _
+      done.1)
+      (λ met none. absurd none)
+      (clears before now c.args.runner.now c.args.answer c.args.installing c.requires.stands
+      (removes Intent) tt _ (λ result stood. refl) c.in-Ok.ensures.call c.in-Ok.cleared
+      (leads-on c.args.installing.change.inputs.keeper after_commit c.in-Ok.ensures.call.answer
+      c.in-Ok.cleared c.in-Ok.ensures.call.shown) c.in-Ok.ensures.next)
+      (λ fault. fault));
+  counts =
+      cleared-calls c.args.installing c.forget.result c.args.answer
+      (c.forget.ensures ∙ (c.release.ensures
+      ∙ leads-on c.args.installing.change.inputs.keeper after_commit c.in-Ok.ensures.call.answer
+      c.in-Ok.cleared c.in-Ok.ensures.call.shown));
+}
 
-pub returns-in-Err-clause-turns : goal.returns-in-Err-clause-turns
-returns-in-Err-clause-turns g c =
-    let before = g.F.Folder.moment c.args.folder.now in
-    let now = g.F.Folder.moment c.clear.new.folder in
-    let fault = c.in-Err.fault in
-    let stage = leads-stage (c.args.installing.change.inputs.keeper) Committed
-    c.in-Err.ensures.call.answer fault c.in-Err.ensures.call.shown in
-    faults before now c.args.runner.now commit_done (Installs c.args.installing)
-    c.requires.stands.stands (token_of c.args.installing) c.requires.stands.same (removes Intent)
-    tt _
-    (λ result stood. refl) c.in-Err.ensures.call
-    c.clear.ensures.lawful c.clear.ensures.faults.never_falls (Installing c.args.installing c.args.answer) c.given_up.result
-    (λ met none. absurd none) fault.stage fault.fault
-    (leads-ended c.args.installing.change.inputs.keeper Committed _ fault c.in-Err.ensures.call.shown) c.given_up.ensures
-    (ap commit_at (sym stage))
-    (λ failed. c.clear.ensures.faults.failed (c.in-Err.is ∙ ap Err
-    (leads-failed c.args.installing.change.inputs.keeper Committed _ fault c.in-Err.ensures.call.shown
-    (fault-outside fault.stage fault.fault failed))))
-
-pub returns-in-Ok-clause-counted : goal.returns-in-Ok-clause-counted
-returns-in-Ok-clause-counted g c =
-    cleared-calls c.args.installing c.forget.result c.args.answer
-    (c.forget.ensures ∙ (c.release.ensures
-    ∙ leads-on c.args.installing.change.inputs.keeper after_commit c.in-Ok.ensures.call.answer
-    c.in-Ok.cleared c.in-Ok.ensures.call.shown))
-
-pub returns-in-Err-clause-counted : goal.returns-in-Err-clause-counted
-returns-in-Err-clause-counted g c =
-    answers-fewer _ _ c.given_up.result c.given_up.ensures _ (installing-some c.args.installing c.args.answer)
+pub returns-in-Err : goal.returns-in-Err
+returns-in-Err g c = record {
+  turns =
+      let before = g.F.Folder.moment c.args.folder.now in
+      let now = g.F.Folder.moment c.clear.new.folder in
+      let fault = c.in-Err.fault in
+      let stage = leads-stage (c.args.installing.change.inputs.keeper) Committed
+      c.in-Err.ensures.call.answer fault c.in-Err.ensures.call.shown in
+      faults before now c.args.runner.now commit_done (Installs c.args.installing)
+      c.requires.stands.stands (token_of c.args.installing) c.requires.stands.same (removes Intent)
+      tt _
+      (λ result stood. refl) c.in-Err.ensures.call
+      c.clear.ensures.lawful c.clear.ensures.faults.never_falls
+      (Installing c.args.installing c.args.answer) c.given_up.result
+      (λ met none. absurd none) fault.stage fault.fault
+      (leads-ended c.args.installing.change.inputs.keeper Committed _ fault
+      c.in-Err.ensures.call.shown) c.given_up.ensures
+      (ap commit_at (sym stage))
+      (λ failed. c.clear.ensures.faults.failed (c.in-Err.is ∙ ap Err
+      (leads-failed c.args.installing.change.inputs.keeper Committed _ fault
+      c.in-Err.ensures.call.shown
+      (fault-outside fault.stage fault.fault failed))));
+  counts =
+      answers-fewer _ _ c.given_up.result c.given_up.ensures _
+      (installing-some c.args.installing c.args.answer);
+}

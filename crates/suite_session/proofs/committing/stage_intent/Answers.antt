@@ -18,50 +18,54 @@ use Rattle.suite_session.proofs.MeetingLemmas.{quiet-on, leads-done, leads-ended
 use Rattle.suite_session.proofs.CallsLemmas.{answers-fewer, backing-some, intended-calls}
 use Rattle.suite_session.proofs.committing.stage_intent.Goals as goal
 
-pub returns-in-Ok-clause-turns : goal.returns-in-Ok-clause-turns
-returns-in-Ok-clause-turns g c =
-    let before = g.F.Folder.moment c.args.folder.now in
-    let now = g.F.Folder.moment c.stage_intent.new.folder in
-    let done = leads-done c.args.backing.change before_commit _ c.in-Ok.staged
-    c.in-Ok.ensures.call.shown in
-    turns before now c.args.runner.now commit_uncalled (BacksUp c.args.backing)
-    c.requires.stands.stands (token_of c.args.backing) c.requires.stands.same
-    (writes IntentStage (intent_text (intended c.args.backing.change))) tt _ (λ result stood. refl)
-    c.in-Ok.ensures.call
-    c.stage_intent.ensures.lawful c.stage_intent.ensures.faults.never_falls
-    (BackingUp c.args.backing c.args.answer) (Committing c.in-Ok.staged c.args.answer)
-    (quiet-on (writes IntentStage (intent_text (intended c.args.backing.change)))
-    (λ given one met shows. shows) c.in-Ok.ensures.call.answer done.0 _ _ done.1)
-    (λ met none. absurd none)
-    (stages-intent before now c.args.runner.now c.args.answer c.args.backing c.requires.stands
-    (writes IntentStage (intent_text (intended c.args.backing.change))) tt (λ result stood. refl)
-    c.in-Ok.staged c.in-Ok.ensures.call c.in-Ok.ensures.next)
-    (λ fault. fault)
+pub returns-in-Ok : goal.returns-in-Ok
+returns-in-Ok g c = record {
+  turns =
+      let before = g.F.Folder.moment c.args.folder.now in
+      let now = g.F.Folder.moment c.stage_intent.new.folder in
+      let done = leads-done c.args.backing.change before_commit _ c.in-Ok.staged
+      c.in-Ok.ensures.call.shown in
+      turns before now c.args.runner.now commit_uncalled (BacksUp c.args.backing)
+      c.requires.stands.stands (token_of c.args.backing) c.requires.stands.same
+      (writes IntentStage (intent_text (intended c.args.backing.change))) tt _
+      (λ result stood. refl)
+      c.in-Ok.ensures.call
+      c.stage_intent.ensures.lawful c.stage_intent.ensures.faults.never_falls
+      (BackingUp c.args.backing c.args.answer) (Committing c.in-Ok.staged c.args.answer)
+      (quiet-on (writes IntentStage (intent_text (intended c.args.backing.change)))
+      (λ given one met shows. shows) c.in-Ok.ensures.call.answer done.0 _ _ done.1)
+      (λ met none. absurd none)
+      (stages-intent before now c.args.runner.now c.args.answer c.args.backing c.requires.stands
+      (writes IntentStage (intent_text (intended c.args.backing.change))) tt (λ result stood. refl)
+      c.in-Ok.staged c.in-Ok.ensures.call c.in-Ok.ensures.next)
+      (λ fault. fault);
+  counts =
+      intended-calls c.args.backing c.in-Ok.staged c.args.answer
+      (leads-on c.args.backing.change before_commit _ c.in-Ok.staged c.in-Ok.ensures.call.shown);
+}
 
-pub returns-in-Err-clause-turns : goal.returns-in-Err-clause-turns
-returns-in-Err-clause-turns g c =
-    let before = g.F.Folder.moment c.args.folder.now in
-    let now = g.F.Folder.moment c.stage_intent.new.folder in
-    let fault = c.in-Err.fault in
-    let stage = leads-stage (c.args.backing.change) Before c.in-Err.ensures.call.answer fault
-    c.in-Err.ensures.call.shown in
-    faults before now c.args.runner.now commit_uncalled (BacksUp c.args.backing)
-    c.requires.stands.stands (token_of c.args.backing) c.requires.stands.same
-    (writes IntentStage (intent_text (intended c.args.backing.change))) tt _
-    (λ result stood. refl) c.in-Err.ensures.call
-    c.stage_intent.ensures.lawful c.stage_intent.ensures.faults.never_falls (BackingUp c.args.backing c.args.answer) c.given_up.result
-    (λ met none. absurd none) fault.stage fault.fault
-    (leads-ended c.args.backing.change Before _ fault c.in-Err.ensures.call.shown) c.given_up.ensures
-    (ap commit_at (sym stage))
-    (λ failed. c.stage_intent.ensures.faults.failed (c.in-Err.is ∙ ap Err
-    (leads-failed c.args.backing.change Before _ fault c.in-Err.ensures.call.shown
-    (fault-outside fault.stage fault.fault failed))))
-
-pub returns-in-Ok-clause-counted : goal.returns-in-Ok-clause-counted
-returns-in-Ok-clause-counted g c =
-    intended-calls c.args.backing c.in-Ok.staged c.args.answer
-    (leads-on c.args.backing.change before_commit _ c.in-Ok.staged c.in-Ok.ensures.call.shown)
-
-pub returns-in-Err-clause-counted : goal.returns-in-Err-clause-counted
-returns-in-Err-clause-counted g c =
-    answers-fewer _ _ c.given_up.result c.given_up.ensures _ (backing-some c.args.backing c.args.answer)
+pub returns-in-Err : goal.returns-in-Err
+returns-in-Err g c = record {
+  turns =
+      let before = g.F.Folder.moment c.args.folder.now in
+      let now = g.F.Folder.moment c.stage_intent.new.folder in
+      let fault = c.in-Err.fault in
+      let stage = leads-stage (c.args.backing.change) Before c.in-Err.ensures.call.answer fault
+      c.in-Err.ensures.call.shown in
+      faults before now c.args.runner.now commit_uncalled (BacksUp c.args.backing)
+      c.requires.stands.stands (token_of c.args.backing) c.requires.stands.same
+      (writes IntentStage (intent_text (intended c.args.backing.change))) tt _
+      (λ result stood. refl) c.in-Err.ensures.call
+      c.stage_intent.ensures.lawful c.stage_intent.ensures.faults.never_falls
+      (BackingUp c.args.backing c.args.answer) c.given_up.result
+      (λ met none. absurd none) fault.stage fault.fault
+      (leads-ended c.args.backing.change Before _ fault c.in-Err.ensures.call.shown)
+      c.given_up.ensures
+      (ap commit_at (sym stage))
+      (λ failed. c.stage_intent.ensures.faults.failed (c.in-Err.is ∙ ap Err
+      (leads-failed c.args.backing.change Before _ fault c.in-Err.ensures.call.shown
+      (fault-outside fault.stage fault.fault failed))));
+  counts =
+      answers-fewer _ _ c.given_up.result c.given_up.ensures _
+      (backing-some c.args.backing c.args.answer);
+}

@@ -11,59 +11,67 @@ use Rattle.suite_session.proofs.LockingLemmas.{end-plain, end-stage, end-failed,
 use Rattle.suite_session.proofs.MeetingLemmas.{ask-on, ask-ends}
 use Rattle.suite_session.specs.Locking.{cause_of_end}
 use Rattle.acct_outside.specs.declared.CommitStage.TheVariants.{Before}
-use Rattle.suite_session.proofs.CallsLemmas.{answers-fewer}
+use Rattle.suite_session.proofs.CallsLemmas.{answers-near, ask-calls}
 use Rattle.suite_session.proofs.locking.ask.Goals as goal
 
-pub returns-in-Ok-clause-turns : goal.returns-in-Ok-clause-turns
-returns-in-Ok-clause-turns g c =
-    let before = g.F.Folder.moment c.args.folder.now in
-    let now = g.F.Folder.moment c.ask.new.folder in
-    turns before now c.args.runner.now commit_uncalled (HasReadHeld c.args.asking) c.requires.1
-    c.args.asking.token c.requires.0 (asks c.args.asking.asked) tt _ (λ result stood. refl)
-    c.in-Ok.ensures.call
-    c.ask.ensures.lawful c.ask.ensures.faults.never_falls
-    (Asking c.args.asking) (Claiming c.in-Ok.judged)
-    (ask-on c.args.runner.now.asked.request.tool (Claiming c.in-Ok.judged) c.args.asking c.in-Ok.ensures.call.answer c.in-Ok.judged
-    c.in-Ok.ensures.call.shown)
-    (λ met none. absurd none) (
-      asks-token _ _ _ c.in-Ok.ensures.call.shown ∙ c.requires.0,
-      goes-on before now c.args.runner.now commit_uncalled (HasReadHeld c.args.asking) c.requires.1
-          c.args.asking.token c.requires.0 (asks c.args.asking.asked) tt _ (λ result stood. refl)
-          c.in-Ok.ensures.call
-          (HasJudged c.in-Ok.judged) c.in-Ok.ensures.next,
-    )
-    (λ fault. fault)
+pub returns-in-Ok : goal.returns-in-Ok
+returns-in-Ok g c = record {
+  turns =
+      let before = g.F.Folder.moment c.args.folder.now in
+      let now = g.F.Folder.moment c.ask.new.folder in
+      turns before now c.args.runner.now commit_uncalled (HasReadHeld c.args.asking) c.requires.1
+      c.args.asking.token c.requires.0 (asks c.args.asking.asked) tt _ (λ result stood. refl)
+      c.in-Ok.ensures.call
+      c.ask.ensures.lawful c.ask.ensures.faults.never_falls
+      (Asking c.args.asking) (Claiming c.in-Ok.judged)
+      (ask-on c.args.runner.now.asked.request.tool (Claiming c.in-Ok.judged) c.args.asking
+      c.in-Ok.ensures.call.answer c.in-Ok.judged
+      c.in-Ok.ensures.call.shown)
+      (λ met none. absurd none) (
+        asks-token _ _ _ c.in-Ok.ensures.call.shown ∙ c.requires.0,
+        goes-on before now c.args.runner.now commit_uncalled (HasReadHeld c.args.asking)
+            c.requires.1
+            c.args.asking.token c.requires.0 (asks c.args.asking.asked) tt _ (λ result stood. refl)
+            c.in-Ok.ensures.call
+            (HasJudged c.in-Ok.judged) c.in-Ok.ensures.next,
+      )
+      (λ fault. fault);
+  counts = ask-calls c.args.asking c.in-Ok.judged;
+}
 
-pub returns-in-Err-clause-turns : goal.returns-in-Err-clause-turns
-returns-in-Err-clause-turns g c =
-    let before = g.F.Folder.moment c.args.folder.now in
-    let now = g.F.Folder.moment c.ask.new.folder in
-    stops before now c.args.runner.now commit_uncalled (HasReadHeld c.args.asking) c.requires.1
-    c.args.asking.token c.requires.0 (asks c.args.asking.asked) tt _ (λ result stood. refl)
-    c.in-Err.ensures.call
-    c.ask.ensures.lawful c.ask.ensures.faults.never_falls
-    (Asking c.args.asking) c.stopped.result
-    (ask-ends c.args.runner.now.asked.request.tool c.stopped.result c.args.asking c.in-Err.ensures.call.answer
-    c.in-Err.end c.in-Err.ensures.call.shown c.stopped.ensures)
-    (λ met none. absurd none)
-    (cause_of_end c.in-Err.end) c.stopped.ensures (end-plain c.in-Err.end)
-    (ask-met c.args.runner.now.token now.told c.args.asking c.in-Err.ensures.call.answer c.in-Err.end
-    c.requires.2 c.in-Err.ensures.call.shown
-    (got before now c.args.runner.now commit_uncalled (HasReadHeld c.args.asking) c.requires.1
-    c.args.asking.token c.requires.0 (asks c.args.asking.asked) tt _ (λ result stood. refl)
-    c.in-Err.ensures.call)
-    (ended before now c.args.runner.now commit_uncalled (HasReadHeld c.args.asking) c.requires.1
-    c.args.asking.token c.requires.0 (asks c.args.asking.asked) tt _ (λ result stood. refl)
-    c.in-Err.ensures.call Before))
-    (unkept-left before now c.args.runner.now commit_uncalled (HasReadHeld c.args.asking)
-    c.requires.1 c.args.asking.token c.requires.0 (asks c.args.asking.asked) tt _ (λ result stood. refl)
-    c.in-Err.ensures.call _ (end-plain c.in-Err.end)
-    (ask-unkept c.args.asking c.in-Err.ensures.call.answer c.in-Err.end
-    c.in-Err.ensures.call.shown))
-    (ap commit_at (sym (end-stage c.in-Err.end)))
-    (λ fault. c.ask.ensures.faults.failed
-    (c.in-Err.is ∙ ap Err (end-failed c.in-Err.end fault)))
-
-pub returns-in-Err-clause-counted : goal.returns-in-Err-clause-counted
-returns-in-Err-clause-counted g c =
-    answers-fewer _ _ c.stopped.result c.stopped.ensures _ (search (arith, rules))
+pub returns-in-Err : goal.returns-in-Err
+returns-in-Err g c = record {
+  turns =
+      let before = g.F.Folder.moment c.args.folder.now in
+      let now = g.F.Folder.moment c.ask.new.folder in
+      stops before now c.args.runner.now commit_uncalled (HasReadHeld c.args.asking) c.requires.1
+      c.args.asking.token c.requires.0 (asks c.args.asking.asked) tt _ (λ result stood. refl)
+      c.in-Err.ensures.call
+      c.ask.ensures.lawful c.ask.ensures.faults.never_falls
+      (Asking c.args.asking) c.stopped.result
+      (ask-ends c.args.runner.now.asked.request.tool c.stopped.result c.args.asking
+      c.in-Err.ensures.call.answer
+      c.in-Err.end c.in-Err.ensures.call.shown c.stopped.ensures)
+      (λ met none. absurd none)
+      (cause_of_end c.in-Err.end) c.stopped.ensures (end-plain c.in-Err.end)
+      (ask-met c.args.runner.now.token now.told c.args.asking c.in-Err.ensures.call.answer
+      c.in-Err.end
+      c.requires.2 c.in-Err.ensures.call.shown
+      (got before now c.args.runner.now commit_uncalled (HasReadHeld c.args.asking) c.requires.1
+      c.args.asking.token c.requires.0 (asks c.args.asking.asked) tt _ (λ result stood. refl)
+      c.in-Err.ensures.call)
+      (ended before now c.args.runner.now commit_uncalled (HasReadHeld c.args.asking) c.requires.1
+      c.args.asking.token c.requires.0 (asks c.args.asking.asked) tt _ (λ result stood. refl)
+      c.in-Err.ensures.call Before))
+      (unkept-left before now c.args.runner.now commit_uncalled (HasReadHeld c.args.asking)
+      c.requires.1 c.args.asking.token c.requires.0 (asks c.args.asking.asked) tt _
+      (λ result stood. refl)
+      c.in-Err.ensures.call _ (end-plain c.in-Err.end)
+      (ask-unkept c.args.asking c.in-Err.ensures.call.answer c.in-Err.end
+      c.in-Err.ensures.call.shown))
+      (ap commit_at (sym (end-stage c.in-Err.end)))
+      (λ fault. c.ask.ensures.faults.failed
+      (c.in-Err.is ∙ ap Err (end-failed c.in-Err.end fault)));
+  counts =
+      answers-near _ _ (Asking c.args.asking) c.stopped.result c.stopped.ensures (omega arith);
+}

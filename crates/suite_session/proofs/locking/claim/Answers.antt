@@ -11,59 +11,71 @@ use Rattle.suite_session.proofs.LockingLemmas.{end-plain, end-stage, end-failed,
 use Rattle.suite_session.proofs.MeetingLemmas.{claim-on, claim-ends}
 use Rattle.suite_session.specs.Locking.{cause_of_end}
 use Rattle.acct_outside.specs.declared.CommitStage.TheVariants.{Before}
-use Rattle.suite_session.proofs.CallsLemmas.{answers-fewer}
+use Rattle.suite_session.proofs.CallsLemmas.{answers-near, claim-calls}
 use Rattle.suite_session.proofs.locking.claim.Goals as goal
 
-pub returns-in-Ok-clause-turns : goal.returns-in-Ok-clause-turns
-returns-in-Ok-clause-turns g c =
-    let before = g.F.Folder.moment c.args.folder.now in
-    let now = g.F.Folder.moment c.claim.new.folder in
-    turns before now c.args.runner.now commit_uncalled (HasJudged c.args.judged) c.requires.1
-    c.args.judged.token c.requires.0 (creates (c.args.judged.greatest + 1)) tt _ (λ result stood. refl)
-    c.in-Ok.ensures.call
-    c.claim.ensures.lawful c.claim.ensures.faults.never_falls
-    (Claiming c.args.judged) (Confirming c.in-Ok.claimed)
-    (claim-on c.args.runner.now.asked.request.tool (Confirming c.in-Ok.claimed) c.args.judged c.in-Ok.ensures.call.answer c.in-Ok.claimed
-    c.in-Ok.ensures.call.shown)
-    (λ met none. absurd none) (
-      claims-token _ _ _ c.in-Ok.ensures.call.shown ∙ c.requires.0,
-      goes-on before now c.args.runner.now commit_uncalled (HasJudged c.args.judged) c.requires.1
-          c.args.judged.token c.requires.0 (creates (c.args.judged.greatest + 1)) tt _ (λ result stood. refl)
-          c.in-Ok.ensures.call
-          (HasMade c.in-Ok.claimed) c.in-Ok.ensures.next,
-    )
-    (λ fault. fault)
+pub returns-in-Ok : goal.returns-in-Ok
+returns-in-Ok g c = record {
+  turns =
+      let before = g.F.Folder.moment c.args.folder.now in
+      let now = g.F.Folder.moment c.claim.new.folder in
+      turns before now c.args.runner.now commit_uncalled (HasJudged c.args.judged) c.requires.1
+      c.args.judged.token c.requires.0 (creates (c.args.judged.greatest + 1)) tt _
+      (λ result stood. refl)
+      c.in-Ok.ensures.call
+      c.claim.ensures.lawful c.claim.ensures.faults.never_falls
+      (Claiming c.args.judged) (Confirming c.in-Ok.claimed)
+      (claim-on c.args.runner.now.asked.request.tool (Confirming c.in-Ok.claimed) c.args.judged
+      c.in-Ok.ensures.call.answer c.in-Ok.claimed
+      c.in-Ok.ensures.call.shown)
+      (λ met none. absurd none) (
+        claims-token _ _ _ c.in-Ok.ensures.call.shown ∙ c.requires.0,
+        goes-on before now c.args.runner.now commit_uncalled (HasJudged c.args.judged) c.requires.1
+            c.args.judged.token c.requires.0 (creates (c.args.judged.greatest + 1)) tt _
+            (λ result stood. refl)
+            c.in-Ok.ensures.call
+            (HasMade c.in-Ok.claimed) c.in-Ok.ensures.next,
+      )
+      (λ fault. fault);
+  counts = claim-calls c.args.judged c.in-Ok.claimed;
+}
 
-pub returns-in-Err-clause-turns : goal.returns-in-Err-clause-turns
-returns-in-Err-clause-turns g c =
-    let before = g.F.Folder.moment c.args.folder.now in
-    let now = g.F.Folder.moment c.claim.new.folder in
-    stops before now c.args.runner.now commit_uncalled (HasJudged c.args.judged) c.requires.1
-    c.args.judged.token c.requires.0 (creates (c.args.judged.greatest + 1)) tt _ (λ result stood. refl)
-    c.in-Err.ensures.call
-    c.claim.ensures.lawful c.claim.ensures.faults.never_falls
-    (Claiming c.args.judged) c.stopped.result
-    (claim-ends c.args.runner.now.asked.request.tool c.stopped.result c.args.judged c.in-Err.ensures.call.answer
-    c.in-Err.end c.in-Err.ensures.call.shown c.stopped.ensures)
-    (λ met none. absurd none)
-    (cause_of_end c.in-Err.end) c.stopped.ensures (end-plain c.in-Err.end)
-    (claim-met c.args.runner.now.token now.told c.args.judged c.in-Err.ensures.call.answer c.in-Err.end
-    c.in-Err.ensures.call.shown
-    (got before now c.args.runner.now commit_uncalled (HasJudged c.args.judged) c.requires.1
-    c.args.judged.token c.requires.0 (creates (c.args.judged.greatest + 1)) tt _ (λ result stood. refl)
-    c.in-Err.ensures.call)
-    (ended before now c.args.runner.now commit_uncalled (HasJudged c.args.judged) c.requires.1
-    c.args.judged.token c.requires.0 (creates (c.args.judged.greatest + 1)) tt _ (λ result stood. refl)
-    c.in-Err.ensures.call Before))
-    (unkept-left before now c.args.runner.now commit_uncalled (HasJudged c.args.judged) c.requires.1
-    c.args.judged.token c.requires.0 (creates (c.args.judged.greatest + 1)) tt _
-    (λ result stood. refl) c.in-Err.ensures.call _ (end-plain c.in-Err.end)
-    (claim-unkept c.args.judged c.in-Err.ensures.call.answer c.in-Err.end
-    c.in-Err.ensures.call.shown))
-    (ap commit_at (sym (end-stage c.in-Err.end)))
-    (λ fault. c.claim.ensures.faults.failed
-    (c.in-Err.is ∙ ap Err (end-failed c.in-Err.end fault)))
-
-pub returns-in-Err-clause-counted : goal.returns-in-Err-clause-counted
-returns-in-Err-clause-counted g c =
-    answers-fewer _ _ c.stopped.result c.stopped.ensures _ (search (arith, rules))
+pub returns-in-Err : goal.returns-in-Err
+returns-in-Err g c = record {
+  turns =
+      let before = g.F.Folder.moment c.args.folder.now in
+      let now = g.F.Folder.moment c.claim.new.folder in
+      stops before now c.args.runner.now commit_uncalled (HasJudged c.args.judged) c.requires.1
+      c.args.judged.token c.requires.0 (creates (c.args.judged.greatest + 1)) tt _
+      (λ result stood. refl)
+      c.in-Err.ensures.call
+      c.claim.ensures.lawful c.claim.ensures.faults.never_falls
+      (Claiming c.args.judged) c.stopped.result
+      (claim-ends c.args.runner.now.asked.request.tool c.stopped.result c.args.judged
+      c.in-Err.ensures.call.answer
+      c.in-Err.end c.in-Err.ensures.call.shown c.stopped.ensures)
+      (λ met none. absurd none)
+      (cause_of_end c.in-Err.end) c.stopped.ensures (end-plain c.in-Err.end)
+      (claim-met c.args.runner.now.token now.told c.args.judged c.in-Err.ensures.call.answer
+      c.in-Err.end
+      c.in-Err.ensures.call.shown
+      (got before now c.args.runner.now commit_uncalled (HasJudged c.args.judged) c.requires.1
+      c.args.judged.token c.requires.0 (creates (c.args.judged.greatest + 1)) tt _
+      (λ result stood. refl)
+      c.in-Err.ensures.call)
+      (ended before now c.args.runner.now commit_uncalled (HasJudged c.args.judged) c.requires.1
+      c.args.judged.token c.requires.0 (creates (c.args.judged.greatest + 1)) tt _
+      (λ result stood. refl)
+      c.in-Err.ensures.call Before))
+      (unkept-left before now c.args.runner.now commit_uncalled (HasJudged c.args.judged)
+      c.requires.1
+      c.args.judged.token c.requires.0 (creates (c.args.judged.greatest + 1)) tt _
+      (λ result stood. refl) c.in-Err.ensures.call _ (end-plain c.in-Err.end)
+      (claim-unkept c.args.judged c.in-Err.ensures.call.answer c.in-Err.end
+      c.in-Err.ensures.call.shown))
+      (ap commit_at (sym (end-stage c.in-Err.end)))
+      (λ fault. c.claim.ensures.faults.failed
+      (c.in-Err.is ∙ ap Err (end-failed c.in-Err.end fault)));
+  counts =
+      answers-near _ _ (Claiming c.args.judged) c.stopped.result c.stopped.ensures (omega arith);
+}

@@ -15,65 +15,69 @@ use Rattle.suite_session.specs.declared.state.State.TheVariants.{Confirming}
 use Rattle.suite_session.proofs.CallsLemmas.{answers-listed, listing-calls}
 use Rattle.suite_session.proofs.locking.confirm.Goals as goal
 
-pub returns-in-Ok-clause-turns : goal.returns-in-Ok-clause-turns
-returns-in-Ok-clause-turns g c =
-    let before = g.F.Folder.moment c.args.folder.now in
-    let now = g.F.Folder.moment c.confirm.new.folder in
-    rw c.after_listing.ensures
-    (turns before now c.args.runner.now commit_uncalled (HasMade c.args.claimed) c.requires.1
-    c.args.claimed.token c.requires.0 (lists) tt _ (λ result stood. refl)
-    c.in-Ok.ensures.call
-    c.confirm.ensures.lawful c.confirm.ensures.faults.never_falls
-    (Confirming c.args.claimed) _
-    (confirm-on c.args.claimed c.in-Ok.ensures.call.answer c.in-Ok.confirmed
-    c.in-Ok.ensures.call.shown)
-    (λ met none. absurd none)
-    (confirm-stands before now c.args.runner.now c.args.claimed c.requires.1 c.requires.0
-    c.in-Ok.confirmed c.in-Ok.ensures.call c.in-Ok.ensures.next)
-    (confirm-quiet c.in-Ok.confirmed))
+pub returns-in-Ok : goal.returns-in-Ok
+returns-in-Ok g c = record {
+  turns =
+      let before = g.F.Folder.moment c.args.folder.now in
+      let now = g.F.Folder.moment c.confirm.new.folder in
+      rw c.after_listing.ensures.next
+      (turns before now c.args.runner.now commit_uncalled (HasMade c.args.claimed) c.requires.1
+      c.args.claimed.token c.requires.0 (lists) tt _ (λ result stood. refl)
+      c.in-Ok.ensures.call
+      c.confirm.ensures.lawful c.confirm.ensures.faults.never_falls
+      (Confirming c.args.claimed) _
+      (confirm-on c.args.claimed c.in-Ok.ensures.call.answer c.in-Ok.confirmed
+      c.in-Ok.ensures.call.shown)
+      (λ met none. absurd none)
+      (confirm-stands before now c.args.runner.now c.args.claimed c.requires.1 c.requires.0
+      c.in-Ok.confirmed c.in-Ok.ensures.call c.in-Ok.ensures.next)
+      (confirm-quiet c.in-Ok.confirmed));
+  counts =
+      let before = g.F.Folder.moment c.args.folder.now in
+      let now = g.F.Folder.moment c.confirm.new.folder in
+      rw c.after_listing.ensures.next
+      (listing-calls now.told c.args.runner.now c.args.claimed c.in-Ok.ensures.call.answer
+      c.in-Ok.confirmed c.in-Ok.ensures.call.shown
+      (got before now c.args.runner.now commit_uncalled (HasMade c.args.claimed) c.requires.1
+      c.args.claimed.token c.requires.0 (lists) tt _ (λ result stood. refl)
+      c.in-Ok.ensures.call) c.after_listing.ensures.few);
+}
 
-pub returns-in-Err-clause-turns : goal.returns-in-Err-clause-turns
-returns-in-Err-clause-turns g c =
-    let before = g.F.Folder.moment c.args.folder.now in
-    let now = g.F.Folder.moment c.confirm.new.folder in
-    stops before now c.args.runner.now commit_uncalled (HasMade c.args.claimed) c.requires.1
-    c.args.claimed.token c.requires.0 (lists) tt _ (λ result stood. refl)
-    c.in-Err.ensures.call
-    c.confirm.ensures.lawful c.confirm.ensures.faults.never_falls
-    (Confirming c.args.claimed) c.stopped.result
-    (confirm-ends c.args.runner.now.asked.request.tool c.stopped.result c.args.claimed c.in-Err.ensures.call.answer
-    c.in-Err.end c.in-Err.ensures.call.shown c.stopped.ensures)
-    (λ met none. absurd none)
-    (cause_of_end c.in-Err.end) c.stopped.ensures (end-plain c.in-Err.end)
-    (confirm-met c.args.runner.now.token now.told c.args.claimed c.in-Err.ensures.call.answer c.in-Err.end
-    c.in-Err.ensures.call.shown
-    (got before now c.args.runner.now commit_uncalled (HasMade c.args.claimed) c.requires.1
-    c.args.claimed.token c.requires.0 (lists) tt _ (λ result stood. refl)
-    c.in-Err.ensures.call)
-    (ended before now c.args.runner.now commit_uncalled (HasMade c.args.claimed) c.requires.1
-    c.args.claimed.token c.requires.0 (lists) tt _ (λ result stood. refl)
-    c.in-Err.ensures.call Before))
-    (unkept-left before now c.args.runner.now commit_uncalled (HasMade c.args.claimed) c.requires.1
-    c.args.claimed.token c.requires.0 (lists) tt _ (λ result stood. refl)
-    c.in-Err.ensures.call _ (end-plain c.in-Err.end)
-    (confirm-unkept c.args.claimed c.in-Err.ensures.call.answer c.in-Err.end
-    c.in-Err.ensures.call.shown))
-    (ap commit_at (sym (end-stage c.in-Err.end)))
-    (λ fault. c.confirm.ensures.faults.failed
-    (c.in-Err.is ∙ ap Err (end-failed c.in-Err.end fault)))
-
-pub returns-in-Ok-clause-counted : goal.returns-in-Ok-clause-counted
-returns-in-Ok-clause-counted g c =
-    let before = g.F.Folder.moment c.args.folder.now in
-    let now = g.F.Folder.moment c.confirm.new.folder in
-    rw c.after_listing.ensures
-    (listing-calls now.told c.args.runner.now c.args.claimed c.in-Ok.ensures.call.answer
-    c.in-Ok.confirmed c.in-Ok.ensures.call.shown
-    (got before now c.args.runner.now commit_uncalled (HasMade c.args.claimed) c.requires.1
-    c.args.claimed.token c.requires.0 (lists) tt _ (λ result stood. refl)
-    c.in-Ok.ensures.call))
-
-pub returns-in-Err-clause-counted : goal.returns-in-Err-clause-counted
-returns-in-Err-clause-counted g c =
-    answers-listed (g.F.Folder.moment c.confirm.new.folder).told c.args.runner.now c.args.claimed _ _
-    c.stopped.result c.stopped.ensures
+pub returns-in-Err : goal.returns-in-Err
+returns-in-Err g c = record {
+  turns =
+      let before = g.F.Folder.moment c.args.folder.now in
+      let now = g.F.Folder.moment c.confirm.new.folder in
+      stops before now c.args.runner.now commit_uncalled (HasMade c.args.claimed) c.requires.1
+      c.args.claimed.token c.requires.0 (lists) tt _ (λ result stood. refl)
+      c.in-Err.ensures.call
+      c.confirm.ensures.lawful c.confirm.ensures.faults.never_falls
+      (Confirming c.args.claimed) c.stopped.result
+      (confirm-ends c.args.runner.now.asked.request.tool c.stopped.result c.args.claimed
+      c.in-Err.ensures.call.answer
+      c.in-Err.end c.in-Err.ensures.call.shown c.stopped.ensures)
+      (λ met none. absurd none)
+      (cause_of_end c.in-Err.end) c.stopped.ensures (end-plain c.in-Err.end)
+      (confirm-met c.args.runner.now.token now.told c.args.claimed c.in-Err.ensures.call.answer
+      c.in-Err.end
+      c.in-Err.ensures.call.shown
+      (got before now c.args.runner.now commit_uncalled (HasMade c.args.claimed) c.requires.1
+      c.args.claimed.token c.requires.0 (lists) tt _ (λ result stood. refl)
+      c.in-Err.ensures.call)
+      (ended before now c.args.runner.now commit_uncalled (HasMade c.args.claimed) c.requires.1
+      c.args.claimed.token c.requires.0 (lists) tt _ (λ result stood. refl)
+      c.in-Err.ensures.call Before))
+      (unkept-left before now c.args.runner.now commit_uncalled (HasMade c.args.claimed)
+      c.requires.1
+      c.args.claimed.token c.requires.0 (lists) tt _ (λ result stood. refl)
+      c.in-Err.ensures.call _ (end-plain c.in-Err.end)
+      (confirm-unkept c.args.claimed c.in-Err.ensures.call.answer c.in-Err.end
+      c.in-Err.ensures.call.shown))
+      (ap commit_at (sym (end-stage c.in-Err.end)))
+      (λ fault. c.confirm.ensures.faults.failed
+      (c.in-Err.is ∙ ap Err (end-failed c.in-Err.end fault)));
+  counts =
+      answers-listed (g.F.Folder.moment c.confirm.new.folder).told c.args.runner.now c.args.claimed
+      _ _
+      c.stopped.result c.stopped.ensures;
+}

@@ -12,60 +12,63 @@ use Rattle.suite_session.proofs.MeetingLemmas.{look-on, look-ends}
 use Rattle.suite_session.specs.Locking.{cause_of_end}
 use Rattle.acct_outside.specs.declared.CommitStage.TheVariants.{Before}
 use Rattle.suite_session.specs.declared.state.State.TheVariants.{Looking}
-use Rattle.suite_session.proofs.CallsLemmas.{answers-fewer, look-calls}
+use Rattle.suite_session.proofs.CallsLemmas.{answers-near, look-calls}
 use Rattle.suite_session.proofs.locking.look.Goals as goal
 
-pub returns-in-Ok-clause-turns : goal.returns-in-Ok-clause-turns
-returns-in-Ok-clause-turns g c =
-    let before = g.F.Folder.moment c.args.folder.now in
-    let now = g.F.Folder.moment c.look.new.folder in
-    rw c.after_look.ensures
-    (turns before now c.args.runner.now commit_uncalled (HasListedNone) c.requires.1
-    c.args.looking c.requires.0 (lists) tt _ (λ result stood. refl)
-    c.in-Ok.ensures.call
-    c.look.ensures.lawful c.look.ensures.faults.never_falls
-    (Looking c.args.looking) _
-    (look-on c.args.runner.now.asked.request.tool _ c.args.looking c.in-Ok.ensures.call.answer c.in-Ok.seen
-    c.in-Ok.ensures.call.shown)
-    (λ met none. absurd none)
-    (look-stands before now c.args.runner.now c.args.looking c.requires.1 c.requires.0
-    c.in-Ok.seen c.in-Ok.ensures.call c.in-Ok.ensures.next)
-    (look-quiet c.in-Ok.seen))
+pub returns-in-Ok : goal.returns-in-Ok
+returns-in-Ok g c = record {
+  turns =
+      let before = g.F.Folder.moment c.args.folder.now in
+      let now = g.F.Folder.moment c.look.new.folder in
+      rw c.after_look.ensures
+      (turns before now c.args.runner.now commit_uncalled (HasListedNone) c.requires.1
+      c.args.looking c.requires.0 (lists) tt _ (λ result stood. refl)
+      c.in-Ok.ensures.call
+      c.look.ensures.lawful c.look.ensures.faults.never_falls
+      (Looking c.args.looking) _
+      (look-on c.args.runner.now.asked.request.tool _ c.args.looking c.in-Ok.ensures.call.answer
+      c.in-Ok.seen
+      c.in-Ok.ensures.call.shown)
+      (λ met none. absurd none)
+      (look-stands before now c.args.runner.now c.args.looking c.requires.1 c.requires.0
+      c.in-Ok.seen c.in-Ok.ensures.call c.in-Ok.ensures.next)
+      (look-quiet c.in-Ok.seen));
+  counts =
+      rw c.after_look.ensures (look-calls c.args.looking c.in-Ok.seen);
+}
 
-pub returns-in-Err-clause-turns : goal.returns-in-Err-clause-turns
-returns-in-Err-clause-turns g c =
-    let before = g.F.Folder.moment c.args.folder.now in
-    let now = g.F.Folder.moment c.look.new.folder in
-    stops before now c.args.runner.now commit_uncalled (HasListedNone) c.requires.1
-    c.args.looking c.requires.0 (lists) tt _ (λ result stood. refl)
-    c.in-Err.ensures.call
-    c.look.ensures.lawful c.look.ensures.faults.never_falls
-    (Looking c.args.looking) c.stopped.result
-    (look-ends c.args.runner.now.asked.request.tool c.stopped.result c.args.looking c.in-Err.ensures.call.answer
-    c.in-Err.end c.in-Err.ensures.call.shown c.stopped.ensures)
-    (λ met none. absurd none)
-    (cause_of_end c.in-Err.end) c.stopped.ensures (end-plain c.in-Err.end)
-    (look-met c.args.runner.now.token now.told c.args.looking c.in-Err.ensures.call.answer c.in-Err.end
-    c.in-Err.ensures.call.shown
-    (got before now c.args.runner.now commit_uncalled (HasListedNone) c.requires.1
-    c.args.looking c.requires.0 (lists) tt _ (λ result stood. refl)
-    c.in-Err.ensures.call)
-    (ended before now c.args.runner.now commit_uncalled (HasListedNone) c.requires.1
-    c.args.looking c.requires.0 (lists) tt _ (λ result stood. refl)
-    c.in-Err.ensures.call Before))
-    (unkept-left before now c.args.runner.now commit_uncalled (HasListedNone) c.requires.1
-    c.args.looking c.requires.0 (lists) tt _ (λ result stood. refl)
-    c.in-Err.ensures.call _ (end-plain c.in-Err.end)
-    (look-unkept c.args.looking c.in-Err.ensures.call.answer c.in-Err.end
-    c.in-Err.ensures.call.shown))
-    (ap commit_at (sym (end-stage c.in-Err.end)))
-    (λ fault. c.look.ensures.faults.failed
-    (c.in-Err.is ∙ ap Err (end-failed c.in-Err.end fault)))
-
-pub returns-in-Ok-clause-counted : goal.returns-in-Ok-clause-counted
-returns-in-Ok-clause-counted g c =
-    rw c.after_look.ensures (look-calls c.in-Ok.seen)
-
-pub returns-in-Err-clause-counted : goal.returns-in-Err-clause-counted
-returns-in-Err-clause-counted g c =
-    answers-fewer _ _ c.stopped.result c.stopped.ensures _ (search (arith, rules))
+pub returns-in-Err : goal.returns-in-Err
+returns-in-Err g c = record {
+  turns =
+      let before = g.F.Folder.moment c.args.folder.now in
+      let now = g.F.Folder.moment c.look.new.folder in
+      stops before now c.args.runner.now commit_uncalled (HasListedNone) c.requires.1
+      c.args.looking c.requires.0 (lists) tt _ (λ result stood. refl)
+      c.in-Err.ensures.call
+      c.look.ensures.lawful c.look.ensures.faults.never_falls
+      (Looking c.args.looking) c.stopped.result
+      (look-ends c.args.runner.now.asked.request.tool c.stopped.result c.args.looking
+      c.in-Err.ensures.call.answer
+      c.in-Err.end c.in-Err.ensures.call.shown c.stopped.ensures)
+      (λ met none. absurd none)
+      (cause_of_end c.in-Err.end) c.stopped.ensures (end-plain c.in-Err.end)
+      (look-met c.args.runner.now.token now.told c.args.looking c.in-Err.ensures.call.answer
+      c.in-Err.end
+      c.in-Err.ensures.call.shown
+      (got before now c.args.runner.now commit_uncalled (HasListedNone) c.requires.1
+      c.args.looking c.requires.0 (lists) tt _ (λ result stood. refl)
+      c.in-Err.ensures.call)
+      (ended before now c.args.runner.now commit_uncalled (HasListedNone) c.requires.1
+      c.args.looking c.requires.0 (lists) tt _ (λ result stood. refl)
+      c.in-Err.ensures.call Before))
+      (unkept-left before now c.args.runner.now commit_uncalled (HasListedNone) c.requires.1
+      c.args.looking c.requires.0 (lists) tt _ (λ result stood. refl)
+      c.in-Err.ensures.call _ (end-plain c.in-Err.end)
+      (look-unkept c.args.looking c.in-Err.ensures.call.answer c.in-Err.end
+      c.in-Err.ensures.call.shown))
+      (ap commit_at (sym (end-stage c.in-Err.end)))
+      (λ fault. c.look.ensures.faults.failed
+      (c.in-Err.is ∙ ap Err (end-failed c.in-Err.end fault)));
+  counts =
+      answers-near _ _ (Looking c.args.looking) c.stopped.result c.stopped.ensures (omega arith);
+}

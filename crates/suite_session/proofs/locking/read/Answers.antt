@@ -13,60 +13,63 @@ use Rattle.suite_session.proofs.MeetingLemmas.{read-on, read-ends}
 use Rattle.suite_session.specs.Locking.{cause_of_end}
 use Rattle.acct_outside.specs.declared.CommitStage.TheVariants.{Before}
 use Rattle.suite_session.specs.declared.state.State.TheVariants.{Reading}
-use Rattle.suite_session.proofs.CallsLemmas.{answers-fewer, read-calls}
+use Rattle.suite_session.proofs.CallsLemmas.{answers-near, read-calls}
 use Rattle.suite_session.proofs.locking.read.Goals as goal
 
-pub returns-in-Ok-clause-turns : goal.returns-in-Ok-clause-turns
-returns-in-Ok-clause-turns g c =
-    let before = g.F.Folder.moment c.args.folder.now in
-    let now = g.F.Folder.moment c.read.new.folder in
-    rw c.after_read.ensures
-    (turns before now c.args.runner.now commit_uncalled (HasLooked c.args.seen) c.requires.2
-    c.args.seen.token c.requires.0 (reads (Lock c.args.seen.greatest)) tt _ (λ result stood. refl)
-    c.in-Ok.ensures.call
-    c.read.ensures.lawful c.read.ensures.faults.never_falls
-    (Reading c.args.seen) _
-    (read-on c.args.runner.now.asked.request.tool _ c.args.seen c.in-Ok.ensures.call.answer c.in-Ok.told
-    c.in-Ok.ensures.call.shown)
-    (λ met none. absurd none)
-    (read-stands before now c.args.runner.now c.args.seen c.requires.2 c.requires.0 c.requires.3
-    c.in-Ok.told
-    c.in-Ok.ensures.call c.in-Ok.ensures.next) (read-quiet c.in-Ok.told))
+pub returns-in-Ok : goal.returns-in-Ok
+returns-in-Ok g c = record {
+  turns =
+      let before = g.F.Folder.moment c.args.folder.now in
+      let now = g.F.Folder.moment c.read.new.folder in
+      rw c.after_read.ensures
+      (turns before now c.args.runner.now commit_uncalled (HasLooked c.args.seen) c.requires.2
+      c.args.seen.token c.requires.0 (reads (Lock c.args.seen.greatest)) tt _ (λ result stood. refl)
+      c.in-Ok.ensures.call
+      c.read.ensures.lawful c.read.ensures.faults.never_falls
+      (Reading c.args.seen) _
+      (read-on c.args.runner.now.asked.request.tool _ c.args.seen c.in-Ok.ensures.call.answer
+      c.in-Ok.told
+      c.in-Ok.ensures.call.shown)
+      (λ met none. absurd none)
+      (read-stands before now c.args.runner.now c.args.seen c.requires.2 c.requires.0 c.requires.3
+      c.in-Ok.told
+      c.in-Ok.ensures.call c.in-Ok.ensures.next) (read-quiet c.in-Ok.told));
+  counts =
+      rw c.after_read.ensures (read-calls c.args.seen c.in-Ok.told);
+}
 
-pub returns-in-Err-clause-turns : goal.returns-in-Err-clause-turns
-returns-in-Err-clause-turns g c =
-    let before = g.F.Folder.moment c.args.folder.now in
-    let now = g.F.Folder.moment c.read.new.folder in
-    stops before now c.args.runner.now commit_uncalled (HasLooked c.args.seen) c.requires.2
-    c.args.seen.token c.requires.0 (reads (Lock c.args.seen.greatest)) tt _ (λ result stood. refl)
-    c.in-Err.ensures.call
-    c.read.ensures.lawful c.read.ensures.faults.never_falls
-    (Reading c.args.seen) c.stopped.result
-    (read-ends c.args.runner.now.asked.request.tool c.stopped.result c.args.seen c.in-Err.ensures.call.answer
-    c.in-Err.end c.in-Err.ensures.call.shown c.stopped.ensures)
-    (λ met none. absurd none)
-    (cause_of_end c.in-Err.end) c.stopped.ensures (end-plain c.in-Err.end)
-    (read-met c.args.runner.now.token now.told c.args.seen c.in-Err.ensures.call.answer c.in-Err.end
-    c.requires.1 c.requires.3 c.in-Err.ensures.call.shown
-    (got before now c.args.runner.now commit_uncalled (HasLooked c.args.seen) c.requires.2
-    c.args.seen.token c.requires.0 (reads (Lock c.args.seen.greatest)) tt _ (λ result stood. refl)
-    c.in-Err.ensures.call)
-    (ended before now c.args.runner.now commit_uncalled (HasLooked c.args.seen) c.requires.2
-    c.args.seen.token c.requires.0 (reads (Lock c.args.seen.greatest)) tt _ (λ result stood. refl)
-    c.in-Err.ensures.call Before))
-    (unkept-left before now c.args.runner.now commit_uncalled (HasLooked c.args.seen) c.requires.2
-    c.args.seen.token c.requires.0 (reads (Lock c.args.seen.greatest)) tt _ (λ result stood. refl)
-    c.in-Err.ensures.call _ (end-plain c.in-Err.end)
-    (read-unkept c.args.seen c.in-Err.ensures.call.answer c.in-Err.end
-    c.in-Err.ensures.call.shown))
-    (ap commit_at (sym (end-stage c.in-Err.end)))
-    (λ fault. c.read.ensures.faults.failed
-    (c.in-Err.is ∙ ap Err (end-failed c.in-Err.end fault)))
-
-pub returns-in-Ok-clause-counted : goal.returns-in-Ok-clause-counted
-returns-in-Ok-clause-counted g c =
-    rw c.after_read.ensures (read-calls c.in-Ok.told)
-
-pub returns-in-Err-clause-counted : goal.returns-in-Err-clause-counted
-returns-in-Err-clause-counted g c =
-    answers-fewer _ _ c.stopped.result c.stopped.ensures _ (search (arith, rules))
+pub returns-in-Err : goal.returns-in-Err
+returns-in-Err g c = record {
+  turns =
+      let before = g.F.Folder.moment c.args.folder.now in
+      let now = g.F.Folder.moment c.read.new.folder in
+      stops before now c.args.runner.now commit_uncalled (HasLooked c.args.seen) c.requires.2
+      c.args.seen.token c.requires.0 (reads (Lock c.args.seen.greatest)) tt _ (λ result stood. refl)
+      c.in-Err.ensures.call
+      c.read.ensures.lawful c.read.ensures.faults.never_falls
+      (Reading c.args.seen) c.stopped.result
+      (read-ends c.args.runner.now.asked.request.tool c.stopped.result c.args.seen
+      c.in-Err.ensures.call.answer
+      c.in-Err.end c.in-Err.ensures.call.shown c.stopped.ensures)
+      (λ met none. absurd none)
+      (cause_of_end c.in-Err.end) c.stopped.ensures (end-plain c.in-Err.end)
+      (read-met c.args.runner.now.token now.told c.args.seen c.in-Err.ensures.call.answer
+      c.in-Err.end
+      c.requires.1 c.requires.3 c.in-Err.ensures.call.shown
+      (got before now c.args.runner.now commit_uncalled (HasLooked c.args.seen) c.requires.2
+      c.args.seen.token c.requires.0 (reads (Lock c.args.seen.greatest)) tt _ (λ result stood. refl)
+      c.in-Err.ensures.call)
+      (ended before now c.args.runner.now commit_uncalled (HasLooked c.args.seen) c.requires.2
+      c.args.seen.token c.requires.0 (reads (Lock c.args.seen.greatest)) tt _ (λ result stood. refl)
+      c.in-Err.ensures.call Before))
+      (unkept-left before now c.args.runner.now commit_uncalled (HasLooked c.args.seen) c.requires.2
+      c.args.seen.token c.requires.0 (reads (Lock c.args.seen.greatest)) tt _ (λ result stood. refl)
+      c.in-Err.ensures.call _ (end-plain c.in-Err.end)
+      (read-unkept c.args.seen c.in-Err.ensures.call.answer c.in-Err.end
+      c.in-Err.ensures.call.shown))
+      (ap commit_at (sym (end-stage c.in-Err.end)))
+      (λ fault. c.read.ensures.faults.failed
+      (c.in-Err.is ∙ ap Err (end-failed c.in-Err.end fault)));
+  counts =
+      answers-near _ _ (Reading c.args.seen) c.stopped.result c.stopped.ensures (omega arith);
+}

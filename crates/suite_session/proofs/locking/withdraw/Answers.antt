@@ -15,36 +15,41 @@ use Rattle.suite_session.specs.declared.state.State.TheVariants.{Withdrawing}
 use Rattle.suite_session.proofs.CallsLemmas.{answers-fewer}
 use Rattle.suite_session.proofs.locking.withdraw.Goals as goal
 
-pub returns-clause-turns : goal.returns-clause-turns
-returns-clause-turns g c =
-    let before = g.F.Folder.moment c.args.folder.now in
-    let now = g.F.Folder.moment c.withdraw.new.folder in
-    stops before now c.args.runner.now commit_uncalled (WasOvertaken c.args.loser) c.requires.2
-    c.args.loser.token c.requires.0 (removes (Lock c.args.loser.number)) tt _ (λ result stood. refl)
-    c.withdraw.ensures.call
-    c.withdraw.ensures.lawful c.withdraw.ensures.faults.never_falls
-    (Withdrawing c.args.loser) c.stopped.result
-    (withdraw-ends c.args.runner.now.asked.request.tool c.stopped.result c.args.loser c.withdraw.ensures.call.answer
-    c.withdraw.result c.withdraw.ensures.call.shown c.stopped.ensures)
-    (withdraw-told c.args.runner.now.asked.request.tool c.stopped.result c.args.loser c.withdraw.ensures.call.answer
-    c.withdraw.result c.withdraw.ensures.call.shown c.stopped.ensures)
-    (cause_of_end c.withdraw.result) c.stopped.ensures (end-plain c.withdraw.result)
-    (withdraw-met c.args.runner.now.token now.told c.args.loser c.withdraw.ensures.call.answer
-    c.withdraw.result c.requires.1 c.withdraw.ensures.call.shown
-    (got before now c.args.runner.now commit_uncalled (WasOvertaken c.args.loser) c.requires.2
-    c.args.loser.token c.requires.0 (removes (Lock c.args.loser.number)) tt _ (λ result stood. refl)
-    c.withdraw.ensures.call)
-    (ended before now c.args.runner.now commit_uncalled (WasOvertaken c.args.loser) c.requires.2
-    c.args.loser.token c.requires.0 (removes (Lock c.args.loser.number)) tt _ (λ result stood. refl)
-    c.withdraw.ensures.call Before))
-    (unkept-left before now c.args.runner.now commit_uncalled (WasOvertaken c.args.loser)
-    c.requires.2 c.args.loser.token c.requires.0 (removes (Lock c.args.loser.number)) tt _
-    (λ result stood. refl) c.withdraw.ensures.call _ (end-plain c.withdraw.result)
-    (withdraw-unkept c.args.loser c.withdraw.ensures.call.answer c.withdraw.result
-    c.withdraw.ensures.call.shown))
-    (ap commit_at (sym (end-stage c.withdraw.result)))
-    (λ fault. c.withdraw.ensures.faults.failed (ap Err (end-failed c.withdraw.result fault)))
-
-pub returns-clause-counted : goal.returns-clause-counted
-returns-clause-counted g c =
-    answers-fewer _ _ c.stopped.result c.stopped.ensures _ (search (arith, rules))
+pub returns : goal.returns
+returns g c = record {
+  turns =
+      let before = g.F.Folder.moment c.args.folder.now in
+      let now = g.F.Folder.moment c.withdraw.new.folder in
+      stops before now c.args.runner.now commit_uncalled (WasOvertaken c.args.loser) c.requires.2
+      c.args.loser.token c.requires.0 (removes (Lock c.args.loser.number)) tt _
+      (λ result stood. refl)
+      c.withdraw.ensures.call
+      c.withdraw.ensures.lawful c.withdraw.ensures.faults.never_falls
+      (Withdrawing c.args.loser) c.stopped.result
+      (withdraw-ends c.args.runner.now.asked.request.tool c.stopped.result c.args.loser
+      c.withdraw.ensures.call.answer
+      c.withdraw.result c.withdraw.ensures.call.shown c.stopped.ensures)
+      (withdraw-told c.args.runner.now.asked.request.tool c.stopped.result c.args.loser
+      c.withdraw.ensures.call.answer
+      c.withdraw.result c.withdraw.ensures.call.shown c.stopped.ensures)
+      (cause_of_end c.withdraw.result) c.stopped.ensures (end-plain c.withdraw.result)
+      (withdraw-met c.args.runner.now.token now.told c.args.loser c.withdraw.ensures.call.answer
+      c.withdraw.result c.requires.1 c.withdraw.ensures.call.shown
+      (got before now c.args.runner.now commit_uncalled (WasOvertaken c.args.loser) c.requires.2
+      c.args.loser.token c.requires.0 (removes (Lock c.args.loser.number)) tt _
+      (λ result stood. refl)
+      c.withdraw.ensures.call)
+      (ended before now c.args.runner.now commit_uncalled (WasOvertaken c.args.loser) c.requires.2
+      c.args.loser.token c.requires.0 (removes (Lock c.args.loser.number)) tt _
+      (λ result stood. refl)
+      c.withdraw.ensures.call Before))
+      (unkept-left before now c.args.runner.now commit_uncalled (WasOvertaken c.args.loser)
+      c.requires.2 c.args.loser.token c.requires.0 (removes (Lock c.args.loser.number)) tt _
+      (λ result stood. refl) c.withdraw.ensures.call _ (end-plain c.withdraw.result)
+      (withdraw-unkept c.args.loser c.withdraw.ensures.call.answer c.withdraw.result
+      c.withdraw.ensures.call.shown))
+      (ap commit_at (sym (end-stage c.withdraw.result)))
+      (λ fault. c.withdraw.ensures.faults.failed (ap Err (end-failed c.withdraw.result fault)));
+  counts =
+      answers-fewer _ _ c.stopped.result c.stopped.ensures _ (search (arith, rules));
+}

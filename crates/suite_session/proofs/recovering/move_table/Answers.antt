@@ -20,50 +20,55 @@ move_next-requires g c =
     may-step before c.args.runner.now commit_uncalled (HasStagedNext c.args.moving)
     (c.args.moving.keeper.token) (c.requires.0) (c.requires.2)
 
-pub returns-in-Ok-clause-turns : goal.returns-in-Ok-clause-turns
-returns-in-Ok-clause-turns g c =
-    let before = g.F.Folder.moment c.args.folder.now in
-    let now = g.F.Folder.moment c.move_next.new.folder in
-    let shown = some-next c.args.moving.left c.requires.1 c.in-Ok.ensures.call in
-    let is = leads-on (moved_once c.args.moving) before_commit _ c.in-Ok.recovering shown.1.shown in
-    let done = leads-done (moved_once c.args.moving) before_commit _ c.in-Ok.recovering shown.1.shown in
-    turns before now c.args.runner.now commit_uncalled (HasStagedNext c.args.moving) c.requires.2
-    c.args.moving.keeper.token c.requires.0 (installs shown.0) tt _ (λ result stood. refl) shown.1
-    c.move_next.ensures.lawful c.move_next.ensures.faults.never_falls (Moving c.args.moving)
-    (Recovering c.in-Ok.recovering)
-    (quiet-on (installs shown.0) (λ given one met shows. shows) shown.1.answer done.0 _ _
-    done.1)
-    (λ met none. absurd none) (
-      ap (λ (one : Recoverer). one.keeper.token) is ∙ c.requires.0,
-      goes-on before now c.args.runner.now commit_uncalled (HasStagedNext c.args.moving) c.requires.2
-          c.args.moving.keeper.token c.requires.0 (installs shown.0) tt _ (λ result stood. refl) shown.1
-          (Recovers c.in-Ok.recovering) c.in-Ok.ensures.next,
-    )
-    (λ fault. fault)
+pub returns-in-Ok : goal.returns-in-Ok
+returns-in-Ok g c = record {
+  turns =
+      let before = g.F.Folder.moment c.args.folder.now in
+      let now = g.F.Folder.moment c.move_next.new.folder in
+      let shown = some-next c.args.moving.left c.requires.1 c.in-Ok.ensures.call in
+      let is = leads-on (moved_once c.args.moving) before_commit _ c.in-Ok.recovering shown.1.shown
+      in
+      let done = leads-done (moved_once c.args.moving) before_commit _ c.in-Ok.recovering
+      shown.1.shown in
+      turns before now c.args.runner.now commit_uncalled (HasStagedNext c.args.moving) c.requires.2
+      c.args.moving.keeper.token c.requires.0 (installs shown.0) tt _ (λ result stood. refl) shown.1
+      c.move_next.ensures.lawful c.move_next.ensures.faults.never_falls (Moving c.args.moving)
+      (Recovering c.in-Ok.recovering)
+      (quiet-on (installs shown.0) (λ given one met shows. shows) shown.1.answer done.0 _ _
+      done.1)
+      (λ met none. absurd none) (
+        ap (λ (one : Recoverer). one.keeper.token) is ∙ c.requires.0,
+        goes-on before now c.args.runner.now commit_uncalled (HasStagedNext c.args.moving)
+            c.requires.2
+            c.args.moving.keeper.token c.requires.0 (installs shown.0) tt _ (λ result stood. refl)
+            shown.1
+            (Recovers c.in-Ok.recovering) c.in-Ok.ensures.next,
+      )
+      (λ fault. fault);
+  counts =
+      let shown = some-next c.args.moving.left c.requires.1 c.in-Ok.ensures.call in
+      moved-calls c.args.moving c.in-Ok.recovering
+      (leads-on (moved_once c.args.moving) before_commit _ c.in-Ok.recovering shown.1.shown)
+      c.requires.1;
+}
 
-pub returns-in-Err-clause-turns : goal.returns-in-Err-clause-turns
-returns-in-Err-clause-turns g c =
-    let before = g.F.Folder.moment c.args.folder.now in
-    let now = g.F.Folder.moment c.move_next.new.folder in
-    let shown = some-next c.args.moving.left c.requires.1 c.in-Err.ensures.call in
-    let fault = c.in-Err.fault in
-    faults before now c.args.runner.now commit_uncalled (HasStagedNext c.args.moving) c.requires.2
-    c.args.moving.keeper.token c.requires.0 (installs shown.0) tt _ (λ result stood. refl) shown.1
-    c.move_next.ensures.lawful c.move_next.ensures.faults.never_falls (Moving c.args.moving) c.stopped.result
-    (λ met none. absurd none) fault.stage fault.fault
-    (leads-ended (moved_once c.args.moving) Before _ fault shown.1.shown) c.stopped.ensures
-    (ap commit_at (sym (leads-stage (moved_once c.args.moving) Before _ fault shown.1.shown)))
-    (λ failed. c.move_next.ensures.faults.failed (c.in-Err.is ∙ ap Err
-    (leads-failed (moved_once c.args.moving) Before _ fault shown.1.shown
-    (fault-outside fault.stage fault.fault failed))))
-
-pub returns-in-Ok-clause-counted : goal.returns-in-Ok-clause-counted
-returns-in-Ok-clause-counted g c =
-    let shown = some-next c.args.moving.left c.requires.1 c.in-Ok.ensures.call in
-    moved-calls c.args.moving c.in-Ok.recovering
-    (leads-on (moved_once c.args.moving) before_commit _ c.in-Ok.recovering shown.1.shown)
-    c.requires.1
-
-pub returns-in-Err-clause-counted : goal.returns-in-Err-clause-counted
-returns-in-Err-clause-counted g c =
-    answers-fewer _ _ c.stopped.result c.stopped.ensures _ (moving-some c.args.moving)
+pub returns-in-Err : goal.returns-in-Err
+returns-in-Err g c = record {
+  turns =
+      let before = g.F.Folder.moment c.args.folder.now in
+      let now = g.F.Folder.moment c.move_next.new.folder in
+      let shown = some-next c.args.moving.left c.requires.1 c.in-Err.ensures.call in
+      let fault = c.in-Err.fault in
+      faults before now c.args.runner.now commit_uncalled (HasStagedNext c.args.moving) c.requires.2
+      c.args.moving.keeper.token c.requires.0 (installs shown.0) tt _ (λ result stood. refl) shown.1
+      c.move_next.ensures.lawful c.move_next.ensures.faults.never_falls (Moving c.args.moving)
+      c.stopped.result
+      (λ met none. absurd none) fault.stage fault.fault
+      (leads-ended (moved_once c.args.moving) Before _ fault shown.1.shown) c.stopped.ensures
+      (ap commit_at (sym (leads-stage (moved_once c.args.moving) Before _ fault shown.1.shown)))
+      (λ failed. c.move_next.ensures.faults.failed (c.in-Err.is ∙ ap Err
+      (leads-failed (moved_once c.args.moving) Before _ fault shown.1.shown
+      (fault-outside fault.stage fault.fault failed))));
+  counts =
+      answers-fewer _ _ c.stopped.result c.stopped.ensures _ (moving-some c.args.moving);
+}

@@ -17,48 +17,50 @@ read_intent-requires g c =
     c.args.keeper.token c.requires.0
     c.requires.1
 
-pub returns-in-Ok-clause-turns : goal.returns-in-Ok-clause-turns
-returns-in-Ok-clause-turns g c =
-    let before = g.F.Folder.moment c.args.folder.now in
-    let now = g.F.Folder.moment c.read_intent.new.folder in
-    rw c.after_intent.ensures
-    (turns before now c.args.runner.now commit_uncalled (Keeps c.args.keeper KnowsAnything)
-    c.requires.1
-    c.args.keeper.token c.requires.0 (reads Intent) tt _ (λ result stood. refl)
-    c.in-Ok.ensures.step.call
-    c.read_intent.ensures.step.lawful c.read_intent.ensures.step.faults.never_falls
-    (ReadingIntent c.args.keeper) _
-    (intent-on c.args.runner.now.asked.request.tool _ c.args.keeper c.in-Ok.ensures.step.call.answer
-    c.in-Ok.seen c.in-Ok.ensures.step.call.shown)
-    (λ met none. absurd none)
-    (seen-stands before now c.args.runner.now c.args.keeper c.requires.1 c.requires.0 c.in-Ok.seen
-    c.in-Ok.ensures.step.call c.in-Ok.ensures.step.next) (seen-quiet c.in-Ok.seen))
+pub returns-in-Ok : goal.returns-in-Ok
+returns-in-Ok g c = record {
+  turns =
+      let before = g.F.Folder.moment c.args.folder.now in
+      let now = g.F.Folder.moment c.read_intent.new.folder in
+      rw c.after_intent.ensures
+      (turns before now c.args.runner.now commit_uncalled (Keeps c.args.keeper KnowsAnything)
+      c.requires.1
+      c.args.keeper.token c.requires.0 (reads Intent) tt _ (λ result stood. refl)
+      c.in-Ok.ensures.step.call
+      c.read_intent.ensures.step.lawful c.read_intent.ensures.step.faults.never_falls
+      (ReadingIntent c.args.keeper) _
+      (intent-on c.args.runner.now.asked.request.tool _ c.args.keeper
+      c.in-Ok.ensures.step.call.answer
+      c.in-Ok.seen c.in-Ok.ensures.step.call.shown)
+      (λ met none. absurd none)
+      (seen-stands before now c.args.runner.now c.args.keeper c.requires.1 c.requires.0 c.in-Ok.seen
+      c.in-Ok.ensures.step.call c.in-Ok.ensures.step.next) (seen-quiet c.in-Ok.seen));
+  counts =
+      rw c.after_intent.ensures (intent-calls c.args.keeper c.in-Ok.ensures.step.call.answer
+      c.in-Ok.seen
+      c.in-Ok.ensures.step.call.shown);
+}
 
-pub returns-in-Err-clause-turns : goal.returns-in-Err-clause-turns
-returns-in-Err-clause-turns g c =
-    let before = g.F.Folder.moment c.args.folder.now in
-    let now = g.F.Folder.moment c.read_intent.new.folder in
-    let end = c.in-Err.end in
-    turn-made before now c.args.runner.now commit_uncalled (Keeps c.args.keeper KnowsAnything)
-    c.requires.1 c.args.keeper.token c.requires.0 (reads Intent) tt _ (λ result stood. refl)
-    c.in-Err.ensures.step.call
-    c.read_intent.ensures.step.lawful c.read_intent.ensures.step.faults.never_falls
-    (ReadingIntent c.args.keeper) c.refused.result
-    (intent-ends c.args.runner.now.asked.request.tool c.refused.result c.args.keeper
-    c.in-Err.ensures.step.call.answer end c.in-Err.ensures.step.call.shown c.refused.ensures)
-    (λ met none. absurd none)
-    (refused-stands before now c.args.runner.now c.args.keeper c.requires.1 c.requires.0 end
-    c.refused.result c.refused.ensures c.in-Err.ensures.step.call c.in-Err.ensures.refused)
-    (λ told. c.read_intent.ensures.step.faults.failed (c.in-Err.is ∙ ap Err
-    (refused-failed _ end c.refused.result c.refused.ensures c.args.keeper _
-    c.in-Err.ensures.step.call.shown told)))
-
-pub returns-in-Ok-clause-counted : goal.returns-in-Ok-clause-counted
-returns-in-Ok-clause-counted g c =
-    rw c.after_intent.ensures (intent-calls c.args.keeper c.in-Ok.ensures.step.call.answer c.in-Ok.seen
-    c.in-Ok.ensures.step.call.shown)
-
-pub returns-in-Err-clause-counted : goal.returns-in-Err-clause-counted
-returns-in-Err-clause-counted g c =
-    refused-calls _ c.args.keeper c.in-Err.ensures.step.call.answer c.in-Err.end c.refused.result
-    c.refused.ensures c.in-Err.ensures.step.call.shown
+pub returns-in-Err : goal.returns-in-Err
+returns-in-Err g c = record {
+  turns =
+      let before = g.F.Folder.moment c.args.folder.now in
+      let now = g.F.Folder.moment c.read_intent.new.folder in
+      let end = c.in-Err.end in
+      turn-made before now c.args.runner.now commit_uncalled (Keeps c.args.keeper KnowsAnything)
+      c.requires.1 c.args.keeper.token c.requires.0 (reads Intent) tt _ (λ result stood. refl)
+      c.in-Err.ensures.step.call
+      c.read_intent.ensures.step.lawful c.read_intent.ensures.step.faults.never_falls
+      (ReadingIntent c.args.keeper) c.refused.result
+      (intent-ends c.args.runner.now.asked.request.tool c.refused.result c.args.keeper
+      c.in-Err.ensures.step.call.answer end c.in-Err.ensures.step.call.shown c.refused.ensures)
+      (λ met none. absurd none)
+      (refused-stands before now c.args.runner.now c.args.keeper c.requires.1 c.requires.0 end
+      c.refused.result c.refused.ensures c.in-Err.ensures.step.call c.in-Err.ensures.refused)
+      (λ told. c.read_intent.ensures.step.faults.failed (c.in-Err.is ∙ ap Err
+      (refused-failed _ end c.refused.result c.refused.ensures c.args.keeper _
+      c.in-Err.ensures.step.call.shown told)));
+  counts =
+      refused-calls _ c.args.keeper c.in-Err.ensures.step.call.answer c.in-Err.end c.refused.result
+      c.refused.ensures c.in-Err.ensures.step.call.shown;
+}

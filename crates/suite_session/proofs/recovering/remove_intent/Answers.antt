@@ -24,57 +24,64 @@ remove_intent-requires-clause-stands g c =
     may-step before c.args.runner.now commit_uncalled (Recovers c.args.recovering)
     (c.args.recovering.keeper.token) (c.requires.stands.0) (c.requires.stands.1)
 
-pub returns-in-Ok-clause-turns : goal.returns-in-Ok-clause-turns
-returns-in-Ok-clause-turns g c =
-    let before = g.F.Folder.moment c.args.folder.now in
-    let now = g.F.Folder.moment c.remove_intent.new.folder in
-    let is = leads-on c.args.recovering.keeper before_commit _ c.in-Ok.keeper
-    c.in-Ok.ensures.call.shown in
-    let done = leads-done c.args.recovering.keeper before_commit _ c.in-Ok.keeper
-    c.in-Ok.ensures.call.shown in
-    rw c.start.ensures
-    (turns before now c.args.runner.now commit_uncalled (Recovers c.args.recovering)
-    c.requires.stands.1
-    c.args.recovering.keeper.token c.requires.stands.0 (removes Intent) tt _ (λ result stood. refl)
-    c.in-Ok.ensures.call
-    c.remove_intent.ensures.lawful c.remove_intent.ensures.faults.never_falls
-    (Recovering c.args.recovering) (Loading (start_of c.in-Ok.keeper))
-    (quiet-on (removes Intent) (λ given one met shows. shows) c.in-Ok.ensures.call.answer done.0 _ _
-    done.1)
-    (λ met none. absurd none) (
-      ap (λ (one : Kept). one.token) is ∙ c.requires.stands.0,
-      starts-loading now c.args.runner.now c.in-Ok.keeper
-          (goes-on before now c.args.runner.now commit_uncalled (Recovers c.args.recovering)
-          c.requires.stands.1
-          c.args.recovering.keeper.token c.requires.stands.0 (removes Intent) tt _ (λ result stood. refl)
-          c.in-Ok.ensures.call
-          (Keeps c.in-Ok.keeper KnowsNoneYet) c.in-Ok.ensures.next),
-    )
-    (λ fault. fault))
+pub returns-in-Ok : goal.returns-in-Ok
+returns-in-Ok g c = record {
+  turns =
+      let before = g.F.Folder.moment c.args.folder.now in
+      let now = g.F.Folder.moment c.remove_intent.new.folder in
+      let is = leads-on c.args.recovering.keeper before_commit _ c.in-Ok.keeper
+      c.in-Ok.ensures.call.shown in
+      let done = leads-done c.args.recovering.keeper before_commit _ c.in-Ok.keeper
+      c.in-Ok.ensures.call.shown in
+      rw c.start.ensures
+      (turns before now c.args.runner.now commit_uncalled (Recovers c.args.recovering)
+      c.requires.stands.1
+      c.args.recovering.keeper.token c.requires.stands.0 (removes Intent) tt _
+      (λ result stood. refl)
+      c.in-Ok.ensures.call
+      c.remove_intent.ensures.lawful c.remove_intent.ensures.faults.never_falls
+      (Recovering c.args.recovering) (Loading (start_of c.in-Ok.keeper))
+      (quiet-on (removes Intent) (λ given one met shows. shows) c.in-Ok.ensures.call.answer done.0 _
+      _
+      done.1)
+      (λ met none. absurd none) (
+        ap (λ (one : Kept). one.token) is ∙ c.requires.stands.0,
+        starts-loading now c.args.runner.now c.in-Ok.keeper
+            (goes-on before now c.args.runner.now commit_uncalled (Recovers c.args.recovering)
+            c.requires.stands.1
+            c.args.recovering.keeper.token c.requires.stands.0 (removes Intent) tt _
+            (λ result stood. refl)
+            c.in-Ok.ensures.call
+            (Keeps c.in-Ok.keeper KnowsNoneYet) c.in-Ok.ensures.next),
+      )
+      (λ fault. fault));
+  counts =
+      rw c.start.ensures (removed-calls c.args.recovering c.in-Ok.keeper
+      (leads-on c.args.recovering.keeper before_commit _ c.in-Ok.keeper
+      c.in-Ok.ensures.call.shown));
+}
 
-pub returns-in-Err-clause-turns : goal.returns-in-Err-clause-turns
-returns-in-Err-clause-turns g c =
-    let before = g.F.Folder.moment c.args.folder.now in
-    let now = g.F.Folder.moment c.remove_intent.new.folder in
-    let fault = c.in-Err.fault in
-    faults before now c.args.runner.now commit_uncalled (Recovers c.args.recovering)
-    c.requires.stands.1
-    c.args.recovering.keeper.token c.requires.stands.0 (removes Intent) tt _ (λ result stood. refl)
-    c.in-Err.ensures.call
-    c.remove_intent.ensures.lawful c.remove_intent.ensures.faults.never_falls (Recovering c.args.recovering) c.stopped.result
-    (λ met none. absurd none) fault.stage fault.fault
-    (leads-ended c.args.recovering.keeper Before _ fault c.in-Err.ensures.call.shown) c.stopped.ensures
-    (ap commit_at (sym (leads-stage c.args.recovering.keeper Before _ fault c.in-Err.ensures.call.shown)))
-    (λ failed. c.remove_intent.ensures.faults.failed (c.in-Err.is ∙ ap Err
-    (leads-failed c.args.recovering.keeper Before _ fault c.in-Err.ensures.call.shown
-    (fault-outside fault.stage fault.fault failed))))
-
-pub returns-in-Ok-clause-counted : goal.returns-in-Ok-clause-counted
-returns-in-Ok-clause-counted g c =
-    rw c.start.ensures (removed-calls c.args.recovering c.in-Ok.keeper
-    (leads-on c.args.recovering.keeper before_commit _ c.in-Ok.keeper
-    c.in-Ok.ensures.call.shown))
-
-pub returns-in-Err-clause-counted : goal.returns-in-Err-clause-counted
-returns-in-Err-clause-counted g c =
-    answers-fewer _ _ c.stopped.result c.stopped.ensures _ (recovering-some c.args.recovering)
+pub returns-in-Err : goal.returns-in-Err
+returns-in-Err g c = record {
+  turns =
+      let before = g.F.Folder.moment c.args.folder.now in
+      let now = g.F.Folder.moment c.remove_intent.new.folder in
+      let fault = c.in-Err.fault in
+      faults before now c.args.runner.now commit_uncalled (Recovers c.args.recovering)
+      c.requires.stands.1
+      c.args.recovering.keeper.token c.requires.stands.0 (removes Intent) tt _
+      (λ result stood. refl)
+      c.in-Err.ensures.call
+      c.remove_intent.ensures.lawful c.remove_intent.ensures.faults.never_falls
+      (Recovering c.args.recovering) c.stopped.result
+      (λ met none. absurd none) fault.stage fault.fault
+      (leads-ended c.args.recovering.keeper Before _ fault c.in-Err.ensures.call.shown)
+      c.stopped.ensures
+      (ap commit_at (sym (leads-stage c.args.recovering.keeper Before _ fault
+      c.in-Err.ensures.call.shown)))
+      (λ failed. c.remove_intent.ensures.faults.failed (c.in-Err.is ∙ ap Err
+      (leads-failed c.args.recovering.keeper Before _ fault c.in-Err.ensures.call.shown
+      (fault-outside fault.stage fault.fault failed))));
+  counts =
+      answers-fewer _ _ c.stopped.result c.stopped.ensures _ (recovering-some c.args.recovering);
+}

@@ -12,6 +12,7 @@ returns-clause-turns g c =
     let before = g.F.Folder.moment c.args.folder.now in
     let now = g.F.Folder.moment c.answered.new.self in (
       refl,
+      refl,
       answers-turn before now c.args.runner c.args.answer
           (subst (λ (one : Runner). request_of one.asked.command.words ≡ Ok one.asked.request)
           c.runner.view_is c.asks_once.ensures)

@@ -1,7 +1,7 @@
 use Rattle.std.proofs.Common.{refl, ap, subst, ◌∙◌, Ok, Err}
 use Rattle.acct_outside.specs.Calls.{Command}
 use Rattle.acct_outside.specs.Contract.{WhereTold, TellsBegin}
-use Rattle.suite_session.proofs.SessionTurns.{asked-command, begin-new, begins-counts, begins-turn, unbegun}
+use Rattle.suite_session.proofs.BeginTurns.{asked-command, begin-new, begins-turn, unbegun}
 use Rattle.suite_session.proofs.turning.begin.Goals as goal
 
 pub returns-in-Ok-clause-turns : goal.returns-in-Ok-clause-turns
@@ -15,22 +15,10 @@ returns-in-Ok-clause-turns g c =
       refl,
       begins-turn before now (record { token = c.in-Ok.token; asked = c.args.asked }) tells
           c.in-Ok.ensures.own c.begin.ensures.call.narrows
-          c.begin.ensures.call.faults.never_falls c.first_state-state.result c.first_state-state.ensures,
+          c.begin.ensures.call.faults.never_falls c.first_state-state.result
+          c.first_state-state.ensures,
       begin-new before.admits c.args.asked.command c.in-Ok.token before.told now.told tells,
     )
-
-pub returns-in-Ok-clause-counted : goal.returns-in-Ok-clause-counted
-returns-in-Ok-clause-counted g c =
-    let asked = c.args.asked in
-    begins-counts (g.F.Folder.moment c.args.folder.now).admits
-    (record { token = c.in-Ok.token; asked = asked }) (g.F.Folder.moment c.args.folder.now).told
-    (g.F.Folder.moment c.begin.new.self).told
-    (subst (λ (command : Command). WhereTold (g.F.Folder.moment c.args.folder.now).told
-    (g.F.Folder.moment c.begin.new.self).told
-    (TellsBegin (g.F.Folder.moment c.args.folder.now).admits command (Ok c.in-Ok.token)))
-    (asked-command c.asked.inside.input c.asked.inside.day c.args.asked
-    c.deref.ensures.value c.asked.view_is) c.in-Ok.ensures.call.told)
-    c.first_state-state.result c.first_state-state.ensures
 
 pub returns-in-Err-clause-turns : goal.returns-in-Err-clause-turns
 returns-in-Err-clause-turns g c =

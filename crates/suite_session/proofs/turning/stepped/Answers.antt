@@ -1,16 +1,16 @@
 use Rattle.std.proofs.Common.{refl, subst, Option}
 use Rattle.std.specs.Prelude.{IsSome}
 use Rattle.suite_answers.specs.declared.answer.Answer.{Answer}
-use Rattle.suite_session.proofs.SessionTurns.{steps-to}
-use Rattle.suite_session.proofs.StreamLemmas.{going-remembers, going-stands, goes-on, none-given}
+use Rattle.suite_session.proofs.SessionTurns.{steps-to, turn-fewer}
+use Rattle.suite_session.proofs.StreamLemmas.{going-led, goes-on, none-given}
 use Rattle.suite_session.proofs.turning.stepped.Goals as goal
 
 -- a state that doesn't answer has a turn left, and stands as no stream changed it
 pub go_on-next-requires : goal.go_on-next-requires
 go_on-next-requires g c = record {
   going = goes-on c.args.state c.in_default.not-Answering;
-  stands = going-stands (g.F.Folder.moment c.args.folder.now)
-      c.args.runner c.args.state c.in_default.not-Answering c.requires;
+  stands = (going-led (g.F.Folder.moment c.args.folder.now)
+      c.args.runner c.args.state c.in_default.not-Answering c.requires).stands;
 }
 
 pub returns-in_default : goal.returns-in_default
@@ -22,11 +22,10 @@ returns-in_default g c =
       turns = (
         refl,
         steps-to before now c.args.runner c.args.state c.go_on-next.result
-            (going-remembers before c.args.runner c.args.state apart c.requires)
-            c.go_on-next.ensures.turns,
+            (going-led before c.args.runner c.args.state apart c.requires) c.go_on-next.ensures,
       );
-      nearer = λ going. c.go_on-next.ensures.nearer;
-      counted = c.go_on-next.ensures.counted;
+      nearer = λ going. turn-fewer now.told c.args.runner c.args.state c.go_on-next.result
+          c.go_on-next.ensures.counts;
       ends = λ some. subst (λ (given : Option Answer). IsSome given)
           (none-given c.args.state apart) some;
     }

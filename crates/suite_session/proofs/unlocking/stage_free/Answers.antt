@@ -17,32 +17,35 @@ stage_free-requires-clause-stands g c =
     may-step before c.args.runner.now _ (Keeps c.args.keeper KnowsAnything) c.args.keeper.token
     c.requires.stands.same c.requires.stands.stands
 
-pub returns-in-Ok-clause-turns : goal.returns-in-Ok-clause-turns
-returns-in-Ok-clause-turns g c =
-    let before = g.F.Folder.moment c.args.folder.now in
-    let now = g.F.Folder.moment c.stage_free.new.folder in
-    stages before now c.args.runner.now c.args.answer c.args.keeper c.requires.stands
-    c.in-Ok.freeing c.in-Ok.ensures.call c.in-Ok.ensures.next
-    c.stage_free.ensures.left c.stage_free.ensures.lawful c.stage_free.ensures.faults.never_falls
+pub returns-in-Ok : goal.returns-in-Ok
+returns-in-Ok g c = record {
+  turns =
+      let before = g.F.Folder.moment c.args.folder.now in
+      let now = g.F.Folder.moment c.stage_free.new.folder in
+      stages before now c.args.runner.now c.args.answer c.args.keeper c.requires.stands
+      c.in-Ok.freeing c.in-Ok.ensures.call c.in-Ok.ensures.next
+      c.stage_free.ensures.left c.stage_free.ensures.lawful c.stage_free.ensures.faults.never_falls;
+  counts =
+      unlocking-more c.args.keeper c.args.answer;
+}
 
-pub returns-in-Err-clause-turns : goal.returns-in-Err-clause-turns
-returns-in-Err-clause-turns g c =
-    let before = g.F.Folder.moment c.args.folder.now in
-    let now = g.F.Folder.moment c.stage_free.new.folder in
-    faults before now c.args.runner.now _ (Keeps c.args.keeper KnowsAnything)
-    c.requires.stands.stands c.args.keeper.token c.requires.stands.same
-    (writes FreeStage free_text) tt _ (λ result stood. refl)
-    c.in-Err.ensures.call
-    c.stage_free.ensures.lawful c.stage_free.ensures.faults.never_falls (Unlocking c.args.keeper c.args.answer) c.replaced.result
-    (λ met is_told. out-follows c.args.answer.outcome.cause met is_told c.requires.stands.quiet (writes FreeStage free_text) tt)
-    (stage_of c.args.answer.outcome.cause) c.in-Err.fault
-    (locks-ended _ _ _ c.in-Err.ensures.call.shown) c.replaced.ensures refl
-    (λ failed. c.stage_free.ensures.faults.failed (c.in-Err.is ∙ ap Err failed))
-
-pub returns-in-Ok-clause-counted : goal.returns-in-Ok-clause-counted
-returns-in-Ok-clause-counted g c =
-    unlocking-more c.args.keeper c.args.answer
-
-pub returns-in-Err-clause-counted : goal.returns-in-Err-clause-counted
-returns-in-Err-clause-counted g c =
-    answers-fewer _ _ c.replaced.result c.replaced.ensures _ (unlocking-some c.args.keeper c.args.answer)
+pub returns-in-Err : goal.returns-in-Err
+returns-in-Err g c = record {
+  turns =
+      let before = g.F.Folder.moment c.args.folder.now in
+      let now = g.F.Folder.moment c.stage_free.new.folder in
+      faults before now c.args.runner.now _ (Keeps c.args.keeper KnowsAnything)
+      c.requires.stands.stands c.args.keeper.token c.requires.stands.same
+      (writes FreeStage free_text) tt _ (λ result stood. refl)
+      c.in-Err.ensures.call
+      c.stage_free.ensures.lawful c.stage_free.ensures.faults.never_falls
+      (Unlocking c.args.keeper c.args.answer) c.replaced.result
+      (λ met is_told. out-follows c.args.answer.outcome.cause met is_told c.requires.stands.quiet
+      (writes FreeStage free_text) tt)
+      (stage_of c.args.answer.outcome.cause) c.in-Err.fault
+      (locks-ended _ _ _ c.in-Err.ensures.call.shown) c.replaced.ensures refl
+      (λ failed. c.stage_free.ensures.faults.failed (c.in-Err.is ∙ ap Err failed));
+  counts =
+      answers-fewer _ _ c.replaced.result c.replaced.ensures _
+      (unlocking-some c.args.keeper c.args.answer);
+}

@@ -1,24 +1,35 @@
 use Rattle.std.proofs.Common.{◌∙◌, ap, sym}
-use Rattle.std.specs.List.{position_from}
+use Rattle.std.specs.Prelude.{if◌then◌else◌}
 use Rattle.std.proofs.lemmas.Result.{on_ok_weaker}
-use Rattle.acct_tables.specs.TableLines.{line_is_named}
-use Rattle.table_edits.proofs.FirstPlace.{found-stays, missing-added}
+use Rattle.acct_text.specs.Lines.{file_bytes, lines_of}
+use Rattle.acct_text.proofs.LinesLaws.{lines_of-are}
+use Rattle.account_model.specs.Edits.{with_line}
+use Rattle.account_model.specs.Format.{has_named, records_of}
 use Rattle.table_edits.proofs.apply.add_missing.Goals as goal
 
-pub returns-in-Some : goal.returns-in-Some
-returns-in-Some g c =
+pub returns-then-has_record : goal.returns-then-has_record
+returns-then-has_record g c =
     let format = g.R.TableRecord.format in
-    let lines = c.args.lines.now in
-    let found = ap (λ name. position_from (line_is_named format name) 0 lines) (sym c.name.ensures)
-    ∙ sym c.first_place.ensures ∙ c.in-Some.is in
-    found-stays format c.args.item.now lines c.in-Some.field-0 found
+    let text = c.args.text.now in
+    let lines = lines_of text in
+    let has = ap (λ name. has_named format name (records_of format lines)) (sym c.name.ensures)
+    ∙ ap (λ text. has_named format c.name.result.now (records_of format (lines_of text)))
+    (sym c.as_slice.ensures)
+    ∙ sym c.has_record.ensures ∙ c.if-has_record.true in
+    sym (lines_of-are text).joined
+    ∙ ap (λ has. file_bytes
+    (if has then lines else with_line (format.print c.args.item.now) lines)) (sym has)
 
-pub returns-in-None : goal.returns-in-None
-returns-in-None g c =
+pub returns : goal.returns
+returns g c =
     let format = g.R.TableRecord.format in
-    let lines = c.args.lines.now in
-    let none = ap (λ name. position_from (line_is_named format name) 0 lines) (sym c.name.ensures)
-    ∙ sym c.first_place.ensures ∙ c.in-None.is in
-    on_ok_weaker c.append_any.result
-    (λ appended. appended ∙ missing-added format c.args.item.now lines none)
-    c.append_any.ensures.appended
+    let lines = lines_of c.args.text.now in
+    let has = ap (λ name. has_named format name (records_of format lines)) (sym c.name.ensures)
+    ∙ ap (λ text. has_named format c.name.result.now (records_of format (lines_of text)))
+    (sym c.as_slice.ensures)
+    ∙ sym c.has_record.ensures ∙ c.if-has_record.false in
+    on_ok_weaker c.add.result
+    (λ added. added
+    ∙ ap (λ has. file_bytes
+    (if has then lines else with_line (format.print c.args.item.now) lines)) (sym has))
+    c.add.ensures

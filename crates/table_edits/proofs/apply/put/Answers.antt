@@ -1,34 +1,36 @@
 use Rattle.std.proofs.Common.{◌∙◌, ap, sym}
-use Rattle.std.specs.List.{position_from}
+use Rattle.std.specs.Prelude.{if◌then◌else◌}
 use Rattle.std.proofs.lemmas.Result.{on_ok_weaker}
-use Rattle.acct_tables.specs.TableLines.{line_is_named}
-use Rattle.table_edits.proofs.FirstPlace.{put-inside, put-sets, put-adds}
+use Rattle.acct_text.specs.Lines.{file_bytes, lines_of}
+use Rattle.account_model.specs.Edits.{put_first, with_line}
+use Rattle.account_model.specs.Format.{has_named, records_of}
 use Rattle.table_edits.proofs.apply.put.Goals as goal
 
-pub set_at-requires-clause-inside : goal.set_at-requires-clause-inside
-set_at-requires-clause-inside g c =
+pub returns-then-not-has_record : goal.returns-then-not-has_record
+returns-then-not-has_record g c =
     let format = g.R.TableRecord.format in
-    let lines = c.args.lines.now in
-    let found = ap (λ name. position_from (line_is_named format name) 0 lines) (sym c.name.ensures)
-    ∙ sym c.first_place.ensures ∙ c.in-Some.is in
-    put-inside format c.args.item.now lines c.in-Some.place found
+    let item = c.args.item.now in
+    let lines = lines_of c.args.text.now in
+    let has = ap (λ name. has_named format name (records_of format lines)) (sym c.name.ensures)
+    ∙ ap (λ text. has_named format c.name.result.now (records_of format (lines_of text)))
+    (sym c.as_slice.ensures)
+    ∙ sym c.has_record.ensures ∙ c.if-not-has_record.true in
+    on_ok_weaker c.add.result
+    (λ added. added
+    ∙ ap (λ has. file_bytes (if has then put_first format item lines
+    else with_line (format.print item) lines)) (sym has))
+    c.add.ensures
 
-pub returns-in-Some : goal.returns-in-Some
-returns-in-Some g c =
+pub returns : goal.returns
+returns g c =
     let format = g.R.TableRecord.format in
-    let lines = c.args.lines.now in
-    let found = ap (λ name. position_from (line_is_named format name) 0 lines) (sym c.name.ensures)
-    ∙ sym c.first_place.ensures ∙ c.in-Some.is in
-    on_ok_weaker c.set_at.result
-    (λ set. set ∙ put-sets format c.args.item.now lines c.in-Some.place found)
-    c.set_at.ensures.set
-
-pub returns-in-None : goal.returns-in-None
-returns-in-None g c =
-    let format = g.R.TableRecord.format in
-    let lines = c.args.lines.now in
-    let none = ap (λ name. position_from (line_is_named format name) 0 lines) (sym c.name.ensures)
-    ∙ sym c.first_place.ensures ∙ c.in-None.is in
-    on_ok_weaker c.append_any.result
-    (λ appended. appended ∙ put-adds format c.args.item.now lines none)
-    c.append_any.ensures.appended
+    let item = c.args.item.now in
+    let lines = lines_of c.args.text.now in
+    let has = ap (λ name. has_named format name (records_of format lines)) (sym c.name.ensures)
+    ∙ ap (λ text. has_named format c.name.result.now (records_of format (lines_of text)))
+    (sym c.as_slice.ensures)
+    ∙ sym c.has_record.ensures ∙ c.if-not-has_record.false in
+    c.in_ok-text.ensures
+    ∙ ap (λ text. file_bytes (put_first format item (lines_of text))) c.as_slice-2.ensures
+    ∙ ap (λ has. file_bytes (if has then put_first format item lines
+    else with_line (format.print item) lines)) (sym has)

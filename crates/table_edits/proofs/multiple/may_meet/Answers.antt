@@ -1,14 +1,26 @@
-use Rattle.std.proofs.Common.{◌∙◌, ap, sym}
+use Rattle.std.proofs.Common.{◌∙◌, ap, sym, subst}
 use Rattle.std.specs.Prelude.{nat_le}
 use Rattle.account_model.specs.Format.{count_named, records_of}
 use Rattle.acct_tables.specs.TableLines.{record_at}
 use Rattle.table_edits.specs.SeenEdits.{seen_edits}
-use Rattle.table_edits.proofs.TouchedRecords.{met-single}
+use Rattle.table_edits.specs.Touching.{LacksName}
+use Rattle.table_edits.proofs.TouchedRecords.{met-single, met-untouched, untouched}
 use Rattle.table_edits.proofs.RecordLemmas.{record-named}
 use Rattle.table_edits.proofs.multiple.may_meet.Goals as goal
 
-pub returns-in-Some-clause-passed : goal.returns-in-Some-clause-passed
-returns-in-Some-clause-passed g c = λ no.
+pub returns-then-not-may_touch-clause-passed : goal.returns-then-not-may_touch-clause-passed
+returns-then-not-may_touch-clause-passed g c = λ no.
+    let format = g.R.TableRecord.format in
+    let lines = c.args.lines.now in
+    let edits = seen_edits g.R.EditedRecord.becomes c.args.edits.now in
+    let here = record-named format (record_at format lines c.args.place) c.in-Some.name.now
+    c.in-Some.ensures in
+    met-untouched format edits lines c.args.place here.item here.is
+    (untouched format edits here.item c.args.touched.now c.requires.only
+    (subst (LacksName c.args.touched.now) (sym here.named) (c.may_touch.ensures c.if-not-may_touch.true)))
+
+pub returns-clause-passed : goal.returns-clause-passed
+returns-clause-passed g c = λ no.
     let format = g.R.TableRecord.format in
     let lines = c.args.lines.now in
     let records = records_of format lines in

@@ -1,17 +1,24 @@
-use Rattle.std.proofs.Common.{◌≡◌, true, ap, inl, inr}
-use Rattle.table_edits.proofs.AddedNames.{is_somewhere}
-use Rattle.table_edits.proofs.KnownLemmas.{adds-nothing}
+use Rattle.std.proofs.Common.{◌∙◌, ap, sym}
+use Rattle.std.specs.Prelude.{is_some}
+use Rattle.std.proofs.lemmas.Result.{on_ok_weaker}
+use Rattle.acct_tables.specs.NameIndex.{told}
+use Rattle.table_edits.proofs.KnownLemmas.{adds-line, adds-nothing}
 use Rattle.table_edits.proofs.named_edits.add_there.Goals as goal
 
-pub returns-in-Only : goal.returns-in-Only
-returns-in-Only g c =
-    let somewhere : is_somewhere c.args.place ≡ true =
-    elim c.in-Only.is [
-      | inl only ↦ ap is_somewhere only.1
-      | inr several ↦ ap is_somewhere several
-    ] in
-    record {
-      added = adds-nothing g.R.TableRecord.format c.args.item.now c.args.lines.now c.args.place
-          c.requires.placed somewhere;
-      known = c.requires.known;
-    }
+pub returns-then-has-clause-added : goal.returns-then-has-clause-added
+returns-then-has-clause-added g c =
+    adds-nothing g.R.TableRecord.format c.args.item.now c.args.lines.now c.args.known.now
+    c.requires.known
+    (ap (λ name. is_some (told c.args.known.now.names name)) (sym c.name.ensures)
+    ∙ sym c.has.ensures ∙ c.if-has.true)
+
+pub returns-clause-added : goal.returns-clause-added
+returns-clause-added g c =
+    on_ok_weaker c.append.result
+    (λ added.
+    added
+    ∙ adds-line g.R.TableRecord.format c.args.item.now c.args.lines.now c.args.known.now
+    c.requires.known
+    (ap (λ name. is_some (told c.args.known.now.names name)) (sym c.name.ensures)
+    ∙ sym c.has.ensures ∙ c.if-has.false))
+    c.append.ensures.added

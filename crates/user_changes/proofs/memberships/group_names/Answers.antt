@@ -13,9 +13,11 @@ loop-word-preserved c =
     let place = c.loop-word.word-index in
     let word = c.word-item.result in
     let named = ap (λ w. find_group w groups) (sym c.as_slice.ensures)
-    ∙ sym (c.in_ok-group.ensures {u = tt}) in
+    ∙ sym (c.in_ok-group.ensures {u = tt}
+    ∙ ap (λ files. find_group c.as_slice.result.now (group_records files))
+    (c.in_ok-groups.ensures {u = tt})) in
     let rest = names_of groups (drop (place + 1) words) in
-    elim c.match-branch-3.branch [
+    elim c.match-branch-4.branch [
       | in-Some+in_ok-push w ↦
           ap (λ names. names ++ rest)
           (w.names-is ∙ w.in_ok-push.ensures.ok

@@ -1,10 +1,12 @@
-use Rattle.acct_outside.specs.Memory.{faults_of}
-use Rattle.whole_commands.proofs.TurnedSessions.{turned-untold}
 use Rattle.whole_commands.proofs.beside.turns.Goals as goal
 
-pub turn-requires : goal.turn-requires
-turn-requires c = c.loop.invariant (faults_of c.loop.folder.files)
+pub loop-init : goal.loop-init
+loop-init c = (c.requires, λ other belongs apart. record { belongs = belongs; apart = apart })
 
 pub loop-preserved : goal.loop-preserved
-loop-preserved c = turned-untold (faults_of c.loop.folder.files)
-    (faults_of c.turn.new.folder.files) c.loop.session c.turn.new.self c.turn.ensures.turns
+loop-preserved c = (
+  c.turn.ensures.belongs,
+  λ other belongs apart.
+      let kept = c.loop.invariant.1 other belongs apart in
+      c.turn.ensures.others other kept.belongs kept.apart,
+)

@@ -1,10 +1,7 @@
-use Rattle.std.proofs.Common.{Some}
-use Rattle.acct_outside.specs.Memory.{faults_of, no_others, past_of}
-use Rattle.suite_session.specs.Session.{SessionStands}
 use Rattle.acct_outside.specs.Memory.{moment_of}
+use Rattle.suite_session.specs.Belongs.{Belongs}
 use Rattle.whole_commands.proofs.play.turned.Given as goal
 
--- the session stands in the folder
+-- the session belongs to the folder
 abbrev pub invariant-loop : goal.invariant-loop
-invariant-loop l =
-    SessionStands (moment_of l.folder) l.session
+invariant-loop l = Belongs (moment_of l.folder) l.session

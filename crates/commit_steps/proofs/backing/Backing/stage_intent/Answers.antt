@@ -2,12 +2,15 @@ use Rattle.std.proofs.Common.{refl, ap, subst, ◌∙◌}
 use Rattle.acct_outside.specs.declared.Name.TheVariants.{IntentStage}
 use Rattle.acct_outside.specs.Calls.{writes}
 use Rattle.intent_file.specs.Intent.{ReadsIntent, intent_text}
+use Rattle.acct_outside.specs.declared.FolderFault.TheVariants.{Failed}
 use Rattle.suite_rules.specs.Outcomes.{LeadsTo, before_commit}
 use Rattle.suite_rules.proofs.StepLemmas.{told-of}
+use Rattle.lock_steps.proofs.OutcomesLemmas.{counts}
+use Rattle.recovery.proofs.LeadsLemmas.{acts-as, takes-step}
 use Rattle.commit_steps.specs.States.{Change, Walker, intended}
 use Rattle.commit_steps.specs.Stands.{BacksUp, HasStagedIntent}
 use Rattle.commit_steps.specs.Walks.{token_of}
-use Rattle.commit_steps.proofs.LeadsLemmas.{acts-as, takes-step, writes-same}
+use Rattle.commit_steps.proofs.WalksLemmas.{writes-same}
 use Rattle.commit_steps.proofs.BackupLemmas.{stages_intent, intent-after-write, may-stage-intent}
 use Rattle.commit_steps.proofs.backing.Backing.stage_intent.Goals as goal
 
@@ -26,7 +29,6 @@ returns g c =
     let walker = c.args.self in
     let written = c.write-written.result in
     let narrows = c.write-written.ensures.narrows in
-    let counts = c.write-written.ensures.faults in
     let change = c.into_prepared-prepared.ensures
     ∙ ap (λ (walker : Walker). walker.change) c.self.view_is in
     let text = c.text.ensures.value
@@ -44,7 +46,5 @@ returns g c =
     (λ result stood held. refl) (may-stage-intent walker reads_it)
     before_commit before now narrows (token_of walker) written c.leads.result shown
     c.requires.stands told
-    (record {
-      never_falls = counts.never_falls;
-      failed = λ is. counts.failed (c.leads.ensures.failed is);
-    })
+    (counts (before_commit Failed) _ _ written c.leads.result c.leads.ensures.failed
+    c.write-written.ensures.faults)

@@ -2,9 +2,9 @@ use Rattle.std.proofs.Common.{refl, ap, subst, ◌∙◌}
 use Rattle.suite_rules.specs.Steps.{asked}
 use Rattle.suite_rules.specs.Outcomes.{LeadsTo, at_commit}
 use Rattle.suite_rules.proofs.StepLemmas.{told-of, makes-call, leaves, stays-lawful, stands-both}
+use Rattle.recovery.proofs.LeadsLemmas.{leads-on}
 use Rattle.commit_steps.specs.States.{Change, Walker, walk_of}
 use Rattle.commit_steps.specs.Stands.{HasStagedIntent, Installs, IsDeed}
-use Rattle.commit_steps.proofs.LeadsLemmas.{leads-on}
 use Rattle.commit_steps.proofs.CommitLemmas.{commit_call, installs-after-commit, may-commit, commit-unsure}
 use Rattle.commit_steps.proofs.committing.IntentStaged.commit.Goals as goal
 

@@ -1,18 +1,21 @@
 use Rattle.std.proofs.Common.{refl, ap, subst, ◌∙◌}
 use Rattle.acct_outside.specs.declared.Name.TheVariants.{Intent}
+use Rattle.acct_outside.specs.declared.FolderFault.TheVariants.{Failed}
 use Rattle.acct_outside.specs.Calls.{removes}
 use Rattle.suite_rules.specs.Outcomes.{LeadsTo, after_commit}
 use Rattle.suite_rules.proofs.StepLemmas.{told-of}
 use Rattle.lock_steps.specs.States.{Kept}
-use Rattle.commit_steps.specs.States.{Inputs, Change, Walker}
+use Rattle.lock_steps.proofs.OutcomesLemmas.{counts}
+use Rattle.recovery.proofs.CarryLemmas.{may-remove}
+use Rattle.recovery.proofs.LeadsLemmas.{acts-as, takes-step}
+use Rattle.commit_steps.specs.States.{Inputs, Change, Walker, intended, tables_left}
 use Rattle.commit_steps.specs.Stands.{Installs, HasCleared}
 use Rattle.commit_steps.specs.Walks.{token_of}
-use Rattle.commit_steps.proofs.LeadsLemmas.{acts-as, takes-step}
-use Rattle.commit_steps.proofs.InstallLemmas.{cleared-after-removal, may-clear}
+use Rattle.commit_steps.proofs.InstallLemmas.{cleared-after-removal, none-installs}
 use Rattle.commit_steps.proofs.installing.Installing.clear.Goals as goal
 
-pub remove-removed-requires-clause-acts : goal.remove-removed-requires-clause-acts
-remove-removed-requires-clause-acts g c =
+pub remove_intent-removed-requires : goal.remove_intent-removed-requires
+remove_intent-removed-requires g c =
     let keeper = ap (λ (inputs : Inputs). inputs.keeper) (c.into_loaded-loaded.ensures
     ∙ ap (λ (change : Change). change.inputs) (c.into_prepared.ensures
     ∙ ap (λ (walker : Walker). walker.change) c.self.view_is)) in
@@ -23,25 +26,23 @@ remove-removed-requires-clause-acts g c =
 pub returns : goal.returns
 returns g c =
     let before = g.F.Folder.moment c.args.folder.now in
-    let now = g.F.Folder.moment c.remove-removed.new.self in
+    let now = g.F.Folder.moment c.remove_intent-removed.new.folder in
     let walker = c.args.self in
-    let removed = c.remove-removed.result in
-    let narrows = c.remove-removed.ensures.narrows in
-    let counts = c.remove-removed.ensures.faults in
+    let removed = c.remove_intent-removed.result in
+    let called = c.remove_intent-removed.ensures in
     let keeper = ap (λ (inputs : Inputs). inputs.keeper) (c.into_loaded-loaded.ensures
     ∙ ap (λ (change : Change). change.inputs) (c.into_prepared.ensures
     ∙ ap (λ (walker : Walker). walker.change) c.self.view_is)) in
     let token = c.token.ensures ∙ ap (λ (kept : Kept). kept.token) (c.keeper.ensures ∙ keeper) in
     let shown = subst (λ (kept : Kept). LeadsTo kept after_commit removed c.leads.result)
     (c.release-keeper.ensures ∙ keeper) c.leads.ensures.shown in
-    let told = told-of before now _ (token_of walker) (removes Intent) removed token
-    c.remove-removed.ensures.told in
-    takes-step (removes Intent) tt (Installs walker) HasCleared
-    walker.change.inputs.keeper (cleared-after-removal walker) tt (λ result stood held. refl)
-    (λ deeds stood held. may-clear walker deeds c.requires.left stood held)
-    after_commit before now narrows (token_of walker) removed c.leads.result shown
+    let told = told-of before now _ (token_of walker) (removes Intent) removed token called.told in
+    takes-step (removes Intent) tt (Installs walker) HasCleared walker.change.inputs.keeper
+    (λ answer stood held. cleared-after-removal walker stood held answer) tt
+    (λ result stood held. refl)
+    (λ deeds stood held. may-remove (intended walker.change) walker.change.inputs.keeper
+    (tables_left walker) stood held.carries deeds
+    (none-installs walker stood held c.requires.left))
+    after_commit before now called.narrows (token_of walker) removed c.leads.result shown
     c.requires.stands told
-    (record {
-      never_falls = counts.never_falls;
-      failed = λ is. counts.failed (c.leads.ensures.failed is);
-    })
+    (counts (after_commit Failed) _ _ removed c.leads.result c.leads.ensures.failed called.faults)

@@ -3,9 +3,10 @@ use Rattle.acct_outside.specs.Calls.{lists}
 use Rattle.acct_outside.specs.Contract.{locks_result}
 use Rattle.suite_rules.specs.Rules.{free_listing}
 use Rattle.suite_rules.specs.Steps.{own_command}
-use Rattle.suite_rules.proofs.StepLemmas.{makes-call, leaves, stays-lawful}
+use Rattle.suite_rules.proofs.StepLemmas.{takes-step}
 use Rattle.lock_steps.specs.States.{Maker}
-use Rattle.lock_steps.specs.Stands.{HasMade}
+use Rattle.lock_steps.specs.Stands.{HasMade, HoldsConfirmed}
+use Rattle.lock_steps.specs.Outcomes.{Confirms, folder_failed}
 use Rattle.lock_steps.proofs.OutcomesLemmas.{confirm-leads, counts}
 use Rattle.lock_steps.proofs.claiming.Claimed.confirm.Goals as goal
 
@@ -18,17 +19,11 @@ returns g c =
     let listed = c.locks-listed.result in
     let tells = rw (ap (λ (maker : Maker). maker.token) c.self.view_is)
     at c.locks-listed.ensures.call.told in
-    record {
-      call = makes-call before now narrows claimed.token lists tt
-          (HasMade claimed) _ (locks_result listed) c.requires tells c.after_listing.ensures.shown;
-      next = confirm-leads before now narrows claimed.token claimed
-          (locks_result listed) c.after_listing.result c.after_listing.ensures.shown c.requires
-          tells;
-      left = leaves before.admits now.admits narrows claimed.token lists tt (HasMade claimed)
-          own_command
-          (λ result stood held. refl) (locks_result listed) before.told now.told c.requires tells;
-      lawful = λ deeds. stays-lawful deeds before.admits claimed.token lists tt (HasMade claimed)
-          (λ stood held. free_listing) (locks_result listed) before.told now.told c.requires tells;
-      faults = counts _ _ _ listed c.after_listing.result c.after_listing.ensures.failed
-          c.locks-listed.ensures.call.faults;
-    }
+    takes-step before now narrows claimed.token lists tt tt (HasMade claimed)
+    (λ deeds stood held. free_listing) own_command (λ result stood held. refl)
+    (λ answer. Confirms claimed answer c.after_listing.result) HoldsConfirmed folder_failed
+    c.after_listing.result (locks_result listed) c.requires tells c.after_listing.ensures.shown
+    (confirm-leads before now narrows claimed.token claimed (locks_result listed)
+    c.after_listing.result c.after_listing.ensures.shown c.requires tells)
+    (counts _ _ _ listed c.after_listing.result c.after_listing.ensures.failed
+    c.locks-listed.ensures.call.faults)

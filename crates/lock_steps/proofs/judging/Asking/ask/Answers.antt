@@ -2,9 +2,10 @@ use Rattle.std.proofs.Common.{refl, ap}
 use Rattle.acct_outside.specs.Calls.{asks}
 use Rattle.suite_rules.specs.Rules.{free_verdict}
 use Rattle.suite_rules.specs.Steps.{own_command}
-use Rattle.suite_rules.proofs.StepLemmas.{makes-call, leaves, stays-lawful}
+use Rattle.suite_rules.proofs.StepLemmas.{takes-step}
 use Rattle.lock_steps.specs.States.{Asker}
-use Rattle.lock_steps.specs.Stands.{HasReadHeld}
+use Rattle.lock_steps.specs.Stands.{HasJudged, HasReadHeld}
+use Rattle.lock_steps.specs.Outcomes.{Asks, folder_failed}
 use Rattle.lock_steps.proofs.OutcomesLemmas.{ask-leads, counts}
 use Rattle.lock_steps.proofs.judging.Asking.ask.Goals as goal
 
@@ -20,17 +21,11 @@ returns g c =
       ap (λ (asker : Asker). asker.asked) c.self.view_is,
     )
     at c.verdict-verdict.ensures.told in
-    record {
-      call = makes-call before now narrows asking.token (asks asking.asked) tt
-          (HasReadHeld asking) _ verdict c.requires tells c.after_verdict.ensures.shown;
-      next = ask-leads before now narrows asking.token asking verdict
-          c.after_verdict.result c.after_verdict.ensures.shown c.requires tells;
-      left = leaves before.admits now.admits narrows asking.token (asks asking.asked) tt
-          (HasReadHeld asking) own_command
-          (λ result stood held. refl) verdict before.told now.told c.requires tells;
-      lawful = λ deeds. stays-lawful deeds before.admits asking.token (asks asking.asked) tt
-          (HasReadHeld asking) (λ stood held. free_verdict asking.asked) verdict before.told
-          now.told c.requires tells;
-      faults = counts _ _ _ verdict c.after_verdict.result c.after_verdict.ensures.failed
-          c.verdict-verdict.ensures.faults;
-    }
+    takes-step before now narrows asking.token (asks asking.asked) tt tt (HasReadHeld asking)
+    (λ deeds stood held. free_verdict asking.asked) own_command (λ result stood held. refl)
+    (λ answer. Asks asking answer c.after_verdict.result) HasJudged folder_failed
+    c.after_verdict.result verdict c.requires tells c.after_verdict.ensures.shown
+    (ask-leads before now narrows asking.token asking verdict c.after_verdict.result
+    c.after_verdict.ensures.shown c.requires tells)
+    (counts _ _ _ verdict c.after_verdict.result c.after_verdict.ensures.failed
+    c.verdict-verdict.ensures.faults)

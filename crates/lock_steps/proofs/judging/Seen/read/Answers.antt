@@ -4,9 +4,10 @@ use Rattle.acct_outside.specs.Calls.{reads}
 use Rattle.acct_outside.specs.Contract.{found_result}
 use Rattle.suite_rules.specs.Rules.{free_read}
 use Rattle.suite_rules.specs.Steps.{own_command}
-use Rattle.suite_rules.proofs.StepLemmas.{makes-call, leaves, read-tells, stays-lawful}
+use Rattle.suite_rules.proofs.StepLemmas.{read-tells, takes-step}
 use Rattle.lock_steps.specs.States.{Lister}
-use Rattle.lock_steps.specs.Stands.{HasLooked}
+use Rattle.lock_steps.specs.Stands.{HasLooked, HoldsTold}
+use Rattle.lock_steps.specs.Outcomes.{Reads, folder_failed}
 use Rattle.lock_steps.proofs.OutcomesLemmas.{read-leads, counts}
 use Rattle.lock_steps.proofs.judging.Seen.read.Goals as goal
 
@@ -23,19 +24,11 @@ returns g c =
       ap (λ (lister : Lister). lister.greatest) c.self.view_is,
     )
     at c.read-found.ensures.call.told) in
-    record {
-      call = makes-call before now narrows seen.token (reads (Lock seen.greatest)) tt
-          (HasLooked seen) _ (found_result found) c.requires.stands tells
-          c.after_read.ensures.shown;
-      next = read-leads before now narrows seen.token seen (found_result found)
-          c.after_read.result c.after_read.ensures.shown c.requires.stands tells;
-      left = leaves before.admits now.admits narrows seen.token (reads (Lock seen.greatest)) tt
-          (HasLooked seen) own_command
-          (λ result stood held. refl) (found_result found) before.told now.told c.requires.stands
-          tells;
-      lawful = λ deeds. stays-lawful deeds before.admits seen.token (reads (Lock seen.greatest)) tt
-          (HasLooked seen) (λ stood held. free_read (Lock seen.greatest)) (found_result found)
-          before.told now.told c.requires.stands tells;
-      faults = counts _ _ _ found c.after_read.result c.after_read.ensures.failed
-          c.read-found.ensures.call.faults;
-    }
+    takes-step before now narrows seen.token (reads (Lock seen.greatest)) tt tt (HasLooked seen)
+    (λ deeds stood held. free_read (Lock seen.greatest)) own_command (λ result stood held. refl)
+    (λ answer. Reads seen answer c.after_read.result) HoldsTold folder_failed c.after_read.result
+    (found_result found) c.requires.stands tells c.after_read.ensures.shown
+    (read-leads before now narrows seen.token seen (found_result found) c.after_read.result
+    c.after_read.ensures.shown c.requires.stands tells)
+    (counts _ _ _ found c.after_read.result c.after_read.ensures.failed
+    c.read-found.ensures.call.faults)

@@ -1,12 +1,14 @@
 use Rattle.std.proofs.Common.{refl, ap, subst, ◌<◌, length, get_or}
 use Rattle.acct_outside.specs.declared.Name.TheVariants.{Lock}
+use Rattle.acct_outside.specs.declared.FolderFault.TheVariants.{Failed}
 use Rattle.acct_outside.specs.Calls.{removes}
 use Rattle.suite_rules.specs.Steps.{work}
-use Rattle.suite_rules.proofs.StepLemmas.{makes-call, leaves, stays-lawful}
+use Rattle.suite_rules.proofs.StepLemmas.{takes-step}
 use Rattle.lock_steps.specs.States.{Kept}
 use Rattle.lock_steps.specs.Stands.{Keeps}
 use Rattle.lock_steps.proofs.NumberLemmas.{first-of}
 use Rattle.lock_steps.proofs.StandsLemmas.{removal-leaves}
+use Rattle.lock_steps.specs.Outcomes.{LeadsTo, cleaned_once}
 use Rattle.lock_steps.proofs.OutcomesLemmas.{clean-leads, counts}
 use Rattle.lock_steps.proofs.PermitsLemmas.{may-remove}
 use Rattle.lock_steps.proofs.keeping.Keeper.clean_next.Goals as goal
@@ -27,19 +29,13 @@ returns g c =
     let below = subst
     (λ (one : Kept). 0 < length one.lower → get_or one.lower 0 0 < one.number)
     c.self.view_is (λ some. (c.self.invariant.1 0 0 some).1) c.requires.left in
-    record {
-      call = makes-call before now narrows keeper.token (removes (Lock lowest)) tt
-          (Keeps keeper knows) _ removed c.requires.stands tells c.after_removal.ensures.shown;
-      next = clean-leads before now narrows keeper.token keeper knows lowest
-          removed c.after_removal.result c.requires.left refl c.after_removal.ensures.shown
-          c.requires.stands tells;
-      left = leaves before.admits now.admits narrows keeper.token (removes (Lock lowest)) tt
-          (Keeps keeper knows) work
-          (λ result stood held. removal-leaves keeper knows lowest stood held result) removed
-          before.told now.told c.requires.stands tells;
-      lawful = λ deeds. stays-lawful deeds before.admits keeper.token (removes (Lock lowest)) tt
-          (Keeps keeper knows) (λ stood held. may-remove deeds stood keeper knows lowest below held)
-          removed before.told now.told c.requires.stands tells;
-      faults = counts _ _ _ removed c.after_removal.result c.after_removal.ensures.failed
-          c.remove-removed.ensures.faults;
-    }
+    takes-step before now narrows keeper.token (removes (Lock lowest)) tt tt (Keeps keeper knows)
+    (λ deeds stood held. may-remove deeds stood keeper knows lowest below held) work
+    (λ result stood held. removal-leaves keeper knows lowest stood held result)
+    (λ answer. LeadsTo (cleaned_once keeper) answer c.after_removal.result)
+    (λ next. Keeps next knows) Failed c.after_removal.result removed c.requires.stands tells
+    c.after_removal.ensures.shown
+    (clean-leads before now narrows keeper.token keeper knows lowest removed c.after_removal.result
+    c.requires.left refl c.after_removal.ensures.shown c.requires.stands tells)
+    (counts _ _ _ removed c.after_removal.result c.after_removal.ensures.failed
+    c.remove-removed.ensures.faults)

@@ -1,12 +1,14 @@
 use Rattle.std.proofs.Common.{ap}
 use Rattle.acct_outside.specs.declared.Name.TheVariants.{FreeStage}
+use Rattle.acct_outside.specs.declared.FolderFault.TheVariants.{Failed}
 use Rattle.acct_outside.specs.Tokens.{free_text}
 use Rattle.acct_outside.specs.Calls.{writes}
 use Rattle.suite_rules.specs.Steps.{work}
-use Rattle.suite_rules.proofs.StepLemmas.{makes-call, leaves, stays-lawful}
+use Rattle.suite_rules.proofs.StepLemmas.{takes-step}
 use Rattle.lock_steps.specs.States.{Kept}
-use Rattle.lock_steps.specs.Stands.{Keeps}
+use Rattle.lock_steps.specs.Stands.{HasStagedFree, Keeps}
 use Rattle.lock_steps.proofs.StandsLemmas.{write-leaves}
+use Rattle.lock_steps.specs.Outcomes.{LeadsTo, freeing_of}
 use Rattle.lock_steps.proofs.OutcomesLemmas.{stage-leads, counts}
 use Rattle.lock_steps.proofs.PermitsLemmas.{may-stage-free}
 use Rattle.lock_steps.proofs.keeping.Keeper.stage_free.Goals as goal
@@ -21,21 +23,12 @@ returns g c =
     let written = c.write-written.result in
     let tells = rw (ap (λ (one : Kept). one.token) c.self.view_is, c.self.inside.holder.is_free)
     at c.write-written.ensures.told in
-    record {
-      call = makes-call before now narrows keeper.token
-          (writes FreeStage free_text) tt (Keeps keeper knows) _ written c.requires.stands tells
-          c.after_write.ensures.shown;
-      next = stage-leads before now narrows keeper.token keeper knows written
-          c.after_write.result c.requires.none_left c.after_write.ensures.shown c.requires.stands
-          tells;
-      left = leaves before.admits now.admits narrows keeper.token (writes FreeStage free_text) tt
-          (Keeps keeper knows) work
-          (λ result stood held. write-leaves keeper knows stood held result) written before.told
-          now.told c.requires.stands tells;
-      lawful = λ deeds. stays-lawful deeds before.admits keeper.token (writes FreeStage free_text)
-          tt
-          (Keeps keeper knows) (λ stood held. may-stage-free deeds stood keeper knows held) written
-          before.told now.told c.requires.stands tells;
-      faults = counts _ _ _ written c.after_write.result c.after_write.ensures.failed
-          c.write-written.ensures.faults;
-    }
+    takes-step before now narrows keeper.token (writes FreeStage free_text) tt tt (Keeps keeper knows)
+    (λ deeds stood held. may-stage-free deeds stood keeper knows held) work
+    (λ result stood held. write-leaves keeper knows stood held result)
+    (λ answer. LeadsTo (freeing_of keeper) answer c.after_write.result) HasStagedFree Failed
+    c.after_write.result written c.requires.stands tells c.after_write.ensures.shown
+    (stage-leads before now narrows keeper.token keeper knows written c.after_write.result
+    c.requires.none_left c.after_write.ensures.shown c.requires.stands tells)
+    (counts _ _ _ written c.after_write.result c.after_write.ensures.failed
+    c.write-written.ensures.faults)

@@ -1,46 +1,38 @@
-use Rattle.std.proofs.Common.{◌∙◌, refl, sym, ap, subst, slice_get}
+use Rattle.std.proofs.Common.{◌≡◌, ◌∙◌, refl, ap, subst, slice_get, Some}
 use Rattle.suite_rules.specs.Steps.{own_command}
-use Rattle.suite_rules.proofs.StepLemmas.{told-of, makes-call, leaves, stays-lawful}
+use Rattle.suite_rules.specs.Outcomes.{LeadsTo, before_commit, installs}
+use Rattle.suite_rules.proofs.StepLemmas.{told-of}
+use Rattle.lock_steps.proofs.OutcomesLemmas.{counts}
 use Rattle.recovery.specs.States.{Recoverer, moved_once}
-use Rattle.recovery.specs.Stands.{HasStagedNext}
-use Rattle.suite_rules.specs.Outcomes.{before_commit, LeadsTo, installs}
-use Rattle.recovery.proofs.RecoversLemmas.{may-move}
-use Rattle.recovery.proofs.OutcomesLemmas.{move-leads}
+use Rattle.recovery.specs.Stands.{Recovers, HasStagedNext}
+use Rattle.recovery.specs.Outcomes.{failed_before}
+use Rattle.recovery.proofs.CarryLemmas.{may-move}
+use Rattle.recovery.proofs.LeadsLemmas.{takes-next, takes-step}
+use Rattle.recovery.proofs.RecoversLemmas.{recovers-after-move}
 use Rattle.recovery.proofs.recovering.Moving.move_next.Goals as goal
 
 pub returns : goal.returns
 returns g c =
     let before = g.F.Folder.moment c.args.folder.now in
-    let now = g.F.Folder.moment c.rename-moved.new.self in
-    let token = c.args.self.keeper.token in
+    let now = g.F.Folder.moment c.move_table-moved.new.folder in
+    let moving = c.args.self in
+    let token = moving.keeper.token in
     let next = c.next.result.now in
-    let moved = c.rename-moved.result in
-    let narrows = c.rename-moved.ensures.narrows in
-    let counts = c.rename-moved.ensures.faults in
-    let is_next = ap (λ (recovering : Recoverer). slice_get recovering.left 0) (sym c.self.view_is)
-    ∙ c.next.ensures in
-    let shown = subst (λ (recovering : Recoverer).
-    LeadsTo (moved_once recovering) before_commit moved c.after_move.result)
-    c.self.view_is c.after_move.ensures.shown in
-    let told = told-of before now _ token (installs next) moved
-    (c.token-token.ensures
-    ∙ ap (λ (recovering : Recoverer). recovering.keeper.token) c.self.view_is)
-    c.rename-moved.ensures.told in
-    record {
-      call = rw is_next
-          (makes-call before now narrows token (installs next) tt (HasStagedNext c.args.self) _
-          moved c.requires told shown);
-      next = move-leads before now narrows token c.args.self next
-          moved c.after_move.result is_next shown c.requires told;
-      left = leaves before.admits now.admits narrows token (installs next) tt
-          (HasStagedNext c.args.self)
-          own_command (λ result stood held. refl) moved before.told now.told c.requires told;
-      lawful = λ deeds. stays-lawful deeds before.admits token (installs next) tt
-          (HasStagedNext c.args.self)
-          (λ stood staged. may-move c.args.self next is_next stood deeds staged)
-          moved before.told now.told c.requires told;
-      faults = record {
-        never_falls = counts.never_falls;
-        failed = λ is. counts.failed (c.after_move.ensures.failed is);
-      };
-    }
+    let moved = c.move_table-moved.result in
+    let called = c.move_table-moved.ensures in
+    let is_next = subst (λ (one : Recoverer). slice_get one.left 0 ≡ Some next) c.self.view_is
+    c.next.ensures in
+    let shown = subst (λ (one : Recoverer). LeadsTo one before_commit moved c.leads.result)
+    (c.moved_once.ensures ∙ ap moved_once c.self.view_is) c.leads.ensures.shown in
+    takes-next before now token (slice_get moving.left 0) next is_next installs
+    (λ next answer. LeadsTo (moved_once moving) before_commit answer c.leads.result) Recovers
+    own_command failed_before c.leads.result
+    (takes-step (installs next) tt (HasStagedNext moving) Recovers (moved_once moving)
+    (recovers-after-move moving next is_next) tt (λ result stood held. refl)
+    (λ deeds stood held. may-move held.recovers.intent moving.keeper moving.left stood
+    held.recovers.carries next is_next deeds held.staged)
+    before_commit before now called.narrows token moved c.leads.result shown c.requires
+    (told-of before now _ token (installs next) moved
+    (c.token-token.ensures ∙ ap (λ (one : Recoverer). one.keeper.token) c.self.view_is)
+    called.told)
+    (counts failed_before _ _ moved c.leads.result c.leads.ensures.failed called.faults))

@@ -1,39 +1,32 @@
-use Rattle.std.proofs.Common.{refl}
+use Rattle.std.proofs.Common.{refl, slice_get}
 use Rattle.suite_rules.specs.Steps.{own_command}
-use Rattle.suite_rules.proofs.StepLemmas.{told-of, makes-call, leaves, stays-lawful}
-use Rattle.recovery.specs.Stands.{Recovers}
-use Rattle.suite_rules.specs.Outcomes.{stages}
-use Rattle.recovery.proofs.RecoversLemmas.{may-stage}
-use Rattle.recovery.proofs.OutcomesLemmas.{stage-leads}
+use Rattle.suite_rules.specs.Outcomes.{LeadsTo, before_commit, stages}
+use Rattle.suite_rules.proofs.StepLemmas.{told-of}
+use Rattle.lock_steps.proofs.OutcomesLemmas.{counts}
+use Rattle.recovery.specs.Stands.{Recovers, HasStagedNext}
+use Rattle.recovery.specs.Outcomes.{failed_before}
+use Rattle.recovery.proofs.CarryLemmas.{may-stage}
+use Rattle.recovery.proofs.LeadsLemmas.{takes-next, takes-step}
+use Rattle.recovery.proofs.RecoversLemmas.{staged-after-write}
 use Rattle.recovery.proofs.recovering.Recovering.stage_next.Goals as goal
 
 pub returns : goal.returns
 returns g c =
     let before = g.F.Folder.moment c.args.folder.now in
-    let now = g.F.Folder.moment c.write-written.new.self in
-    let token = c.args.self.keeper.token in
-    let next = c.next-next.result.now in
-    let written = c.write-written.result in
-    let narrows = c.write-written.ensures.narrows in
-    let counts = c.write-written.ensures.faults in
-    let shown = c.after_write.ensures.shown in
-    let told = told-of before now _ token (stages next) written
-    c.token.ensures c.write-written.ensures.told in
-    record {
-      call = rw c.next-next.ensures
-          (makes-call before now narrows token (stages next) tt (Recovers c.args.self) _
-          written c.requires.stands told shown);
-      next = stage-leads before now narrows token c.args.self next
-          written c.after_write.result c.next-next.ensures shown c.requires.stands told;
-      left = leaves before.admits now.admits narrows token (stages next) tt (Recovers c.args.self)
-          own_command (λ result stood held. refl) written before.told now.told c.requires.stands
-          told;
-      lawful = λ deeds. stays-lawful deeds before.admits token (stages next) tt
-          (Recovers c.args.self)
-          (λ stood recovers. may-stage c.args.self next c.next-next.ensures stood deeds recovers)
-          written before.told now.told c.requires.stands told;
-      faults = record {
-        never_falls = counts.never_falls;
-        failed = λ is. counts.failed (c.after_write.ensures.failed is);
-      };
-    }
+    let now = g.F.Folder.moment c.stage_table-written.new.folder in
+    let recovering = c.args.self in
+    let token = recovering.keeper.token in
+    let next = c.next.result.now in
+    let written = c.stage_table-written.result in
+    let called = c.stage_table-written.ensures in
+    takes-next before now token (slice_get recovering.left 0) next c.next.ensures stages
+    (λ next answer. LeadsTo recovering before_commit answer c.leads.result) HasStagedNext own_command
+    failed_before c.leads.result
+    (takes-step (stages next) tt (Recovers recovering) HasStagedNext recovering
+    (staged-after-write recovering next c.next.ensures) tt (λ result stood held. refl)
+    (λ deeds stood held. may-stage held.intent recovering.keeper recovering.left stood held.carries
+    next c.next.ensures deeds)
+    before_commit before now called.narrows token written c.leads.result c.leads.ensures.shown
+    c.requires.stands
+    (told-of before now _ token (stages next) written c.token.ensures called.told)
+    (counts failed_before _ _ written c.leads.result c.leads.ensures.failed called.faults))

@@ -1,20 +1,35 @@
-use Rattle.std.proofs.Common.{sym, subst, arith}
+use Rattle.std.proofs.Common.{◌≡◌, ◌∙◌, ap, arith}
+use Rattle.acct_text.specs.Lines.{file_bytes, lines_of}
+use Rattle.account_model.specs.Edits.{with_line}
 use Rattle.account_model.specs.Records.{subid_format}
-use Rattle.account_model.specs.Written.{IsWritten}
-use Rattle.subid_ranges.specs.RangeLines.{new_range}
-use Rattle.subid_ranges.proofs.FileLines.{range-written}
-use Rattle.subid_ranges.proofs.TellLemmas.{range-tells}
+use Rattle.subid_ranges.specs.RangeLines.{new_range, with_range}
+use Rattle.subid_ranges.proofs.FileLines.{range-found}
+use Rattle.subid_ranges.proofs.TellLemmas.{range-takes}
 use Rattle.subid_ranges.proofs.ranges.Ranges.append.Goals as goal
 
-pub append_any-requires : goal.append_any-requires
-append_any-requires c =
-    subst (λ owner. IsWritten subid_format (new_range owner c.args.first c.args.count))
-    (sym c.in_ok-owner.ensures)
-    (range-written (new_range c.args.owner.now c.args.first c.args.count) c.requires)
+pub returns-clause-appended : goal.returns-clause-appended
+returns-clause-appended c =
+    let owner = c.args.owner.now in
+    let text = c.self.inside.text in
+    let new = c.append_line.new.text in
+    let is : new ≡ file_bytes (with_range owner c.args.first c.args.count (lines_of text)) =
+    c.in_ok-append_line.ensures.appended
+    ∙ ap (λ line. file_bytes (with_line line (lines_of text)))
+    (c.as_slice.ensures ∙ c.in_ok-line.ensures
+    ∙ ap (λ name. subid_format.print (new_range name c.args.first c.args.count)) c.in_ok-owner.ensures)
+    in range-found owner c.args.first c.args.count text new c.requires is
+    ∙ ap (with_range owner c.args.first c.args.count) c.self.view_is
 
 pub invariant_of-self-2 : goal.invariant_of-self-2
 invariant_of-self-2 c =
-    range-tells c.args.owner.now c.in_ok-owner.owner c.args.first c.args.count _
-    c.self.inside.table c.append_any.new.self c.self.inside.taken c.settle.new.self c.put.new.self
-    c.self.invariant c.requires c.in_ok-owner.ensures (omega (arith, c.requires.some))
-    c.in_ok-settle.ensures.same c.in_ok-append_any.ensures.appended c.put.ensures
+    let owner = c.args.owner.now in
+    let text = c.self.inside.text in
+    let new = c.append_line.new.text in
+    let is : new ≡ file_bytes (with_range owner c.args.first c.args.count (lines_of text)) =
+    c.in_ok-append_line.ensures.appended
+    ∙ ap (λ line. file_bytes (with_line line (lines_of text)))
+    (c.as_slice.ensures ∙ c.in_ok-line.ensures
+    ∙ ap (λ name. subid_format.print (new_range name c.args.first c.args.count)) c.in_ok-owner.ensures)
+    in range-takes owner c.args.first c.args.count _ text new c.self.inside.taken c.settle.new.self
+    c.put.new.self c.self.invariant c.requires (omega (arith, c.requires.some))
+    c.in_ok-settle.ensures.same is c.put.ensures

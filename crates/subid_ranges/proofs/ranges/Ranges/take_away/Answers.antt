@@ -1,12 +1,14 @@
-use Rattle.std.proofs.Common.{sym, subst}
-use Rattle.subid_ranges.specs.RangeLines.{AreOfFile}
-use Rattle.subid_ranges.proofs.FileLines.{cut-of_file}
+use Rattle.std.proofs.Common.{◌∙◌, sym, ap}
+use Rattle.acct_text.specs.Lines.{file_bytes, lines_of}
+use Rattle.subid_ranges.specs.RangeLines.{without_range}
+use Rattle.subid_ranges.proofs.FileLines.{cut-found}
 use Rattle.subid_ranges.proofs.ranges.Ranges.take_away.Goals as goal
 
-pub invariant_of-self : goal.invariant_of-self
-invariant_of-self c = record {
-  of_file = subst AreOfFile (sym c.in_ok-table.ensures)
-      (cut-of_file c.args.owner.now c.args.uid c.args.first c.args.last c.self.inside.table
-      c.self.invariant.of_file);
-  takes = c.in_ok-self-inside.ensures;
-}
+pub returns-clause-taken : goal.returns-clause-taken
+returns-clause-taken c =
+    let cut = c.args in
+    cut-found cut.owner.now cut.uid cut.first cut.last c.self.inside.text c.in_ok-left.left
+    (c.in_ok-left.ensures
+    ∙ ap (λ text. file_bytes
+    (without_range cut.owner.now cut.uid cut.first cut.last (lines_of text))) c.as_slice.ensures)
+    ∙ ap (without_range cut.owner.now cut.uid cut.first cut.last) c.self.view_is

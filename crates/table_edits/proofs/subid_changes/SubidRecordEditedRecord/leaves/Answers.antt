@@ -1,6 +1,6 @@
 use Rattle.std.proofs.Common.{[], ◌∷◌, ap, sym, ◌∙◌, if◌then◌else◌}
 use Rattle.account_model.specs.SubidOwner.{is_owned, left_without}
-use Rattle.acct_lines.specs.NamingLaws.{subid-names_first}
+use Rattle.account_model.proofs.NamingLaws.{subid-names_first}
 use Rattle.table_edits.specs.SubidChanges.{subid_becomes}
 use Rattle.table_edits.specs.declared.subid_changes.SubidChange.TheVariants.{Remove}
 use Rattle.table_edits.proofs.LeftLemmas.{isn't}

@@ -1,0 +1,153 @@
+-- Claim: what is told of a name among the lines of a table is what is so among their records: the
+-- first of the name (`found-first`, `found-none`), how many they are (`told-count`), and so whether
+-- one has it or several do (`told-has`, `told-several`). Way: line by line, where a line is a record
+-- of the name by its own name.
+use Rattle.std.proofs.Common.{◌≡◌, ℕ, ◌+◌, Bool, true, false, List, [], ◌∷◌, refl, sym, ◌∙◌, ap, ap₂, cond, if◌then◌else◌}
+use Rattle.std.specs.Prelude.{Option, Some, None, count_by, is_some, nat_le, option_map}
+use Rattle.std.specs.List.{cons_option, position_from}
+use Rattle.std.proofs.lemmas.List.Sums.{sum_by-cons}
+use Rattle.acct_text.specs.Lines.{Line}
+use Rattle.account_model.specs.Format.{Format, count_named, find_named, has_named, is_named, records_of}
+use Rattle.acct_tables.specs.NameIndex.{are_several, has_name, line_name, line_names, lines_named, records_at}
+use Rattle.acct_tables.specs.TableLines.{line_is_named, record_at}
+use Rattle.acct_tables.proofs.FirstRecords.{found-at, record_of}
+use Rattle.acct_tables.proofs.NameIndexLemmas.{none-counts}
+use Rattle.acct_tables.proofs.RecordLines.{counted-by}
+
+module _ {R : Type 0} (format : Format R) (name : List ℕ) where
+  -- by what the line reads as
+  named-by :
+      (kept : Option R)
+      → has_name name (option_map format.name kept)
+      ≡ (elim kept [ None ↦ false | Some r ↦ is_named format name r ])
+  named-by None = refl
+  named-by (Some r) = refl
+
+  -- a line is a record of the name where its own name is that
+  named-line : (line : Line) → has_name name (line_name format line) ≡ line_is_named format name line
+  named-line line = named-by (format.read line.text)
+
+  -- as many lines have the name as records
+  pub told-count :
+      (lines : List Line)
+      → count_by (has_name name) (line_names format lines)
+      ≡ count_named format name (records_of format lines)
+  told-count [] = refl
+  told-count (line ∷ rest) =
+      sum_by-cons (λ x. cond (has_name name x) 1 0) (line_name format line) (line_names format rest)
+      ∙ ap₂ (λ test count. cond test 1 0 + count) (named-line line) (told-count rest)
+      ∙ sym (counted-by format name (format.read line.text) (records_of format rest))
+
+  -- the first line of the name is the first that is a record of it
+  pub told-place :
+      (lines : List Line) (start : ℕ)
+      → position_from (has_name name) start (line_names format lines)
+      ≡ position_from (line_is_named format name) start lines
+  told-place [] start = refl
+  told-place (line ∷ rest) start =
+      ap₂ (λ test behind. if test then Some start else behind) (named-line line)
+      (told-place rest (start + 1))
+
+  -- by what the first line reads as, and whether it has the name
+  has-by :
+      (start : ℕ) (behind : Option ℕ) (r : R) (found : Option R) (named : Bool)
+      → is_some behind ≡ is_some found
+      → is_some (if named then Some start else behind) ≡ is_some (if named then Some r else found)
+  has-by start behind r found true later = refl
+  has-by start behind r found false later = later
+
+  has-line :
+      (kept : Option R) (rest : List R) (start : ℕ) (behind : Option ℕ)
+      → is_some behind ≡ has_named format name rest
+      → is_some (if has_name name (option_map format.name kept) then Some start else behind)
+      ≡ has_named format name (cons_option kept rest)
+  has-line None rest start behind later = later
+  has-line (Some r) rest start behind later =
+      has-by start behind r (find_named format name rest) (is_named format name r) later
+
+  -- a line has the name where a record has it
+  has-from :
+      (lines : List Line) (start : ℕ)
+      → is_some (position_from (has_name name) start (line_names format lines))
+      ≡ has_named format name (records_of format lines)
+  has-from [] start = refl
+  has-from (line ∷ rest) start =
+      has-line (format.read line.text) (records_of format rest) start
+      (position_from (has_name name) (start + 1) (line_names format rest)) (has-from rest (start + 1))
+
+  module _ (lines : List Line) where
+    -- the names of the lines
+    abbrev names : List (Option (List ℕ))
+    names = line_names format lines
+
+    -- the first line of the name has its first record
+    found-there :
+        find_named format name (records_of format lines)
+        ≡ record_of format lines (position_from (has_name name) 0 names)
+    found-there =
+        found-at format (is_named format name) lines
+        ∙ ap (record_of format lines) (sym (told-place lines 0))
+
+    -- the first line that is told, by whether there is one
+    first-told :
+        (first : Option ℕ) (count place : ℕ) (found : Option R)
+        → found ≡ record_of format lines first
+        → option_map (λ told. told.first) (records_at first count) ≡ Some place
+        → found ≡ record_at format lines place
+    first-told None count place found is first = absurd cc
+    first-told (Some other) count place found is first =
+        let same : other ≡ place = cc in is ∙ ap (record_at format lines) same
+
+    -- the record of the first line that is told is found
+    pub found-first :
+        (place : ℕ)
+        → option_map (λ told. told.first) (lines_named name names) ≡ Some place
+        → find_named format name (records_of format lines) ≡ record_at format lines place
+    found-first place first =
+        first-told (position_from (has_name name) 0 names) (count_by (has_name name) names) place
+        (find_named format name (records_of format lines)) found-there first
+
+    -- nothing is told, by whether there is a first line
+    none-told :
+        (first : Option ℕ) (count : ℕ) (found : Option R)
+        → found ≡ record_of format lines first
+        → records_at first count ≡ None
+        → found ≡ None
+    none-told None count found is none = is
+    none-told (Some place) count found is none = absurd cc
+
+    -- where nothing is told, no record is found
+    pub found-none :
+        lines_named name names ≡ None
+        → find_named format name (records_of format lines) ≡ None
+    found-none none =
+        none-told (position_from (has_name name) 0 names) (count_by (has_name name) names)
+        (find_named format name (records_of format lines)) found-there none
+
+    -- several, by whether there is a first line
+    several-by :
+        (first : Option ℕ) (count : ℕ)
+        → (first ≡ None → count ≡ 0)
+        → are_several (records_at first count) ≡ nat_le 2 count
+    several-by None count none = ap (nat_le 2) (sym (none refl))
+    several-by (Some first) count none = refl
+
+    -- several are told where several records have the name
+    pub told-several :
+        are_several (lines_named name names)
+        ≡ nat_le 2 (count_named format name (records_of format lines))
+    told-several =
+        several-by (position_from (has_name name) 0 names) (count_by (has_name name) names)
+        (none-counts (has_name name) 0 names)
+        ∙ ap (nat_le 2) (told-count lines)
+
+    -- something, by whether there is a first line
+    some-told : (first : Option ℕ) (count : ℕ) → is_some (records_at first count) ≡ is_some first
+    some-told None count = refl
+    some-told (Some first) count = refl
+
+    -- something is told where a record has the name
+    pub told-has : is_some (lines_named name names) ≡ has_named format name (records_of format lines)
+    told-has =
+        some-told (position_from (has_name name) 0 names) (count_by (has_name name) names)
+        ∙ has-from lines 0

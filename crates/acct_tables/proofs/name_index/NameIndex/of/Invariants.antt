@@ -1,0 +1,7 @@
+use Rattle.std.proofs.Common.{take}
+use Rattle.acct_tables.specs.NameIndex.{Tells, line_names, told}
+use Rattle.acct_tables.proofs.name_index.NameIndex.of.Given as goal
+
+-- the index tells of the lines so far
+abbrev pub invariant-places : goal.invariant-places
+invariant-places g l = Tells (line_names g.R.TableRecord.format (take l.place l.lines)) (told l.index)

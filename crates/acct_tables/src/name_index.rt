@@ -1,0 +1,102 @@
+// Where the records of each name stand among the lines of a file, found for all names in one pass
+// (passwd(5), shadow(5), group(5), gshadow(5)).
+ghost use Rattle.std.specs.Prelude.{◌≡◌, ◌+◌, ◌<◌, ◌≤◌, ◌^◌, [], is_some, IfOk, IfSome, OnOk};
+ghost use Rattle.acct_tables.specs.NameIndex.{IsNoted, Tells, TellsAtMost, are_several, line_names, told, with_last};
+
+use crate::FileLines;
+use acct_lines::TableRecord;
+use indexmap::IndexMap;
+use std::alloc::{AllocError, Global};
+
+/// The records of one name.
+#[derive(Clone, Copy, Drop)]
+pub struct NamedLines {
+    /// The line of the first, counted from 0 over all lines.
+    pub first: usize,
+    /// How many they are, at least 1.
+    pub count: usize,
+}
+
+/// For each name that a record of a file has, the line of the first and how many there are. A look-up
+/// takes no pass over the lines and no memory.
+#[derive(Drop)]
+pub struct NameIndex<'a> {
+    names: IndexMap<&'a [u8], NamedLines>,
+}
+
+impl<'a> NameIndex<'a> {
+    /// The index of no lines. It allocates nothing before the first `add`.
+    pub fn new(alloc: Global) -> Self
+        ensures { Tells [] (told result) }
+    {
+        NameIndex {
+            names: IndexMap::new(alloc),
+        }
+    }
+
+    /// The index of the lines of a file of such records, in one pass.
+    pub fn of<R: TableRecord>(alloc: Global, lines: &FileLines<'a>) -> Result<Self, AllocError>
+        ensures { IfOk result (λ index. Tells (line_names R.format lines.now) (told index)) }
+    {
+        let mut index = NameIndex::new(alloc);
+        'places: for place in 0..lines.len() {
+            if let Some(name) = lines.name_at::<R>(place) {
+                index.add(name, place)?;
+            }
+        }
+        Ok(index)
+    }
+
+    /// Notes one more record of the name, which stands at this place, behind all that are noted.
+    pub fn add(&mut self, name: &'a [u8], place: usize) -> Result<(), AllocError>
+        requires behind { TellsAtMost place (told self.old) }
+        requires room { place + 1 < 2 ^ 64 }
+        ensures { OnOk result (IsNoted name.now place (told self.old) (told self.new)) }
+    {
+        let noted = with_last(place, self.get(name));
+        self.names.insert(name, noted)?;
+        Ok(())
+    }
+
+    /// The records of the name; none where no record has it.
+    pub fn get(&self, name: &[u8]) -> Option<NamedLines>
+        ensures { result ≡ told self.now name.now }
+    {
+        self.names.get(name).copied()
+    }
+
+    /// Whether a record has the name.
+    pub fn has(&self, name: &[u8]) -> bool
+        ensures { result ≡ is_some (told self.now name.now) }
+    {
+        self.get(name).is_some()
+    }
+
+    /// Whether several records have the name.
+    pub fn has_several(&self, name: &[u8]) -> bool
+        ensures { result ≡ are_several (told self.now name.now) }
+    {
+        match self.get(name) {
+            Some(found) => found.count >= 2,
+            None => false,
+        }
+    }
+}
+
+// The records of a name with one more at this place, behind the others.
+fn with_last(place: usize, found: Option<NamedLines>) -> NamedLines
+    requires behind { IfSome found (λ lines. lines.count ≤ place) }
+    requires room { place + 1 < 2 ^ 64 }
+    ensures { result ≡ with_last place found }
+{
+    match found {
+        Some(lines) => NamedLines {
+            first: lines.first,
+            count: lines.count + 1,
+        },
+        None => NamedLines {
+            first: place,
+            count: 1,
+        },
+    }
+}

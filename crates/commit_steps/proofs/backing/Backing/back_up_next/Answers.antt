@@ -1,0 +1,68 @@
+use Rattle.std.proofs.Common.{◌≡◌, ◌⊎◌, inl, inr, refl, sym, ap, subst, ◌∙◌, slice_get, Some}
+use Rattle.std.proofs.lemmas.Bool.{cases_Bool}
+use Rattle.std.specs.Prelude.{IsSome}
+use Rattle.acct_outside.specs.declared.FolderFault.TheVariants.{Failed}
+use Rattle.acct_outside.specs.declared.Name.TheVariants.{BackupStage}
+use Rattle.acct_outside.specs.Calls.{writes}
+use Rattle.acct_outside.specs.Contract.{Tells}
+use Rattle.suite_rules.specs.Outcomes.{LeadsTo, before_commit}
+use Rattle.suite_rules.proofs.StepLemmas.{told-of}
+use Rattle.lock_steps.proofs.OutcomesLemmas.{counts}
+use Rattle.recovery.proofs.LeadsLemmas.{acts-as, takes-step}
+use Rattle.commit_steps.specs.States.{Change, Walker, changed, old_bytes, old_files, step_on}
+use Rattle.commit_steps.specs.Stands.{BacksUp}
+use Rattle.commit_steps.specs.Outcomes.{backup_call}
+use Rattle.commit_steps.specs.Walks.{WalksOn, token_of}
+use Rattle.commit_steps.proofs.WalksLemmas.{walks-on}
+use Rattle.commit_steps.proofs.BackupLemmas.{moves_backup_of, stages_backup, backup-staged, backup-unstaged, backs-after-move, backs-after-write, may-move-backup, may-stage-backup}
+use Rattle.commit_steps.proofs.backing.Backing.back_up_next.Goals as goal
+
+pub returns : goal.returns
+returns g c =
+    let before = g.F.Folder.moment c.args.folder.now in
+    let now = g.F.Folder.moment c.back_up-called.new.folder in
+    let walker = c.args.self in
+    let next = c.next.result.now in
+    let called = c.back_up-called.result in
+    let change = c.prepared.ensures ∙ ap (λ (walker : Walker). walker.change) c.self.view_is in
+    let token = ap (λ (change : Change). change.inputs.keeper.token) change in
+    let is_next = subst (λ (walker : Walker).
+    slice_get (changed walker.change) walker.place ≡ Some next)
+    c.self.view_is c.next.ensures.is_next in
+    let stands = subst (λ (walker : Walker). IsSome (old_files walker.change next.table))
+    c.self.view_is c.next.ensures.stands in
+    let is_staged = c.is_staged-is_staged.ensures
+    ∙ ap (λ (walker : Walker). walker.is_staged) c.self.view_is in
+    let shown = subst (λ (walked : Walker). LeadsTo walked before_commit called c.leads.result)
+    c.step_on.ensures c.leads.ensures.shown in
+    elim (cases_Bool walker.is_staged) as (λ either.
+    WalksOn backup_call BacksUp before_commit walker before now c.leads.result) [
+      | inl staged ↦
+          let came = c.back_up-called.ensures.moved (is_staged ∙ staged) in
+          walks-on backup_call BacksUp before_commit walker next is_next
+          (moves_backup_of next) (backup-staged walker next staged) before now c.leads.result
+          (takes-step (moves_backup_of next) tt (BacksUp walker) BacksUp (step_on walker)
+          (λ answer stood held. backs-after-move walker next is_next stands staged stood held answer)
+          tt (λ result stood held. refl)
+          (λ deeds stood held. may-move-backup walker next is_next stands staged stood held deeds)
+          before_commit before now came.narrows (token_of walker) called c.leads.result shown
+          c.requires.stands
+          (told-of before now _ (token_of walker) (moves_backup_of next) called token came.told)
+          (counts (before_commit Failed) _ _ called c.leads.result c.leads.ensures.failed
+          came.faults))
+      | inr unstaged ↦
+          let came = c.back_up-called.ensures.staged (is_staged ∙ unstaged) in
+          walks-on backup_call BacksUp before_commit walker next is_next
+          (stages_backup walker next) (backup-unstaged walker next unstaged) before now
+          c.leads.result
+          (takes-step (stages_backup walker next) tt (BacksUp walker) BacksUp (step_on walker)
+          (backs-after-write walker next is_next unstaged) tt (λ result stood held. refl)
+          (may-stage-backup walker next is_next) before_commit before now came.narrows
+          (token_of walker) called c.leads.result shown c.requires.stands
+          (subst (λ (change : Change). Tells before now (token_of walker)
+          (writes BackupStage (old_bytes change next.table)) called) change
+          (told-of before now _ (token_of walker)
+          (writes BackupStage (old_bytes c.prepared.result.now next.table)) called token came.told))
+          (counts (before_commit Failed) _ _ called c.leads.result c.leads.ensures.failed
+          came.faults))
+    ]

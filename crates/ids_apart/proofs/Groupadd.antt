@@ -1,0 +1,163 @@
+-- Claim: groupadd leaves ranges (`groupadd-ranges`), and without `-o` it gives a GID that no group has (`groupadd-ids`).
+-- Way: a given GID that is taken is refused, or with `-f` another is chosen; a chosen one isn't used.
+use Rattle.std.proofs.Common.{◌≡◌, ℕ, Bool, true, false, not, ◌&&◌, List, [], ◌∷◌, ◌++◌, refl, subst}
+use Rattle.std.specs.Prelude.{Option, Some, None, codes, is_some, option_and_then, if◌then◌else◌}
+use Rattle.acct_text.specs.declared.files.Files.{Files}
+use Rattle.acct_text.proofs.NumberLaws.{some-inj}
+use Rattle.account_model.specs.declared.settings.IdSort.TheVariants.{Gid}
+use Rattle.account_model.specs.declared.refusal.Refusal.TheVariants.{GidInUse}
+use Rattle.account_model.specs.Text.{first_some}
+use Rattle.account_model.specs.Edits.Edit.{Add}
+use Rattle.account_model.specs.Records.{passwd_format, group_format, subid_format}
+use Rattle.account_model.specs.Tables.{Script, no_edits, group_records}
+use Rattle.account_model.specs.Settings.{Setting, range}
+use Rattle.account_model.specs.Ids.{used_gids, is_used}
+use Rattle.account_model.specs.Hashes.{elsewhere}
+use Rattle.account_model.specs.Values.{given_gid}
+use Rattle.account_model.specs.Request.{Request, has_option, operand}
+use Rattle.account_model.specs.Refusals.{refuse_if}
+use Rattle.account_model.specs.Action.{changes}
+use Rattle.account_model.specs.NewAccount.{kind_of, settings_for, new_hash, new_group, add_group}
+use Rattle.account_model.specs.Groupadd.{is_gid_taken, other_gid, new_gid, groupadd_checks, groupadd_conflicts, is_content, groupadd_script, groupadd}
+use Rattle.ids_apart.specs.Apart.{AreApart}
+use Rattle.ids_apart.proofs.Keys.{OwnKeys}
+use Rattle.ids_apart.proofs.Kept.{uid_key, gid_key, KeepsRanges, KeepsOwnIds, stays-table, gentle-ranges, gentle-ids, none-gentle}
+use Rattle.ids_apart.proofs.Refusals.{behind-none}
+use Rattle.ids_apart.proofs.Unused.{chosen-unused, refuse-fails, push-keeps}
+
+-- ---- The GID
+
+-- a chosen GID isn't used
+other-unused :
+    (request : Request) (files : Files) (settings : List Setting) (gid : ℕ)
+    → other_gid request files settings ≡ Some gid
+    → is_used (used_gids files) gid ≡ false
+other-unused request files settings gid e = chosen-unused (kind_of request)
+    (range Gid (kind_of request) (settings_for request settings)) (used_gids files) gid e
+
+-- a GID that isn't taken isn't used, where none is shared
+untaken-by :
+    (used with_o : Bool)
+    → with_o ≡ false
+    → (used && not with_o) ≡ false
+    → used ≡ false
+untaken-by used true shared none = cc
+untaken-by true false shared none = cc
+untaken-by false false shared none = refl
+
+-- a given GID, or another where it is taken
+taken-by :
+    (request : Request) (files : Files) (settings : List Setting) (given gid : ℕ)
+    (forced taken : Bool)
+    → is_gid_taken request files given ≡ taken
+    → has_option (codes "o") request ≡ false
+    → (if forced
+    then None
+    else option_and_then (λ n. refuse_if (is_gid_taken request files n) (GidInUse n)) (Some given))
+    ≡ None
+    → (if forced && taken then other_gid request files settings else Some given) ≡ Some gid
+    → is_used (used_gids files) gid ≡ false
+taken-by request files settings given gid true true is shares none e =
+    other-unused request files settings gid e
+taken-by request files settings given gid true false is shares none e =
+    subst (λ id. is_used (used_gids files) id ≡ false) (some-inj e)
+    (untaken-by (is_used (used_gids files) given) (has_option (codes "o") request) shares is)
+taken-by request files settings given gid false taken is shares none e =
+    subst (λ id. is_used (used_gids files) id ≡ false) (some-inj e)
+    (untaken-by (is_used (used_gids files) given) (has_option (codes "o") request) shares
+    (refuse-fails (is_gid_taken request files given) (GidInUse given) none))
+
+-- the new GID, by the one that is given
+gid-by :
+    (request : Request) (files : Files) (settings : List Setting) (gid : ℕ) (given : Option ℕ)
+    → has_option (codes "o") request ≡ false
+    → (if has_option (codes "f") request
+    then None
+    else option_and_then (λ n. refuse_if (is_gid_taken request files n) (GidInUse n)) given) ≡ None
+    → elim given as (λ n. Option ℕ) [
+      | None ↦ other_gid request files settings
+      | Some n ↦ if has_option (codes "f") request && is_gid_taken request files n
+          then other_gid request files settings
+          else Some n
+    ] ≡ Some gid
+    → is_used (used_gids files) gid ≡ false
+gid-by request files settings gid None shares none e = other-unused request files settings gid e
+gid-by request files settings gid (Some given) shares none e =
+    taken-by request files settings given gid (has_option (codes "f") request)
+    (is_gid_taken request files given) refl shares none e
+
+-- ---- The edits
+
+-- ranges, by the GID that there is
+script-ranges :
+    (name hash : List ℕ) (files : Files) (gid : Option ℕ)
+    → KeepsRanges files
+    (elim gid as (λ n. Script) [ None ↦ no_edits | Some n ↦ add_group name hash n files ])
+script-ranges name hash files None = gentle-ranges files no_edits none-gentle
+script-ranges name hash files (Some gid) = record {
+  subuids = stays-table subid_format AreApart files.subuid [] (λ each. each);
+  subgids = stays-table subid_format AreApart files.subgid [] (λ each. each);
+}
+
+-- IDs, by the GID that there is
+script-ids :
+    (name hash : List ℕ) (files : Files) (gid : Option ℕ)
+    → ((id : ℕ) → gid ≡ Some id → is_used (used_gids files) id ≡ false)
+    → KeepsOwnIds files
+    (elim gid as (λ n. Script) [ None ↦ no_edits | Some n ↦ add_group name hash n files ])
+script-ids name hash files None unused = gentle-ids files no_edits none-gentle
+script-ids name hash files (Some gid) unused =
+    let new = new_group name (if is_some files.gshadow then elsewhere else hash) gid
+    in record {
+      uids = stays-table passwd_format (OwnKeys uid_key) files.passwd [] (λ each. each);
+      gids = stays-table group_format (OwnKeys gid_key) files.group (Add new ∷ [])
+          (push-keeps gid_key new (group_records files) (unused gid refl));
+    }
+
+-- ---- The whole
+
+-- ranges, by whether the group is there and that is no refusal
+ranges-by :
+    (name : List ℕ) (request : Request) (files : Files) (settings : List Setting) (content : Bool)
+    → KeepsRanges files (if content
+    then changes (groupadd_checks name request) no_edits
+    else changes (groupadd_checks name request ++ groupadd_conflicts name request files settings)
+    (groupadd_script name request files settings)).script
+ranges-by name request files settings true = gentle-ranges files no_edits none-gentle
+ranges-by name request files settings false =
+    script-ranges name (new_hash request) files (new_gid request files settings)
+
+-- groupadd leaves ranges
+pub groupadd-ranges :
+    (request : Request) (files : Files) (settings : List Setting)
+    → KeepsRanges files (groupadd request files settings).script
+groupadd-ranges request files settings =
+    ranges-by (operand request) request files settings (is_content (operand request) request files)
+
+-- IDs, by whether the group is there and that is no refusal
+ids-by :
+    (name : List ℕ) (request : Request) (files : Files) (settings : List Setting) (content : Bool)
+    → has_option (codes "o") request ≡ false
+    → first_some (if content
+    then changes (groupadd_checks name request) no_edits
+    else changes (groupadd_checks name request ++ groupadd_conflicts name request files settings)
+    (groupadd_script name request files settings)).refusals ≡ None
+    → KeepsOwnIds files (if content
+    then changes (groupadd_checks name request) no_edits
+    else changes (groupadd_checks name request ++ groupadd_conflicts name request files settings)
+    (groupadd_script name request files settings)).script
+ids-by name request files settings true shares none = gentle-ids files no_edits none-gentle
+ids-by name request files settings false shares none =
+    let passed = behind-none (groupadd_checks name request)
+    (groupadd_conflicts name request files settings) none
+    in script-ids name (new_hash request) files (new_gid request files settings)
+    (λ gid e. gid-by request files settings gid (given_gid request) shares passed.1.0 e)
+
+-- without `-o` groupadd keeps GIDs distinct
+pub groupadd-ids :
+    (request : Request) (files : Files) (settings : List Setting)
+    → has_option (codes "o") request ≡ false
+    → first_some (groupadd request files settings).refusals ≡ None
+    → KeepsOwnIds files (groupadd request files settings).script
+groupadd-ids request files settings shares none = ids-by (operand request) request files settings
+    (is_content (operand request) request files) shares none

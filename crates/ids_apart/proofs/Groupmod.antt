@@ -1,0 +1,257 @@
+-- Claim: groupmod leaves ranges and UIDs (`groupmod-ranges`), and without `-o` it keeps GIDs distinct (`groupmod-ids`).
+-- Way: a GID of `-g` that another group has is refused, and so is a group whose name stands twice.
+use Rattle.std.proofs.Common.{◌≡◌, ℕ, Bool, true, false, not, ◌&&◌, List, [], ◌∷◌, ◌++◌, refl, sym, inl, inr}
+use Rattle.std.specs.Prelude.{Option, Some, None, ◌==◌, codes, option_and_then, if◌then◌else◌}
+use Rattle.std.specs.List.{AllByRecursion}
+use Rattle.std.proofs.lemmas.Bool.{and_cases, eqb-true, not-false}
+use Rattle.acct_text.specs.declared.files.Files.{Files}
+use Rattle.acct_text.specs.declared.Tab.TheVariants.{Passwd, Shadow, Group}
+use Rattle.account_model.specs.declared.records.GroupRecord.{GroupRecord}
+use Rattle.account_model.specs.declared.refusal.Refusal.{Refusal}
+use Rattle.account_model.specs.declared.refusal.Refusal.TheVariants.{GidInUse, Multiple}
+use Rattle.account_model.specs.Text.{first_some}
+use Rattle.account_model.specs.Format.{is_named}
+use Rattle.account_model.specs.Edits.{Edit, first_multiple}
+use Rattle.account_model.specs.Records.{passwd_format, shadow_format, group_format, subid_format}
+use Rattle.account_model.specs.Tables.{Script, no_edits, followed_by, passwd_records, shadow_records, group_records}
+use Rattle.account_model.specs.Ids.{used_gids, is_used}
+use Rattle.account_model.specs.Hashes.{set_group_hash}
+use Rattle.account_model.specs.Users.{group_named}
+use Rattle.account_model.specs.Values.{given_gid}
+use Rattle.account_model.specs.Request.{Request, has_option, value_of, operand}
+use Rattle.account_model.specs.Action.{with_option, multiple_in, multiple_entries}
+use Rattle.account_model.specs.Groupmod.{taken_gid, groupmod_refusals, set_gid, rename_group, groupmod_script, groupmod}
+use Rattle.account_model.proofs.SameLaws.{group-tells}
+use Rattle.account_model.proofs.WrittenScripts.{all-append}
+use Rattle.ids_apart.specs.Apart.{AreApart}
+use Rattle.ids_apart.proofs.PairEdits.{KeepsPairs, StayApart, edits-keep}
+use Rattle.ids_apart.proofs.Keys.{OwnKeys, KeepsKeys, where-keys, where-keep, all-keys-keep}
+use Rattle.ids_apart.proofs.Kept.{uid_key, gid_key, KeepsRanges, KeepsOwnIds, stays-table, none-stays, gentle-table}
+use Rattle.ids_apart.proofs.NewKeys.{IsFreeKey, set-keeps}
+use Rattle.ids_apart.proofs.Refusals.{all-none, map-none}
+use Rattle.ids_apart.proofs.Unused.{refuse-fails, unused-all}
+use Rattle.ids_apart.proofs.Quiet.{LeavesRanges, IsQuiet, none-leaves, followed-leaves, option-quiet, group-hash-quiet}
+
+-- ---- The parts of the script
+
+-- the hash of `-p`
+abbrev hash_part : List ℕ → Request → Files → Script
+hash_part group request files =
+    with_option (codes "p") request (λ hash. set_group_hash group hash files)
+
+-- it keeps names and IDs
+hash-quiet : (group : List ℕ) (request : Request) (files : Files)
+    → IsQuiet (hash_part group request files)
+hash-quiet group request files =
+    option-quiet (codes "p") request (λ hash. set_group_hash group hash files)
+    (λ hash. group-hash-quiet group hash files)
+
+-- the GID, by the one that is given and the group that is found
+abbrev gid_part : List ℕ → Option ℕ → Option GroupRecord → Script
+gid_part group given found = elim given as (λ n. Script) [
+  | None ↦ no_edits
+  | Some gid ↦ elim found as (λ r. Script) [ None ↦ no_edits | Some old ↦ set_gid group gid old ]
+]
+
+-- it leaves ranges
+gid-leaves :
+    (group : List ℕ) (given : Option ℕ) (found : Option GroupRecord)
+    → LeavesRanges (gid_part group given found)
+gid-leaves group None found = none-leaves
+gid-leaves group (Some gid) None = none-leaves
+gid-leaves group (Some gid) (Some old) = record { subuid = refl; subgid = refl }
+
+-- users of the old GID get the new one, and keep their UIDs
+gid-users :
+    (group : List ℕ) (given : Option ℕ) (found : Option GroupRecord)
+    → AllByRecursion (KeepsKeys passwd_format uid_key) (gid_part group given found).passwd
+gid-users group None found = tt
+gid-users group (Some gid) None = tt
+gid-users group (Some gid) (Some old) = (
+  where-keys passwd_format uid_key (λ user. user.gid == old.gid) (λ user. record user { gid = gid })
+      (λ r. refl) (λ r. refl),
+  tt,
+)
+
+-- the name, by the one that is given
+abbrev name_part : List ℕ → Option (List ℕ) → Script
+name_part group given =
+    elim given as (λ n. Script) [ None ↦ no_edits | Some name ↦ rename_group group name ]
+
+-- it leaves ranges
+name-leaves :
+    (group : List ℕ) (given : Option (List ℕ)) → LeavesRanges (name_part group given)
+name-leaves group None = none-leaves
+name-leaves group (Some name) = record { subuid = refl; subgid = refl }
+
+-- and users
+name-users :
+    (group : List ℕ) (given : Option (List ℕ))
+    → AllByRecursion (KeepsKeys passwd_format uid_key) (name_part group given).passwd
+name-users group None = tt
+name-users group (Some name) = tt
+
+-- and the GID of the group that it renames
+name-groups :
+    (group : List ℕ) (given : Option (List ℕ))
+    → AllByRecursion (KeepsPairs group_format (OwnKeys gid_key)) (name_part group given).group
+name-groups group None = tt
+name-groups group (Some name) = (
+  where-keep group_format gid_key (is_named group_format group) (λ r. record r { name = name })
+      (λ r. refl),
+  tt,
+)
+
+-- ---- The ranges
+
+-- groupmod leaves ranges
+script-leaves :
+    (group : List ℕ) (request : Request) (files : Files)
+    → LeavesRanges (groupmod_script group request files)
+script-leaves group request files =
+    let gid = gid_part group (given_gid request) (group_named group files)
+    in let name = name_part group (value_of (codes "n") request)
+    in followed-leaves (hash_part group request files) (followed_by gid (followed_by name no_edits))
+    (hash-quiet group request files).ranges
+    (followed-leaves gid (followed_by name no_edits)
+    (gid-leaves group (given_gid request) (group_named group files))
+    (followed-leaves name no_edits (name-leaves group (value_of (codes "n") request)) none-leaves))
+
+pub groupmod-ranges :
+    (request : Request) (files : Files) → KeepsRanges files (groupmod request files).script
+groupmod-ranges request files =
+    let leaves = script-leaves (operand request) request files
+    in record {
+      subuids = stays-table subid_format AreApart files.subuid
+          (groupmod request files).script.subuid
+          (none-stays subid_format AreApart _ (groupmod request files).script.subuid leaves.subuid);
+      subgids = stays-table subid_format AreApart files.subgid
+          (groupmod request files).script.subgid
+          (none-stays subid_format AreApart _ (groupmod request files).script.subgid leaves.subgid);
+    }
+
+-- ---- The IDs
+
+-- what the parts make of a table
+abbrev in_turn : {X : Type 0} → List X → List X → List X → List X
+in_turn first second third = first ++ (second ++ (third ++ []))
+
+-- three lists together
+all-turns :
+    {X : Type 0} (P : X → Type 0) (first second third : List X)
+    → AllByRecursion P first
+    → AllByRecursion P second
+    → AllByRecursion P third
+    → AllByRecursion P (in_turn first second third)
+all-turns P first second third one two three =
+    all-append P first (second ++ (third ++ [])) one
+    (all-append P second (third ++ []) two (all-append P third [] three tt))
+
+-- a GID that is the group's, or nobody's
+free-by :
+    (files : Files) (group : List ℕ) (gid : ℕ) (old : GroupRecord)
+    → group_named group files ≡ Some old
+    → taken_gid files gid old ≡ None
+    → IsFreeKey gid_key (is_named group_format group) gid (group_records files)
+free-by files group gid old found none =
+    elim (and_cases (not (gid == old.gid)) (is_used (used_gids files) gid)
+    (refuse-fails (not (gid == old.gid) && is_used (used_gids files) gid) (GidInUse gid) none)) [
+      | inl same ↦ inr (old, found, sym (eqb-true gid old.gid (not-false (gid == old.gid) same)))
+      | inr unused ↦ inl (unused-all gid_key gid (group_records files) unused)
+    ]
+
+-- the refusal of a GID that is another group's, by what is given and found
+abbrev used_by : Files → Bool → Option ℕ → Option GroupRecord → Option Refusal
+used_by files with_o given found = if with_o
+    then None
+    else option_and_then (λ gid. option_and_then (taken_gid files gid) found) given
+
+module _ (group : List ℕ) (request : Request) (files : Files) where
+  -- the parts for group
+  abbrev hash_edits : List (Edit GroupRecord)
+  hash_edits = (hash_part group request files).group
+
+  abbrev name_edits : List (Edit GroupRecord)
+  name_edits = (name_part group (value_of (codes "n") request)).group
+
+  -- without a new GID each edit keeps the GIDs
+  kept-groups :
+      AllByRecursion (KeepsPairs group_format (OwnKeys gid_key)) (in_turn hash_edits [] name_edits)
+  kept-groups = all-turns (KeepsPairs group_format (OwnKeys gid_key)) hash_edits [] name_edits
+      (all-keys-keep group_format gid_key hash_edits (hash-quiet group request files).group) tt
+      (name-groups group (value_of (codes "n") request))
+
+  -- the groups, by the GID that is given and the group that is found
+  groups-by :
+      (given : Option ℕ) (found : Option GroupRecord) (with_o : Bool)
+      → with_o ≡ false
+      → group_named group files ≡ found
+      → used_by files with_o given found ≡ None
+      → first_multiple group_format
+      (in_turn hash_edits (gid_part group given found).group name_edits)
+      (group_records files) ≡ None
+      → StayApart group_format (OwnKeys gid_key) (group_records files)
+      (in_turn hash_edits (gid_part group given found).group name_edits)
+  groups-by None found with_o shares is none single each =
+      edits-keep group_format (OwnKeys gid_key) (in_turn hash_edits [] name_edits) kept-groups
+      (group_records files) each
+  groups-by (Some gid) None with_o shares is none single each =
+      edits-keep group_format (OwnKeys gid_key) (in_turn hash_edits [] name_edits) kept-groups
+      (group_records files) each
+  groups-by (Some gid) (Some old) true shares is none single each = cc
+  groups-by (Some gid) (Some old) false shares is none single each =
+      set-keeps group_format group-tells gid_key group gid (λ r. record r { gid = gid }) (λ r. refl)
+      hash_edits (name_edits ++ []) (hash-quiet group request files).group (group_records files)
+      (free-by files group gid old is none) single
+      (all-append (KeepsPairs group_format (OwnKeys gid_key)) name_edits []
+      (name-groups group (value_of (codes "n") request)) tt)
+      each
+
+  -- the users
+  kept-users :
+      AllByRecursion (KeepsKeys passwd_format uid_key) (groupmod_script group request files).passwd
+  kept-users = all-turns (KeepsKeys passwd_format uid_key) (hash_part group request files).passwd
+      (gid_part group (given_gid request) (group_named group files)).passwd
+      (name_part group (value_of (codes "n") request)).passwd
+      (hash-quiet group request files).passwd
+      (gid-users group (given_gid request) (group_named group files))
+      (name-users group (value_of (codes "n") request))
+
+  -- the whole
+  script-ids :
+      has_option (codes "o") request ≡ false
+      → first_some (groupmod_refusals group request files) ≡ None
+      → multiple_entries (groupmod_script group request files) files ≡ None
+      → KeepsOwnIds files (groupmod_script group request files)
+  script-ids shares none multiple =
+      let passed = all-none (groupmod_refusals group request files) none
+      in let single = all-none
+      (multiple_in Passwd passwd_format (groupmod_script group request files).passwd
+      (passwd_records files)
+      ∷ multiple_in Shadow shadow_format (groupmod_script group request files).shadow
+      (shadow_records files)
+      ∷ multiple_in Group group_format (groupmod_script group request files).group
+      (group_records files)
+      ∷ _ ∷ []) multiple
+      in record {
+        uids = gentle-table passwd_format (OwnKeys uid_key) files.passwd
+            (groupmod_script group request files).passwd
+            (all-keys-keep passwd_format uid_key
+            (groupmod_script group request files).passwd kept-users);
+        gids = stays-table group_format (OwnKeys gid_key) files.group
+            (groupmod_script group request files).group
+            (groups-by (given_gid request) (group_named group files)
+            (has_option (codes "o") request)
+            shares refl passed.1.1.1.1.1.0
+            (map-none (λ name. Multiple Group name) _ single.1.1.0));
+      }
+
+-- without `-o` groupmod keeps GIDs distinct
+pub groupmod-ids :
+    (request : Request) (files : Files)
+    → has_option (codes "o") request ≡ false
+    → first_some (groupmod request files).refusals ≡ None
+    → multiple_entries (groupmod request files).script files ≡ None
+    → KeepsOwnIds files (groupmod request files).script
+groupmod-ids request files shares none multiple =
+    script-ids (operand request) request files shares none multiple

@@ -1,0 +1,225 @@
+-- Scripts that keep each UID and each GID, and leave all ranges (`IsQuiet`): those of hashes, members and lines on demand,
+-- and scripts made of such ones (`order-quiet`). They are gentle (`quiet-gentle`).
+use Rattle.std.proofs.Common.{◌≡◌, ℕ, Bool, true, false, List, [], ◌∷◌, ◌++◌, refl, sym, ◌∙◌, ap, subst}
+use Rattle.std.specs.Prelude.{Option, Some, None, is_some, if◌then◌else◌}
+use Rattle.std.specs.List.{AllByRecursion}
+use Rattle.acct_text.specs.declared.files.Files.{Files}
+use Rattle.account_model.specs.declared.records.PasswdRecord.{PasswdRecord}
+use Rattle.account_model.specs.declared.records.GroupRecord.{GroupRecord}
+use Rattle.account_model.specs.declared.records.SubidRecord.{SubidRecord}
+use Rattle.account_model.specs.Format.{is_named}
+use Rattle.account_model.specs.Edits.{Edit}
+use Rattle.account_model.specs.Records.{passwd_format, group_format, subid_format}
+use Rattle.account_model.specs.Tables.{Script, no_edits, followed_by, in_order}
+use Rattle.account_model.specs.Members.{with_name, without_name, each_members, add_to_group, remove_from_group}
+use Rattle.account_model.specs.Hashes.{elsewhere, lacks_shadow, make_shadow, demand_shadow, each_password, each_user_hash, lacks_gshadow, make_gshadow, demand_gshadow, set_password, write_group_hash, write_administrators, set_group_hash, set_administrators}
+use Rattle.account_model.specs.Users.{find_user, group_named}
+use Rattle.account_model.specs.Request.{Request, has_option, value_of}
+use Rattle.account_model.specs.Action.{with_option, with_flag}
+use Rattle.account_model.proofs.WrittenScripts.{all-append}
+use Rattle.ids_apart.specs.Apart.{AreApart}
+use Rattle.ids_apart.proofs.PairEdits.{KeepsPairs}
+use Rattle.ids_apart.proofs.Keys.{KeepsKeys, where-keys, all-keys-keep}
+use Rattle.ids_apart.proofs.Kept.{uid_key, gid_key, IsGentle}
+
+-- no edit of subuid and subgid
+pub record LeavesRanges (script : Script) : Type 0 where
+  pub subuid : script.subuid ≡ []
+  pub subgid : script.subgid ≡ []
+
+-- no edit of them, and each edit of passwd and group keeps names and IDs
+pub record IsQuiet (script : Script) : Type 0 where
+  pub passwd : AllByRecursion (KeepsKeys passwd_format uid_key) script.passwd
+  pub group : AllByRecursion (KeepsKeys group_format gid_key) script.group
+  pub ranges : LeavesRanges script
+
+-- ---- Scripts together
+
+-- two lists that are empty
+pub both-empty : {X : Type 0} (a b : List X) → a ≡ [] → b ≡ [] → a ++ b ≡ []
+both-empty a b no_a no_b = ap (λ front. front ++ b) no_a ∙ no_b
+
+-- no edits
+pub none-leaves : LeavesRanges no_edits
+none-leaves = record { subuid = refl; subgid = refl }
+
+-- two scripts
+pub followed-leaves :
+    (first second : Script)
+    → LeavesRanges first
+    → LeavesRanges second
+    → LeavesRanges (followed_by first second)
+followed-leaves first second one other = record {
+  subuid = both-empty first.subuid second.subuid one.subuid other.subuid;
+  subgid = both-empty first.subgid second.subgid one.subgid other.subgid;
+}
+
+-- no edits
+pub none-quiet : IsQuiet no_edits
+none-quiet = record { passwd = tt; group = tt; ranges = none-leaves }
+
+-- two scripts
+pub followed-quiet :
+    (first second : Script)
+    → IsQuiet first
+    → IsQuiet second
+    → IsQuiet (followed_by first second)
+followed-quiet first second one other = record {
+  passwd = all-append _ first.passwd second.passwd one.passwd other.passwd;
+  group = all-append _ first.group second.group one.group other.group;
+  ranges = followed-leaves first second one.ranges other.ranges;
+}
+
+-- scripts in their order
+pub order-quiet : (scripts : List Script) → AllByRecursion IsQuiet scripts
+    → IsQuiet (in_order scripts)
+order-quiet [] all = none-quiet
+order-quiet (script ∷ rest) all =
+    followed-quiet script (in_order rest) all.0 (order-quiet rest all.1)
+
+-- the script of a value that may be there
+pub some-quiet :
+    {V : Type 0} (edits : V → Script) (given : Option V)
+    → ((value : V) → IsQuiet (edits value))
+    → IsQuiet (elim given [ None ↦ no_edits | Some value ↦ edits value ])
+some-quiet edits None each = none-quiet
+some-quiet edits (Some value) each = each value
+
+-- the script of an option
+pub option-quiet :
+    (letter : List ℕ) (request : Request) (edits : List ℕ → Script)
+    → ((value : List ℕ) → IsQuiet (edits value))
+    → IsQuiet (with_option letter request edits)
+option-quiet letter request edits each = some-quiet edits (value_of letter request) each
+
+-- one of two scripts
+pub either-quiet :
+    (test : Bool) (one other : Script)
+    → IsQuiet one
+    → IsQuiet other
+    → IsQuiet (if test then one else other)
+either-quiet true one other is also = is
+either-quiet false one other is also = also
+
+-- the script of a flag
+pub flag-quiet :
+    (letter : List ℕ) (request : Request) (script : Script)
+    → IsQuiet script
+    → IsQuiet (with_flag letter request script)
+flag-quiet letter request script is =
+    either-quiet (has_option letter request) script no_edits is none-quiet
+
+-- no edits keep ranges apart
+leaves-gentle :
+    (edits : List (Edit SubidRecord))
+    → edits ≡ []
+    → AllByRecursion (KeepsPairs subid_format AreApart) edits
+leaves-gentle edits none = subst (AllByRecursion (KeepsPairs subid_format AreApart)) (sym none) tt
+
+-- a quiet script is gentle
+pub quiet-gentle : (script : Script) → IsQuiet script → IsGentle script
+quiet-gentle script quiet = record {
+  passwd = all-keys-keep passwd_format uid_key script.passwd quiet.passwd;
+  group = all-keys-keep group_format gid_key script.group quiet.group;
+  subuid = leaves-gentle script.subuid quiet.ranges.subuid;
+  subgid = leaves-gentle script.subgid quiet.ranges.subgid;
+}
+
+-- ---- Members
+
+-- the members of a group become others
+pub members-quiet :
+    (group : List ℕ) (f : List (List ℕ) → List (List ℕ)) → IsQuiet (each_members group f)
+members-quiet group f = record {
+  passwd = tt;
+  group = (
+    where-keys group_format gid_key (is_named group_format group)
+        (λ r. record r { members = f r.members }) (λ r. refl) (λ r. refl),
+    tt,
+  );
+  ranges = record { subuid = refl; subgid = refl };
+}
+
+-- a user joins a group
+pub add-to-group-quiet : (group user : List ℕ) → IsQuiet (add_to_group group user)
+add-to-group-quiet group user = members-quiet group (with_name user)
+
+-- a user leaves it
+pub remove-from-group-quiet : (group user : List ℕ) → IsQuiet (remove_from_group group user)
+remove-from-group-quiet group user = members-quiet group (without_name user)
+
+-- ---- The hashes of users
+
+-- a password field that becomes another
+password-keys :
+    (name : List ℕ) (f : List ℕ → List ℕ) → KeepsKeys passwd_format uid_key (each_password name f)
+password-keys name f = where-keys passwd_format uid_key (is_named passwd_format name)
+    (λ r. record r { password = f r.password }) (λ r. refl) (λ r. refl)
+
+-- the line of shadow that is made
+make-shadow-quiet : (user : PasswdRecord) → IsQuiet (make_shadow user)
+make-shadow-quiet user = record {
+  passwd = (password-keys user.name (λ hash. elsewhere), tt);
+  group = tt;
+  ranges = record { subuid = refl; subgid = refl };
+}
+
+-- the line of shadow on demand
+pub demand-shadow-quiet : (name : List ℕ) (files : Files) → IsQuiet (demand_shadow name files)
+demand-shadow-quiet name files = either-quiet (lacks_shadow name files) _ no_edits
+    (some-quiet make_shadow (find_user name files) make-shadow-quiet) none-quiet
+
+-- the hash of a user
+pub user-hash-quiet :
+    (name : List ℕ) (f : List ℕ → List ℕ) (files : Files) → IsQuiet (each_user_hash name f files)
+user-hash-quiet name f files = either-quiet (is_some files.shadow) _ _
+    (record { passwd = tt; group = tt; ranges = record { subuid = refl; subgid = refl } })
+    (record {
+      passwd = (password-keys name f, tt);
+      group = tt;
+      ranges = record { subuid = refl; subgid = refl };
+    })
+
+-- ---- The hashes of groups
+
+-- a password field of group that becomes another
+group-password-keys :
+    (name password : List ℕ) → KeepsKeys group_format gid_key (set_password name password)
+group-password-keys name password = where-keys group_format gid_key (is_named group_format name)
+    (λ r. record r { password = password }) (λ r. refl) (λ r. refl)
+
+-- the line of gshadow that is made
+make-gshadow-quiet : (group : GroupRecord) → IsQuiet (make_gshadow group)
+make-gshadow-quiet group = record {
+  passwd = tt;
+  group = (group-password-keys group.name elsewhere, tt);
+  ranges = record { subuid = refl; subgid = refl };
+}
+
+-- the line of gshadow on demand
+demand-gshadow-quiet : (name : List ℕ) (files : Files) → IsQuiet (demand_gshadow name files)
+demand-gshadow-quiet name files = either-quiet (lacks_gshadow name files) _ no_edits
+    (some-quiet make_gshadow (group_named name files) make-gshadow-quiet) none-quiet
+
+-- the hash of a group
+pub group-hash-quiet :
+    (name hash : List ℕ) (files : Files) → IsQuiet (set_group_hash name hash files)
+group-hash-quiet name hash files =
+    followed-quiet (demand_gshadow name files) (write_group_hash name hash files)
+    (demand-gshadow-quiet name files)
+    (either-quiet (is_some files.gshadow) _ _
+    (record { passwd = tt; group = tt; ranges = record { subuid = refl; subgid = refl } })
+    (record {
+      passwd = tt;
+      group = (group-password-keys name hash, tt);
+      ranges = record { subuid = refl; subgid = refl };
+    }))
+
+-- the administrators of a group
+pub administrators-quiet :
+    (name : List ℕ) (administrators : List (List ℕ)) (files : Files)
+    → IsQuiet (set_administrators name administrators files)
+administrators-quiet name administrators files =
+    followed-quiet (demand_gshadow name files) (write_administrators name administrators)
+    (demand-gshadow-quiet name files)
+    (record { passwd = tt; group = tt; ranges = record { subuid = refl; subgid = refl } })

@@ -1,0 +1,337 @@
+-- Claim: useradd gives a user ranges that meet none (`useradd-ranges`), and without `-o` a UID that no user has and a
+-- group with a GID that no group has (`useradd-ids`). Way: a given UID that is in use is refused, and a chosen ID isn't
+-- used; a range begins where it fits.
+use Rattle.std.proofs.Common.{◌≡◌, zero, suc, ℕ, ◌+◌, ◌-◌, ◌<◌, Bool, true, false, not, ◌&&◌, List, [], ◌∷◌, ◌++◌, refl, sym, ◌∙◌, ap, subst, arith, append-nil}
+use Rattle.std.specs.Prelude.{Option, Some, None, ◌==◌, codes, is_some, map, option_and_then, if◌then◌else◌}
+use Rattle.std.specs.List.{AllByRecursion, list_any}
+use Rattle.std.proofs.lemmas.Bool.{and_parts}
+use Rattle.acct_text.specs.declared.files.Files.{Files}
+use Rattle.acct_text.proofs.NumberLaws.{some-inj}
+use Rattle.account_model.specs.declared.settings.IdSort.TheVariants.{Uid, Gid}
+use Rattle.account_model.specs.declared.records.GroupRecord.{GroupRecord}
+use Rattle.account_model.specs.declared.refusal.Refusal.TheVariants.{UidInUse}
+use Rattle.account_model.specs.Text.{first_some}
+use Rattle.account_model.specs.Edits.Edit.{Add}
+use Rattle.account_model.specs.Records.{passwd_format, group_format, subid_format}
+use Rattle.account_model.specs.Tables.{Script, no_edits, passwd_records, group_records}
+use Rattle.account_model.specs.Settings.{Setting, range}
+use Rattle.account_model.specs.Ids.{used_uids, used_gids, is_used}
+use Rattle.account_model.specs.FreeRange.{Meeting, IsFreeRange}
+use Rattle.account_model.specs.GivenGroups.{given_groups}
+use Rattle.account_model.specs.Hashes.{elsewhere, locked}
+use Rattle.account_model.specs.Members.{add_to_group}
+use Rattle.account_model.specs.Values.{given_uid}
+use Rattle.account_model.specs.Request.{Request, has_option, operand}
+use Rattle.account_model.specs.Refusals.{refuse_if}
+use Rattle.account_model.specs.NewAccount.{kind_of, settings_for, free_uid, free_gid, new_group, add_group}
+use Rattle.account_model.specs.NewRanges.{Subordinate, subordinate_uids, subordinate_gids, may_have_ranges, is_allotted, free_start, new_range, allotted}
+use Rattle.account_model.specs.SubidOwner.{is_owned}
+use Rattle.account_model.specs.Useradd.{makes_group, new_uid, gid_beside, own_gid, primary_gid, used_uid, useradd_checks, useradd_conflicts, new_user, add_own_group, join_groups, useradd_script, useradd_under, useradd}
+use Rattle.account_model.proofs.FreeRangeLaws.{free_range-is}
+use Rattle.account_model.proofs.WrittenScripts.{all-append}
+use Rattle.ids_apart.specs.Apart.{AreApart}
+use Rattle.ids_apart.proofs.Pairs.{all-then, each-push}
+use Rattle.ids_apart.proofs.PairEdits.{KeepsPairs, StayApart, edits-keep}
+use Rattle.ids_apart.proofs.Keys.{OwnKeys, KeepsKeys, all-keys-keep}
+use Rattle.ids_apart.proofs.Kept.{uid_key, gid_key, KeepsRanges, KeepsOwnIds, stays-table, gentle-ranges, gentle-ids, none-gentle}
+use Rattle.ids_apart.proofs.Refusals.{behind-none}
+use Rattle.ids_apart.proofs.Unused.{chosen-unused, refuse-fails, push-keeps}
+use Rattle.ids_apart.proofs.Quiet.{LeavesRanges, IsQuiet, none-leaves, order-quiet, add-to-group-quiet}
+
+-- ---- The ranges
+
+-- a range that fits is apart from those of the file
+start-stays :
+    (request : Request) (ids : Subordinate) (start : Option ℕ)
+    → 0 < ids.count
+    → free_start ids ≡ start
+    → StayApart subid_format AreApart ids.records
+    (elim start [ None ↦ [] | Some first ↦ Add (new_range request first ids.count) ∷ [] ])
+start-stays request ids None some found each = each
+start-stays request ids (Some start) some found each =
+    let free = subst
+    (λ choice. IsFreeRange ids.minimum ids.maximum ids.count ids.records choice) found
+    (free_range-is ids.minimum ids.maximum ids.count some ids.records)
+    in each-push AreApart ids.records (new_range request start ids.count) each
+    (all-then (λ r. Meeting start (start + ids.count - 1) r → ⊥)
+    (λ r. AreApart r (new_range request start ids.count)) ids.records
+    (λ r apart meeting. apart (record {
+      begins_before = meeting.ends_behind;
+      ends_behind = meeting.begins_before;
+    })) free.member.apart)
+
+-- a count that isn't 0
+some-count : (count : ℕ) → not (count == 0) ≡ true → 0 < count
+some-count zero e = cc
+some-count (suc n) e = omega arith
+
+-- a range, where one is allotted
+allotted-by :
+    (request : Request) (uid : Option ℕ) (ids : Subordinate) (test : Bool)
+    → is_allotted request uid ids ≡ test
+    → StayApart subid_format AreApart ids.records (if test
+    then elim (free_start ids)
+    [ None ↦ [] | Some start ↦ Add (new_range request start ids.count) ∷ [] ]
+    else [])
+allotted-by request uid ids false is each = each
+allotted-by request uid ids true is each =
+    start-stays request ids (free_start ids)
+    (some-count ids.count
+    (and_parts (is_some ids.bytes && not (list_any (is_owned (operand request) uid) ids.records)
+    && may_have_ranges request) (not (ids.count == 0)) is).1)
+    refl each
+
+-- the new range of a table keeps all apart
+allotted-stays :
+    (request : Request) (uid : Option ℕ) (ids : Subordinate)
+    → StayApart subid_format AreApart ids.records (allotted request uid ids)
+allotted-stays request uid ids = allotted-by request uid ids (is_allotted request uid ids) refl
+
+-- ---- The other edits
+
+-- the user's own group leaves ranges
+own-leaves :
+    (own : Script) (makes : Bool)
+    → LeavesRanges own
+    → LeavesRanges (if makes then own else no_edits)
+own-leaves own true leaves = leaves
+own-leaves own false leaves = none-leaves
+
+-- the user joins groups
+joined-quiet :
+    (user : List ℕ) (groups : List GroupRecord)
+    → AllByRecursion IsQuiet (map (λ group. add_to_group group.name user) groups)
+joined-quiet user [] = tt
+joined-quiet user (group ∷ groups) =
+    (add-to-group-quiet group.name user, joined-quiet user groups)
+
+join-quiet : (request : Request) (files : Files) → IsQuiet (join_groups request files)
+join-quiet request files =
+    order-quiet (map (λ group. add_to_group group.name (operand request))
+    (given_groups request files))
+    (joined-quiet (operand request) (given_groups request files))
+
+-- edits of ranges behind those of other scripts
+ranges-behind :
+    {X : Type 0} (own join ranges : List X)
+    → own ≡ []
+    → join ≡ []
+    → own ++ (join ++ (ranges ++ [])) ≡ ranges
+ranges-behind own join ranges no_own no_join =
+    ap (λ front. front ++ (join ++ (ranges ++ []))) no_own
+    ∙ ap (λ front. front ++ (ranges ++ [])) no_join
+    ∙ append-nil ranges
+
+-- ---- The IDs
+
+-- the edits of passwd by the own group
+own-users :
+    (own : Script) (makes : Bool)
+    → own.passwd ≡ []
+    → AllByRecursion (KeepsKeys passwd_format uid_key) (if makes then own else no_edits).passwd
+own-users own true none =
+    subst (AllByRecursion (KeepsKeys passwd_format uid_key)) (sym none) tt
+own-users own false none = tt
+
+module _ (request : Request) (files : Files) (settings : List Setting)
+    (shares : has_option (codes "o") request ≡ false) where
+  -- the new UID isn't used, by the one that is given
+  uid-by :
+      (uid : ℕ) (given : Option ℕ) (with_o : Bool)
+      → with_o ≡ false
+      → (if with_o
+      then None
+      else option_and_then (λ n. refuse_if (is_used (used_uids files) n) (UidInUse n)) given) ≡ None
+      → elim given as (λ n. Option ℕ) [
+        | Some n ↦ Some n
+        | None ↦ free_uid (kind_of request) files settings
+      ] ≡ Some uid
+      → is_used (used_uids files) uid ≡ false
+  uid-by uid given true shared none e = cc
+  uid-by uid None false shared none e =
+      chosen-unused (kind_of request) (range Uid (kind_of request) settings) (used_uids files) uid e
+  uid-by uid (Some n) false shared none e = subst (λ id. is_used (used_uids files) id ≡ false)
+      (some-inj e) (refuse-fails (is_used (used_uids files) n) (UidInUse n) none)
+
+  -- the new UID isn't used
+  uid-unused :
+      (uid : ℕ)
+      → used_uid request files ≡ None
+      → new_uid request files settings ≡ Some uid
+      → is_used (used_uids files) uid ≡ false
+  uid-unused uid none e =
+      uid-by uid (given_uid request) (has_option (codes "o") request) shares none e
+
+-- the GID of a user's own group isn't used, by whether its UID is one
+gid-by :
+    (request : Request) (files : Files) (settings : List Setting) (uid gid : ℕ) (taken : Bool)
+    → is_used (used_gids files) uid ≡ taken
+    → (if taken then free_gid (kind_of request) files settings else Some uid) ≡ Some gid
+    → is_used (used_gids files) gid ≡ false
+gid-by request files settings uid gid true is e =
+    chosen-unused (kind_of request) (range Gid (kind_of request) settings) (used_gids files) gid e
+gid-by request files settings uid gid false is e =
+    subst (λ id. is_used (used_gids files) id ≡ false) (some-inj e) is
+
+-- so it is for any UID that there is
+own-gid-by :
+    (request : Request) (files : Files) (settings : List Setting) (gid : ℕ) (uid : Option ℕ)
+    → option_and_then (gid_beside request files settings) uid ≡ Some gid
+    → is_used (used_gids files) gid ≡ false
+own-gid-by request files settings gid None e = cc
+own-gid-by request files settings gid (Some uid) e =
+    gid-by request files settings uid gid (is_used (used_gids files) uid) refl e
+
+-- where a group is made, its GID isn't used
+primary-by :
+    (request : Request) (files : Files) (settings : List Setting) (gid other : ℕ) (makes : Bool)
+    → makes ≡ true
+    → (if makes then own_gid request files settings else Some other) ≡ Some gid
+    → is_used (used_gids files) gid ≡ false
+primary-by request files settings gid other true is e =
+    own-gid-by request files settings gid (new_uid request files settings) e
+primary-by request files settings gid other false is e = cc
+
+module _ (request : Request) (files : Files) (settings : List Setting) (day uid gid : ℕ) where
+  -- the user's own group, where one is made
+  abbrev own : Script
+  own = add_own_group request files settings gid
+
+  -- the groups that the user joins
+  abbrev join : Script
+  join = join_groups request files
+
+  -- it leaves ranges
+  own-ranges : LeavesRanges own
+  own-ranges = own-leaves (add_group (operand request) locked gid files)
+      (makes_group request settings)
+      (record { subuid = refl; subgid = refl })
+
+  -- a user of this UID and this GID keeps ranges apart
+  add-ranges : KeepsRanges files (useradd_script request files settings day (Some uid) (Some gid))
+  add-ranges = record {
+    subuids = stays-table subid_format AreApart files.subuid
+        (own.subuid ++ (join.subuid
+        ++ (allotted request (Some uid) (subordinate_uids files settings) ++ [])))
+        (subst (StayApart subid_format AreApart (subordinate_uids files settings).records)
+        (sym (ranges-behind own.subuid join.subuid
+        (allotted request (Some uid) (subordinate_uids files settings))
+        own-ranges.subuid (join-quiet request files).ranges.subuid))
+        (allotted-stays request (Some uid) (subordinate_uids files settings)));
+    subgids = stays-table subid_format AreApart files.subgid
+        (own.subgid ++ (join.subgid
+        ++ (allotted request (Some uid) (subordinate_gids files settings) ++ [])))
+        (subst (StayApart subid_format AreApart (subordinate_gids files settings).records)
+        (sym (ranges-behind own.subgid join.subgid
+        (allotted request (Some uid) (subordinate_gids files settings))
+        own-ranges.subgid (join-quiet request files).ranges.subgid))
+        (allotted-stays request (Some uid) (subordinate_gids files settings)));
+  }
+
+  -- the users, with one more
+  add-users :
+      is_used (used_uids files) uid ≡ false
+      → StayApart passwd_format (OwnKeys uid_key) (passwd_records files)
+      (Add (new_user request files uid gid) ∷ (own.passwd ++ (join.passwd ++ [])))
+  add-users unused each =
+      let rest = all-append (KeepsKeys passwd_format uid_key) own.passwd (join.passwd ++ [])
+      (own-users (add_group (operand request) locked gid files) (makes_group request settings) refl)
+      (all-append (KeepsKeys passwd_format uid_key) join.passwd []
+      (join-quiet request files).passwd tt)
+      in edits-keep passwd_format (OwnKeys uid_key) (own.passwd ++ (join.passwd ++ []))
+      (all-keys-keep passwd_format uid_key (own.passwd ++ (join.passwd ++ [])) rest)
+      (passwd_records files ++ new_user request files uid gid ∷ [])
+      (push-keeps uid_key (new_user request files uid gid) (passwd_records files) unused each)
+
+  -- the edits of group behind the own group's
+  join-keeps : AllByRecursion (KeepsPairs group_format (OwnKeys gid_key)) (join.group ++ [])
+  join-keeps = all-keys-keep group_format gid_key (join.group ++ [])
+      (all-append (KeepsKeys group_format gid_key) join.group []
+      (join-quiet request files).group tt)
+
+  -- the groups, with one more where it is made
+  add-groups :
+      (makes : Bool)
+      → (makes ≡ true → is_used (used_gids files) gid ≡ false)
+      → StayApart group_format (OwnKeys gid_key) (group_records files)
+      ((if makes then add_group (operand request) locked gid files else no_edits).group
+      ++ (join.group ++ []))
+  add-groups true unused each =
+      let new = new_group (operand request)
+      (if is_some files.gshadow then elsewhere else locked) gid
+      in edits-keep group_format (OwnKeys gid_key) (join.group ++ []) join-keeps
+      (group_records files ++ new ∷ [])
+      (push-keeps gid_key new (group_records files) (unused refl) each)
+  add-groups false unused each =
+      edits-keep group_format (OwnKeys gid_key) (join.group ++ []) join-keeps
+      (group_records files) each
+
+  -- a user of an unused UID, with a group of an unused GID
+  add-ids :
+      is_used (used_uids files) uid ≡ false
+      → (makes_group request settings ≡ true → is_used (used_gids files) gid ≡ false)
+      → KeepsOwnIds files (useradd_script request files settings day (Some uid) (Some gid))
+  add-ids unused_uid unused_gid = record {
+    uids = stays-table passwd_format (OwnKeys uid_key) files.passwd
+        (Add (new_user request files uid gid) ∷ (own.passwd ++ (join.passwd ++ [])))
+        (add-users unused_uid);
+    gids = stays-table group_format (OwnKeys gid_key) files.group (own.group ++ (join.group ++ []))
+        (add-groups (makes_group request settings) unused_gid);
+  }
+
+-- ---- The whole
+
+-- ranges, by the IDs that there are
+script-ranges :
+    (request : Request) (files : Files) (settings : List Setting) (day : ℕ) (uid gid : Option ℕ)
+    → KeepsRanges files (useradd_script request files settings day uid gid)
+script-ranges request files settings day None gid = gentle-ranges files no_edits none-gentle
+script-ranges request files settings day (Some uid) None = gentle-ranges files no_edits none-gentle
+script-ranges request files settings day (Some uid) (Some gid) =
+    add-ranges request files settings day uid gid
+
+-- useradd keeps ranges apart
+pub useradd-ranges :
+    (request : Request) (files : Files) (settings : List Setting) (day : ℕ)
+    → KeepsRanges files (useradd request files settings day).script
+useradd-ranges request files settings day =
+    let under = settings_for request settings
+    in script-ranges request files under day (new_uid request files under)
+    (primary_gid request files under)
+
+-- IDs, by those that there are
+script-ids :
+    (request : Request) (files : Files) (settings : List Setting) (day : ℕ) (uid gid : Option ℕ)
+    → ((id : ℕ) → uid ≡ Some id → is_used (used_uids files) id ≡ false)
+    → ((id : ℕ) → gid ≡ Some id → makes_group request settings ≡ true
+    → is_used (used_gids files) id ≡ false)
+    → KeepsOwnIds files (useradd_script request files settings day uid gid)
+script-ids request files settings day None gid unused_uid unused_gid =
+    gentle-ids files no_edits none-gentle
+script-ids request files settings day (Some uid) None unused_uid unused_gid =
+    gentle-ids files no_edits none-gentle
+script-ids request files settings day (Some uid) (Some gid) unused_uid unused_gid =
+    add-ids request files settings day uid gid (unused_uid uid refl) (unused_gid gid refl)
+
+-- useradd under settings
+under-ids :
+    (settings : List Setting) (request : Request) (files : Files) (day : ℕ)
+    → has_option (codes "o") request ≡ false
+    → first_some (useradd_under settings request files day).refusals ≡ None
+    → KeepsOwnIds files (useradd_under settings request files day).script
+under-ids settings request files day shares none =
+    let passed = behind-none (useradd_checks request)
+    (useradd_conflicts request files settings) none
+    in script-ids request files settings day (new_uid request files settings)
+    (primary_gid request files settings)
+    (λ id e. uid-unused request files settings shares id passed.1.1.1.1.0 e)
+    (λ id e makes. primary-by request files settings id _ (makes_group request settings) makes e)
+
+-- without `-o` useradd keeps UIDs and GIDs distinct
+pub useradd-ids :
+    (request : Request) (files : Files) (settings : List Setting) (day : ℕ)
+    → has_option (codes "o") request ≡ false
+    → first_some (useradd request files settings day).refusals ≡ None
+    → KeepsOwnIds files (useradd request files settings day).script
+useradd-ids request files settings day shares none =
+    under-ids (settings_for request settings) request files day shares none

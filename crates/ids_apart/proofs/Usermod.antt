@@ -1,0 +1,209 @@
+-- Claim: usermod keeps ranges apart (`usermod-ranges`), and without `-o` it keeps UIDs distinct (`usermod-ids`).
+-- Way: the hash comes first and keeps all; a UID of `-u` that another user has is refused, and so is a user whose name
+-- stands twice.
+use Rattle.std.proofs.Common.{◌≡◌, ℕ, Bool, true, false, not, ◌&&◌, ◌||◌, List, [], ◌∷◌, ◌++◌, refl, sym, ◌∙◌, ap, subst, inl, inr, append-nil}
+use Rattle.std.specs.Prelude.{◌⊎◌, Option, Some, None, ◌==◌, codes, option_map, option_and_then, unwrap_or, if◌then◌else◌}
+use Rattle.std.specs.List.{AllByRecursion}
+use Rattle.std.proofs.lemmas.Bool.{eqb-true}
+use Rattle.acct_text.specs.declared.files.Files.{Files}
+use Rattle.acct_text.specs.declared.Tab.TheVariants.{Passwd, Subuid, Subgid}
+use Rattle.account_model.specs.declared.records.PasswdRecord.{PasswdRecord}
+use Rattle.account_model.specs.declared.refusal.Refusal.TheVariants.{UidInUse, Multiple}
+use Rattle.account_model.specs.Text.{first_some}
+use Rattle.account_model.specs.Format.{is_named}
+use Rattle.account_model.specs.Edits.{each_where, first_multiple}
+use Rattle.account_model.specs.Records.{passwd_format, group_format, subid_format}
+use Rattle.account_model.specs.RecordEdits.{IsWrittenEdit}
+use Rattle.account_model.specs.Tables.{no_edits, passwd_records}
+use Rattle.account_model.specs.Ids.{used_uids, is_used}
+use Rattle.account_model.specs.Hashes.{demand_shadow, each_user_hash}
+use Rattle.account_model.specs.Users.{find_user}
+use Rattle.account_model.specs.Values.{given_uid}
+use Rattle.account_model.specs.Request.{Request, has_option, values_of, operand}
+use Rattle.account_model.specs.Refusals.{refuse_if}
+use Rattle.account_model.specs.Action.{multiple_in, multiple_entries}
+use Rattle.account_model.specs.UsermodHash.{sets_hash, sets_aging, hash_after, hash_script}
+use Rattle.account_model.specs.UsermodRanges.{range_edits}
+use Rattle.account_model.specs.Usermod.{changed_user, changed_group, range_owner, subuid_change, subgid_change, is_own_uid, is_uid_taken, usermod_checks, usermod_conflicts, usermod_script, usermod}
+use Rattle.account_model.proofs.SameLaws.{passwd-tells}
+use Rattle.account_model.proofs.UsermodRangeScripts.{values-ordered}
+use Rattle.account_model.proofs.WrittenScripts.{all-append}
+use Rattle.ids_apart.specs.Apart.{AreApart}
+use Rattle.ids_apart.proofs.PairEdits.{KeepsPairs, StayApart, edits-keep}
+use Rattle.ids_apart.proofs.Keys.{OwnKeys, each-keep, where-keep, all-keys-keep}
+use Rattle.ids_apart.proofs.Kept.{uid_key, gid_key, TableStays, KeepsRanges, KeepsOwnIds, stays-table, gentle-table}
+use Rattle.ids_apart.proofs.NewKeys.{IsFreeKey, set-keeps}
+use Rattle.ids_apart.proofs.Refusals.{all-none, behind-none, map-none}
+use Rattle.ids_apart.proofs.Unused.{refuse-fails, unused-all}
+use Rattle.ids_apart.proofs.Quiet.{IsQuiet, none-quiet, order-quiet, either-quiet, demand-shadow-quiet, user-hash-quiet}
+use Rattle.ids_apart.proofs.UsermodRanges.{ranges-stay}
+
+-- the hash keeps names and IDs
+hash-quiet : (request : Request) (files : Files) → IsQuiet (hash_script request files)
+hash-quiet request files = order-quiet
+    ((if sets_hash request || sets_aging request
+    then demand_shadow (operand request) files
+    else no_edits)
+    ∷ (if sets_hash request
+    then each_user_hash (operand request) (hash_after request) files
+    else no_edits)
+    ∷ []) (
+      either-quiet (sets_hash request || sets_aging request)
+          (demand_shadow (operand request) files) no_edits
+          (demand-shadow-quiet (operand request) files) none-quiet,
+      (
+        either-quiet (sets_hash request)
+            (each_user_hash (operand request) (hash_after request) files) no_edits
+            (user-hash-quiet (operand request) (hash_after request) files) none-quiet,
+        tt,
+      ),
+    )
+
+-- ---- The ranges
+
+-- edits of ranges behind those of the hash
+ranges-behind :
+    {X : Type 0} (hash ranges : List X)
+    → hash ≡ []
+    → hash ++ (ranges ++ []) ≡ ranges
+ranges-behind hash ranges none =
+    ap (λ front. front ++ (ranges ++ [])) none ∙ append-nil ranges
+
+-- usermod keeps ranges apart
+pub usermod-ranges :
+    (request : Request) (files : Files) (day : ℕ)
+    → first_some (usermod request files day).refusals ≡ None
+    → AllByRecursion (IsWrittenEdit subid_format) (usermod request files day).script.subuid
+    → AllByRecursion (IsWrittenEdit subid_format) (usermod request files day).script.subgid
+    → KeepsRanges files (usermod request files day).script
+usermod-ranges request files day none written_uids written_gids =
+    let passed = behind-none (usermod_checks request) (usermod_conflicts request files) none
+    in let owner = range_owner request files
+    in let leaves = (hash-quiet request files).ranges
+    in let uids = ranges-behind (hash_script request files).subuid
+    (range_edits owner (subuid_change request))
+    leaves.subuid
+    in let gids = ranges-behind (hash_script request files).subgid
+    (range_edits owner (subgid_change request))
+    leaves.subgid
+    in record {
+      subuids = subst (TableStays subid_format AreApart files.subuid) (sym uids)
+          (ranges-stay Subuid owner (subuid_change request) files.subuid
+          (values-ordered (values_of (codes "V") request))
+          (values-ordered (values_of (codes "v") request))
+          (subst (AllByRecursion (IsWrittenEdit subid_format)) uids written_uids)
+          passed.1.1.1.1.1.1.0);
+      subgids = subst (TableStays subid_format AreApart files.subgid) (sym gids)
+          (ranges-stay Subgid owner (subgid_change request) files.subgid
+          (values-ordered (values_of (codes "W") request))
+          (values-ordered (values_of (codes "w") request))
+          (subst (AllByRecursion (IsWrittenEdit subid_format)) gids written_gids)
+          passed.1.1.1.1.1.1.1.0);
+    }
+
+-- ---- The IDs
+
+-- the user has the UID, by the record that is found
+own-by :
+    (uid : ℕ) (found : Option PasswdRecord)
+    → elim (option_map (λ (user : PasswdRecord). user.uid) found) as (λ n. Bool) [
+      | None ↦ false
+      | Some own ↦ uid == own
+    ] ≡ true
+    → (own : PasswdRecord) × (found ≡ Some own) × (uid_key own ≡ uid)
+own-by uid None e = absurd (cc)
+own-by uid (Some own) e = (own, refl, sym (eqb-true uid own.uid e))
+
+-- a UID that isn't taken is nobody's or the user's, where none is shared
+untaken-by :
+    (used with_o own : Bool)
+    → with_o ≡ false
+    → (used && not with_o && not own) ≡ false
+    → (used ≡ false) ⊎ (own ≡ true)
+untaken-by false with_o own shares e = inl refl
+untaken-by true true own shares e = absurd (cc)
+untaken-by true false true shares e = inr refl
+untaken-by true false false shares e = absurd (cc)
+
+-- a UID that isn't refused is free
+free-by :
+    (request : Request) (files : Files) (uid : ℕ)
+    → has_option (codes "o") request ≡ false
+    → refuse_if (is_uid_taken request files uid) (UidInUse uid) ≡ None
+    → IsFreeKey uid_key (is_named passwd_format (operand request)) uid (passwd_records files)
+free-by request files uid shares none =
+    elim (untaken-by (is_used (used_uids files) uid) (has_option (codes "o") request)
+    (is_own_uid request files uid) shares
+    (refuse-fails (is_uid_taken request files uid) (UidInUse uid) none)) [
+      | inl unused ↦ inl (unused-all uid_key uid (passwd_records files) unused)
+      | inr own ↦ inr (own-by uid (find_user (operand request) files) own)
+    ]
+
+module _ (request : Request) (files : Files) where
+  -- the users, by the UID that is given
+  users-by :
+      (given : Option ℕ)
+      → given_uid request ≡ given
+      → has_option (codes "o") request ≡ false
+      → option_and_then (λ uid. refuse_if (is_uid_taken request files uid) (UidInUse uid)) given
+      ≡ None
+      → first_multiple passwd_format
+      ((hash_script request files).passwd
+      ++ each_where (is_named passwd_format (operand request)) (changed_user request files) ∷ [])
+      (passwd_records files) ≡ None
+      → StayApart passwd_format (OwnKeys uid_key) (passwd_records files)
+      ((hash_script request files).passwd
+      ++ each_where (is_named passwd_format (operand request)) (changed_user request files) ∷ [])
+  users-by None is shares none single each =
+      let edit = each_where (is_named passwd_format (operand request)) (changed_user request files)
+      in edits-keep passwd_format (OwnKeys uid_key)
+      ((hash_script request files).passwd ++ edit ∷ [])
+      (all-append (KeepsPairs passwd_format (OwnKeys uid_key)) (hash_script request files).passwd
+      (edit ∷ [])
+      (all-keys-keep passwd_format uid_key (hash_script request files).passwd
+      (hash-quiet request files).passwd) (
+        where-keep passwd_format uid_key (is_named passwd_format (operand request))
+            (changed_user request files)
+            (λ r. ap (λ uid. unwrap_or uid r.uid) is),
+        tt,
+      ))
+      (passwd_records files) each
+  users-by (Some uid) is shares none single each =
+      set-keeps passwd_format passwd-tells uid_key (operand request) uid
+      (changed_user request files)
+      (λ r. ap (λ new. unwrap_or new r.uid) is)
+      (hash_script request files).passwd [] (hash-quiet request files).passwd (passwd_records files)
+      (free-by request files uid shares none) single tt each
+
+  -- the groups keep their GIDs
+  kept-groups :
+      AllByRecursion (KeepsPairs group_format (OwnKeys gid_key))
+      (usermod_script request files 0).group
+  kept-groups = all-append (KeepsPairs group_format (OwnKeys gid_key))
+      (hash_script request files).group _
+      (all-keys-keep group_format gid_key (hash_script request files).group
+      (hash-quiet request files).group)
+      (each-keep group_format gid_key (changed_group request files) (λ r. refl), tt)
+
+-- without `-o` usermod keeps UIDs and GIDs distinct
+pub usermod-ids :
+    (request : Request) (files : Files) (day : ℕ)
+    → has_option (codes "o") request ≡ false
+    → first_some (usermod request files day).refusals ≡ None
+    → multiple_entries (usermod request files day).script files ≡ None
+    → KeepsOwnIds files (usermod request files day).script
+usermod-ids request files day shares none multiple =
+    let passed = behind-none (usermod_checks request) (usermod_conflicts request files) none
+    in let single = all-none
+    (multiple_in Passwd passwd_format (usermod request files day).script.passwd
+    (passwd_records files)
+    ∷ _ ∷ _ ∷ _ ∷ []) multiple
+    in record {
+      uids = stays-table passwd_format (OwnKeys uid_key) files.passwd
+          (usermod request files day).script.passwd
+          (users-by request files (given_uid request) refl shares passed.1.1.0
+          (map-none (λ name. Multiple Passwd name) _ single.0));
+      gids = gentle-table group_format (OwnKeys gid_key) files.group
+          (usermod request files day).script.group
+          (kept-groups request files);
+    }

@@ -1,0 +1,14 @@
+//! IDs stay apart: what no command of the account suite takes away from passwd(5), group(5),
+//! subuid(5) and subgid(5).
+//!
+//! `specs/Apart` says when UIDs and GIDs are distinct and ranges of subordinate IDs apart,
+//! `specs/Laws` what each deed keeps of it. In `proofs/` each tool that gives IDs has a file.
+#![tactic(auto)]
+
+ghost use Rattle.ids_apart.specs.Laws.{DeedsKeepIdsApart};
+
+/// A deed of any tool makes no two ranges of subordinate IDs meet that were apart; and without `-o`
+/// it gives no two users one UID and no two groups one GID, where all were distinct before.
+pub fn deeds_keep_ids_apart()
+    ensures { DeedsKeepIdsApart }
+{}

@@ -1,0 +1,165 @@
+-- Claims: each call by which an intent is carried out leads on (`carries-after-write`, `first-staged`,
+-- `carries-after-move`, `none-after-removal`), and is one that the rules permit there (`may-stage`,
+-- `may-move`, `may-remove`). Way: none of the calls concerns a lock, so the session keeps its number
+-- (`keeps-on`); as it is keeper, its knowledge and what it has staged take their own step
+-- (`knows-next`, `staged-next`).
+use Rattle.std.proofs.Common.{◌≡◌, refl, sym, ap, subst, ◌∙◌, Bool, true, false, ◌||◌, if◌then◌else◌, List, [], ◌∷◌, ◌++◌, length, slice_get, drop, Option, Some, All, append_assoc}
+use Rattle.std.specs.Prelude.{IsSomeAnd}
+use Rattle.std.proofs.lemmas.List.{append-nil}
+use Rattle.std.proofs.lemmas.List.Elements.{All-push, All-same, All-weaker}
+use Rattle.acct_text.specs.declared.Tab.{Tab}
+use Rattle.acct_text.specs.Tables.{same_table}
+use Rattle.acct_outside.specs.declared.Name.TheVariants.{Intent, Staged}
+use Rattle.acct_outside.specs.Calls.{removes, done}
+use Rattle.intent_file.specs.Intent.{Intended, NewTable, is_in_order, listed_in}
+use Rattle.intent_file.proofs.Reading.{allowed_parts}
+use Rattle.suite_rules.specs.Deeds.{SuiteDeeds}
+use Rattle.suite_rules.specs.Knowledge.{Knowledge, Stages, install_step, table_with}
+use Rattle.suite_rules.specs.Standing.{Standing, standing_step}
+use Rattle.suite_rules.specs.Rules.{KeeperRule, KnowsIntent, Permits, staging_rule, install_rule, clear_rule}
+use Rattle.suite_rules.specs.Outcomes.{stages, installs}
+use Rattle.suite_rules.proofs.Names.{table-same}
+use Rattle.suite_rules.proofs.Listed.{first-of, none-of, listed-there, all-in-place}
+use Rattle.suite_rules.proofs.KeeperParts.{knows-next, staged-next}
+use Rattle.lock_steps.specs.States.{Kept}
+use Rattle.lock_steps.specs.Stands.{Keeps, KnowsAnything, KnowsNoneYet}
+use Rattle.lock_steps.proofs.KeeperLemmas.{keeps-on, is-keeper}
+use Rattle.recovery.specs.Carrying.{Carries, HasStagedFirst}
+
+module _ (intent : Intended) (keeper : Kept) (left : List NewTable) (stood : Standing)
+    (held : Carries intent keeper left stood) where
+  -- it keeps its number
+  kept : KeeperRule stood
+  kept = is-keeper keeper KnowsAnything stood held.keeps
+
+  -- it knows the intent, as the rules ask
+  abbrev known : KnowsIntent stood
+  known = record {
+    bytes = held.bytes;
+    placed = held.placed;
+    knows = held.knows;
+    intent = intent;
+    reads_it = held.reads_it;
+  }
+
+  -- ---- The calls with the next of the tables
+
+  module _ (next : NewTable) (is_next : slice_get left 0 ≡ Some next) where
+    -- the intent lists the tables that were moved, the next one, and those behind it
+    split : intent.tables ≡ held.moved ++ next ∷ drop 1 left
+    split = held.lists
+        ∙ ap (λ (rest : List NewTable). held.moved ++ rest) (first-of left next is_next)
+
+    -- a write of its bytes leaves the others in place
+    pub carries-after-write : (answer : Unit {0}) →
+        Carries intent keeper left (standing_step (stages next) (done answer) stood)
+    carries-after-write answer = record {
+      keeps = keeps-on keeper KnowsAnything KnowsAnything stood
+          (standing_step (stages next) (done answer) stood) refl refl held.keeps tt;
+      bytes = held.bytes;
+      reads_it = held.reads_it;
+      placed = held.placed;
+      knows = knows-next (stages next) (done answer) stood keeper.number held.keeps.locks.owns
+          ∙ held.knows;
+      moved = held.moved;
+      lists = held.lists;
+      in_place = held.in_place;
+    }
+
+    -- it stages them
+    pub first-staged : (answer : Unit {0}) →
+        HasStagedFirst left (standing_step (stages next) (done answer) stood)
+    first-staged answer =
+        let now : Standing = standing_step (stages next) (done answer) stood in
+        subst (λ (found : Option NewTable). IsSomeAnd found (λ next.
+        now.staged (Staged next.table) ≡ Some next.bytes)) (sym is_next)
+        (ap (λ (staged : Stages). staged (Staged next.table))
+        (staged-next (stages next) (done answer) stood keeper.number held.keeps.locks.owns)
+        ∙ there next.table)
+      where
+        there : (table : Tab) →
+            (if same_table table table then Some next.bytes else stood.staged (Staged table))
+            ≡ Some next.bytes
+        there table = rw (table-same table) refl
+
+    -- the rules permit that write
+    pub may-stage : (deeds : SuiteDeeds) → Permits deeds stood (stages next)
+    may-stage deeds = staging_rule (Staged next.table) next.bytes kept refl
+
+    -- the tables that were moved are in place, and so is the one that is moved now
+    moved-in-place : All (λ new. table_with next.table held.placed new.table ≡ true)
+        (held.moved ++ next ∷ [])
+    moved-in-place =
+        All-push Now held.moved next
+        (All-weaker (λ (new : NewTable). held.placed new.table ≡ true) Now
+        (λ new is. either (same_table new.table next.table) (held.placed new.table) is)
+        held.moved held.in_place)
+        (rw (table-same next.table) refl)
+      where
+        Now : NewTable → Type 0
+        Now new = table_with next.table held.placed new.table ≡ true
+
+        either : (same holds : Bool) → holds ≡ true → (same || holds) ≡ true
+        either true holds is = refl
+        either false holds is = is
+
+    -- a move of the staged bytes puts the table in place
+    pub carries-after-move : (answer : Unit {0}) →
+        Carries intent keeper (drop 1 left) (standing_step (installs next) (done answer) stood)
+    carries-after-move answer = record {
+      keeps = keeps-on keeper KnowsAnything KnowsAnything stood
+          (standing_step (installs next) (done answer) stood) refl refl held.keeps tt;
+      bytes = held.bytes;
+      reads_it = held.reads_it;
+      placed = table_with next.table held.placed;
+      knows = knows-next (installs next) (done answer) stood keeper.number held.keeps.locks.owns
+          ∙ (installed next.table stood.knows
+          ∙ ap (λ (knew : Knowledge). install_step next.table knew) held.knows);
+      moved = held.moved ++ next ∷ [];
+      lists = split ∙ sym (append_assoc held.moved (next ∷ []) (drop 1 left));
+      in_place = moved-in-place;
+    }
+      where
+        installed : (table : Tab) (knew : Knowledge) →
+            (if same_table table table then install_step table knew else knew)
+            ≡ install_step table knew
+        installed table knew = rw (table-same table) refl
+
+    -- the rules permit that move
+    pub may-move : (deeds : SuiteDeeds) → HasStagedFirst left stood →
+        Permits deeds stood (installs next)
+    may-move deeds staged =
+        let order = ap is_in_order (sym split)
+        ∙ (allowed_parts intent held.reads_it.allowed).in_order in
+        install_rule next.table kept (record {
+          knows = known;
+          bytes = next.bytes;
+          listed = ap (λ (tables : List NewTable). listed_in tables next.table) split
+              ∙ listed-there held.moved next (drop 1 left) order;
+          staged = subst (λ (first : Option NewTable).
+              IsSomeAnd first (λ next. stood.staged (Staged next.table) ≡ Some next.bytes))
+              is_next staged;
+        })
+
+  -- ---- The removal of the intent
+
+  -- the session knows that none stands
+  pub none-after-removal : (answer : Unit {0}) →
+      Keeps keeper KnowsNoneYet (standing_step (removes Intent) (done answer) stood)
+  none-after-removal answer = keeps-on keeper KnowsAnything KnowsNoneYet stood
+      (standing_step (removes Intent) (done answer) stood) refl refl held.keeps
+      (knows-next (removes Intent) (done answer) stood keeper.number held.keeps.locks.owns)
+
+  -- the rules permit it once no table is left, as all are in place
+  pub may-remove : (deeds : SuiteDeeds) → length left ≡ 0 → Permits deeds stood (removes Intent)
+  may-remove deeds none =
+      let all_moved = held.lists
+      ∙ (ap (λ (rest : List NewTable). held.moved ++ rest) (none-of left none)
+      ∙ append-nil held.moved) in
+      clear_rule kept (record {
+        knows = known;
+        in_place = λ table bytes listed. all-in-place held.placed intent.tables
+            (All-same (λ (new : NewTable). held.placed new.table ≡ true)
+            intent.tables held.moved all_moved held.in_place)
+            table bytes listed;
+      })

@@ -1,0 +1,115 @@
+-- Claim: a command that ran alone in a folder without login.defs, with nothing to read and on the day of
+-- a rehearsal, leaves what the course says (`if-answered`).
+--
+-- Way: its input is empty (`no-input`), and its day is that of the clock (`on-day`). So its step is by
+-- the answer of the course (`step-answer`), whose cause tells whether it changed the tables
+-- (`cause-change`).
+use Rattle.std.proofs.Common.{◌≡◌, ◌∙◌, refl, sym, ap, ap₂, subst, ℕ, ◌+◌, Bool, true, false, List, [], Option, Some, None, Result, Ok, Err}
+use Rattle.std.specs.Prelude.{if◌then◌else◌, unwrap_or, IfOk}
+use Rattle.acct_text.specs.Bytes.{Bytes}
+use Rattle.acct_outside.specs.Moment.{Past}
+use Rattle.acct_outside.specs.Streams.{WhereBytesTold}
+use Rattle.account_model.specs.declared.tool.Tool.{Tool}
+use Rattle.account_model.specs.declared.word_fault.WordFault.{WordFault}
+use Rattle.account_model.specs.Answer.{Answer, AnswerCause, Unusable, Refused, Same, Changed, TableTooLarge, SettingsTooLarge, TableAbsent, BadSettingAt, answer, new_files}
+use Rattle.account_model.specs.Options.{Word}
+use Rattle.account_model.specs.Request.{Request}
+use Rattle.account_model.specs.Words.{Asks}
+use Rattle.account_model.proofs.AsksLaws.{asks_iff_read}
+use Rattle.suite_answers.specs.declared.cause.Outcome.{Outcome}
+use Rattle.suite_session.specs.Answers.{cause_of_answer}
+use Rattle.suite_session.specs.Deeds.{is_change}
+use Rattle.suite_session.specs.Stands.{IsDecided}
+use Rattle.suite_course.specs.Supplies.{AreSupplied, Supplies, TakesAll, reads_input}
+use Rattle.suite_clients.specs.Alone.{IsSuppliedStep, defs_at, files_at}
+use Rattle.rehearsal.specs.declared.course.Reached.{Reached}
+use Rattle.rehearsal.specs.Answered.{is_changed}
+use Rattle.rehearsal.specs.Course.{after_read, rehearsal_day}
+use Rattle.rehearsal.specs.Images.{IsAnswered}
+
+-- a source with nothing left gives no input
+no-input : (tool : Tool) (before now : Supplies) (input : Bytes) (day : ℕ) →
+    before.left ≡ Some [] → AreSupplied tool before now input day → input ≡ []
+no-input tool before now input day none supplied = by-tool (reads_input tool) refl
+  where
+    by-left : (left : Option Bytes) → WhereBytesTold (Some []) left (TakesAll (Ok input)) →
+        input ≡ []
+    by-left (Some left) takes = sym takes.0
+    by-left None takes = absurd takes
+
+    by-tool : (reads : Bool) → reads_input tool ≡ reads → input ≡ []
+    by-tool true reads = by-left now.left
+        (subst (λ (left : Option Bytes). WhereBytesTold left now.left (TakesAll (Ok input))) none
+        (supplied.all_input reads))
+    by-tool false reads = supplied.no_input reads
+
+-- the clock gives one day
+on-day : (asked : Bool) (day : ℕ) → (if asked then Some rehearsal_day else None) ≡ Some day →
+    day ≡ rehearsal_day
+on-day true day is = cc
+on-day false day is = absurd (cc)
+
+-- an answer is a change exactly where its cause says so
+cause-change : (cause : AnswerCause) → is_changed (cause_of_answer cause) ≡ is_change cause
+cause-change (Unusable (TableTooLarge table)) = refl
+cause-change (Unusable SettingsTooLarge) = refl
+cause-change (Unusable (TableAbsent table)) = refl
+cause-change (Unusable (BadSettingAt line)) = refl
+cause-change (Refused refusal) = refl
+cause-change Same = refl
+cause-change (Changed files) = refl
+
+module _ (words : List Word) (old new : Past) (outcome : Outcome) (before now : Supplies)
+    (asked : Bool) (settings : defs_at old ≡ None) (empty : before.left ≡ Some [])
+    (gave : now.gave ≡ (if asked then Some rehearsal_day else None)) where
+  -- the answer of the course to a request
+  abbrev given : Request → Answer
+  given request = answer request [] rehearsal_day (files_at old) None
+
+  -- the answer with what came is this
+  step-answer : (request : Request) (input : Bytes) (day : ℕ) →
+      AreSupplied request.tool before now input day →
+      answer request input day (files_at old) (defs_at old) ≡ given request
+  step-answer request input day supplied =
+      ap₂ (λ (text : Bytes) (one : ℕ). answer request text one (files_at old) (defs_at old))
+      (no-input request.tool before now input day empty supplied)
+      (on-day asked day (sym gave ∙ supplied.on_day))
+      ∙ ap (λ (defs : Option Bytes). answer request [] rehearsal_day (files_at old) defs) settings
+
+  -- so it is with what tells whether it changed the tables
+  is-answered : (changes : Bool) → IsDecided outcome.cause →
+      changes ≡ is_changed outcome.cause →
+      (IsDecided outcome.cause → (request : Request) × Asks words request) →
+      ((request : Request) → Asks words request → IsDecided outcome.cause →
+      IsSuppliedStep request before now old new outcome) →
+      IsAnswered words old new changes
+  is-answered changes decided is asks steps =
+      let request = (asks decided).0 in
+      let step = steps request (asks decided).1 decided in
+      let same = step-answer request step.0 step.1 step.2 in
+      let files = step.3.files
+      ∙ ap (λ (one : Answer). unwrap_or (new_files one.cause) (files_at old)) same in
+      let change = sym (cause-change (given request).cause)
+      ∙ (ap (λ (one : Answer). is_changed (cause_of_answer one.cause)) (sym same)
+      ∙ (ap is_changed (sym step.3.cause) ∙ sym is)) in
+      record {
+        intent = step.3.intent;
+        leaves = λ changed.
+            let was : Reached = record { files = files_at old; changed = changed } in
+            ap (λ (read : Result Request WordFault). after_read read was)
+            ((asks_iff_read words request).0 (asks decided).1)
+            ∙ (λ i. record {
+              files = sym files i;
+              changed = if change i then changed + 1 else changed;
+            });
+      }
+
+  -- the claim
+  pub if-answered : {E : Type 0} (told : Result Bool E) →
+      IfOk told (λ changes. IsDecided outcome.cause × (changes ≡ is_changed outcome.cause)) →
+      (IsDecided outcome.cause → (request : Request) × Asks words request) →
+      ((request : Request) → Asks words request → IsDecided outcome.cause →
+      IsSuppliedStep request before now old new outcome) →
+      IfOk told (λ changes. IsAnswered words old new changes)
+  if-answered (Ok changes) tells asks steps = is-answered changes tells.0 tells.1 asks steps
+  if-answered (Err error) tells asks steps = tt

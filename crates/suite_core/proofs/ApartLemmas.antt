@@ -1,0 +1,131 @@
+-- Claim: IDs stay apart (`ids-stay-apart`). Way: what each deed keeps, a command keeps, whose words may ask for nothing
+-- (`command-keeps`), and so do commands one after another (`fold-keeps`). The settled files of a lawful history are their
+-- fold.
+use Rattle.std.proofs.Common.{◌≡◌, List, [], ◌∷◌, refl, sym, subst, Option, Some, None, option_map, unwrap_or, Result, Ok, Err}
+use Rattle.std.specs.Prelude.{⊤}
+use Rattle.acct_text.specs.Bytes.{Bytes}
+use Rattle.acct_text.specs.Contents.{Contents}
+use Rattle.acct_text.specs.Files.{table_of}
+use Rattle.acct_text.specs.declared.files.Files.{Files}
+use Rattle.acct_outside.specs.Calls.{Command}
+use Rattle.acct_outside.specs.Folder.{settings_file}
+use Rattle.acct_outside.specs.History.{after}
+use Rattle.account_model.specs.declared.word_fault.WordFault.{WordFault}
+use Rattle.account_model.specs.Answer.{deed}
+use Rattle.account_model.specs.Request.{Request}
+use Rattle.account_model.specs.Words.{Asks, request_of}
+use Rattle.account_model.proofs.AsksLaws.{asks_iff_read}
+use Rattle.suite_rules.specs.Deeds.{SuiteDeeds}
+use Rattle.suite_rules.specs.Laws.{LawfulSettles}
+use Rattle.suite_rules.specs.Settled.{settled}
+use Rattle.suite_rules.specs.Committed.{Commitment, committed, fold_deeds, folded}
+use Rattle.suite_session.specs.Deeds.{AreOfTools, files_of, tools_deed}
+use Rattle.ids_apart.specs.Apart.{UidsAreDistinct, GidsAreDistinct, SubuidsAreApart, SubgidsAreApart}
+use Rattle.ids_apart.specs.Laws.{IsKept, SharesNoId, DeedsKeepIdsApart}
+use Rattle.suite_core.specs.Apart.{AreAny, AreWithoutSharing, StaysSo, IdsStayApart}
+
+-- a deed by what the words ask for
+abbrev deed_by : Result Request WordFault → Command → Contents → Option Bytes → Option Contents
+deed_by read command contents defs = elim read [
+  | Err fault ↦ None
+  | Ok request ↦ option_map table_of
+      (deed request command.input command.day (files_of contents) defs)
+]
+
+module _ (IsAsked : Request → Type 0) (Holds : Files → Type 0) (kept : IsKept IsAsked Holds) where
+  -- the files after a deed, if there is one
+  deed-keeps :
+      (request : Request) (command : Command) (contents : Contents) (defs : Option Bytes)
+      (made : Option Files)
+      → IsAsked request
+      → deed request command.input command.day (files_of contents) defs ≡ made
+      → Holds (files_of contents)
+      → Holds (files_of (unwrap_or (option_map table_of made) contents))
+  deed-keeps request command contents defs None asked makes holds = holds
+  deed-keeps request command contents defs (Some new) asked makes holds =
+      kept request command.input command.day (files_of contents) defs new asked makes holds
+
+  -- the files after a command, by what its words ask for
+  read-keeps :
+      (command : Command) (contents : Contents) (defs : Option Bytes)
+      (read : Result Request WordFault)
+      → ((request : Request) → read ≡ Ok request → IsAsked request)
+      → Holds (files_of contents)
+      → Holds (files_of (unwrap_or (deed_by read command contents defs) contents))
+  read-keeps command contents defs (Err fault) asked holds = holds
+  read-keeps command contents defs (Ok request) asked holds =
+      deed-keeps request command contents defs
+      (deed request command.input command.day (files_of contents) defs)
+      (asked request refl) refl holds
+
+  -- the files after a command
+  command-keeps :
+      (command : Command) (contents : Contents) (defs : Option Bytes)
+      → ((request : Request) → Asks command.words request → IsAsked request)
+      → Holds (files_of contents)
+      → Holds (files_of (unwrap_or (tools_deed command contents defs) contents))
+  command-keeps command contents defs asked holds =
+      read-keeps command contents defs (request_of command.words)
+      (λ request read. asked request ((asks_iff_read command.words request).1 read)) holds
+
+  module _ (AreSuch : List Commitment → Type 0)
+      (first_is : (one : Commitment) (list : List Commitment) → AreSuch (one ∷ list)
+      → (request : Request) → Asks one.command.words request → IsAsked request)
+      (rest_are : (one : Commitment) (list : List Commitment) → AreSuch (one ∷ list)
+      → AreSuch list) where
+    -- the files after commands, one after another
+    fold-keeps :
+        (deeds : SuiteDeeds)
+        → AreOfTools deeds
+        → (defs : Option Bytes) (list : List Commitment) (contents : Contents)
+        → AreSuch list
+        → Holds (files_of contents)
+        → Holds (files_of (fold_deeds deeds defs contents list))
+    fold-keeps deeds ours defs [] contents such holds = holds
+    fold-keeps deeds ours defs (one ∷ list) contents such holds =
+        fold-keeps deeds ours defs list (unwrap_or (deeds.deed one.command contents defs) contents)
+        (rest_are one list such)
+        (subst (λ (by : Command → Contents → Option Bytes → Option Contents).
+        Holds (files_of (unwrap_or (by one.command contents defs) contents)))
+        (sym ours.is_deed)
+        (command-keeps one.command contents defs (first_is one list such) holds))
+
+    -- and so it is in any history
+    stays-so : LawfulSettles → StaysSo AreSuch Holds
+    stays-so settles = record {
+      after_front = λ deeds ours first history front later is such holds.
+          fold-keeps deeds ours (settings_file first) front (settled first) such holds;
+      at_present = λ deeds ours first history lawful such holds.
+          let same : settled (after first history) ≡ folded deeds first (committed history) =
+          λ i table. settles.is_fold deeds first history lawful table i
+          in subst (λ (contents : Contents). Holds (files_of contents)) (sym same)
+          (fold-keeps deeds ours (settings_file first) (committed history)
+          (settled first) such holds);
+    }
+
+-- what every command keeps
+any-stays :
+    (Holds : Files → Type 0)
+    → IsKept (λ request. ⊤) Holds
+    → LawfulSettles
+    → StaysSo AreAny Holds
+any-stays Holds kept settles = stays-so (λ request. ⊤) Holds kept AreAny
+    (λ one list such request asks. tt) (λ one list such. tt) settles
+
+-- what commands without `-o` keep
+own-stays :
+    (Holds : Files → Type 0)
+    → IsKept SharesNoId Holds
+    → LawfulSettles
+    → StaysSo AreWithoutSharing Holds
+own-stays Holds kept settles = stays-so SharesNoId Holds kept AreWithoutSharing
+    (λ one list such request asks. such.0 request asks) (λ one list such. such.1) settles
+
+-- the law
+pub ids-stay-apart : DeedsKeepIdsApart → LawfulSettles → IdsStayApart
+ids-stay-apart keeps settles = record {
+  subuids = any-stays SubuidsAreApart keeps.subuids settles;
+  subgids = any-stays SubgidsAreApart keeps.subgids settles;
+  uids = own-stays UidsAreDistinct keeps.uids settles;
+  gids = own-stays GidsAreDistinct keeps.gids settles;
+}

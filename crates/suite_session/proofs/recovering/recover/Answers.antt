@@ -1,0 +1,77 @@
+use Rattle.std.proofs.Common.{refl, sym, ap, subst, ◌∙◌, ◌<◌, length, Err}
+use Rattle.suite_rules.specs.Standing.{commit_uncalled}
+use Rattle.suite_rules.specs.Outcomes.{stages, before_commit}
+use Rattle.recovery.specs.States.{Recoverer}
+use Rattle.recovery.specs.Stands.{Recovers, HasStagedNext}
+use Rattle.suite_session.specs.declared.state.State.TheVariants.{Recovering, Moving}
+use Rattle.suite_session.specs.Moment.{commit_at}
+use Rattle.suite_session.proofs.TurnLemmas.{may-step, goes-on, turns, faults}
+use Rattle.suite_session.proofs.CauseLemmas.{fault-outside}
+use Rattle.suite_session.proofs.RecoveringTurns.{some-next}
+use Rattle.suite_session.proofs.LeadsLemmas.{leads-on, leads-stage, leads-failed}
+use Rattle.acct_outside.specs.declared.CommitStage.TheVariants.{Before}
+use Rattle.suite_session.proofs.MeetingLemmas.{quiet-on, leads-done, leads-ended}
+use Rattle.suite_session.proofs.CallsLemmas.{answers-fewer, recovering-some, staged-calls, some-left}
+use Rattle.suite_session.proofs.recovering.recover.Goals as goal
+
+pub stage_next-requires-clause-stands : goal.stage_next-requires-clause-stands
+stage_next-requires-clause-stands g c =
+    let before = g.F.Folder.moment c.args.folder.now in
+    may-step before c.args.runner.now commit_uncalled (Recovers c.args.recovering)
+    (c.args.recovering.keeper.token) (c.requires.0) (c.requires.1)
+
+pub returns-in-Ok : goal.returns-in-Ok
+returns-in-Ok g c = record {
+  turns =
+      let before = g.F.Folder.moment c.args.folder.now in
+      let now = g.F.Folder.moment c.stage_next.new.folder in
+      let shown = some-next c.args.recovering.left (some-left _ _ c.left.ensures c.if-left-eq0.false) c.in-Ok.ensures.call in
+      let is = leads-on c.args.recovering before_commit _ c.in-Ok.moving shown.1.shown in
+      let done = leads-done c.args.recovering before_commit _ c.in-Ok.moving shown.1.shown in
+      turns before now c.args.runner.now commit_uncalled (Recovers c.args.recovering)
+      c.requires.1
+      c.args.recovering.keeper.token c.requires.0 (stages shown.0) tt _ (λ result stood. refl)
+      shown.1
+      c.stage_next.ensures.lawful c.stage_next.ensures.faults.never_falls
+      (Recovering c.args.recovering)
+      (Moving c.in-Ok.moving)
+      (quiet-on (stages shown.0) (λ given one met shows. shows) shown.1.answer done.0 _ _
+      done.1)
+      (λ met none. absurd none) (
+        ap (λ (one : Recoverer). one.keeper.token) is ∙ c.requires.0,
+        subst (λ (one : Recoverer). 0 < length one.left) (sym is) (some-left _ _ c.left.ensures c.if-left-eq0.false),
+        goes-on before now c.args.runner.now commit_uncalled (Recovers c.args.recovering)
+            c.requires.1
+            c.args.recovering.keeper.token c.requires.0 (stages shown.0) tt _ (λ result stood. refl)
+            shown.1
+            (HasStagedNext c.in-Ok.moving) c.in-Ok.ensures.next,
+      )
+      (λ fault. fault);
+  counts =
+      let shown = some-next c.args.recovering.left (some-left _ _ c.left.ensures c.if-left-eq0.false) c.in-Ok.ensures.call in
+      staged-calls c.args.recovering c.in-Ok.moving
+      (leads-on c.args.recovering before_commit _ c.in-Ok.moving shown.1.shown);
+}
+
+pub returns-in-Err : goal.returns-in-Err
+returns-in-Err g c = record {
+  turns =
+      let before = g.F.Folder.moment c.args.folder.now in
+      let now = g.F.Folder.moment c.stage_next.new.folder in
+      let shown = some-next c.args.recovering.left (some-left _ _ c.left.ensures c.if-left-eq0.false) c.in-Err.ensures.call in
+      let fault = c.in-Err.fault in
+      faults before now c.args.runner.now commit_uncalled (Recovers c.args.recovering)
+      c.requires.1
+      c.args.recovering.keeper.token c.requires.0 (stages shown.0) tt _ (λ result stood. refl)
+      shown.1
+      c.stage_next.ensures.lawful c.stage_next.ensures.faults.never_falls
+      (Recovering c.args.recovering) c.stopped.result
+      (λ met none. absurd none) fault.stage fault.fault
+      (leads-ended c.args.recovering Before _ fault shown.1.shown) c.stopped.ensures
+      (ap commit_at (sym (leads-stage c.args.recovering Before _ fault shown.1.shown)))
+      (λ failed. c.stage_next.ensures.faults.failed (c.in-Err.is ∙ ap Err
+      (leads-failed c.args.recovering Before _ fault shown.1.shown
+      (fault-outside fault.stage fault.fault failed))));
+  counts =
+      answers-fewer _ _ c.stopped.result c.stopped.ensures _ (recovering-some c.args.recovering);
+}

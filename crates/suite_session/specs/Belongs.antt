@@ -1,0 +1,108 @@
+-- When a session belongs to a folder, at one moment of it: the condition of a turn. It speaks of the
+-- session's own events alone, in a history that may be lawful or not, so the session belongs there still
+-- whatever others have done since (docs/ARCHITECTURE.md, "The session").
+use Rattle.std.specs.Prelude.{◌≡◌, ◌∷◌, ⊤, ℕ, Some, IfSome, Result}
+use Rattle.acct_outside.specs.declared.streams.SinkFault.{SinkFault}
+use Rattle.acct_outside.specs.Tokens.{Token, IsToken}
+use Rattle.acct_outside.specs.Calls.{answers, done}
+use Rattle.acct_outside.specs.History.{History, own_events}
+use Rattle.acct_outside.specs.Others.{Admission, ByOthers}
+use Rattle.acct_outside.specs.Contract.{NeverAdmits, WhereTold}
+use Rattle.acct_outside.specs.Moment.{Past, Moment, Narrows}
+use Rattle.suite_answers.specs.declared.answer.Answer.{Answer}
+use Rattle.suite_session.specs.declared.state.State.{State}
+use Rattle.suite_session.specs.declared.session.Phase.{Phase}
+use Rattle.suite_session.specs.declared.session.Phase.TheVariants.{Waiting, Begun, Over, Unbegun}
+use Rattle.suite_session.specs.Runner.{Runner}
+use Rattle.suite_session.specs.Answers.{Says, after_streams}
+use Rattle.suite_session.specs.Backing.{BackedUpChanges}
+use Rattle.suite_session.specs.Bound.{HasCalled, IsWithin}
+use Rattle.suite_session.specs.Due.{IsDue}
+use Rattle.suite_session.specs.Stands.{HasLeft, IsStopped, StandsAs}
+use Rattle.suite_session.specs.Telling.{DropsNothing, Remembers}
+use Rattle.suite_session.specs.Session.{output_failed, state_after, token_of}
+
+-- ---- A session on its way
+
+-- The runner came to the state, from a begin that gave its token: it drops nothing that it has met, its
+-- calls are within the bound with those that are left, and it has backed up tables that it was to change
+-- alone.
+pub record CameTo (runner : Runner) (state : State) (past : Past) : Type 0 where
+  pub named : IsToken runner.token
+  pub remembers : Remembers runner.token state past.history
+  pub called : HasCalled runner.token state past.history
+  pub backed : BackedUpChanges runner.token past.history
+
+-- the runner's events lead to the state, in which it stands
+pub record IsLedTo (now : Moment) (runner : Runner) (state : State) : Type 0 where
+  pub stands : StandsAs now runner state
+  pub came : IfSome now.told (CameTo runner state)
+
+-- the runner's events lead to the state, or to one of which a stream that failed left this
+pub record IsOnItsWay (now : Moment) (runner : Runner) (state : State) : Type 0 where
+  pub own : State
+  pub led : IsLedTo now runner own
+  pub put : Result (Unit {0}) SinkFault
+  pub left : state ≡ state_after put own
+
+-- ---- A session that has answered
+
+-- The last of the runner's events is its answer, with this status. What it had to give is due and drops
+-- nothing that it has met; it has left the locks and the intent as it must with that, unless a fault or
+-- want of memory stopped it; its events are within the bound, and it has backed up tables that it was
+-- to change alone.
+pub record HasEnded (runner : Runner) (given : Answer) (status : ℕ) (past : Past) : Type 0 where
+  pub named : IsToken runner.token
+  pub before : History
+  pub last : own_events runner.token past.history
+      ≡ record { token = runner.token; call = answers status; result = done tt } ∷ before
+  pub due : IsDue runner given past
+  pub drops_nothing : DropsNothing runner.token given.outcome.cause past.history
+  pub left : (IsStopped given.outcome.cause → ⊥) →
+      HasLeft runner.token given.outcome.cause past
+  pub within : IsWithin runner.token past.history
+  pub backed : BackedUpChanges runner.token past.history
+
+-- the runner had an answer to give, has answered with what the streams left of it, and the folder admits
+-- no event of it
+pub record HasGiven (now : Moment) (runner : Runner) (answer : Answer) : Type 0 where
+  pub given : Answer
+  pub put : Result (Unit {0}) SinkFault
+  pub left : answer ≡ after_streams put given
+  pub says : Says runner.asked given given.outcome.cause
+  pub own : IfSome now.told (λ past. NeverAdmits now.admits runner.token)
+  pub ended : IfSome now.told (HasEnded runner given answer.outcome.status)
+
+-- ---- Each session
+
+-- The session belongs to the folder at the moment: it hasn't begun; or its begin gave no token; or its
+-- state is one to which its events lead, or what a failed stream left of one; or it has answered so.
+abbrev pub Belongs : Moment → Phase → Type 0
+Belongs now (Waiting asked) = ⊤
+Belongs now (Unbegun answer) = ⊤
+Belongs now (Begun runner state) = IsOnItsWay now runner state
+Belongs now (Over runner answer) = HasGiven now runner answer
+
+-- the two sessions don't have one token
+abbrev pub AreApart : Phase → Phase → Type 0
+AreApart one other = (token : Token) → token_of one ≡ Some token → token_of other ≡ Some token → ⊥
+
+-- ---- What keeps it so
+
+-- the event is of another session than that of the token
+abbrev pub of_others : Token → Admission
+of_others token history event = event.token ≡ token → ⊥
+
+-- between two moments no event of the token came, and the folder admits no more than before
+pub record OthersCame (before now : Moment) (token : Token) : Type 0 where
+  pub came : WhereTold before.told now.told (λ first old new. ByOthers (of_others token) old new)
+  pub narrows : Narrows before.admits now.admits
+
+-- A session belongs to a folder still after whatever events of others, be they calls, or the deaths of
+-- other sessions; and where a stream failed that was to take its answer.
+pub record BelongingStays {F : Type 0} (moment : F → Moment) : Type 0 where
+  pub others : (before now : F) (session : Phase) → Belongs (moment before) session →
+      IfSome (token_of session) (OthersCame (moment before) (moment now)) →
+      Belongs (moment now) session
+  pub output : (now : F) (fault : SinkFault) (session : Phase) → Belongs (moment now) session →
+      Belongs (moment now) (output_failed fault session)

@@ -1,0 +1,32 @@
+-- How many events a session makes: at most most_calls, and one for each lower lock that its second
+-- listing showed.
+use Rattle.std.specs.Prelude.{◌⊎◌, ◌+◌, ◌≤◌, ℕ, length}
+use Rattle.acct_outside.specs.Tokens.{Token}
+use Rattle.acct_outside.specs.History.{History, own_events}
+use Rattle.acct_outside.specs.Others.{Admission}
+use Rattle.suite_session.specs.declared.state.State.{State}
+use Rattle.suite_session.specs.Counts.{CountsLower, IsToList}
+use Rattle.suite_session.specs.Grows.{Grows}
+use Rattle.suite_session.specs.Left.{most_calls, most_lower, calls_left}
+
+-- the session's events are at most most_calls, and one for each lower lock that its second listing
+-- showed
+pub record IsWithin (token : Token) (history : History) : Type 0 where
+  pub lower : ℕ
+  pub counts : CountsLower token history lower
+  pub within : length (own_events token history) ≤ most_calls + lower
+
+-- the new events of the history were admitted from others or are the session's, and these are within
+-- the bound
+pub record IsBounded (admits : Admission) (token : Token) (old new : History) : Type 0 where
+  pub made : ℕ
+  pub grows : Grows admits token old made new
+  pub within : IsWithin token new
+
+-- On its way a session has made so many calls that with those that are left they are within the bound.
+-- Before its second listing as many lower locks are counted as one can show.
+pub record HasCalled (token : Token) (state : State) (history : History) : Type 0 where
+  pub lower : ℕ
+  pub most : lower ≤ most_lower
+  pub counts : IsToList state ⊎ CountsLower token history lower
+  pub within : length (own_events token history) + calls_left state ≤ most_calls + lower
