@@ -118,12 +118,12 @@ event-step deeds history token call result keeps =
     permitted-step deeds token (standing token history) call result keeps.permitted
 
 -- the session has committed once, under its number, what it was asked
-record Once (history : History) (token : Token) : Type 0 where
-  number : ℕ
-  command : Command
-  kept : kept_number (standing token history).own ≡ Some number
-  asked : (standing token history).command ≡ Some command
-  one : commitments_of token (committed history)
+pub record Once (history : History) (token : Token) : Type 0 where
+  pub number : ℕ
+  pub command : Command
+  pub kept : kept_number (standing token history).own ≡ Some number
+  pub asked : (standing token history).command ≡ Some command
+  pub one : commitments_of token (committed history)
       ≡ record { token = token; number = number; command = command } ∷ []
 
 -- one that hasn't called its commit has committed nothing
@@ -264,7 +264,7 @@ kept-stays deeds first (event ∷ newer) older (goes_on _ _ lawful next) token n
     (kept-stays deeds first newer older lawful token number kept)
 
 -- a session whose commit was done has committed once
-once : (deeds : SuiteDeeds) (first : Folder) (history : History) → Lawful deeds first history →
+pub once : (deeds : SuiteDeeds) (first : Folder) (history : History) → Lawful deeds first history →
     (token : Token) → (standing token history).commit ≡ commit_done → Once history token
 once deeds first [] lawful token is = absurd (cc)
 once deeds first (event ∷ history) (goes_on _ _ lawful next) token is =

@@ -12,4 +12,3 @@ pub mod Invariant
 pub mod Laws
 pub mod Steps
 pub mod Outcomes
-pub mod Belongs
