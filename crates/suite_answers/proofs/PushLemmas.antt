@@ -1,5 +1,6 @@
--- What was pushed behind a front, and the pieces of the line of want of memory.
-use Rattle.std.proofs.Common.{◌≡◌, ℕ, List, [], ◌∷◌, ◌++◌, sym, ◌∙◌, ap, append_assoc}
+-- Texts of four pieces, the error that a `?` passes on, and the pieces of the line of want of
+-- memory.
+use Rattle.std.proofs.Common.{◌≡◌, ℕ, List, [], ◌∷◌, ◌++◌, sym, subst, ◌∙◌, ap, append_assoc}
 use Rattle.std.specs.Prelude.{codes, Option, Result, Ok, Err, OnOk, IsErrAnd}
 use Rattle.acct_text.specs.Bytes.{newline}
 use Rattle.acct_outside.specs.declared.CommitStage.{CommitStage}
@@ -7,15 +8,15 @@ use Rattle.account_model.specs.declared.tool.Tool.{Tool}
 use Rattle.account_model.specs.Failures.{stage_text}
 use Rattle.suite_answers.specs.Reasons.{memory_message, model_stage, speaker}
 
--- a piece behind what was pushed before it
-pub push-behind :
-    {E : Type 0} (result : Result (Unit {0}) E) (start between now front back : List ℕ)
-    → between ≡ start ++ front
-    → OnOk result (now ≡ between ++ back)
-    → OnOk result (now ≡ start ++ (front ++ back))
-push-behind (Ok unit) start between now front back whole pushed =
-    pushed ∙ ap (λ (held : List ℕ). held ++ back) whole ∙ append_assoc start front back
-push-behind (Err error) start between now front back whole pushed = tt
+-- four pieces behind what stood there
+pub four-pieces :
+    {E : Type 0} (result : Result (Unit {0}) E) (now start first second third fourth : List ℕ)
+    → OnOk result (now ≡ start ++ (first ++ (second ++ (third ++ fourth))))
+    → OnOk result (now ≡ start ++ (first ++ second ++ third ++ fourth))
+four-pieces result now start first second third fourth pushed =
+    subst (λ (text : List ℕ). OnOk result (now ≡ start ++ text))
+    (sym (append_assoc (first ++ second) third fourth
+    ∙ append_assoc first second (third ++ fourth))) pushed
 
 -- the error that a `?` passes on
 pub error-is :

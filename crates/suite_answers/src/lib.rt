@@ -8,7 +8,6 @@ mod cause;
 mod laws;
 mod memory;
 mod message;
-mod pieces;
 mod reason;
 mod word_message;
 

@@ -1,12 +1,12 @@
 // What a line says of a cause, behind the tool's name. The texts are this suite's own.
-ghost use Rattle.std.specs.Prelude.{◌≡◌, ◌++◌, codes, decimal, OnOk};
+ghost use Rattle.std.specs.Prelude.{◌≡◌, ◌++◌, codes, OnOk};
 ghost use Rattle.account_model.specs.Failures.{stage_text};
 ghost use Rattle.suite_answers.specs.Reasons.{model_stage, reason_text, too_large_text};
 
-use crate::pieces::{push_both, push_last, push_number};
 use crate::{Cause, Which};
 use acct_outside::{CommitStage, Name};
-use acct_text::{Bytes, push_decimal};
+use acct_text::Bytes;
+use acct_text::Piece::{Number, Text};
 use std::alloc::AllocError;
 
 /// Adds what is said of the cause, and nothing for one that says nothing or has no tool.
@@ -14,29 +14,48 @@ pub(crate) fn push(line: &mut Bytes, cause: &Cause) -> Result<(), AllocError>
     ensures { OnOk result (line.new ≡ line.old ++ reason_text cause.now) }
 {
     match cause {
-        Cause::Held(token) => push_both(line, b"accounts are locked by ", token.as_slice()),
-        Cause::Gone(number) => push_number(line, b"lock ", *number, b" vanished"),
-        Cause::Raced(number) => push_number(line, b"lock ", *number, b" was taken first"),
-        Cause::Outrun(number, greater) => push_outrun(line, *number, *greater),
-        Cause::LockDamaged(number) => push_number(line, b"lock ", *number, b" is damaged"),
+        Cause::Held(token) => {
+            line.push_pieces(&[Text(b"accounts are locked by "), Text(token.as_slice())])
+        }
+        Cause::Gone(number) => {
+            line.push_pieces(&[Text(b"lock "), Number(*number), Text(b" vanished")])
+        }
+        Cause::Raced(number) => {
+            line.push_pieces(&[Text(b"lock "), Number(*number), Text(b" was taken first")])
+        }
+        Cause::Outrun(number, greater) => line.push_pieces(&[
+            Text(b"lock "),
+            Number(*number),
+            Text(b" was outrun by "),
+            Number(*greater),
+        ]),
+        Cause::LockDamaged(number) => {
+            line.push_pieces(&[Text(b"lock "), Number(*number), Text(b" is damaged")])
+        }
         Cause::Exhausted => line.push(b"lock numbers are used up"),
-        Cause::IntentDamaged(part) => {
-            push_last(line, b"intent is damaged in part ", u64::from(*part))
+        Cause::IntentDamaged(part) => line.push_pieces(&[
+            Text(b"intent is damaged in part "),
+            Number(u64::from(*part)),
+        ]),
+        Cause::TooLarge(which) => {
+            line.push_pieces(&[Text(which.name().as_bytes()), Text(b" is too large")])
         }
-        Cause::TooLarge(which) => push_both(line, which.name().as_bytes(), b" is too large"),
-        Cause::NoTable(tab) => push_both(line, tab.name().as_bytes(), b" does not exist"),
-        Cause::BadSetting(number) => {
-            push_number(
-                line,
-                b"login.defs line ",
-                u64::from(*number),
-                b": bad number",
-            )
+        Cause::NoTable(tab) => {
+            line.push_pieces(&[Text(tab.name().as_bytes()), Text(b" does not exist")])
         }
-        Cause::DiskFault(stage) => push_both(line, b"folder fault ", stage_text(*stage)),
+        Cause::BadSetting(number) => line.push_pieces(&[
+            Text(b"login.defs line "),
+            Number(u64::from(*number)),
+            Text(b": bad number"),
+        ]),
+        Cause::DiskFault(stage) => {
+            line.push_pieces(&[Text(b"folder fault "), Text(stage_text(*stage))])
+        }
         Cause::InputFault => line.push(b"input fault"),
         Cause::ClockFault => line.push(b"clock fault"),
-        Cause::Memory(stage) => push_both(line, b"want of memory ", stage_text(*stage)),
+        Cause::Memory(stage) => {
+            line.push_pieces(&[Text(b"want of memory "), Text(stage_text(*stage))])
+        }
         _ => Ok(()),
     }
 }
@@ -64,13 +83,4 @@ impl Which {
             Which::File(_) => "intent",
         }
     }
-}
-
-// Adds that a greater lock outran the lock of this number.
-fn push_outrun(line: &mut Bytes, number: u64, greater: u64) -> Result<(), AllocError>
-    ensures { OnOk result (line.new ≡ line.old
-        ++ (codes "lock " ++ decimal number ++ codes " was outrun by " ++ decimal greater)) }
-{
-    push_number(line, b"lock ", number, b" was outrun by ")?;
-    push_decimal(line, greater)
 }

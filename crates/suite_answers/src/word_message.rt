@@ -1,11 +1,11 @@
 // What is said of the first fault of a list of words, and its status.
-ghost use Rattle.std.specs.Prelude.{◌≡◌, ◌++◌, codes, decimal, IfOk, OnOk};
+ghost use Rattle.std.specs.Prelude.{◌≡◌, ◌++◌, IfOk, OnOk};
 ghost use Rattle.account_model.specs.Words.{tool_named};
 ghost use Rattle.account_model.specs.WordMessages.{faulty_tool, syntax_status, word_at, word_fault_message, word_fault_status, word_fault_text};
 
 use crate::message;
-use crate::pieces::{push_both, push_last, push_number};
 use account_model::{Tool, WordFault};
+use acct_text::Piece::{Number, Text};
 use acct_text::{Bytes, Word};
 use std::alloc::{AllocError, Global};
 
@@ -77,31 +77,43 @@ fn push_text(line: &mut Bytes, words: &[Word], fault: WordFault) -> Result<(), A
     ensures { OnOk result (line.new ≡ line.old ++ word_fault_text words.now fault) }
 {
     match fault {
-        WordFault::WordLimit(place) => push_number(
-            line,
-            b"word ",
-            place as u64,
-            b" passes a limit",
-        ),
+        WordFault::WordLimit(place) => line.push_pieces(&[
+            Text(b"word "),
+            Number(place as u64),
+            Text(b" passes a limit"),
+        ]),
         WordFault::NoTool => line.push(b"no command given"),
-        WordFault::UnknownTool => push_both(line, b"unknown command ", word_at(words, 0)),
-        WordFault::UnknownOption(place) => {
-            push_number(line, b"unknown option in word ", place as u64, b": ")?;
-            line.push(word_at(words, place))
+        WordFault::UnknownTool => {
+            line.push_pieces(&[Text(b"unknown command "), Text(word_at(words, 0))])
         }
-        WordFault::MissingValue(place) => {
-            push_number(line, b"option in word ", place as u64, b" needs a value")
-        }
-        WordFault::UnexpectedValue(place) => {
-            push_number(line, b"option in word ", place as u64, b" takes no value")
-        }
-        WordFault::TooMany(place) => {
-            push_number(line, b"unexpected word ", place as u64, b": ")?;
-            line.push(word_at(words, place))
-        }
+        WordFault::UnknownOption(place) => line.push_pieces(&[
+            Text(b"unknown option in word "),
+            Number(place as u64),
+            Text(b": "),
+            Text(word_at(words, place)),
+        ]),
+        WordFault::MissingValue(place) => line.push_pieces(&[
+            Text(b"option in word "),
+            Number(place as u64),
+            Text(b" needs a value"),
+        ]),
+        WordFault::UnexpectedValue(place) => line.push_pieces(&[
+            Text(b"option in word "),
+            Number(place as u64),
+            Text(b" takes no value"),
+        ]),
+        WordFault::TooMany(place) => line.push_pieces(&[
+            Text(b"unexpected word "),
+            Number(place as u64),
+            Text(b": "),
+            Text(word_at(words, place)),
+        ]),
         WordFault::NoPrefix => line.push(b"option -P is required"),
         WordFault::TooFew => line.push(b"missing operand"),
-        WordFault::Clash(rule) => push_last(line, b"options break rule ", u64::from(rule)),
+        WordFault::Clash(rule) => line.push_pieces(&[
+            Text(b"options break rule "),
+            Number(u64::from(rule)),
+        ]),
         WordFault::Memory => line.push(b"want of memory before the commit"),
     }
 }
