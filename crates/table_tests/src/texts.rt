@@ -1,8 +1,6 @@
-// Texts, cuts, numbers and files.
-use acct_text::{
-    Bytes, Files, Names, NumberFault, Tab, Word, fields, join_fields, lines, push_decimal,
-    read_decimal,
-};
+// Texts, cuts and files. Which places have lines, and which number has which text, is told by the rows of
+// proofs/TextRows.
+use acct_text::{Bytes, Files, Names, Tab, Word, fields, join_fields};
 use std::test::Fail;
 
 #[test]
@@ -17,21 +15,6 @@ fn a_copy_has_what_was_pushed(rt: HostRuntime) -> Result<(), Fail> {
 fn a_word_has_its_bytes(rt: HostRuntime) -> Result<(), Fail> {
     let word = Word::of(rt.alloc(), b"groupadd")?;
     assert_eq!(rt; word.as_slice(), b"groupadd".as_slice());
-    Ok(())
-}
-
-#[test]
-fn a_file_is_cut_at_newlines(rt: HostRuntime) -> Result<(), Fail> {
-    let cases = [
-        (b"".as_slice(), [].as_slice()),
-        (b"\n".as_slice(), [(0, 0)].as_slice()),
-        (b"root\n".as_slice(), [(0, 4)].as_slice()),
-        (b"root\nann".as_slice(), [(0, 4), (5, 8)].as_slice()),
-        (b"\n\nann\n".as_slice(), [(0, 0), (1, 1), (2, 5)].as_slice()),
-    ];
-    for (text, wanted) in cases {
-        assert_eq!(rt; lines(rt.alloc(), text)?.as_slice(), wanted);
-    }
     Ok(())
 }
 
@@ -70,39 +53,6 @@ fn a_copy_has_each_name_at_its_place(rt: HostRuntime) -> Result<(), Fail> {
     let copy = members.copy()?;
     assert_eq!(rt; copy.at(1), Some(b"bob".as_slice()));
     assert_eq!(rt; copy.at(2), None);
-    Ok(())
-}
-
-#[test]
-fn a_number_is_digits_within_its_bound(rt: HostRuntime) {
-    let cases = [
-        (b"".as_slice(), 9, Err(NumberFault::Empty)),
-        (b"007".as_slice(), 9, Ok(7)),
-        (b"4294967294".as_slice(), 4294967294, Ok(4294967294)),
-        (
-            b"4294967295".as_slice(),
-            4294967294,
-            Err(NumberFault::TooLarge),
-        ),
-        (b"18446744073709551615".as_slice(), u64::MAX, Ok(u64::MAX)),
-        (
-            b"18446744073709551616".as_slice(),
-            u64::MAX,
-            Err(NumberFault::TooLarge),
-        ),
-        (b"-1".as_slice(), 9, Err(NumberFault::NotDigit(0))),
-        (b"99x".as_slice(), 9, Err(NumberFault::NotDigit(2))),
-    ];
-    for (text, max, wanted) in cases {
-        assert_eq!(rt; read_decimal(text, max), wanted);
-    }
-}
-
-#[test]
-fn a_number_is_pushed_without_leading_zeros(rt: HostRuntime) -> Result<(), Fail> {
-    let mut out = Bytes::of(rt.alloc(), b"gid:")?;
-    push_decimal(&mut out, 1500)?;
-    assert_eq!(rt; out.as_slice(), b"gid:1500".as_slice());
     Ok(())
 }
 

@@ -1,0 +1,7 @@
+mod DayRows
+mod IdRows
+mod LineRows
+mod SettingRows
+mod TextRows
+mod ValueRows
+mod WordRows
