@@ -3,7 +3,7 @@
 -- (recovery, CarryLemmas), whose first table that is left is the one at the place (`first-left`), and
 -- whose others are those from the next place on (`rest-left`); no table is left where no step is
 -- (`none-installs`).
-use Rattle.std.proofs.Common.{◌≡◌, refl, sym, ap, subst, ◌∙◌, ℕ, suc, ◌+◌, ◌<◌, true, false, List, ◌∷◌, length, drop, slice_get, Option, Some, None, true≢false, drop-cons, arith}
+use Rattle.std.proofs.Common.{◌≡◌, refl, sym, ap, subst, ◌∙◌, ℕ, ◌+◌, ◌<◌, true, false, List, length, slice_get, Option, Some, None, true≢false, drop-cons, arith}
 use Rattle.std.specs.Prelude.{IsSomeAnd}
 use Rattle.std.proofs.lemmas.List.{drop-drop, length-drop}
 use Rattle.std.proofs.lemmas.Option.{slice_get_within, get_or_from_slice_get}
@@ -12,7 +12,7 @@ use Rattle.acct_outside.specs.Calls.{removes, done}
 use Rattle.intent_file.specs.Intent.{NewTable}
 use Rattle.suite_rules.specs.Standing.{Standing, standing_step}
 use Rattle.suite_rules.specs.Outcomes.{stages, installs}
-use Rattle.recovery.specs.Carrying.{Carries, HasStagedFirst}
+use Rattle.recovery.specs.Carrying.{Carries}
 use Rattle.recovery.proofs.CarryLemmas.{carries-after-write, first-staged, carries-after-move, none-after-removal}
 use Rattle.commit_steps.specs.States.{Walker, changed, intended, step_on, steps_left, tables_left}
 use Rattle.commit_steps.specs.Stands.{HasCleared, Installs}

@@ -5,3 +5,4 @@ pub mod InstallLemmas
 pub mod BackupLemmas
 pub mod CommitLemmas
 pub mod PreparedLemmas
+pub mod NextLemmas

@@ -19,7 +19,7 @@ use Rattle.acct_outside.specs.declared.Found.{Found as Reading}
 use Rattle.acct_outside.specs.Names.{name_limit}
 use Rattle.acct_outside.specs.Tokens.{Token}
 use Rattle.acct_outside.specs.Calls.{Command, Found, found_absent, found_bytes, found_too_large, reads, done}
-use Rattle.acct_outside.specs.Moment.{Past, Narrows, Moment}
+use Rattle.acct_outside.specs.Moment.{Narrows, Moment}
 use Rattle.acct_outside.specs.Contract.{IsName, Tells, TellsRead, found_result}
 use Rattle.acct_text.specs.Limits.{table_limit}
 use Rattle.suite_rules.specs.Knowledge.{Knowledge, Seen, knows_none, whole_content, seen_with, input_step, read_step}

@@ -1,12 +1,14 @@
 // The state of a keeper that backs up the tables that differ, before its commit. `back_up_next` goes
 // one step, and `stage_intent` leads to `IntentStaged` once all are backed up.
-ghost use Rattle.std.specs.Prelude.{◌≡◌, ◌<◌, false, true, IsSome};
+ghost use Rattle.std.specs.Prelude.{◌≡◌, ◌<◌, false, true, IfOk, IsSome};
 ghost use Rattle.acct_outside.specs.declared.Name.TheVariants.{IntentStage};
 ghost use Rattle.acct_outside.specs.Calls.{renames, writes};
 ghost use Rattle.acct_outside.specs.Contract.{CallsFolder, MayAct};
 ghost use Rattle.intent_file.specs.Intent.{intent_text};
 ghost use Rattle.suite_rules.specs.Steps.{StandsIn, own_command, TakesStep};
 ghost use Rattle.suite_rules.specs.Outcomes.{LeadsTo, before_commit};
+ghost use Rattle.lock_steps.specs.NextCall.{IsNextCall};
+ghost use Rattle.commit_steps.specs.NextCall.{backing_call};
 ghost use Rattle.commit_steps.specs.States.{intended, old_bytes, old_files, step_on, steps_left, walk_of};
 ghost use Rattle.commit_steps.specs.Stands.{BacksUp, HasStagedIntent};
 ghost use Rattle.commit_steps.specs.Outcomes.{backup_call};
@@ -15,9 +17,10 @@ ghost use Rattle.commit_steps.specs.Walks.{WalksOn, token_of};
 use crate::committing::IntentStaged;
 use crate::prepared::Prepared;
 use crate::walking::Walking;
-use acct_outside::{CommitStage, Folder, FolderFault, Name, StageFault};
+use acct_outside::{Call, CommitStage, Folder, FolderFault, Name, StageFault};
 use acct_text::Tab;
 use recovery::leads;
+use std::alloc::AllocError;
 use std::marker::Model;
 
 /// A keeper that backs up the tables that differ, and then stages the intent.
@@ -49,6 +52,39 @@ impl Backing {
         ensures { result ≡ steps_left self.now }
     {
         self.walking.left()
+    }
+
+    /// The call that it makes next: that of `back_up_next`, or of `stage_intent` once no step is left. The
+    /// error says that memory ran out for the bytes.
+    pub fn next_call(&self) -> Result<Call, AllocError>
+        ensures { IfOk result (IsNextCall (BacksUp self.now) (backing_call self.now)) }
+    {
+        if self.left() == 0 {
+            return self.intent_call();
+        }
+        self.backup_call()
+    }
+
+    /// The write of the intent.
+    fn intent_call(&self) -> Result<Call, AllocError>
+        requires { steps_left self.now ≡ 0 }
+        ensures { IfOk result (IsNextCall (BacksUp self.now) (backing_call self.now)) }
+    {
+        let text = self.walking.prepared().text().copy()?;
+        Ok(Call::Write(Name::IntentStage, text))
+    }
+
+    /// The call for the backup of the next table.
+    fn backup_call(&self) -> Result<Call, AllocError>
+        requires { 0 < steps_left self.now }
+        ensures { IfOk result (IsNextCall (BacksUp self.now) (backing_call self.now)) }
+    {
+        let table = self.walking.next().table;
+        if self.walking.is_staged() {
+            return Ok(Call::Rename(Name::BackupStage, Name::Backup(table)));
+        }
+        let old = self.walking.prepared().old(table).copy()?;
+        Ok(Call::Write(Name::BackupStage, old))
     }
 
     /// Writes the old bytes of the next table, or moves them to its backup.

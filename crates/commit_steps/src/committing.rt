@@ -1,19 +1,21 @@
 // The state of a keeper between its backups and its installations. `commit` leads from the one to the
 // other: it is the one call by which the change is made.
-ghost use Rattle.std.specs.Prelude.{◌≡◌, IfErr, IfOk};
+ghost use Rattle.std.specs.Prelude.{◌≡◌, ⊤, IfErr, IfOk};
 ghost use Rattle.acct_outside.specs.declared.Name.TheVariants.{Intent, IntentStage};
 ghost use Rattle.acct_outside.specs.Calls.{renames};
 ghost use Rattle.acct_outside.specs.Faults.{CountsFailure};
 ghost use Rattle.suite_rules.specs.Deeds.{SuiteDeeds};
 ghost use Rattle.suite_rules.specs.Steps.{StandsIn, MakesCall, StaysLawful, Leaves, asked};
 ghost use Rattle.suite_rules.specs.Outcomes.{LeadsTo, at_commit};
+ghost use Rattle.lock_steps.specs.NextCall.{IsCallWhere};
+ghost use Rattle.commit_steps.specs.NextCall.{MayCommit};
 ghost use Rattle.commit_steps.specs.States.{walk_of};
 ghost use Rattle.commit_steps.specs.Stands.{HasStagedIntent, Installs, IsDeed, StandsUnsure};
 
 use crate::installing::Installing;
 use crate::leads::commits;
 use crate::prepared::Prepared;
-use acct_outside::{Folder, FolderFault, Name, StageFault};
+use acct_outside::{Call, Folder, FolderFault, Name, StageFault};
 use std::marker::Model;
 
 /// A keeper that has backed up its tables and staged its intent.
@@ -36,6 +38,14 @@ impl IntentStaged {
         ensures { result ≡ prepared }
     {
         IntentStaged { prepared }
+    }
+
+    /// The call that `commit` makes, which is lawful where the new files are the deed of what the session
+    /// was asked.
+    pub fn next_call(&self) -> Call
+        ensures { IsCallWhere ⊤ (MayCommit self.now) (renames IntentStage Intent) result }
+    {
+        Call::Rename(Name::IntentStage, Name::Intent)
     }
 
     /// Moves the staged intent to its name: done, the change stands, and whoever becomes keeper after

@@ -3,12 +3,14 @@
 // 1. `Installing`: the intent stands. `install_next` goes one step, and `clear` removes the intent
 //    once all tables that differ are in place.
 // 2. `Cleared`: no intent stands any more. `release` leads back to the keeper.
-ghost use Rattle.std.specs.Prelude.{◌≡◌, ◌<◌, false, true};
+ghost use Rattle.std.specs.Prelude.{◌≡◌, ◌<◌, false, true, IfOk};
 ghost use Rattle.acct_outside.specs.declared.Name.TheVariants.{Intent};
 ghost use Rattle.acct_outside.specs.Calls.{removes};
 ghost use Rattle.acct_outside.specs.Contract.{CallsFolder, MayAct};
 ghost use Rattle.suite_rules.specs.Steps.{StandsIn, own_command, TakesStep};
 ghost use Rattle.suite_rules.specs.Outcomes.{LeadsTo, after_commit, installs, stages};
+ghost use Rattle.lock_steps.specs.NextCall.{IsNextCall};
+ghost use Rattle.commit_steps.specs.NextCall.{installing_call};
 ghost use Rattle.commit_steps.specs.States.{step_on, steps_left, walk_of};
 ghost use Rattle.commit_steps.specs.Stands.{HasCleared, Installs};
 ghost use Rattle.commit_steps.specs.Outcomes.{install_call};
@@ -16,10 +18,11 @@ ghost use Rattle.commit_steps.specs.Walks.{WalksOn, token_of};
 
 use crate::prepared::Prepared;
 use crate::walking::Walking;
-use acct_outside::{CommitStage, Folder, FolderFault, StageFault, Token};
+use acct_outside::{Call, CommitStage, Folder, FolderFault, Name, StageFault, Token};
 use intent_file::NewTable;
 use lock_steps::{Clean, Keeper};
-use recovery::{leads, move_table, remove_intent, stage_table};
+use recovery::{leads, move_call, move_table, remove_intent, stage_call, stage_table};
+use std::alloc::AllocError;
 use std::marker::Model;
 
 /// A keeper that has committed, and puts the tables that differ in place.
@@ -65,6 +68,29 @@ impl Installing {
         ensures { result ≡ steps_left self.now }
     {
         self.walking.left()
+    }
+
+    /// The call that it makes next: that of `install_next`, or of `clear` once no step is left. The error
+    /// says that memory ran out for the bytes.
+    pub fn next_call(&self) -> Result<Call, AllocError>
+        ensures { IfOk result (IsNextCall (Installs self.now) (installing_call self.now)) }
+    {
+        if self.left() == 0 {
+            return Ok(Call::Remove(Name::Intent));
+        }
+        self.install_call()
+    }
+
+    /// The call for the next table.
+    fn install_call(&self) -> Result<Call, AllocError>
+        requires { 0 < steps_left self.now }
+        ensures { IfOk result (IsNextCall (Installs self.now) (installing_call self.now)) }
+    {
+        let next = self.walking.next();
+        if self.walking.is_staged() {
+            return Ok(move_call(next));
+        }
+        stage_call(next)
     }
 
     /// Writes the new bytes of the next table, or moves them to the table.

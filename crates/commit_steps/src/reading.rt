@@ -14,6 +14,7 @@ ghost use Rattle.acct_outside.specs.Calls.{reads};
 ghost use Rattle.acct_outside.specs.Contract.{IsWithinLimit, found_result};
 ghost use Rattle.suite_rules.specs.Steps.{StandsIn, own_command, TakesStep};
 ghost use Rattle.suite_rules.specs.Outcomes.{before_commit};
+ghost use Rattle.lock_steps.specs.NextCall.{IsNextCall};
 ghost use Rattle.commit_steps.specs.States.{AreSound, next_name, table_after, with_table, start_of, walk_of};
 ghost use Rattle.commit_steps.specs.Stands.{HasRead, StandsEnded, HoldsLoading};
 ghost use Rattle.commit_steps.specs.Outcomes.{Loads, LoadsContent, LoadsTable, is_missing};
@@ -21,7 +22,7 @@ ghost use Rattle.commit_steps.specs.Outcomes.{Loads, LoadsContent, LoadsTable, i
 use crate::backing::Backing;
 use crate::prepared::Prepared;
 use crate::{LoadEnd, Loading};
-use acct_outside::{CommitStage, Folder, FolderFault, Found, Name, StageFault};
+use acct_outside::{Call, CommitStage, Folder, FolderFault, Found, Name, StageFault};
 use acct_text::{Bytes, Files, TABLE_LIMIT, Tab};
 use lock_steps::{Clean, Keeper};
 use std::alloc::{AllocError, Global};
@@ -116,6 +117,13 @@ impl Loader {
         let name = self.next_name();
         let found = folder.read(self.keeper.token(), name, TABLE_LIMIT);
         self.after_read(name, found)
+    }
+
+    /// The call that `load_next` makes.
+    pub fn next_call(&self) -> Call
+        ensures { IsNextCall (HasRead self.now) (reads (next_name self.now.next)) result }
+    {
+        Call::Read(self.next_name())
     }
 
     /// The name that is read next.

@@ -4,3 +4,4 @@ pub mod StandsLemmas
 pub mod PermitsLemmas
 pub mod OutcomesLemmas
 pub mod KeeperLemmas
+pub mod NextLemmas

@@ -2,7 +2,7 @@
 -- outcome the call was done with the answer that leads there, and StandsLemmas has what that makes
 -- of the standing. The lemmas stand in the order of the calls. Where a step tells that the folder
 -- failed, its call told so (`counts`).
-use Rattle.std.proofs.Common.{ap, ℕ, ◌+◌, ◌≡◌, ◌<◌, List, length, get_or, Option, Result, Ok, Err}
+use Rattle.std.proofs.Common.{ap, ℕ, ◌+◌, ◌≡◌, ◌<◌, List, length, get_or, Result, Ok, Err}
 use Rattle.std.specs.Prelude.{IfOk, IsErrOf}
 use Rattle.acct_outside.specs.declared.FolderFault.{FolderFault}
 use Rattle.acct_outside.specs.declared.FolderFault.TheVariants.{Failed}

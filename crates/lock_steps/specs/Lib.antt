@@ -3,3 +3,4 @@ pub mod LockText
 pub mod Stands
 pub mod Outcomes
 pub mod Steps
+pub mod NextCall

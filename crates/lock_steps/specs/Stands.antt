@@ -1,6 +1,6 @@
 -- The standing of a session in each typed state (docs/ARCHITECTURE.md, "Typed steps"). Each is
 -- found from the session's own events alone.
-use Rattle.std.specs.Prelude.{◌≡◌, ℕ, ◌++◌, nat_lt, true, List, [], filter, Option, Some}
+use Rattle.std.specs.Prelude.{◌≡◌, ℕ, ◌++◌, nat_lt, true, List, [], filter, Some}
 use Rattle.acct_outside.specs.Moment.{Moment}
 use Rattle.acct_outside.specs.declared.Name.TheVariants.{FreeStage}
 use Rattle.acct_outside.specs.Tokens.{Token, free_text}

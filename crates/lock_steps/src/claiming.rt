@@ -11,6 +11,7 @@ ghost use Rattle.acct_outside.specs.Calls.{lists, creates, removes};
 ghost use Rattle.acct_outside.specs.Contract.{IsLockNumber, locks_result};
 ghost use Rattle.suite_rules.specs.Steps.{StandsIn};
 ghost use Rattle.lock_steps.specs.Stands.{HasJudged, HasMade, WasOvertaken, HoldsConfirmed, HoldsNever};
+ghost use Rattle.lock_steps.specs.NextCall.{IsNextCall};
 ghost use Rattle.lock_steps.specs.Outcomes.{folder_failed, Claims, Confirms, Withdraws};
 ghost use Rattle.lock_steps.specs.Steps.{SeeksLock};
 
@@ -18,7 +19,7 @@ use crate::holder::Holder;
 use crate::keeping::{Keeper, Unknown};
 use crate::listing::greatest_of;
 use crate::{LockEnd, LockRefusal};
-use acct_outside::{Created, Folder, FolderFault, Name};
+use acct_outside::{Call, Created, Folder, FolderFault, Name};
 use std::marker::Model;
 
 /// A session that may make the next lock, as nobody keeps the greatest.
@@ -100,6 +101,13 @@ impl Judged {
         Judged { holder, greatest }
     }
 
+    /// The call that `claim` makes.
+    pub fn next_call(&self) -> Call
+        ensures { IsNextCall (HasJudged self.now) (creates (self.now.greatest + 1)) result }
+    {
+        Call::Create(self.greatest + 1)
+    }
+
     /// Makes the lock one above the greatest.
     ///
     /// At `Raced` another session made it first.
@@ -129,6 +137,13 @@ impl Judged {
 }
 
 impl Claimed {
+    /// The call that `confirm` makes.
+    pub fn next_call(&self) -> Call
+        ensures { IsNextCall (HasMade self.now) lists result }
+    {
+        Call::Locks
+    }
+
     /// Lists the locks again, to see whether the own one is the greatest.
     ///
     /// At `Outrun` neither the own lock nor a greater one is the greatest: the own was taken away.
@@ -164,6 +179,13 @@ impl Claimed {
 }
 
 impl Loser {
+    /// The call that `withdraw` makes.
+    pub fn next_call(&self) -> Call
+        ensures { IsNextCall (WasOvertaken self.now) (removes (Lock self.now.number)) result }
+    {
+        Call::Remove(Name::Lock(self.number))
+    }
+
     /// Removes the own lock, and refuses with `Outrun`, its number and that of the greatest.
     ///
     /// At `Folder` the lock may stand.

@@ -12,6 +12,7 @@ ghost use Rattle.acct_outside.specs.Contract.{IsLockNumber, locks_result, found_
 ghost use Rattle.suite_rules.specs.Standing.{Standing};
 ghost use Rattle.suite_rules.specs.Steps.{StandsIn};
 ghost use Rattle.lock_steps.specs.Stands.{HasNoLock, HasLooked, HasReadHeld, HasJudged, HoldsTold};
+ghost use Rattle.lock_steps.specs.NextCall.{IsCallWhere, IsNextCall};
 ghost use Rattle.lock_steps.specs.Outcomes.{folder_failed, Looks, Reads, ReadsText, Asks};
 ghost use Rattle.lock_steps.specs.Steps.{SeeksLock};
 
@@ -20,7 +21,9 @@ use crate::holder::Holder;
 use crate::listing::greatest_of;
 use crate::lock_text::LockText;
 use crate::{LockEnd, LockRefusal};
-use acct_outside::{Folder, FolderFault, Found, GREATEST_LOCK, LOCK_LIMIT, Name, Token, Verdict};
+use acct_outside::{
+    Call, Folder, FolderFault, Found, GREATEST_LOCK, LOCK_LIMIT, Name, Token, Verdict,
+};
 use std::alloc::{AllocError, Global};
 use std::marker::Model;
 
@@ -101,6 +104,13 @@ impl Looking {
         })
     }
 
+    /// The call that `look` makes.
+    pub fn next_call(&self) -> Call
+        ensures { IsNextCall HasNoLock lists result }
+    {
+        Call::Locks
+    }
+
     /// Lists the locks.
     ///
     /// At `Exhausted` the greatest has the last number.
@@ -148,6 +158,14 @@ impl Seen {
         Judged::new(self.holder, self.greatest)
     }
 
+    /// The call that `read` makes.
+    pub fn next_call(&self) -> Call
+        ensures { IsCallWhere (0 < self.now.greatest) (λ deeds. HasLooked self.now)
+            (reads (Lock self.now.greatest)) result }
+    {
+        Call::Read(Name::Lock(self.greatest))
+    }
+
     /// Reads the greatest lock.
     ///
     /// At `Gone` it stands no more. At `Damaged` its text is neither that of a free lock nor that
@@ -193,6 +211,13 @@ impl Seen {
 }
 
 impl Asking {
+    /// The call that `ask` makes. The error says that memory ran out for its token.
+    pub fn next_call(&self) -> Result<Call, AllocError>
+        ensures { IfOk result (IsNextCall (HasReadHeld self.now) (asks self.now.asked)) }
+    {
+        Ok(Call::Verdict(self.asked.copy()?))
+    }
+
     /// Asks whether the session that holds the greatest lock still runs.
     ///
     /// At `Held` it does.

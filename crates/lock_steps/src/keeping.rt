@@ -4,7 +4,7 @@
 //    Once none is left, `stage_free` leads to `Freeing`.
 // 2. `Freeing`: the text that frees its lock is staged. `move_free` leads to `Ended`.
 // 3. `Ended`: its lock is free. Only the answer of the session is left.
-ghost use Rattle.std.specs.Prelude.{◌≡◌, ◌<◌, IsErrOf, length, nat_lt, slice_index, filter, All};
+ghost use Rattle.std.specs.Prelude.{◌≡◌, ◌<◌, IfOk, IsErrOf, length, nat_lt, slice_index, filter, All};
 ghost use Rattle.acct_outside.specs.declared.Name.TheVariants.{FreeStage, Lock};
 ghost use Rattle.acct_outside.specs.Tokens.{free_text};
 ghost use Rattle.acct_outside.specs.Calls.{writes, renames, removes};
@@ -12,11 +12,13 @@ ghost use Rattle.acct_outside.specs.Contract.{IsLockNumber};
 ghost use Rattle.suite_rules.specs.Knowledge.{Knowledge};
 ghost use Rattle.suite_rules.specs.Steps.{StandsIn};
 ghost use Rattle.lock_steps.specs.Stands.{Keeps, KnowsAnything, KnowsNone, HasStagedFree, HasFreed};
+ghost use Rattle.lock_steps.specs.NextCall.{IsNextCall, unlocking_call};
 ghost use Rattle.lock_steps.specs.Outcomes.{LeadsTo, cleaned_once, freeing_of, the_end};
 ghost use Rattle.lock_steps.specs.Steps.{FreesLock};
 
 use crate::holder::Holder;
-use acct_outside::{Folder, FolderFault, Name, Token};
+use acct_outside::{Call, Folder, FolderFault, Name, Token};
+use std::alloc::AllocError;
 use std::collections::VecDeque;
 use std::marker::{Model, PhantomData};
 
@@ -164,6 +166,18 @@ impl<K: Knowing> Keeper<K> {
         &self.holder.token
     }
 
+    /// The call by which it goes on to free its lock: that of `clean_next` where a lower lock is left,
+    /// else that of `stage_free`. The error says that memory ran out for the free text.
+    pub fn unlocking_call(&self) -> Result<Call, AllocError>
+        ensures { IfOk result (IsNextCall (Keeps self.now K.knows) (unlocking_call self.now)) }
+    {
+        if self.lower() == 0 {
+            Ok(Call::Write(Name::FreeStage, self.holder.free.copy()?))
+        } else {
+            Ok(Call::Remove(Name::Lock(self.lower[0])))
+        }
+    }
+
     /// Removes the first of the lower locks that are left, in the order of the second listing.
     ///
     /// At a fault the keeper is spent.
@@ -215,6 +229,14 @@ impl<K: Knowing> Keeper<K> {
 }
 
 impl Freeing {
+    /// The call that `move_free` makes.
+    pub fn next_call(&self) -> Call
+        ensures { IsNextCall (HasStagedFree self.now) (renames FreeStage (Lock self.now.number))
+            result }
+    {
+        Call::Rename(Name::FreeStage, Name::Lock(self.number))
+    }
+
     /// Moves the staged text to its lock, which is free then.
     ///
     /// At a fault the lock may be held or free.

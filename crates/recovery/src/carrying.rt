@@ -1,12 +1,31 @@
 // The calls by which a keeper carries out an intent that stands, be it one that it found or that of
 // its own commit: the bytes of each listed table are staged and moved, and then the intent goes.
+ghost use Rattle.std.specs.Prelude.{◌≡◌, IfOk};
 ghost use Rattle.acct_outside.specs.declared.Name.TheVariants.{Intent};
 ghost use Rattle.acct_outside.specs.Calls.{removes};
 ghost use Rattle.acct_outside.specs.Contract.{CallsFolder, MayAct};
+ghost use Rattle.acct_outside.specs.Events.{IsLaterCall, call_of};
 ghost use Rattle.suite_rules.specs.Outcomes.{installs, stages};
 
-use acct_outside::{Folder, FolderFault, Name, Token};
+use acct_outside::{Call, Folder, FolderFault, Name, Token};
 use intent_file::NewTable;
+use std::alloc::AllocError;
+
+/// The call of `stage_table`. The error says that memory ran out for the bytes.
+pub fn stage_call(new: &NewTable) -> Result<Call, AllocError>
+    ensures names { IfOk result (λ call. call_of call ≡ stages new.now) }
+    ensures later { IfOk result IsLaterCall }
+{
+    Ok(Call::Write(Name::Staged(new.table), new.bytes.copy()?))
+}
+
+/// The call of `move_table`.
+pub fn move_call(new: &NewTable) -> Call
+    ensures names { call_of result ≡ installs new.now }
+    ensures later { IsLaterCall result }
+{
+    Call::Rename(Name::Staged(new.table), Name::Table(new.table))
+}
 
 /// Writes the bytes of a listed table to its staging name.
 ///

@@ -24,7 +24,7 @@ mod reading;
 mod recovering;
 
 use acct_outside::StageFault;
-pub use carrying::{move_table, remove_intent, stage_table};
+pub use carrying::{move_call, move_table, remove_intent, stage_call, stage_table};
 pub use leading::leads;
 use lock_steps::{Clean, Keeper, Unknown};
 pub use reading::read_intent;

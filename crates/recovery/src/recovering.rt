@@ -5,22 +5,25 @@
 // 2. `Moving`: these bytes are staged. `move_next` moves them to their table, and leads back to
 //    `Recovering` with one table less.
 // 3. `Keeper<Clean>`: no table is left. `remove_intent` leads to it from `Recovering`.
-ghost use Rattle.std.specs.Prelude.{◌≡◌, ◌<◌, length, slice_get, IsErrOf, OnOk, Some};
+ghost use Rattle.std.specs.Prelude.{◌≡◌, ◌<◌, length, slice_get, IfOk, IsErrOf, OnOk, Some};
 ghost use Rattle.acct_outside.specs.declared.Name.TheVariants.{Intent as IntentName};
 ghost use Rattle.acct_outside.specs.Calls.{removes};
 ghost use Rattle.suite_rules.specs.Steps.{StandsIn, own_command, TakesStep, TakesNext};
 ghost use Rattle.suite_rules.specs.Outcomes.{before_commit, LeadsTo, stages, installs};
 ghost use Rattle.lock_steps.specs.Stands.{Keeps, KnowsNone, KnowsNoneYet};
+ghost use Rattle.lock_steps.specs.NextCall.{IsNextCall};
+ghost use Rattle.recovery.specs.NextCall.{moving_call, recovering_call};
 ghost use Rattle.recovery.specs.States.{moved_once};
 ghost use Rattle.recovery.specs.Stands.{Recovers, HasStagedNext};
 ghost use Rattle.recovery.specs.Outcomes.{failed_before};
 
-use crate::carrying::{move_table, remove_intent, stage_table};
+use crate::carrying::{move_call, move_table, remove_intent, stage_call, stage_table};
 use crate::leading::leads;
 use crate::reading::at_before;
-use acct_outside::{CommitStage, Folder, FolderFault, StageFault, Token};
+use acct_outside::{Call, CommitStage, Folder, FolderFault, Name, StageFault, Token};
 use intent_file::{Intent, NewTable};
 use lock_steps::{Clean, Keeper, Unknown};
+use std::alloc::AllocError;
 use std::collections::VecDeque;
 use std::marker::Model;
 
@@ -92,6 +95,17 @@ impl Recovering {
         &self.left[0]
     }
 
+    /// The call that it makes next: that of `stage_next`, or of `remove_intent` once no table is left. The
+    /// error says that memory ran out for the bytes.
+    pub fn next_call(&self) -> Result<Call, AllocError>
+        ensures { IfOk result (IsNextCall (Recovers self.now) (recovering_call self.now)) }
+    {
+        if self.left() == 0 {
+            return Ok(Call::Remove(Name::Intent));
+        }
+        stage_call(self.next())
+    }
+
     /// Writes the bytes of the first table that is left to its staging name.
     ///
     /// At a fault the keeper is spent, and the intent stands.
@@ -147,6 +161,13 @@ impl Recovering {
 }
 
 impl Moving {
+    /// The call that `move_next` makes.
+    pub fn next_call(&self) -> Call
+        ensures { IsNextCall (HasStagedNext self.now) (moving_call self.now) result }
+    {
+        move_call(self.recovering.next())
+    }
+
     /// Moves the staged bytes to their table, which is in place then.
     ///
     /// At a fault the keeper is spent, and the intent stands.

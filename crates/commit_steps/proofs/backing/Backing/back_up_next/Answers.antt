@@ -1,4 +1,4 @@
-use Rattle.std.proofs.Common.{◌≡◌, ◌⊎◌, inl, inr, refl, sym, ap, subst, ◌∙◌, slice_get, Some}
+use Rattle.std.proofs.Common.{◌≡◌, inl, inr, refl, ap, subst, ◌∙◌, slice_get, Some}
 use Rattle.std.proofs.lemmas.Bool.{cases_Bool}
 use Rattle.std.specs.Prelude.{IsSome}
 use Rattle.acct_outside.specs.declared.FolderFault.TheVariants.{Failed}
@@ -8,7 +8,7 @@ use Rattle.acct_outside.specs.Contract.{Tells}
 use Rattle.suite_rules.specs.Outcomes.{LeadsTo, before_commit}
 use Rattle.suite_rules.proofs.StepLemmas.{told-of}
 use Rattle.lock_steps.proofs.OutcomesLemmas.{counts}
-use Rattle.recovery.proofs.LeadsLemmas.{acts-as, takes-step}
+use Rattle.recovery.proofs.LeadsLemmas.{takes-step}
 use Rattle.commit_steps.specs.States.{Change, Walker, changed, old_bytes, old_files, step_on}
 use Rattle.commit_steps.specs.Stands.{BacksUp}
 use Rattle.commit_steps.specs.Outcomes.{backup_call}
