@@ -1,6 +1,6 @@
 -- Claim: what one of the two tools decides is the decision of its request (`chage-decides`,
 -- `chpasswd-decides`). Way: the tool of the request is that one.
-use Rattle.std.proofs.Common.{◌≡◌, ℕ, refl, sym, subst}
+use Rattle.std.proofs.Common.{◌≡◌, ℕ, sym, subst}
 use Rattle.acct_text.specs.declared.files.Files.{Files}
 use Rattle.account_model.specs.declared.tool.Tool.{Tool}
 use Rattle.account_model.specs.declared.tool.Tool.TheVariants.{Chage, Chpasswd}
@@ -10,13 +10,7 @@ use Rattle.account_model.specs.Change.{action_by}
 use Rattle.account_model.specs.Chpasswd.{chpasswd}
 use Rattle.acct_tables.specs.Decisions.{Decides}
 use Rattle.acct_tables.specs.declared.decision.Decision.{Decision}
-use Rattle.aging_commands.specs.Asking.{Asking, DecidesOn, IsAgingTool}
-
--- the other of the two tools
-other-tool : (tool : Tool) → IsAgingTool tool → (tool ≡ Chage → ⊥) → tool ≡ Chpasswd
-other-tool Chage is other = absurd (other refl)
-other-tool Chpasswd is other = refl
-other-tool _ is other = absurd is
+use Rattle.aging_commands.specs.Asking.{Asking, DecidesOn}
 
 module _ (asking : Asking) (day : ℕ) (files : Files) (decision : Decision) where
   -- chage
@@ -31,11 +25,10 @@ module _ (asking : Asking) (day : ℕ) (files : Files) (decision : Decision) whe
 
   -- chpasswd
   pub chpasswd-decides :
-      IsAgingTool asking.request.tool
-      → (asking.request.tool ≡ Chage → ⊥)
+      asking.request.tool ≡ Chpasswd
       → Decides Chpasswd files (outcome_of (chpasswd asking.input files day) files) decision
       → DecidesOn asking day files decision
-  chpasswd-decides is other decides settings = subst
+  chpasswd-decides is decides settings = subst
       (λ (tool : Tool). Decides tool files
       (outcome_of (action_by tool asking.request asking.input day files settings) files) decision)
-      (sym (other-tool asking.request.tool is other)) decides
+      (sym is) decides

@@ -1,7 +1,7 @@
--- Claim: a file has no more lines than bytes (`lines-counted`); and a good line leaves what is
--- refused to those behind it (`goes-on`), while a bad one is refused
--- (`stops`); and the lines that were read do what the lines do (`scripts-read`). Way: line by line.
-use Rattle.std.proofs.Common.{◌≡◌, ◌∙◌, ◌<◌, ◌≤◌, ℕ, suc, ◌+◌, Bool, true, false, List, [], ◌∷◌, ◌++◌, length, map, take, drop, get_or, refl, ap, sym, subst, arith, length-append, add-one, Vec, Global, Result, Ok, Err}
+-- Claim: a good line leaves what is refused to those behind it (`goes-on`), while a bad one is
+-- refused (`stops`); and the lines that were read do what the lines do (`scripts-read`). Way: line
+-- by line.
+use Rattle.std.proofs.Common.{◌≡◌, ◌∙◌, ◌<◌, ℕ, suc, ◌+◌, true, List, [], ◌∷◌, ◌++◌, length, map, take, drop, get_or, refl, ap, sym, subst, add-one, Vec, Global, Result, Ok, Err}
 use Rattle.std.specs.Prelude.{IsErrAnd}
 use Rattle.std.proofs.Math.Seq.{take-suc, drop-cons}
 use Rattle.std.proofs.lemmas.List.{map-append}
@@ -11,47 +11,13 @@ use Rattle.acct_tables.specs.declared.tool_fault.ToolFault.TheVariants.{Refused,
 use Rattle.table_edits.specs.Stopping.{StopsBy}
 use Rattle.std.specs.Prelude.{Option, Some, None, option_map}
 use Rattle.acct_text.specs.declared.files.Files.{Files}
-use Rattle.acct_text.specs.Lines.{AreEnded, Line, file_bytes, line_bytes, lines_of, texts_of}
-use Rattle.acct_text.proofs.LinesLaws.{lines_of-are}
+use Rattle.acct_text.specs.Lines.{Line, texts_of}
 use Rattle.account_model.specs.declared.refusal.LineProblem.{LineProblem}
 use Rattle.account_model.specs.declared.refusal.Refusal.{Refusal}
 use Rattle.account_model.specs.declared.refusal.Refusal.TheVariants.{BadLine}
 use Rattle.account_model.specs.Chpasswd.{bad_line_from, line_problem, line_script}
 use Rattle.aging_commands.specs.HashLines.{HashLine, hash_line, hash_script, line_refusal, seen_line}
 use Rattle.aging_commands.specs.declared.hash_lines.NewHash.{NewHash}
-
--- ---- Counting
-
--- a line that has an end has a byte
-ended-counted : (line : Line) → line.ended ≡ true → 1 ≤ length (line_bytes line)
-ended-counted line ended = rw ended (omega (arith, length-append {A = ℕ}))
-
--- the last line has a byte, whether it has an end or not
-last-counted :
-    (line : Line) (ended : Bool)
-    → line.ended ≡ ended
-    → (line.ended ≡ false → 0 < length line.text)
-    → 1 ≤ length (file_bytes (line ∷ []))
-last-counted line true is some =
-    omega (arith, length-append (line_bytes line) [], ended-counted line is)
-last-counted line false is some =
-    rw is (omega (arith, some is, length-append (line.text ++ []) [], length-append line.text []))
-
--- lines that are ended have a byte each
-ended-lines-counted : (lines : List Line) → AreEnded lines → length lines ≤ length (file_bytes lines)
-ended-lines-counted [] ended = omega arith
-ended-lines-counted (last ∷ []) ended =
-    last-counted last last.ended refl ended
-ended-lines-counted (line ∷ next ∷ rest) ended =
-    let one = ended-counted line ended.0 in
-    let more = ended-lines-counted (next ∷ rest) ended.1 in
-    omega (arith, length-append (line_bytes line) (file_bytes (next ∷ rest)), one, more)
-
--- a file has no more lines than bytes
-pub lines-counted : (bytes : List ℕ) → length (lines_of bytes) ≤ length bytes
-lines-counted bytes =
-    subst (λ b. length (lines_of bytes) ≤ length b) (lines_of-are bytes).joined
-    (ended-lines-counted (lines_of bytes) (lines_of-are bytes).ended)
 
 -- ---- Bad lines
 

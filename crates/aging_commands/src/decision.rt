@@ -22,7 +22,7 @@ use table_edits::{Report, Tables, decide_as};
 /// absent passwd has no records here; the fault is for the caller to find before.
 pub fn decide(
     alloc: Global,
-    request: &AgingRequest,
+    request: &AgingRequest<'_>,
     files: &Files,
     _defs: &Defs,
     day: u32,
@@ -33,7 +33,8 @@ pub fn decide(
 {
     match request.asked().tool() {
         Tool::Chage => decide_chage(alloc, request.asked(), files),
-        _ => decide_chpasswd(alloc, request.input(), files, day),
+        Tool::Chpasswd => decide_chpasswd(alloc, request.input(), files, day),
+        _ => unreachable!(),
     }
 }
 

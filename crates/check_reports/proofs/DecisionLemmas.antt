@@ -1,7 +1,7 @@
 -- Claim: a tool that changes nothing decides as its report says (`told-decides`), and one that sorts
 -- by the sorted files (`users-sorted`, `groups-sorted`). Way: without edits no name has multiple entries, and all six
 -- files stay; a sort touches no record (`users-untouched`, `groups-untouched`).
-use Rattle.std.proofs.Common.{◌≡◌, ◌∙◌, ℕ, ◌≢◌, false, true, List, [], ◌∷◌, refl, sym, ap}
+use Rattle.std.proofs.Common.{◌≡◌, ◌∙◌, ℕ, false, true, List, [], ◌∷◌, refl, sym, ap}
 use Rattle.std.specs.Prelude.{codes, Option, Some, None, Ok}
 use Rattle.std.specs.List.{position_or_len}
 use Rattle.acct_text.specs.declared.files.Files.{Files}
@@ -14,11 +14,8 @@ use Rattle.account_model.specs.Edits.{Arrange, first_multiple}
 use Rattle.account_model.specs.Format.{Format, is_named}
 use Rattle.account_model.specs.Grpck.{grpck, grpck_report, grpck_sort, sorted_groups}
 use Rattle.account_model.specs.Pwck.{pwck, pwck_report, pwck_sort, sorted_users}
-use Rattle.account_model.specs.Getsubids.{getsubids}
 use Rattle.account_model.specs.Request.{Request, has_option}
 use Rattle.account_model.specs.Settings.{Setting}
-use Rattle.account_model.specs.Change.{action_by}
-use Rattle.account_model.specs.declared.tool.Tool.TheVariants.{Pwck, Grpck, Getsubids}
 use Rattle.account_model.specs.Records.{passwd_format, shadow_format, group_format, gshadow_format}
 use Rattle.account_model.specs.Tables.{no_edits, files_after, table_after, table_records, passwd_records, shadow_records, group_records, gshadow_records}
 use Rattle.account_model.specs.Text.{first_some}
@@ -27,7 +24,7 @@ use Rattle.acct_tables.specs.declared.decision.Decision.{Decision}
 use Rattle.acct_tables.specs.declared.decision.Decision.TheVariants.{Same}
 use Rattle.account_model.proofs.NoEdits.{files-stay}
 use Rattle.account_model.proofs.SameLaws.{bytes-self}
-use Rattle.check_reports.specs.Decided.{DecidesBy, IsCheckTool}
+use Rattle.check_reports.specs.Decided.{DecidesBy}
 
 -- no edit touches a record
 none-multiple : {R : Type 0} (format : Format R) (records : List R)
@@ -141,19 +138,6 @@ module _ (request : Request) (files : Files) (today : ℕ) where
   pub grpck-reports :
       has_option (codes "s") request ≡ false → grpck_report files ≡ grpck request files
   grpck-reports reports = rw reports refl
-
--- of the three tools the last is getsubids
-pub last-tool :
-    (tool : Tool) (request : Request) (input : List ℕ) (day : ℕ) (files : Files)
-    (settings : List Setting)
-    → IsCheckTool tool
-    → tool ≢ Pwck
-    → tool ≢ Grpck
-    → getsubids request files ≡ action_by tool request input day files settings
-last-tool Pwck request input day files settings is other differs = absurd (other refl)
-last-tool Grpck request input day files settings is other differs = absurd (differs refl)
-last-tool Getsubids request input day files settings is other differs = refl
-last-tool _ request input day files settings is other differs = absurd is
 
 -- ---- The sorted files
 

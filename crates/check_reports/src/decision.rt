@@ -6,7 +6,7 @@ ghost use Rattle.account_model.specs.declared.tool.Tool.{Tool};
 ghost use Rattle.account_model.specs.Action.{changes, multiple_entries, reports};
 ghost use Rattle.account_model.specs.Tables.{Script, files_after};
 ghost use Rattle.account_model.specs.Text.{first_some};
-ghost use Rattle.check_reports.specs.Decided.{DecidesBy, DecidesOn};
+ghost use Rattle.check_reports.specs.Decided.{DecidesBy, DecidesOn, IsCheckTool};
 
 use crate::getsubids::getsubids;
 use crate::grpck::grpck;
@@ -23,18 +23,19 @@ use table_edits::are_same;
 /// before.
 pub fn decide(
     alloc: Global,
-    request: &CheckRequest,
+    request: &CheckRequest<'_>,
     files: &Files,
     _defs: &Defs,
     day: u32,
 ) -> Result<Decision, AllocError>
+    requires tool { IsCheckTool request.now.tool }
     ensures { IfOk result (DecidesOn day request.now files.now) }
 {
-    let asked = request.asked();
-    match asked.tool() {
-        Tool::Pwck => pwck(alloc, asked, files, day),
-        Tool::Grpck => grpck(alloc, asked, files, day),
-        _ => getsubids(alloc, asked, files),
+    match request.tool() {
+        Tool::Pwck => pwck(alloc, request, files, day),
+        Tool::Grpck => grpck(alloc, request, files, day),
+        Tool::Getsubids => getsubids(alloc, request, files),
+        _ => unreachable!(),
     }
 }
 

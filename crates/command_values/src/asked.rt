@@ -15,55 +15,58 @@ use option_words::Parsed;
 use std::alloc::{AllocError, Global};
 use std::marker::Model;
 
-/// What a command asks for: a tool, its options and its operands.
+/// What a command asks for, looked up in its words as they were read: a tool, its options and its
+/// operands.
 ///
 /// An option is named by the byte of its letter. Contracts see the request of `account_model`.
 #[derive(Drop)]
-pub struct Asked {
-    tool: Tool,
-    prefix: Bytes,
-    options: Vec<Given>,
-    operands: Names,
+pub struct Asked<'a> {
+    parsed: &'a Parsed,
 }
 
-impl Model for Asked {
+impl<'a> Model for Asked<'a> {
     ghost use Rattle.account_model.specs.Request.{Request};
+    ghost use Rattle.option_words.specs.Parsed.{request_in};
 
     ghost Value = { Request };
 
-    ghost view = { λ a. record {
-      tool = a.tool;
-      prefix = a.prefix;
-      options = a.options.items;
-      operands = a.operands;
-    } };
+    ghost view = { λ a. request_in a.parsed.now };
 }
 
-impl Asked {
-    /// A copy of what the words of a command ask for.
-    pub fn of(alloc: Global, parsed: &Parsed) -> Result<Self, AllocError>
-        ensures { IfOk result (λ asked. asked ≡ request_in parsed.now) }
+impl<'a> Asked<'a> {
+    /// What the words of a command ask for.
+    pub fn of(parsed: &'a Parsed) -> Self
+        ensures { result ≡ request_in parsed.now }
     {
-        Ok(Asked {
-            tool: parsed.tool,
-            prefix: parsed.prefix.copy()?,
-            options: copy_options(alloc, parsed.options.as_slice())?,
-            operands: parsed.operands.copy()?,
-        })
+        Asked { parsed }
     }
 
+    /// What the words of a command ask for, of a tool that reads no input. It allocates nothing, and
+    /// so it has no error.
+    pub fn from_words(
+        _alloc: Global,
+        parsed: &'a Parsed,
+        _input: &Bytes,
+    ) -> Result<Self, AllocError>
+        ensures { IfOk result (λ asked. asked ≡ request_in parsed.now) }
+    {
+        Ok(Asked::of(parsed))
+    }
+}
+
+impl Asked<'_> {
     /// The tool.
     pub fn tool(&self) -> Tool
         ensures { result ≡ self.now.tool }
     {
-        self.tool
+        self.parsed.tool
     }
 
     /// Whether the option is given.
     pub fn has(&self, letter: u8) -> bool
         ensures { result ≡ has_option (letter ∷ []) self.now }
     {
-        has_letter(self.options.as_slice(), letter)
+        has_letter(self.options(), letter)
     }
 
     /// The value of the option, of a repeated one the last; none where it isn't given.
@@ -71,7 +74,7 @@ impl Asked {
         ensures { option_copied result ≡ value_of (letter ∷ []) self.now }
     {
         let mut last = None;
-        for option in &self.options {
+        for option in self.options() {
             if let Some(value) = value_at(option, letter) {
                 last = Some(value);
             }
@@ -85,7 +88,7 @@ impl Asked {
         ensures { IfOk result (λ values. values ≡ values_of (letter ∷ []) self.now) }
     {
         let mut values = Names::new(alloc);
-        for option in &self.options {
+        for option in self.options() {
             if let Some(value) = value_at(option, letter) {
                 values.push(value)?;
             }
@@ -97,7 +100,7 @@ impl Asked {
     pub fn operand(&self) -> &[u8]
         ensures { result.now ≡ operand self.now }
     {
-        match self.operands.at(0) {
+        match self.parsed.operands.at(0) {
             Some(name) => name,
             None => &[],
         }
@@ -135,7 +138,7 @@ impl Asked {
     pub(crate) fn options(&self) -> &[Given]
         ensures { result.now ≡ self.now.options }
     {
-        self.options.as_slice()
+        self.parsed.options.as_slice()
     }
 }
 
@@ -154,29 +157,4 @@ fn has_letter(options: &[Given], letter: u8) -> bool
     ensures { result ≡ list_any (λ option. option.letter == letter) options.now }
 {
     options.iter().any(|option| option.letter == letter)
-}
-
-// The same options.
-fn copy_options(alloc: Global, options: &[Given]) -> Result<Vec<Given>, AllocError>
-    ensures { IfOk result (λ copies. copies.items ≡ options.now) }
-{
-    let mut copies = Vec::new(alloc);
-    for option in options {
-        copies.push(copy_option(option)?)?;
-    }
-    Ok(copies)
-}
-
-// The same option.
-fn copy_option(option: &Given) -> Result<Given, AllocError>
-    ensures { IfOk result (λ copy. copy ≡ option.now) }
-{
-    let value = match &option.value {
-        Some(value) => Some(value.copy()?),
-        None => None,
-    };
-    Ok(Given {
-        letter: option.letter,
-        value,
-    })
 }

@@ -13,7 +13,7 @@ use acct_lines::is_valid_name;
 use acct_text::Bytes;
 use std::alloc::Global;
 
-impl Asked {
+impl Asked<'_> {
     /// Refuses the value of the option, where it is given and isn't of the form: `BadValue`.
     /// `Memory` comes only where there is no room for that refusal.
     pub fn check_value(&self, alloc: Global, letter: u8, form: Form) -> Result<(), ToolFault>

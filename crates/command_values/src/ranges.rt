@@ -33,7 +33,7 @@ fn ids_from(first: Option<u32>, last: Option<u32>) -> Option<IdRange>
     Some(IdRange { first, last })
 }
 
-impl Asked {
+impl Asked<'_> {
     /// The IDs that the values of the option name, in the order in which they were given, for an
     /// option of which each counts. A value that names none is left out.
     pub fn ranges(&self, alloc: Global, letter: u8) -> Result<Vec<IdRange>, AllocError>

@@ -17,7 +17,7 @@ use id_choice::UsedIds;
 use login_defs::Defs;
 use std::alloc::Global;
 
-impl Asked {
+impl Asked<'_> {
     /// The settings, and those of the `-K` words behind them.
     ///
     /// `BadKey` refuses the first word that isn't KEY=VALUE with a key of login.defs(5) and a value

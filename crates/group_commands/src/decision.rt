@@ -21,19 +21,19 @@ use table_edits::{Report, Script, Tables, decide_as};
 /// absent passwd or group has no records here; the fault is for the caller to find before.
 pub fn decide(
     alloc: Global,
-    request: &GroupRequest,
+    request: &GroupRequest<'_>,
     files: &Files,
     defs: &Defs,
     _day: u32,
 ) -> Result<Decision, AllocError>
+    requires tool { IsGroupTool request.now.tool }
     requires held { IsHeld defs.now }
     ensures { IfOk result (DecidesUnder defs.now request.now files.now) }
 {
-    let asked = request.asked();
     let tables = Tables::of(files);
-    let answer = script_of(alloc, asked, &tables, defs);
+    let answer = script_of(alloc, request, &tables, defs);
     let report = Report::silent(alloc);
-    decide_as(alloc, asked.tool(), &tables, answer, report)
+    decide_as(alloc, request.tool(), &tables, answer, report)
 }
 
 // The script of the tool that is asked for.
@@ -50,6 +50,7 @@ fn script_of(
         Tool::Groupadd => groupadd(alloc, asked, tables, defs),
         Tool::Groupmod => groupmod(alloc, asked, tables),
         Tool::Groupdel => groupdel(alloc, asked, tables),
-        _ => gpasswd(alloc, asked, tables),
+        Tool::Gpasswd => gpasswd(alloc, asked, tables),
+        _ => unreachable!(),
     }
 }

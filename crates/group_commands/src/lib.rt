@@ -1,7 +1,7 @@
 //! The tools of groups: groupadd(8), groupmod(8), groupdel(8) and gpasswd(1). What a command
 //! decides on the tables, by its request and the settings of login.defs(5).
 //!
-//! `GroupRequest` keeps what was asked for, and `decide` answers it. Each tool is a module with one
+//! `GroupRequest` tells what was asked for, and `decide` answers it. Each tool is a module with one
 //! function: it tests the refusals in their order, and then builds the script of its edits.
 #![tactic(auto)]
 
@@ -10,8 +10,9 @@ mod gpasswd;
 mod groupadd;
 mod groupdel;
 mod groupmod;
-mod request;
 
 pub use acct_tables::{Decision, Output};
 pub use decision::decide;
-pub use request::GroupRequest;
+
+/// What a command asks groupadd(8), groupmod(8), groupdel(8) or gpasswd(1) for.
+pub type GroupRequest<'a> = command_values::Asked<'a>;

@@ -82,7 +82,7 @@ fn changed_user(
 }
 
 /// The name of `-l`, and else the user's.
-pub(crate) fn new_name(asked: &Asked) -> &[u8]
+pub(crate) fn new_name<'a>(asked: &'a Asked<'_>) -> &'a [u8]
     ensures { result.now ≡ new_name asked.now }
 {
     asked.value_or(b'l', asked.operand())

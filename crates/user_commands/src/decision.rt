@@ -21,20 +21,20 @@ use user_removal::{userdel, userdel_report};
 /// has no records here; the fault is for the caller to find before.
 pub fn decide(
     alloc: Global,
-    request: &UserRequest,
+    request: &UserRequest<'_>,
     files: &Files,
     defs: &Defs,
     day: u32,
 ) -> Result<Decision, AllocError>
+    requires tool { IsUserTool request.now.tool }
     requires held { IsHeld defs.now }
     requires in_time { day ≤ last_day }
     ensures { IfOk result (DecidesUnder defs.now day request.now files.now) }
 {
-    let asked = request.asked();
     let tables = Tables::of(files);
-    let report = report_of(alloc, asked, &tables, defs)?;
-    let answer = script_of(alloc, asked, &tables, defs, day);
-    decide_as(alloc, asked.tool(), &tables, answer, report)
+    let report = report_of(alloc, request, &tables, defs)?;
+    let answer = script_of(alloc, request, &tables, defs, day);
+    decide_as(alloc, request.tool(), &tables, answer, report)
 }
 
 // The script of the tool that is asked for.
@@ -52,7 +52,8 @@ fn script_of(
     match asked.tool() {
         Tool::Useradd => useradd(alloc, asked, tables, defs, day),
         Tool::Usermod => usermod(alloc, asked, tables, day),
-        _ => userdel(alloc, asked, tables, defs),
+        Tool::Userdel => userdel(alloc, asked, tables, defs),
+        _ => unreachable!(),
     }
 }
 

@@ -1,4 +1,4 @@
-use Rattle.std.proofs.Common.{◌≡◌, ◌∙◌, ℕ, List, subst}
+use Rattle.std.proofs.Common.{◌≡◌, ℕ, List, subst}
 use Rattle.std.specs.Prelude.{IfOk}
 use Rattle.std.proofs.lemmas.Result.{IfOk-weaker}
 use Rattle.account_model.specs.declared.tool.Tool.TheVariants.{Chage, Chpasswd}
@@ -20,13 +20,12 @@ returns-in-Chage c =
     (Decides Chage files (outcome_of (chage request files) files)))
     c.asked-in-Chage.ensures.same c.decide_chage.ensures)
 
-pub returns-in_default : goal.returns-in_default
-returns-in_default c =
+pub returns-in-Chpasswd : goal.returns-in-Chpasswd
+returns-in-Chpasswd c =
     let files = c.args.files.now in
-    let told : c.tool.result ≡ c.args.request.now.request.tool = cc in
+    let is : c.args.request.now.request.tool ≡ Chpasswd = cc in
     IfOk-weaker c.decide_chpasswd.result _ _
-    (λ decision. chpasswd-decides c.args.request.now c.args.day files decision
-    c.asked.ensures.tool (λ is. c.in_default.not-Chage (told ∙ is)))
+    (λ decision. chpasswd-decides c.args.request.now c.args.day files decision is)
     (subst (λ (input : List ℕ). IfOk c.decide_chpasswd.result
     (Decides Chpasswd files (outcome_of (chpasswd input files c.args.day) files)))
     c.input.ensures c.decide_chpasswd.ensures)

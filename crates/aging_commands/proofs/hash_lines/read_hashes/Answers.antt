@@ -6,7 +6,8 @@ use Rattle.acct_text.specs.Lines.{Line, lines_of}
 use Rattle.table_edits.specs.Stopping.{StopsBy}
 use Rattle.aging_commands.specs.HashLines.{line_refusal}
 use Rattle.aging_commands.specs.declared.hash_lines.NewHash.{NewHash}
-use Rattle.aging_commands.proofs.HashLineLemmas.{bad-by-text, bad_text_from, good-more, handed-stops, lines-counted, read-more, stops-more}
+use Rattle.acct_tables.proofs.LinesCounted.{lines-counted}
+use Rattle.aging_commands.proofs.HashLineLemmas.{bad-by-text, bad_text_from, good-more, handed-stops, read-more, stops-more}
 use Rattle.aging_commands.proofs.hash_lines.read_hashes.Goals as goal
 
 pub overflow_add-number : goal.overflow_add-number

@@ -4,17 +4,16 @@ use Rattle.std.proofs.lemmas.Result.{IfOk-weaker}
 use Rattle.acct_text.specs.declared.files.Files.{Files}
 use Rattle.account_model.specs.Action.{outcome_of}
 use Rattle.account_model.specs.Change.{action_of}
-use Rattle.account_model.specs.Request.{Request}
 use Rattle.account_model.specs.declared.tool.Tool.{Tool}
 use Rattle.acct_tables.specs.Decisions.{Decides}
 use Rattle.table_edits.specs.Acting.{IsReportOf}
-use Rattle.group_commands.specs.Decided.{ActsUnder, DecidesUnder}
+use Rattle.group_commands.specs.Decided.{DecidesUnder}
 use Rattle.group_commands.proofs.DecisionLemmas.{tool-silent}
 use Rattle.group_commands.proofs.decision.decide.Goals as goal
 
 pub decide_as-requires : goal.decide_as-requires
 decide_as-requires c = record {
-  request = c.asked-asked.result.now;
+  request = c.args.request.now;
   input = [];
   day = 0;
   files = c.of-tables.result;
@@ -27,17 +26,14 @@ pub returns : goal.returns
 returns c =
     let request = c.args.request.now in
     let tables = c.of-tables.result in
-    let asked = c.asked-asked.ensures.same in
-    let acts : ActsUnder c.args.defs.now request tables c.script_of-answer.result =
-    subst (λ (request : Request). ActsUnder c.args.defs.now request tables c.script_of-answer.result)
-    asked c.script_of-answer.ensures in
     subst (λ (files : Files). IfOk c.decide_as.result (DecidesUnder c.args.defs.now request files))
     c.of-tables.ensures
     (IfOk-weaker c.decide_as.result _ _ (λ decision decides input day settings held.
     let action = action_of request input day tables settings in
     let reports : IsReportOf action c.silent-report.result =
     subst (IsReportOf action) (sym c.silent-report.ensures)
-    (tool-silent request input day tables settings request.tool c.asked-asked.ensures.tool) in
+    (tool-silent request input day tables settings request.tool c.requires.tool) in
     subst (λ (tool : Tool). Decides tool tables (outcome_of action tables) decision)
-    (rw asked at c.tool.ensures) (decides action (acts input day settings held) reports))
+    c.tool.ensures
+    (decides action (c.script_of-answer.ensures input day settings held) reports))
     c.decide_as.ensures)

@@ -3,7 +3,6 @@ use Rattle.std.proofs.lemmas.Result.{IfOk-weaker}
 use Rattle.acct_text.specs.declared.files.Files.{Files}
 use Rattle.account_model.specs.Action.{outcome_of}
 use Rattle.account_model.specs.Change.{action_of}
-use Rattle.account_model.specs.Request.{Request}
 use Rattle.account_model.specs.declared.tool.Tool.{Tool}
 use Rattle.acct_tables.specs.Decisions.{Decides}
 use Rattle.user_commands.specs.Decided.{ActsUnder, ReportsUnder}
@@ -11,7 +10,7 @@ use Rattle.user_commands.proofs.decision.decide.Goals as goal
 
 pub decide_as-requires : goal.decide_as-requires
 decide_as-requires c = record {
-  request = c.asked-asked.result.now;
+  request = c.args.request.now;
   input = [];
   day = c.args.day;
   files = c.of-tables.result;
@@ -26,23 +25,19 @@ returns c =
     let day = c.args.day in
     let request = c.args.request.now in
     let files = c.args.files.now in
-    let asked = c.asked-asked.ensures.same in
-    let tables = c.of-tables.result in
     let same = c.of-tables.ensures in
     let report = c.in_ok-report.report in
     let answer = c.script_of-answer.result in
     let acts : ActsUnder defs day request files answer =
     subst (λ (files : Files). ActsUnder defs day request files answer) same
-    (subst (λ (request : Request). ActsUnder defs day request tables answer) asked
-    c.script_of-answer.ensures) in
+    c.script_of-answer.ensures in
     let reports : ReportsUnder defs request files report =
     subst (λ (files : Files). ReportsUnder defs request files report) same
-    (subst (λ (request : Request). ReportsUnder defs request tables report) asked
-    (c.in_ok-report.ensures {u = tt})) in
+    (c.in_ok-report.ensures {u = tt}) in
     IfOk-weaker c.decide_as.result _ _ (λ decision decides input settings held.
     let action = action_of request input day files settings in
     subst (λ (tool : Tool). Decides tool files (outcome_of action files) decision)
-    (rw asked at c.tool.ensures)
+    c.tool.ensures
     (subst (λ (files : Files). Decides c.tool.result files (outcome_of action files) decision) same
     (decides action (acts input settings held) (reports input day settings held))))
     c.decide_as.ensures

@@ -1,13 +1,11 @@
 use Rattle.std.proofs.Common.{◌∙◌, ◌==◌, ap, Bool}
 use Rattle.std.specs.Prelude.{is_some, find}
 use Rattle.account_model.specs.declared.given.Given.{Given}
-use Rattle.account_model.specs.Request.{Request}
 use Rattle.command_values.proofs.OptionLemmas.{is_some-find}
 use Rattle.command_values.proofs.asked.Asked.has.Goals as goal
 
 pub returns : goal.returns
 returns c =
     let test : Given → Bool = λ option. option.letter == c.args.letter in
-    c.has_letter.ensures ∙ is_some-find test c.as_slice.result.now
-    ∙ ap (λ options. is_some (find test options))
-    (c.as_slice.ensures.value ∙ ap (λ (r : Request). r.options) c.self.view_is)
+    c.has_letter.ensures ∙ is_some-find test c.options.result.now
+    ∙ ap (λ options. is_some (find test options)) c.options.ensures

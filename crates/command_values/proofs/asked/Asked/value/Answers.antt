@@ -7,7 +7,7 @@ use Rattle.command_values.proofs.asked.Asked.value.Goals.{in-Some, in_default}
 
 pub loop-option-preserved : goal.loop-option-preserved
 loop-option-preserved c =
-    let options = c.deref-option-items.result.now in
+    let options = c.options-option-items.result.now in
     let place = c.loop-option.option-index in
     let letter = c.args.letter in
     let behind = last_of (values_in letter (drop (place + 1) options)) in
