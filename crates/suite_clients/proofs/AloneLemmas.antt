@@ -339,7 +339,7 @@ module _ (asked : Question) (old new : Past) (one other : ℕ) (was holds : Stre
       let longer = ran.lawful.1 is.0 is.1 others is.2 in
       let step = step-of is.0 is.1 asked asks old.first old.history new.history who.token ran.given
       who.alone is.2 longer.lawful (decided-shown is.0 asked old.first new.history who.token
-      ran.given ran.given.outcome.cause own (who.run.shown is.0 is.1 others is.2))
+      ran.given ran.given.outcome.cause own (who.run.shows is.0 is.1 others is.2).shown)
       ((who.run.leaves is.0 is.1 others is.2 old.history who.alone).intent own) in
       subst (λ (last : Outcome). Step old new last) (sym same)
       (subst (λ (first : Folder). Step old (record { first = first; history = new.history })

@@ -52,11 +52,11 @@ module _ (before now : MemoryFolder) where
   new-lawful : (old new : Phase) → SessionTurns (moment_of before) (moment_of now) old new →
       IsLawful (past_of before) → IsLawful (past_of now)
   new-lawful (Waiting asked) (Begun runner state) turns = stays-lawful turns.1.turns.lawful
-  new-lawful (Waiting asked) (Unbegun answer) turns = stays-lawful turns.lawful
+  new-lawful (Waiting asked) (Unbegun tool answer) turns = stays-lawful turns.1.lawful
   new-lawful (Begun runner state) (Begun same next) turns = stays-lawful turns.1.turns.lawful
   new-lawful (Begun runner state) (Over same answer) turns = stays-lawful turns.2.lawful
   new-lawful (Over runner answer) (Over same given) turns = same-lawful turns.2.told
-  new-lawful (Unbegun answer) (Unbegun same) turns = same-lawful turns.1.told
+  new-lawful (Unbegun tool answer) (Unbegun same given) turns = same-lawful turns.2.told
   new-lawful old new turns = absurd turns
 
   -- the first claim
@@ -102,7 +102,7 @@ waiting-belongs folder (Waiting asked) other is lawful belongs = record {
 }
 waiting-belongs folder (Begun runner state) other is lawful belongs = absurd is
 waiting-belongs folder (Over runner answer) other is lawful belongs = absurd is
-waiting-belongs folder (Unbegun answer) other is lawful belongs = absurd is
+waiting-belongs folder (Unbegun tool answer) other is lawful belongs = absurd is
 
 -- ---- A death
 
@@ -150,7 +150,7 @@ answered-left : (new : Phase) → IsSome (outcome_of new) → phase_left new ≡
 answered-left (Waiting asked) is = absurd (cc)
 answered-left (Begun runner state) is = absurd (cc)
 answered-left (Over runner answer) is = refl
-answered-left (Unbegun answer) is = refl
+answered-left (Unbegun tool answer) is = refl
 
 module _ (old new : Phase) (nearer : answer_of old ≡ None → phase_left new < phase_left old)
     (ends : IsSome (answer_of old) → IsSome (outcome_of new)) where

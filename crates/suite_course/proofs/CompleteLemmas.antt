@@ -180,7 +180,7 @@ module _ (asked : Question) (before now : Moment) (was holds : Streams) (outcome
       answers-put put served ends deeds first old new lawful token
       (subst (λ (one : Token). Answered asked outcome one new) same run.1.answered) alone opened
       (subst (λ (one : Token). IsShownAt deeds asked first new one given given.outcome.cause) same
-      (run.1.shown deeds ours others was_lawful))
+      (run.1.shows deeds ours others was_lawful).shown)
   answers-told put served ends deeds ours first old new others was_lawful lawful (inr idle) token alone
       opened =
       unbegun-put put served (not-run-cause asked.request.tool idle.fault given idle.tells) deeds

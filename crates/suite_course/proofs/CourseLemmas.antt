@@ -12,6 +12,7 @@ use Rattle.acct_outside.specs.Tokens.{Token}
 use Rattle.acct_outside.specs.History.{History, is_of, own_events}
 use Rattle.acct_outside.specs.Others.{Admission, ByOthers, none_came, one_came}
 use Rattle.acct_outside.specs.Contract.{TellsBegin, WhereTold}
+use Rattle.account_model.specs.declared.tool.Tool.{Tool}
 use Rattle.suite_rules.specs.Deeds.{SuiteDeeds}
 use Rattle.suite_rules.specs.Lawful.{Lawful}
 use Rattle.suite_rules.specs.Steps.{LawfulOthers, StaysLawful}
@@ -21,10 +22,11 @@ use Rattle.suite_session.specs.declared.session.Phase.TheVariants.{Waiting, Begu
 use Rattle.suite_session.specs.Runner.{Question, Runner}
 use Rattle.acct_outside.specs.Moment.{Past, Moment, Narrows}
 use Rattle.suite_rules.proofs.Parts.{StaysLawfulWhere}
-use Rattle.suite_session.specs.Belongs.{Belongs, IsLedTo}
+use Rattle.suite_session.specs.Belongs.{Belongs, HasNoToken, IsLedTo}
 use Rattle.suite_session.specs.Session.{IsWaiting, answer_of, given_in}
 use Rattle.suite_session.specs.Stands.{Extends, TellsOutside, TurnsTo}
 use Rattle.suite_session.specs.Turning.{IsNew, IsUnbegun, SessionTurns}
+use Rattle.suite_session.proofs.BelongsLemmas.{without-token}
 use Rattle.suite_session.proofs.GrowsLemmas.{grew-extends, grew-none, grew-nothing, grew-then, second-empty}
 use Rattle.suite_course.specs.Course.{Comes, Reached}
 
@@ -202,14 +204,17 @@ comes-turn asked entry between now (Waiting question) (Begun runner state) comes
                 (grew-extends entry.admits runner.token 0 entry.told between.told first.grew) turns.2,
           )) both.risen both;
     }
-comes-turn asked entry between now (Waiting question) (Unbegun answer) comes none turns =
-    let both = turns-then entry between now [] 0 1 comes.turns turns in
+comes-turn asked entry between now (Waiting question) (Unbegun tool answer) comes none turns =
+    let both = turns-then entry between now [] 0 1 comes.turns turns.1 in
     record {
       made = 1;
       turns = turns-as entry now [] 1
-          (λ unbegun. unbegun-from asked entry between now answer comes.turns.stands.1
-          comes.turns.narrows (subst (λ (one : Question). IsUnbegun one between now answer)
-          comes.turns.stands.0 unbegun)) both.risen both;
+          (λ unbegun. (
+            turns.0 ∙ ap (λ (one : Question). one.request.tool) comes.turns.stands.0,
+            unbegun-from asked entry between now answer comes.turns.stands.1 comes.turns.narrows
+                (subst (λ (one : Question). IsUnbegun one between now answer)
+                comes.turns.stands.0 unbegun),
+          )) both.risen both;
     }
 comes-turn asked entry between now (Begun runner state) (Begun same next) comes none turns =
     let both = turns-then entry between now runner.token comes.made 1 comes.turns turns.1.turns in
@@ -228,14 +233,14 @@ comes-turn asked entry between now (Begun runner state) (Over same answer) comes
     let has : given_in state ≡ Some answer = ap given_in turns.1 in
     let wrong : None ≡ Some answer = sym none ∙ has in absurd (cc)
 comes-turn asked entry between now (Over runner answer) new comes none turns = absurd (cc)
-comes-turn asked entry between now (Unbegun answer) new comes none turns = absurd (cc)
+comes-turn asked entry between now (Unbegun tool answer) new comes none turns = absurd (cc)
 comes-turn asked entry between now (Waiting question) (Waiting other) comes none turns =
     absurd turns
 comes-turn asked entry between now (Waiting question) (Over runner answer) comes none turns =
     absurd turns
 comes-turn asked entry between now (Begun runner state) (Waiting other) comes none turns =
     absurd turns
-comes-turn asked entry between now (Begun runner state) (Unbegun answer) comes none turns =
+comes-turn asked entry between now (Begun runner state) (Unbegun tool answer) comes none turns =
     absurd turns
 
 -- a session that hasn't begun was asked something
@@ -243,16 +248,24 @@ pub waiting-is : (phase : Phase) → IsWaiting phase → (asked : Question) × (
 waiting-is (Waiting asked) waits = (asked, refl)
 waiting-is (Begun runner state) waits = absurd waits
 waiting-is (Over runner answer) waits = absurd waits
-waiting-is (Unbegun answer) waits = absurd waits
+waiting-is (Unbegun tool answer) waits = absurd waits
 
 -- a session on its way belongs to the folder
 pub comes-belongs : (asked : Question) (entry now : Moment) (phase : Phase) →
     Comes asked entry now phase → Belongs now phase
 comes-belongs asked entry now (Waiting question) comes = tt
 comes-belongs asked entry now (Begun runner state) comes =
-    record { own = state; led = comes.turns.stands.1; put = Ok tt; left = refl }
+    record {
+      own = state;
+      led = comes.turns.stands.1;
+      put = Ok tt;
+      left = refl;
+      texted = λ fault failed. absurd (cc failed);
+    }
 comes-belongs asked entry now (Over runner answer) comes = absurd comes.turns.stands
-comes-belongs asked entry now (Unbegun answer) comes = tt
+comes-belongs asked entry now (Unbegun tool answer) comes =
+    subst (λ (one : Tool). HasNoToken one answer) (sym comes.turns.stands.0)
+    (without-token asked entry now answer comes.turns.stands.1)
 
 -- at its entry it has come to where it is
 pub comes-first : (asked : Question) (entry : Moment) (phase : Phase) → phase ≡ Waiting asked →

@@ -32,13 +32,6 @@ use Rattle.suite_course.proofs.RanLemmas.{stays-turns}
 
 -- ---- A fault of a stream
 
--- the session belongs to the folder as the streams left it
-pub streams-belong : (asked : Question) (entry now : Moment) (put : Result (Unit {0}) SinkFault)
-    (phase : Phase) → Comes asked entry now phase → Belongs now (phase_after put phase)
-streams-belong asked entry now (Ok unit) phase comes = comes-belongs asked entry now phase comes
-streams-belong asked entry now (Err fault) phase comes =
-    output-stays now fault phase (comes-belongs asked entry now phase comes)
-
 -- an answer of which the streams were to take a message has one
 has-message : (tool : Option Tool) (cause : Cause) (answer : Answer) → answer.outcome.cause ≡ cause →
     text_of tool answer ≢ [] → HasMessage answer
@@ -63,7 +56,7 @@ pub is-to-put : (asked : Question) (entry now : Moment) (tool : Tool) (was holds
     (fault : SinkFault) → put ≡ Err fault → IsToPut phase
 is-to-put asked entry now tool was holds put (Begun runner (Answering given)) comes some served fault is =
     has-text (Some tool) given (served.texted fault is)
-is-to-put asked entry now tool was holds put (Unbegun given) comes some served fault is =
+is-to-put asked entry now tool was holds put (Unbegun named given) comes some served fault is =
     has-text (Some tool) given (served.texted fault is)
 is-to-put asked entry now tool was holds put (Waiting question) comes some served fault is =
     absurd (cc some)
@@ -72,7 +65,20 @@ is-to-put asked entry now tool was holds put (Over runner given) comes some serv
 is-to-put asked entry now tool was holds put (Begun runner state) comes some served fault is =
     absurd (cc some)
 
--- and has an answer
+-- so it belongs to the folder as the streams left it
+pub streams-belong : (asked : Question) (entry now : Moment) (tool : Tool) (was holds : Streams)
+    (put : Result (Unit {0}) SinkFault) (phase : Phase) → Comes asked entry now phase →
+    IsSome (answer_of phase) →
+    IfSome (answer_of phase) (λ given. Serves (Some tool) given was holds put) →
+    Belongs now (phase_after put phase)
+streams-belong asked entry now tool was holds (Ok unit) phase comes some served =
+    comes-belongs asked entry now phase comes
+streams-belong asked entry now tool was holds (Err fault) phase comes some served =
+    output-stays now fault phase
+    (is-to-put asked entry now tool was holds (Err fault) phase comes some served fault refl)
+    (comes-belongs asked entry now phase comes)
+
+-- and it has an answer
 state-answers : (fault : SinkFault) (state : State) → IsSome (given_in state) →
     IsSome (given_in (state_failed fault state))
 state-answers fault (Answering answer) some = refl
@@ -84,7 +90,7 @@ streams-answer (Ok unit) phase some = some
 streams-answer (Err fault) (Waiting asked) some = absurd (cc some)
 streams-answer (Err fault) (Begun runner state) some = state-answers fault state some
 streams-answer (Err fault) (Over runner answer) some = refl
-streams-answer (Err fault) (Unbegun answer) some = refl
+streams-answer (Err fault) (Unbegun tool answer) some = refl
 
 -- the streams leave a session that answers as one that answers so
 answers-after : (put : Result (Unit {0}) SinkFault) (runner : Runner) (given : Answer) →
@@ -93,10 +99,10 @@ answers-after : (put : Result (Unit {0}) SinkFault) (runner : Runner) (given : A
 answers-after (Ok unit) runner given = refl
 answers-after (Err fault) runner given = refl
 
-unbegun-after : (put : Result (Unit {0}) SinkFault) (given : Answer) →
-    phase_after put (Unbegun given) ≡ Unbegun (after_streams put given)
-unbegun-after (Ok unit) given = refl
-unbegun-after (Err fault) given = refl
+unbegun-after : (put : Result (Unit {0}) SinkFault) (tool : Tool) (given : Answer) →
+    phase_after put (Unbegun tool given) ≡ Unbegun tool (after_streams put given)
+unbegun-after (Ok unit) tool given = refl
+unbegun-after (Err fault) tool given = refl
 
 -- ---- The end
 
@@ -154,25 +160,25 @@ module _ (asked : Question) (entry between now : Moment) (was holds : Streams) (
           }
       by-last (Waiting question) turns ends = absurd turns
       by-last (Begun same next) turns ends = absurd (cc ends)
-      by-last (Unbegun final) turns ends = absurd turns
+      by-last (Unbegun tool final) turns ends = absurd turns
 
   -- one whose begin gave no token
-  ends-unbegun : (given : Answer) → Comes asked entry between (Unbegun given) →
+  ends-unbegun : (tool : Tool) (given : Answer) → Comes asked entry between (Unbegun tool given) →
       Serves (Some asked.request.tool) given was holds put →
-      Concludes between now (Unbegun (after_streams put given)) outcome →
+      Concludes between now (Unbegun tool (after_streams put given)) outcome →
       Finished asked entry now was holds outcome
-  ends-unbegun given comes served concludes =
+  ends-unbegun tool given comes served concludes =
       by-last concludes.last concludes.turns concludes.ends
     where
-      by-last : (last : Phase) → SessionTurns between now (Unbegun (after_streams put given)) last →
+      by-last : (last : Phase) → SessionTurns between now (Unbegun tool (after_streams put given)) last →
           outcome_of last ≡ Some outcome → Finished asked entry now was holds outcome
-      by-last (Unbegun final) turns ends =
+      by-last (Unbegun same final) turns ends =
           let is : outcome ≡ (after_streams put given).outcome =
           (let one : final.outcome ≡ outcome = cc ends in sym one)
-          ∙ ap (λ (one : Answer). one.outcome) turns.0 in
+          ∙ ap (λ (one : Answer). one.outcome) turns.1 in
           record {
             given = given;
-            says = comes.turns.stands.says;
+            says = comes.turns.stands.1.says;
             put = put;
             served = served;
             ends = is;
@@ -180,13 +186,13 @@ module _ (asked : Question) (entry between now : Moment) (was holds : Streams) (
             made = comes.made + 0;
             turns = turns-as entry now [] (comes.made + 0)
                 (λ unit. inr
-                (unbegun-stays asked entry between now given turns.1.told comes.turns.stands))
+                (unbegun-stays asked entry between now given turns.2.told comes.turns.stands.1))
                 (λ outside. risen-later entry.faults between.faults now.faults
                 comes.turns.never_falls (comes.turns.risen outside)
-                (omega (arith, turns.1.faults)))
+                (omega (arith, turns.2.faults)))
                 (turns-then entry between now [] comes.made 0 comes.turns
-                (stays-turns between now [] {S = Unit {0}} {T = ⊥} turns.1.told turns.1.narrows
-                (omega (arith, turns.1.faults)) tt (λ none. none)));
+                (stays-turns between now [] {S = Unit {0}} {T = ⊥} turns.2.told turns.2.narrows
+                (omega (arith, turns.2.faults)) tt (λ none. none)));
           }
       by-last (Waiting question) turns ends = absurd turns
       by-last (Begun same next) turns ends = absurd turns
@@ -203,8 +209,10 @@ module _ (asked : Question) (entry between now : Moment) (was holds : Streams) (
       (subst (λ (one : Phase). Concludes between now one outcome) (answers-after put runner given)
       concludes)
   finishes-as (Begun runner state) comes some served concludes = absurd (cc some)
-  finishes-as (Unbegun given) comes some served concludes = ends-unbegun given comes served
-      (subst (λ (one : Phase). Concludes between now one outcome) (unbegun-after put given) concludes)
+  finishes-as (Unbegun tool given) comes some served concludes =
+      ends-unbegun tool given comes served
+      (subst (λ (one : Phase). Concludes between now one outcome) (unbegun-after put tool given)
+      concludes)
   finishes-as (Over runner given) comes some served concludes = absurd comes.turns.stands
 
   -- the claim, by the tool that the streams were served for

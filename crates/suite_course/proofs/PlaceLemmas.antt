@@ -1,10 +1,12 @@
 -- Claim: what the own events of a session show of its answer, a lawful history shows of its place: the
--- answer is that on the fold of the commands that were committed under lower numbers (`shown-at`).
+-- answer is that on the fold of the commands that were committed under lower numbers (`shown-at`), and
+-- the session's commit came as far as it says (`shows-at`).
 -- Way: what a session has seen is the fold of its place and the first login.defs (`places-stay`); the
 -- place stays whatever was committed since; and a session commits at most once (`committed-once`).
-use Rattle.std.proofs.Common.{◌≡◌, refl, sym, ap, subst, ap₂, ◌∙◌, ◌∷◌, ℕ, inl, inr, List, Option, Some, arith}
+use Rattle.std.proofs.Common.{◌≡◌, refl, sym, ap, subst, ap₂, ◌∙◌, [], ◌∷◌, ℕ, inl, inr, List, Option, Some, arith}
 use Rattle.acct_text.specs.declared.Tab.{Tab}
 use Rattle.acct_text.specs.declared.Tab.TheVariants.{Passwd, Shadow, Group, Gshadow, Subuid, Subgid}
+use Rattle.acct_outside.specs.declared.CommitStage.{CommitStage}
 use Rattle.acct_outside.specs.declared.Name.{Name}
 use Rattle.acct_text.specs.declared.files.Files.{Files}
 use Rattle.acct_text.specs.Bytes.{Bytes}
@@ -23,7 +25,7 @@ use Rattle.suite_rules.specs.Lawful.{Lawful}
 use Rattle.suite_rules.specs.Committed.{Commitment, commitment_of, committed, place, folded}
 use Rattle.suite_rules.specs.Laws.{HasLooked, IsCleanKeeper}
 use Rattle.suite_rules.proofs.Places.{places-stay}
-use Rattle.suite_rules.proofs.Once.{committed-once, kept-stays}
+use Rattle.suite_rules.proofs.Once.{committed-once, kept-stays, once}
 use Rattle.suite_rules.proofs.Cut.{lawful-prefix}
 use Rattle.suite_rules.proofs.Keepers.{lock-facts}
 use Rattle.suite_rules.proofs.Whole.{invariant}
@@ -42,7 +44,7 @@ use Rattle.suite_course.proofs.AloneLemmas.{answers-alone}
 use Rattle.suite_course.proofs.DeedLemmas.{files-have}
 use Rattle.suite_course.proofs.LargeLemmas.{large-stayed, last-next}
 use Rattle.suite_course.proofs.SuccessLemmas.{changed-succeeds}
-use Rattle.suite_course.specs.Top.{HasChanged, HasStayed, IsAnswerAt, IsShownAt}
+use Rattle.suite_course.specs.Top.{HasChanged, HasStayed, IsAnswerAt, IsShownAt, ReachesStage, Shows}
 
 -- files are those of their contents
 files-same : (files : Files) (contents : Contents) →
@@ -192,7 +194,7 @@ never-lost deeds first history lawful token number other lost =
     let top_is : top (after first met.older) ≡ other = sym (ap greatest step.1.gives) ∙ lost.1 in
     absurd (omega (arith, most, top_is, lost.2))
 
--- what own events show of an answer the history shows of its place
+-- what own events show of a cause the history shows of the place
 pub shown-at : (deeds : SuiteDeeds) (first : Folder) (history : History) →
     Lawful deeds first history → (asked : Question) (runner : Runner) (answer : Answer) →
     runner.asked ≡ asked → (standing runner.token history).command ≡ Some asked.command →
@@ -224,3 +226,39 @@ shown-at deeds first history lawful asked runner answer question began
     (Outrun number other) told is (inr lost) =
     absurd (never-lost deeds first history lawful runner.token number other lost)
 shown-at deeds first history lawful asked runner answer question began cause told is shown = shown
+
+-- and how far the session came with its commit
+reaches-stage : (deeds : SuiteDeeds) (first : Folder) (history : History) →
+    Lawful deeds first history → (asked : Question) (token : Token) (stage : CommitStage) →
+    (standing token history).command ≡ Some asked.command →
+    (standing token history).commit ≡ commit_at stage → ReachesStage asked history token stage
+reaches-stage deeds first history lawful asked token stage began commits = record {
+  commits = commits;
+  before = λ is.
+      committed-once.none deeds first history lawful token (commits ∙ ap commit_at is);
+  done = λ is.
+      let made = once deeds first history lawful token (commits ∙ ap commit_at is) in
+      let both : Some made.command ≡ Some asked.command = sym made.asked ∙ began in
+      let same : made.command ≡ asked.command = cc both in (
+        made.number,
+        made.one ∙ ap (λ (one : Command). let commitment : Commitment = record {
+          token = token;
+          number = made.number;
+          command = one;
+        } in commitment ∷ []) same,
+      );
+}
+
+-- so all that it shows of an answer
+pub shows-at : (deeds : SuiteDeeds) (first : Folder) (history : History) →
+    Lawful deeds first history → (asked : Question) (runner : Runner) (answer : Answer) →
+    runner.asked ≡ asked → (standing runner.token history).command ≡ Some asked.command →
+    (standing runner.token history).commit ≡ commit_at (stage_of answer.outcome.cause) →
+    IsShown runner answer history answer.outcome.cause →
+    Shows deeds asked first history runner.token answer
+shows-at deeds first history lawful asked runner answer question began commits shown = record {
+  stage = reaches-stage deeds first history lawful asked runner.token
+      (stage_of answer.outcome.cause) began commits;
+  shown = shown-at deeds first history lawful asked runner answer question began
+      answer.outcome.cause refl commits shown;
+}

@@ -36,8 +36,8 @@ use Rattle.suite_session.specs.Stands.{Extends, IsDiskFault, IsOutside, TurnsTo}
 use Rattle.suite_session.proofs.GrowsLemmas.{grew-extends, grew-nothing}
 use Rattle.suite_course.specs.Streams.{Streams, Serves}
 use Rattle.suite_course.specs.Course.{AnsweredAs, Finished}
-use Rattle.suite_course.specs.Top.{Answered, ExtendsLawfully, HasRun, IfLawful, IsAlwaysSettled, IsShownAt, Ran, RunsOrNot}
-use Rattle.suite_course.proofs.PlaceLemmas.{shown-at}
+use Rattle.suite_course.specs.Top.{Answered, ExtendsLawfully, HasRun, IfLawful, IsAlwaysSettled, Ran, RunsOrNot, Shows}
+use Rattle.suite_course.proofs.PlaceLemmas.{shows-at}
 use Rattle.suite_course.proofs.CompleteLemmas.{ran-complete}
 use Rattle.suite_course.proofs.LeavesLemmas.{leaves-alone}
 use Rattle.suite_course.proofs.CourseLemmas.{turns-as, turns-none, turns-then, unbegun-from}
@@ -98,14 +98,14 @@ module _ (asked : Question) (entry now : Moment) where
     }
 
     -- what a lawful history shows of the session that answered
-    answered-shown : (runner : Runner) (past : Past) → runner.asked ≡ asked →
+    answered-shows : (runner : Runner) (past : Past) → runner.asked ≡ asked →
         HasAnswered runner given last_status past → (deeds : SuiteDeeds) (first : Folder) →
         Lawful deeds first past.history →
-        IsShownAt deeds asked first past.history runner.token given given.outcome.cause
-    answered-shown runner past same answered deeds first lawful =
-        shown-at deeds first past.history lawful asked runner given same
+        Shows deeds asked first past.history runner.token given
+    answered-shows runner past same answered deeds first lawful =
+        shows-at deeds first past.history lawful asked runner given same
         (answered.ended.due.asked ∙ ap (λ (one : Question). Some one.command) same)
-        given.outcome.cause refl answered.ended.due.commits answered.ended.due.shown
+        answered.ended.due.commits answered.ended.due.shown
 
     -- the session that answered has run
     has-run : (runner : Runner) (was past : Past) (made : ℕ) → runner.asked ≡ asked →
@@ -118,14 +118,14 @@ module _ (asked : Question) (entry now : Moment) where
       answered = answered-as runner past same answered;
       fresh = fresh;
       bounded = record { made = made; grows = grows; within = answered.ended.within };
-      shown = λ deeds ours others lawful. answered-shown runner past same answered deeds was.first
+      shows = λ deeds ours others lawful. answered-shows runner past same answered deeds was.first
           (stays deeds ours others lawful);
       drops_nothing = answered.ended.drops_nothing;
       leaves = λ deeds ours others lawful earlier alone.
           let lawful_now = stays deeds ours others lawful in
           leaves-alone deeds asked was.first past runner.token given lawful_now ours earlier alone
           given.outcome.cause answered.ended.due.commits
-          (answered-shown runner past same answered deeds was.first lawful_now)
+          (answered-shows runner past same answered deeds was.first lawful_now).shown
           answered.ended.left answered.ended.backed;
     }
 

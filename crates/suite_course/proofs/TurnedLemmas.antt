@@ -2,7 +2,9 @@
 -- answer to give, or gave it (`answers-keep-promises`).
 -- Way: what its own events show a lawful history shows of its place (PlaceLemmas), and where it was alone
 -- of the folder as it stood (CompleteLemmas, LeavesLemmas).
-use Rattle.std.proofs.Common.{refl, subst, Option, Some, None, IfSome}
+use Rattle.std.proofs.Common.{◌⊎◌, inl, inr, refl, subst, Option, Some, None, IfSome, arith}
+use Rattle.acct_outside.specs.Tokens.{Token}
+use Rattle.acct_outside.specs.History.{History}
 use Rattle.acct_outside.specs.Moment.{Past, Moment}
 use Rattle.suite_rules.specs.Deeds.{SuiteDeeds}
 use Rattle.suite_rules.specs.Lawful.{Lawful}
@@ -16,15 +18,31 @@ use Rattle.suite_session.specs.Runner.{Runner}
 use Rattle.suite_session.specs.Answers.{Says}
 use Rattle.suite_session.specs.Backing.{BackedUpChanges}
 use Rattle.suite_session.specs.Belongs.{Belongs, CameTo}
+use Rattle.suite_session.specs.Bound.{HasCalled, IsWithin}
+use Rattle.suite_session.specs.Counts.{CountsLower}
 use Rattle.suite_session.specs.Deeds.{AreOfTools}
 use Rattle.suite_session.specs.Due.{IsDue}
 use Rattle.suite_session.specs.Stands.{HasLeft, IsStopped}
+use Rattle.suite_session.specs.Telling.{DropsNothing}
 use Rattle.suite_session.proofs.MetLemmas.{told-as}
 use Rattle.suite_session.proofs.StreamLemmas.{left-given}
 use Rattle.suite_course.specs.Turned.{AnswersKeepPromises, KeepsPromises, Promises}
 use Rattle.suite_course.proofs.CompleteLemmas.{answers-as}
 use Rattle.suite_course.proofs.LeavesLemmas.{leaves-alone}
-use Rattle.suite_course.proofs.PlaceLemmas.{shown-at}
+use Rattle.suite_course.proofs.PlaceLemmas.{shows-at}
+
+-- with no call but that of the answer left, the calls are within the bound
+called-within : (token : Token) (answer : Answer) (history : History) →
+    HasCalled token (Answering answer) history → IsWithin token history
+called-within token answer history called = by-counts called.counts
+  where
+    by-counts : ⊥ ⊎ CountsLower token history called.lower → IsWithin token history
+    by-counts (inl never) = absurd never
+    by-counts (inr counts) = record {
+      lower = called.lower;
+      counts = counts;
+      within = omega (arith, called.within);
+    }
 
 module _ (deeds : SuiteDeeds) (ours : AreOfTools deeds) where
   module _ (runner : Runner) (answer : Answer) where
@@ -32,20 +50,25 @@ module _ (deeds : SuiteDeeds) (ours : AreOfTools deeds) where
     promises-of : (past : Past) → Lawful deeds past.first past.history →
         Says runner.asked answer answer.outcome.cause → IsDue runner answer past →
         ((IsStopped answer.outcome.cause → ⊥) → HasLeft runner.token answer.outcome.cause past) →
-        BackedUpChanges runner.token past.history → Promises deeds runner answer past
-    promises-of past lawful says due left backed =
-        let shown = shown-at deeds past.first past.history lawful runner.asked runner answer refl
-        due.asked answer.outcome.cause refl due.commits due.shown in
+        DropsNothing runner.token answer.outcome.cause past.history →
+        IsWithin runner.token past.history → BackedUpChanges runner.token past.history →
+        Promises deeds runner answer past
+    promises-of past lawful says due left drops within backed =
+        let shows = shows-at deeds past.first past.history lawful runner.asked runner answer refl
+        due.asked due.commits due.shown in
         record {
+          says = says;
           settles = λ newer older parts table. lawful-settles.is_fold deeds past.first older
               (lawful-prefix deeds past.first newer older
               (subst (Lawful deeds past.first) parts lawful)) table;
-          shown = shown;
+          shows = shows;
+          drops_nothing = drops;
+          within = within;
           leaves = λ old alone. leaves-alone deeds runner.asked past.first past runner.token
-              answer lawful ours old alone answer.outcome.cause due.commits shown left backed;
+              answer lawful ours old alone answer.outcome.cause due.commits shows.shown left backed;
           complete = λ old alone opened inside. answers-as deeds runner.asked past.first old
               past.history runner.token lawful alone opened answer answer.outcome.cause refl
-              due.commits says inside shown;
+              due.commits says inside shows.shown;
         }
 
     -- of one that a session has to give, where the folder tells its history
@@ -58,13 +81,20 @@ module _ (deeds : SuiteDeeds) (ours : AreOfTools deeds) where
         Promises deeds runner answer past)
     promises-told says None due left came = tt
     promises-told says (Some past) due left came =
-        λ lawful. promises-of past lawful says due left came.backed
+        λ lawful. promises-of past lawful says due left came.remembers
+        (called-within runner.token answer past.history came.called) came.backed
 
   -- of none that has no answer
   nothing-promised : (told : Option Past) → IfSome told (λ past. Lawful deeds past.first past.history →
       Unit {0})
   nothing-promised None = tt
   nothing-promised (Some past) = λ lawful. tt
+
+  -- of one whose begin gave no token
+  untold-promised : {P : Type 0} (told : Option Past) → P →
+      IfSome told (λ past. Lawful deeds past.first past.history → P)
+  untold-promised None is = tt
+  untold-promised (Some past) is = λ lawful. is
 
   -- of each session
   keeps-promises : (now : Moment) (session : Phase) → Belongs now session →
@@ -73,16 +103,24 @@ module _ (deeds : SuiteDeeds) (ours : AreOfTools deeds) where
   keeps-promises now (Begun runner (Answering answer)) belongs =
       let had = left-given now runner answer belongs in
       told-as now.told (λ past promises lawful.
-      record { given = had.given; put = had.put; left = had.left; promises = promises lawful })
+      record {
+        given = had.given;
+        put = had.put;
+        left = had.left;
+        texted = had.texted;
+        promises = promises lawful;
+      })
       (promises-told runner had.given had.may.gives.says now.told had.may.gives.due had.may.left
       had.came)
   keeps-promises now (Over runner answer) belongs = told-as now.told (λ past ended lawful. record {
     given = belongs.given;
     put = belongs.put;
     left = belongs.left;
+    texted = belongs.texted;
     promises = promises-of runner belongs.given past lawful belongs.says ended.due ended.left
-        ended.backed;
+        ended.drops_nothing ended.within ended.backed;
   }) belongs.ended
+  keeps-promises now (Unbegun tool answer) belongs = untold-promised now.told belongs
   keeps-promises now session belongs = nothing-promised now.told
 
 -- the claim

@@ -22,14 +22,15 @@ Reached asked entry now (Waiting question) = (question ≡ asked) × (now.told �
 Reached asked entry now (Begun runner state) =
     (runner.asked ≡ asked) × IsLedTo now runner state × IsNew entry.told runner.token
 Reached asked entry now (Over runner answer) = ⊥
-Reached asked entry now (Unbegun answer) = IsUnbegun asked entry now answer
+Reached asked entry now (Unbegun tool answer) =
+    (tool ≡ asked.request.tool) × IsUnbegun asked entry now answer
 
 -- the session tells of a fault of what lies outside it
 abbrev pub PhaseTells : Phase → Type 0
 PhaseTells (Waiting question) = ⊥
 PhaseTells (Begun runner state) = TellsOutside state
 PhaseTells (Over runner answer) = ⊥
-PhaseTells (Unbegun answer) = IsOutside answer.outcome.cause
+PhaseTells (Unbegun tool answer) = IsOutside answer.outcome.cause
 
 -- the token of a session on its way; none before its begin, and where that gave none
 abbrev pub phase_token : Phase → Token

@@ -5,7 +5,7 @@ use Rattle.std.specs.List.{AllByRecursion}
 use Rattle.acct_text.specs.declared.Tab.{Tab}
 use Rattle.acct_outside.specs.declared.Name.TheVariants.{Table, Backup, Intent, Lock, Defs}
 use Rattle.acct_outside.specs.declared.CommitStage.{CommitStage}
-use Rattle.acct_outside.specs.declared.CommitStage.TheVariants.{Before}
+use Rattle.acct_outside.specs.declared.CommitStage.TheVariants.{Before, Committed}
 use Rattle.acct_outside.specs.declared.streams.SinkFault.{SinkFault}
 use Rattle.acct_outside.specs.Tokens.{Token, free_text}
 use Rattle.acct_outside.specs.Faults.{HasRisen}
@@ -147,6 +147,23 @@ IsShownAt deeds asked first history token given (Outrun number other) =
     MetGreater token number other history
 IsShownAt deeds asked first history token given cause = HasMet token history cause
 
+-- How far the session came with its own commit, by the stage that an answer tells. Where that wasn't
+-- called it has committed nothing, and where it was done it has committed once, what it was asked. Where
+-- it failed it may have.
+pub record ReachesStage (asked : Question) (history : History) (token : Token) (stage : CommitStage)
+    : Type 0 where
+  pub commits : (standing token history).commit ≡ commit_at stage
+  pub before : stage ≡ Before → commitments_of token (committed history) ≡ []
+  pub done : stage ≡ Committed → (number : ℕ) × (commitments_of token (committed history)
+      ≡ record { token = token; number = number; command = asked.command } ∷ [])
+
+-- what a lawful history shows of an answer: the commit came as far as its cause says, and what the
+-- cause tells is so
+pub record Shows (deeds : SuiteDeeds) (asked : Question) (first : Folder) (history : History)
+    (token : Token) (given : Answer) : Type 0 where
+  pub stage : ReachesStage asked history token (stage_of given.outcome.cause)
+  pub shown : IsShownAt deeds asked first history token given given.outcome.cause
+
 -- one lock stands, of this number, and it is free
 pub record IsOnlyLock (folder : Folder) (number : ℕ) : Type 0 where
   pub only : folder.locks ≡ number ∷ []
@@ -179,16 +196,15 @@ AnswersOnOld deeds asked first old new token given =
 
 -- A session of this token began in this call, between the two moments, with what was asked, and its
 -- last event is its answer. New events were admitted from others or are its own, which are within the
--- bound. In a lawful history it has met what the cause of its answer says; of all that it has met the
--- answer drops nothing; and where it was alone since an earlier moment it leaves the locks, the intent
+-- bound. A lawful history shows what the answer tells; of all that the session has met that drops
+-- nothing; and where it was alone since an earlier moment it leaves the locks, the intent
 -- and the backups as it must with that cause.
 pub record HasRun (asked : Question) (admits : Admission) (given : Answer) (outcome : Outcome)
     (first : Folder) (old new : History) (token : Token) : Type 0 where
   pub answered : Answered asked outcome token new
   pub fresh : own_events token old ≡ []
   pub bounded : IsBounded admits token old new
-  pub shown : IfLawful admits first old
-      (λ deeds. IsShownAt deeds asked first new token given given.outcome.cause)
+  pub shows : IfLawful admits first old (λ deeds. Shows deeds asked first new token given)
   pub drops_nothing : DropsNothing token given.outcome.cause new
   pub leaves : IfLawful admits first old (λ deeds. (earlier : History) →
       IsAlone token earlier new → Leaves first earlier new token given.outcome.cause)

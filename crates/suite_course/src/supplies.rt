@@ -5,13 +5,13 @@ ghost use Rattle.acct_outside.specs.Streams.{WhereBytesTold};
 ghost use Rattle.suite_course.specs.Supplies.{AreSupplied, IsOfInput, IsUnsupplied, NotesInput, TakesAll, cause_of_source, reads_input, supplies};
 
 use acct_outside::{Clock, CommitStage, Source, SourceFault};
-use acct_text::Bytes;
+use acct_text::{Bytes, TABLE_LIMIT};
 use option_words::Tool;
 use std::alloc::Global;
 use suite_answers::{Cause, Which};
 
 /// The most bytes of an input: 16 MiB.
-const INPUT_LIMIT: usize = 16_777_216;
+const INPUT_LIMIT: usize = TABLE_LIMIT as usize;
 
 /// What a command takes beside its words.
 #[derive(Drop)]

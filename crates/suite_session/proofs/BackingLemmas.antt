@@ -26,7 +26,7 @@ use Rattle.account_model.proofs.AsksLaws.{asks_iff_read}
 use Rattle.intent_file.specs.Intent.{NewTable}
 use Rattle.intent_file.specs.ChangedTables.{with_new_table, changed_among}
 use Rattle.suite_rules.specs.Standing.{Standing, standing, commit_uncalled}
-use Rattle.suite_rules.specs.Steps.{Stands, StandsIn}
+use Rattle.suite_rules.specs.Steps.{Stands}
 use Rattle.suite_rules.proofs.StepLemmas.{IsNoAnswer, stayed}
 use Rattle.suite_rules.proofs.Changed.{content-differs}
 use Rattle.suite_rules.proofs.Parts.{StandsWhere}

@@ -1,63 +1,50 @@
 -- Claim: a begin leads to the first state, or to the answer of a fault (`begins-turn`, `unbegun`).
 -- Way: a begin's event is the session's only one, after those of others, and tells of nothing that was
 -- met (`begin-came`).
-use Rattle.std.proofs.Common.{◌≡◌, refl, sym, ap, subst, ◌∙◌, ℕ, ◌<◌, ◌≤◌, Bool, true, false, List, [], ◌∷◌, inl, inr, Option, Some, None, IfSome, Result, Ok, Err, arith}
+use Rattle.std.proofs.Common.{◌≡◌, refl, sym, ap, subst, ◌∙◌, ℕ, ◌≤◌, List, [], ◌∷◌, inl, inr, Option, Some, None, IfSome, Result, Ok, Err, arith}
 use Rattle.std.proofs.lemmas.List.Elements.{filter-append}
 use Rattle.std.proofs.lemmas.Slice.Eq.{bytes_eq-Decides}
 use Rattle.acct_text.specs.Bytes.{Bytes}
 use Rattle.acct_outside.specs.declared.FolderFault.{FolderFault}
 use Rattle.acct_outside.specs.declared.FolderFault.TheVariants.{Failed, Memory as NoMemory}
 use Rattle.acct_outside.specs.declared.CommitStage.TheVariants.{Before}
-use Rattle.acct_outside.specs.declared.streams.SinkFault.{SinkFault}
 use Rattle.acct_outside.specs.Tokens.{Token}
-use Rattle.acct_outside.specs.Calls.{Answer, Call, CallResult, Command, begins, answers, done}
+use Rattle.acct_outside.specs.Calls.{Answer, CallResult, Command, begins, done}
 use Rattle.acct_outside.specs.History.{Event, History, is_of, own_events}
-use Rattle.acct_outside.specs.Life.{Life, runs_in, running, faulted, unbegun as not_begun, ended, MayCall}
+use Rattle.acct_outside.specs.Life.{Life, MayCall}
 use Rattle.acct_outside.specs.Others.{Admission}
-use Rattle.acct_outside.specs.Contract.{NeverAdmits, MayAnswer, WhereTold, Tells, TellsBegin, TellsEvent}
+use Rattle.acct_outside.specs.Contract.{NeverAdmits, WhereTold, TellsBegin, TellsEvent}
 use Rattle.acct_outside.specs.Faults.{HasRisen}
 use Rattle.account_model.specs.Options.{Word}
 use Rattle.account_model.specs.Request.{Request}
-use Rattle.account_model.specs.Words.{request_of}
 use Rattle.suite_rules.specs.Deeds.{SuiteDeeds}
-use Rattle.suite_rules.specs.OwnLock.{OwnLock, is_keeper, kept_number}
-use Rattle.suite_rules.specs.Knowledge.{Knowledge}
-use Rattle.suite_rules.specs.Standing.{Standing, standing, standing_step, commit_uncalled, keeper_part}
-use Rattle.suite_rules.specs.Rules.{AnswerRule, free_begin, answer_rule}
+use Rattle.suite_rules.specs.Standing.{Standing, commit_uncalled}
+use Rattle.suite_rules.specs.Rules.{free_begin}
 use Rattle.suite_rules.specs.Lawful.{Lawful, goes_on}
-use Rattle.suite_rules.specs.Steps.{begun_with, StandsIn, StaysLawful}
-use Rattle.suite_rules.proofs.StepLemmas.{may-answer-now, stands-begun, stands-weaker, stayed, stepped, others-lawful}
+use Rattle.suite_rules.specs.Steps.{begun_with}
+use Rattle.suite_rules.proofs.StepLemmas.{may-answer-now, stands-begun, stands-weaker, others-lawful}
 use Rattle.suite_session.specs.Causes.{HasListedNone}
-use Rattle.suite_answers.specs.declared.cause.Cause.{Cause}
-use Rattle.suite_answers.specs.declared.cause.Cause.TheVariants.{DiskFault}
 use Rattle.suite_answers.specs.declared.answer.Answer.{Answer as FinalAnswer}
 use Rattle.suite_session.specs.declared.state.State.{State}
 use Rattle.suite_session.specs.declared.state.State.TheVariants.{Looking, Answering}
 use Rattle.suite_session.specs.Runner.{Question, Runner}
 use Rattle.acct_outside.specs.Moment.{Past, Moment, Narrows}
-use Rattle.suite_rules.proofs.Parts.{MayAnswerWhere, StandsWhere, StaysLawfulWhere, TellsWhere}
+use Rattle.suite_rules.proofs.Parts.{StandsWhere, StaysLawfulWhere, TellsWhere}
 use Rattle.suite_session.specs.Moment.{Runs, At}
-use Rattle.suite_session.specs.Answers.{after_streams, memory_answer, IsTold, Says}
-use Rattle.suite_session.specs.Deeds.{AreOfTools}
+use Rattle.suite_session.specs.Answers.{memory_answer, IsTold}
 use Rattle.suite_session.specs.Due.{IsDue}
-use Rattle.suite_session.specs.Belongs.{CameTo, IsLedTo, IsOnItsWay}
-use Rattle.suite_session.specs.Counts.{CountsTo}
+use Rattle.suite_session.specs.Belongs.{CameTo}
 use Rattle.suite_session.specs.Grows.{Grew}
 use Rattle.suite_session.specs.Bound.{HasCalled}
 use Rattle.suite_session.specs.Left.{most_lower}
 use Rattle.suite_session.specs.Locking.{cause_of_fault}
-use Rattle.suite_session.specs.Turning.{IsFirst, GaveLeft, HasAnswered, IsNew, IsUnbegun, StepsTo}
-use Rattle.suite_session.specs.Stands.{FindsNoMemory, HasLeft, MakesOne, MayGive, IsOutside, IsStopped, StandsAs, StaysTold, TellsOutside, TurnsTo, Turns}
-use Rattle.suite_session.specs.Telling.{DropsNothing, IsToTell, MayFollow, Remembers, Tells as CauseTells}
-use Rattle.suite_session.proofs.TellingLemmas.{tells-nothing, tells-others, tells-own}
-use Rattle.suite_session.proofs.LeavingLemmas.{left-same}
+use Rattle.suite_session.specs.Turning.{IsFirst, IsNew, IsUnbegun, StepsTo}
+use Rattle.suite_session.specs.Stands.{FindsNoMemory, MakesOne, MayGive, IsOutside, StandsAs, TellsOutside, TurnsTo}
+use Rattle.suite_session.specs.Telling.{IsToTell, Remembers}
+use Rattle.suite_session.proofs.TellingLemmas.{tells-nothing, tells-own}
 use Rattle.suite_session.proofs.CauseLemmas.{told-says, told-cause, fault-failed, fault-plain}
-use Rattle.suite_session.proofs.BelongsLemmas.{state-own}
-use Rattle.suite_session.proofs.BoundLemmas.{backed-first, backed-then, called-first, called-last, called-then}
-use Rattle.suite_session.proofs.GrowsLemmas.{grows-extends, others-extend, second-empty, tells-grow}
-use Rattle.suite_session.proofs.DueLemmas.{shown-stays}
-use Rattle.suite_session.proofs.RuleLemmas.{rule-left}
-use Rattle.suite_session.proofs.StreamLemmas.{left-given}
+use Rattle.suite_session.proofs.BoundLemmas.{backed-first, called-first}
+use Rattle.suite_session.proofs.GrowsLemmas.{others-extend, second-empty, tells-grow}
 
 -- ---- The begin
 
@@ -121,7 +108,7 @@ begin-new admits command token (Some before) None tells = absurd tells
 -- it is one event of it
 begin-one : (admits : Admission) (command : Command) (token : Token) (Otherwise : Type 0)
     (before now : Option Past) → WhereTold before now (TellsBegin admits command (Ok token)) →
-    MakesOne before now token Otherwise
+    MakesOne before now token (begins command) Otherwise
 begin-one admits command token Otherwise None None tells = tt
 begin-one admits command token Otherwise (Some before) (Some now) tells = (
   tells.0,
@@ -274,7 +261,8 @@ module _ (before now : Moment) where
 
     -- a begin that gave a token leads there
     pub begins-turn : Narrows before.admits now.admits → before.faults ≤ now.faults →
-        (state : State) → IsFirst runner state → StepsTo before now runner state
+        (state : State) → IsFirst runner state →
+        StepsTo before now runner (begins runner.asked.command) state
     begins-turn narrows never_falls state is = record {
       turns = record {
         stands = record {

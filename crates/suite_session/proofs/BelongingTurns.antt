@@ -8,18 +8,19 @@ use Rattle.acct_outside.specs.History.{History, own_events}
 use Rattle.acct_outside.specs.Moment.{Past, Moment, Narrows}
 use Rattle.acct_outside.specs.Others.{Admission, ByOthers, none_came, one_came}
 use Rattle.acct_outside.specs.Contract.{NeverAdmits, WhereTold}
+use Rattle.account_model.specs.declared.tool.Tool.{Tool}
 use Rattle.suite_answers.specs.declared.answer.Answer.{Answer}
 use Rattle.suite_session.specs.declared.state.State.{State}
 use Rattle.suite_session.specs.declared.state.State.TheVariants.{Answering}
 use Rattle.suite_session.specs.declared.session.Phase.{Phase}
 use Rattle.suite_session.specs.declared.session.Phase.TheVariants.{Waiting, Begun, Over, Unbegun}
 use Rattle.suite_session.specs.Runner.{Runner}
-use Rattle.suite_session.specs.Belongs.{AreApart, Belongs, HasGiven, IsLedTo, IsOnItsWay, OthersCame, of_others}
+use Rattle.suite_session.specs.Belongs.{AreApart, Belongs, HasGiven, HasNoToken, IsLedTo, IsOnItsWay, OthersCame, of_others}
 use Rattle.suite_session.specs.Grows.{Grows, none_new, others_new, own_new, Grew}
 use Rattle.suite_session.specs.Session.{token_of}
 use Rattle.suite_session.specs.Stands.{TurnsTo}
 use Rattle.suite_session.specs.Turning.{GaveLeft, IsNew, KeepsOthers, SessionTurns, Stays}
-use Rattle.suite_session.proofs.BelongsLemmas.{Present, belonging-stays, given-stays, present, told-both}
+use Rattle.suite_session.proofs.BelongsLemmas.{Present, belonging-stays, given-stays, present, told-both, without-token}
 use Rattle.suite_session.proofs.GrowsLemmas.{grew-nothing}
 use Rattle.suite_session.proofs.MetLemmas.{told-as}
 use Rattle.suite_session.proofs.StreamLemmas.{left-given}
@@ -29,7 +30,13 @@ use Rattle.suite_session.proofs.StreamLemmas.{left-given}
 -- a session that a turn led to its state is on its way
 led-on : (now : Moment) (runner : Runner) (state : State) → IsLedTo now runner state →
     IsOnItsWay now runner state
-led-on now runner state led = record { own = state; led = led; put = Ok tt; left = refl }
+led-on now runner state led = record {
+  own = state;
+  led = led;
+  put = Ok tt;
+  left = refl;
+  texted = λ fault failed. absurd (cc failed);
+}
 
 -- where the folder tells what it told, no event came
 stays-came : (before now : Moment) (token : Token) → Stays before now → OthersCame before now token
@@ -56,6 +63,7 @@ answered-given before now runner answer way turns =
       given = had.given;
       put = had.put;
       left = had.left;
+      texted = had.texted;
       says = gave.says;
       own = own-now before.told now.told turns.grew
           (told-as before.told (λ past runs. runs.own) had.may.may_answer);
@@ -89,10 +97,17 @@ turned-belongs before now (Over runner answer) (Over same given) belongs turns =
     (given-stays before now runner (stays-came before now runner.token turns.2) answer belongs))
 turned-belongs before now (Over runner answer) (Begun same state) belongs turns = absurd turns
 turned-belongs before now (Waiting asked) (Over same answer) belongs turns = absurd turns
-turned-belongs before now (Unbegun answer) (Begun same state) belongs turns = absurd turns
-turned-belongs before now (Unbegun answer) (Over same given) belongs turns = absurd turns
+turned-belongs before now (Unbegun tool answer) (Begun same state) belongs turns = absurd turns
+turned-belongs before now (Unbegun tool answer) (Over same given) belongs turns = absurd turns
 turned-belongs before now old (Waiting asked) belongs turns = tt
-turned-belongs before now old (Unbegun answer) belongs turns = tt
+turned-belongs before now (Waiting asked) (Unbegun tool answer) belongs turns =
+    subst (λ (one : Tool). HasNoToken one answer) (sym turns.0)
+    (without-token asked before now answer turns.1.stands)
+turned-belongs before now (Unbegun tool answer) (Unbegun same given) belongs turns =
+    subst (λ (one : Tool). HasNoToken one given) (sym turns.0)
+    (subst (HasNoToken tool) (sym turns.1) belongs)
+turned-belongs before now (Begun runner state) (Unbegun tool answer) belongs turns = absurd turns
+turned-belongs before now (Over runner given) (Unbegun tool answer) belongs turns = absurd turns
 
 -- ---- After another session's turn
 
@@ -122,25 +137,25 @@ turn-leaves : (before now : Moment) (old new : Phase) → SessionTurns before no
     Left before now (turn_token old new)
 turn-leaves before now (Waiting asked) (Begun runner state) turns =
     record { most = 1; grew = turns.1.turns.grew; narrows = turns.1.turns.narrows }
-turn-leaves before now (Waiting asked) (Unbegun answer) turns =
-    record { most = 1; grew = turns.grew; narrows = turns.narrows }
+turn-leaves before now (Waiting asked) (Unbegun tool answer) turns =
+    record { most = 1; grew = turns.1.grew; narrows = turns.1.narrows }
 turn-leaves before now (Begun runner state) (Begun same next) turns =
     record { most = 1; grew = turns.1.turns.grew; narrows = turns.1.turns.narrows }
 turn-leaves before now (Begun runner state) (Over same answer) turns =
     record { most = 1; grew = turns.2.grew; narrows = turns.2.narrows }
 turn-leaves before now (Over runner answer) (Over same given) turns =
     stays-left before now turns.2
-turn-leaves before now (Unbegun answer) (Unbegun same) turns = stays-left before now turns.1
+turn-leaves before now (Unbegun tool answer) (Unbegun same given) turns = stays-left before now turns.2
 turn-leaves before now (Waiting asked) (Waiting other) turns = absurd turns
 turn-leaves before now (Waiting asked) (Over runner answer) turns = absurd turns
 turn-leaves before now (Begun runner state) (Waiting other) turns = absurd turns
-turn-leaves before now (Begun runner state) (Unbegun answer) turns = absurd turns
+turn-leaves before now (Begun runner state) (Unbegun tool answer) turns = absurd turns
 turn-leaves before now (Over runner answer) (Waiting other) turns = absurd turns
 turn-leaves before now (Over runner answer) (Begun same state) turns = absurd turns
-turn-leaves before now (Over runner answer) (Unbegun given) turns = absurd turns
-turn-leaves before now (Unbegun answer) (Waiting other) turns = absurd turns
-turn-leaves before now (Unbegun answer) (Begun same state) turns = absurd turns
-turn-leaves before now (Unbegun answer) (Over same given) turns = absurd turns
+turn-leaves before now (Over runner answer) (Unbegun tool given) turns = absurd turns
+turn-leaves before now (Unbegun tool answer) (Waiting other) turns = absurd turns
+turn-leaves before now (Unbegun tool answer) (Begun same state) turns = absurd turns
+turn-leaves before now (Unbegun tool answer) (Over same given) turns = absurd turns
 
 -- these are of others than a session that the folder admits no event of, and whose token is another
 grown-others : (admits : Admission) (token other : Token) → NeverAdmits admits other →
@@ -178,9 +193,9 @@ module _ (before now : Moment) (old new : Phase) (turns : SessionTurns before no
           (ap (λ (name : Token). Some name) same) is) here
       by-phase (Waiting asked) (Waiting same) turned differ = by-name
       by-phase (Waiting asked) (Over runner answer) turned differ = by-name
-      by-phase (Waiting asked) (Unbegun answer) turned differ = by-name
+      by-phase (Waiting asked) (Unbegun tool answer) turned differ = by-name
       by-phase (Over runner answer) next turned differ = by-name
-      by-phase (Unbegun answer) next turned differ = by-name
+      by-phase (Unbegun tool answer) next turned differ = by-name
 
   -- so its events are of others
   turn-came : (token : Token) → token_of other ≡ Some token → OthersCame before now token
@@ -234,13 +249,13 @@ module _ (before now : Moment) (old new : Phase) (turns : SessionTurns before no
           absurd turned
       by-phase past is (Over runner answer) (Begun same state) turned differ token mine its =
           absurd turned
-      by-phase past is (Unbegun answer) (Begun same state) turned differ token mine its =
+      by-phase past is (Unbegun tool answer) (Begun same state) turned differ token mine its =
           absurd turned
-      by-phase past is (Unbegun answer) (Over same given) turned differ token mine its =
+      by-phase past is (Unbegun tool answer) (Over same given) turned differ token mine its =
           absurd turned
       by-phase past is was (Waiting asked) turned differ token mine its =
           absurd (let wrong : None ≡ Some token = mine in cc)
-      by-phase past is was (Unbegun answer) turned differ token mine its =
+      by-phase past is was (Unbegun tool answer) turned differ token mine its =
           absurd (let wrong : None ≡ Some token = mine in cc)
 
       by-told : (told : Option Past) → before.told ≡ told → IfSome told (λ past. AreApart new other)
@@ -258,7 +273,7 @@ others-kept before now old new turns other belongs apart = record {
     came : (one : Phase) → Belongs before one → AreApart old one →
         IfSome (token_of one) (OthersCame before now)
     came (Waiting asked) is differ = tt
-    came (Unbegun answer) is differ = tt
+    came (Unbegun tool answer) is differ = tt
     came (Begun runner state) is differ = turn-came before now old new turns (Begun runner state) is
         differ runner.token refl
     came (Over runner answer) is differ = turn-came before now old new turns (Over runner answer) is

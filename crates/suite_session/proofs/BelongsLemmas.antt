@@ -20,13 +20,15 @@ use Rattle.suite_session.specs.declared.state.State.{State}
 use Rattle.suite_session.specs.declared.state.State.TheVariants.{Looking, Reading, Asking, Claiming, Confirming, Withdrawing, ReadingIntent, Recovering, Moving, Loading, BackingUp, Committing, Installing, Unlocking, Freeing, Answering}
 use Rattle.suite_session.specs.declared.session.Phase.{Phase}
 use Rattle.suite_session.specs.declared.session.Phase.TheVariants.{Waiting, Begun, Over, Unbegun}
-use Rattle.suite_session.specs.Runner.{Runner}
+use Rattle.suite_session.specs.Runner.{Question, Runner}
 use Rattle.suite_session.specs.Moment.{Runs, At}
-use Rattle.suite_session.specs.Belongs.{Belongs, BelongingStays, CameTo, HasEnded, HasGiven, IsOnItsWay, OthersCame, of_others}
+use Rattle.suite_session.specs.Answers.{after_fault, after_streams}
+use Rattle.suite_session.specs.Belongs.{Belongs, BelongingStays, CameTo, HasEnded, HasGiven, HasNoToken, IsOnItsWay, OthersCame, of_others}
 use Rattle.suite_session.specs.Due.{IsDue}
-use Rattle.suite_session.specs.Session.{output_failed, state_after, state_failed, token_of}
+use Rattle.suite_session.specs.Session.{HasText, HasTextIn, IsToPut, output_failed, state_after, state_failed, token_of}
 use Rattle.suite_session.specs.Stands.{Gives, HasLeft, KnowsDecided, StandsAs}
 use Rattle.suite_session.specs.Telling.{IsToTell, Tells}
+use Rattle.suite_session.specs.Turning.{IsUnbegun}
 use Rattle.suite_session.proofs.BoundLemmas.{backed-still, called-still, others-leave, others-never, within-still}
 use Rattle.suite_session.proofs.DueLemmas.{shown-stays}
 use Rattle.suite_session.proofs.GrowsLemmas.{others-extend}
@@ -125,8 +127,22 @@ present now (Over runner answer) belongs token is =
     belongs.own belongs.ended)
 present now (Waiting asked) belongs token is =
     absurd (let wrong : None ≡ Some token = is in cc)
-present now (Unbegun answer) belongs token is =
+present now (Unbegun tool answer) belongs token is =
     absurd (let wrong : None ≡ Some token = is in cc)
+
+-- ---- A begin without a token
+
+-- a begin that gave no token is told by its answer
+pub without-token : (asked : Question) (before now : Moment) (answer : Answer) →
+    IsUnbegun asked before now answer → HasNoToken asked.request.tool answer
+without-token asked before now answer unbegun = record {
+  given = answer;
+  put = Ok tt;
+  left = refl;
+  texted = λ fault failed. absurd (cc failed);
+  fault = unbegun.fault;
+  tells = unbegun.tells;
+}
 
 -- ---- After events of others
 
@@ -296,6 +312,7 @@ module _ (before now : Moment) (runner : Runner) (others : OthersCame before now
     };
     put = way.put;
     left = way.left;
+    texted = way.texted;
   }
 
   -- and once it has answered
@@ -304,6 +321,7 @@ module _ (before now : Moment) (runner : Runner) (others : OthersCame before now
     given = gave.given;
     put = gave.put;
     left = gave.left;
+    texted = gave.texted;
     says = gave.says;
     own = told-stays before.told now.told (λ was past came. still-own) others.came gave.own;
     ended = told-stays before.told now.told (ended-still gave.given answer.outcome.status)
@@ -314,7 +332,7 @@ module _ (before now : Moment) (runner : Runner) (others : OthersCame before now
 pub belonging-stays : (before now : Moment) (session : Phase) → Belongs before session →
     IfSome (token_of session) (OthersCame before now) → Belongs now session
 belonging-stays before now (Waiting asked) belongs came = tt
-belonging-stays before now (Unbegun answer) belongs came = tt
+belonging-stays before now (Unbegun tool answer) belongs came = belongs
 belonging-stays before now (Begun runner state) belongs came =
     way-stays before now runner came state belongs
 belonging-stays before now (Over runner answer) belongs came =
@@ -334,23 +352,57 @@ failed-after : (fault : SinkFault) (put : Result (Unit {0}) SinkFault) (own : St
 failed-after fault (Ok unit) own = refl
 failed-after fault (Err first) own = failed-twice fault first own
 
+-- so of an answer alone
+answer-twice : (fault first : SinkFault) (given : Answer) →
+    after_fault fault (after_fault first given) ≡ after_fault fault given
+answer-twice fault Failed given = refl
+answer-twice fault NoMemory given = refl
+
+answer-after : (fault : SinkFault) (put : Result (Unit {0}) SinkFault) (given : Answer) →
+    after_fault fault (after_streams put given) ≡ after_fault fault given
+answer-after fault (Ok unit) given = refl
+answer-after fault (Err first) given = answer-twice fault first given
+
+-- a text that is left to take was there before the streams
+own-text : (put : Result (Unit {0}) SinkFault) (own state : State) → state ≡ state_after put own →
+    ((fault : SinkFault) → put ≡ Err fault → HasTextIn own) → HasTextIn state → HasTextIn own
+own-text (Ok unit) own state left texted has = subst HasTextIn left has
+own-text (Err first) own state left texted has = texted first refl
+
+given-text : (put : Result (Unit {0}) SinkFault) (given answer : Answer) →
+    answer ≡ after_streams put given →
+    ((fault : SinkFault) → put ≡ Err fault → HasText given) → HasText answer → HasText given
+given-text (Ok unit) given answer left texted has = subst (λ (one : Answer). HasText one) left has
+given-text (Err first) given answer left texted has = texted first refl
+
 -- the second claim
-pub output-stays : (now : Moment) (fault : SinkFault) (session : Phase) → Belongs now session →
-    Belongs now (output_failed fault session)
-output-stays now fault (Begun runner state) belongs = record {
+pub output-stays : (now : Moment) (fault : SinkFault) (session : Phase) → IsToPut session →
+    Belongs now session → Belongs now (output_failed fault session)
+output-stays now fault (Begun runner state) to_put belongs = record {
   own = belongs.own;
   led = belongs.led;
   put = Err fault;
   left = ap (state_failed fault) belongs.left ∙ failed-after fault belongs.put belongs.own;
+  texted = λ last failed.
+      own-text belongs.put belongs.own state belongs.left belongs.texted to_put;
 }
-output-stays now fault (Over runner answer) belongs = belongs
-output-stays now fault (Waiting asked) belongs = tt
-output-stays now fault (Unbegun answer) belongs = tt
+output-stays now fault (Over runner answer) to_put belongs = belongs
+output-stays now fault (Waiting asked) to_put belongs = tt
+output-stays now fault (Unbegun tool answer) to_put belongs = record {
+  given = belongs.given;
+  put = Err fault;
+  left = ap (after_fault fault) belongs.left ∙ answer-after fault belongs.put belongs.given;
+  texted = λ last failed.
+      given-text belongs.put belongs.given answer belongs.left belongs.texted to_put;
+  fault = belongs.fault;
+  tells = belongs.tells;
+}
 
 -- the law, for the moments of whatever folder
 pub belonging-law : {F : Type 0} (moment : F → Moment) → BelongingStays moment
 belonging-law moment = record {
   others = λ before now session belongs came.
       belonging-stays (moment before) (moment now) session belongs came;
-  output = λ now fault session belongs. output-stays (moment now) fault session belongs;
+  output = λ now fault session to_put belongs.
+      output-stays (moment now) fault session to_put belongs;
 }

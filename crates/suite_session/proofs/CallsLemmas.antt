@@ -1,7 +1,7 @@
 -- Claim: each turn leaves a call fewer (`look-calls` to `moved-calls`), and the second listing as many
 -- more as it shows lower locks (`listing-calls`). Way: by the state that follows, whose keeper is the
 -- one before; six tables at most are listed or differ.
-use Rattle.std.proofs.Common.{◌≡◌, refl, sym, ap, subst, ◌∙◌, ◌<◌, ◌≤◌, ◌+◌, ℕ, zero, suc, Bool, true, false, List, length, length-drop, drop, inl, inr, Option, Some, None, IfSome, Result, Ok, Err, if◌then◌else◌, arith, rules}
+use Rattle.std.proofs.Common.{◌≡◌, refl, sym, ap, subst, ◌∙◌, ◌<◌, ◌≤◌, ◌+◌, ℕ, zero, suc, Bool, true, false, List, length, length-drop, drop, inl, inr, Option, Some, None, IfSome, Result, Ok, Err, if◌then◌else◌, arith}
 use Rattle.acct_text.specs.declared.Tab.{Tab}
 use Rattle.acct_text.specs.declared.Tab.TheVariants.{Passwd, Shadow, Group, Gshadow, Subuid, Subgid}
 use Rattle.acct_text.specs.Tables.{all_tables}
@@ -48,7 +48,7 @@ use Rattle.suite_session.specs.Locking.{ShowsFew, after_look, after_read, after_
 use Rattle.suite_session.specs.Recovering.{after_intent, Refuses}
 use Rattle.suite_session.specs.Stands.{AnswersWith, LeavesWith}
 use Rattle.suite_session.proofs.MetLemmas.{told-as}
-use Rattle.suite_session.proofs.CommittingTurns.{changed-most, fewer-steps, step-change}
+use Rattle.suite_session.proofs.WalkingLemmas.{changed-most, fewer-steps, step-change}
 use Rattle.suite_session.proofs.LoadingLemmas.{done-keeper, large-shown, missing-shown, more-shown}
 
 -- ---- What is left

@@ -1,15 +1,11 @@
 -- Claims: each step on the way to a commit leads to the next state of the change (`backs-on`,
--- `stages-intent`), the commit to the installation with its answer (`commits`), and each step after
+-- `stages-intent`), the commit to the installation with its answer (`commits-stands`), and each step after
 -- it to the next with the answer still due (`installs-on`, `clears`).
 -- Way: the typed step gives the standing. Just before the commit the session is a clean keeper that
 -- has seen the inputs, and this stays an earlier moment of each longer history.
-use Rattle.std.proofs.Common.{◌≡◌, [], refl, sym, ap, subst, ◌∙◌, ◌≤◌, ◌<◌, ◌+◌, ◌-◌, ◌*◌, ◌∷◌, ℕ, Bool, true, false, List, length, slice_get, if◌then◌else◌, Option, Some, None, IfSome, Result, Ok, Err, arith, rules}
-use Rattle.std.proofs.lemmas.Option.{slice_get-get_or}
-use Rattle.acct_text.specs.declared.Tab.{Tab}
-use Rattle.acct_text.specs.declared.Tab.TheVariants.{Passwd}
+use Rattle.std.proofs.Common.{◌≡◌, [], refl, sym, ap, subst, ◌∙◌, slice_get, Option, Some, None, IfSome, Result, Ok, Err}
 use Rattle.acct_text.specs.Bytes.{Bytes}
-use Rattle.acct_text.specs.Contents.{Contents, same_content}
-use Rattle.acct_text.specs.Tables.{all_tables}
+use Rattle.acct_text.specs.Contents.{Contents}
 use Rattle.acct_text.specs.Files.{table_of}
 use Rattle.acct_outside.specs.declared.FolderFault.{FolderFault}
 use Rattle.acct_outside.specs.declared.FolderFault.TheVariants.{Failed, Memory as NoMemory}
@@ -21,7 +17,6 @@ use Rattle.acct_outside.specs.Tokens.{Token}
 use Rattle.acct_outside.specs.Calls.{Command, Call, Answer, CallResult, renames}
 use Rattle.acct_outside.specs.Contract.{MayAnswer}
 use Rattle.intent_file.specs.Intent.{NewTable}
-use Rattle.intent_file.specs.ChangedTables.{with_new_table, changed_among}
 use Rattle.suite_rules.specs.Deeds.{SuiteDeeds}
 use Rattle.suite_rules.specs.Knowledge.{nothing_seen}
 use Rattle.suite_rules.specs.Standing.{Commit, Standing, standing_step, commit_uncalled, commit_done}
@@ -30,11 +25,10 @@ use Rattle.suite_rules.specs.Outcomes.{LeadsTo, at_commit, before_commit}
 use Rattle.suite_rules.proofs.StepLemmas.{stands-left, stands-weaker}
 use Rattle.lock_steps.specs.States.{Kept}
 use Rattle.lock_steps.specs.Stands.{Keeps, KnowsAnything}
-use Rattle.commit_steps.specs.States.{Change, Walker, old_files, new_files, changed, step_on, steps_left, walk_of}
+use Rattle.commit_steps.specs.States.{Change, Walker, changed, step_on, walk_of}
 use Rattle.commit_steps.specs.Stands.{BacksUp, HasStagedIntent, HasCleared, Installs, IsDeed, StandsUnsure, commit_at as commit_for}
-use Rattle.commit_steps.specs.Outcomes.{backup_call, install_call}
+use Rattle.commit_steps.specs.Outcomes.{backup_call}
 use Rattle.commit_steps.specs.Walks.{token_of}
-use Rattle.commit_steps.proofs.TablesLemmas.{place-within}
 use Rattle.suite_answers.specs.declared.cause.Cause.{Cause}
 use Rattle.suite_answers.specs.declared.cause.Cause.TheVariants.{Changed}
 use Rattle.suite_answers.specs.declared.answer.Answer.{Answer as FinalAnswer}
@@ -51,14 +45,14 @@ use Rattle.suite_session.specs.Due.{AnsweredAll, IsShown, IsDue}
 use Rattle.suite_session.specs.Grows.{Grew}
 use Rattle.suite_session.specs.Locking.{cause_of_fault}
 use Rattle.suite_session.specs.Stands.{AnswersWith, IsOutside, IsOfChange, Gives, Extends, StandsAs, StandsChanging, StandsInstalling, StandsUnlocking}
-use Rattle.suite_session.proofs.BackingLemmas.{IsTurnCall, is-to-change, made-deed}
+use Rattle.suite_session.proofs.BackingLemmas.{IsTurnCall, made-deed}
 use Rattle.suite_session.proofs.LeavingLemmas.{fault-stopped, clean-known}
 use Rattle.suite_session.proofs.CauseLemmas.{IsMetAs, fault-stage, told-met, told-stage, told-plain, told-says, plain-shown, fault-plain}
-use Rattle.suite_session.proofs.MeetingLemmas.{IsQuiet}
 use Rattle.suite_session.proofs.TurnLemmas.{HasMetNow, goes-on, extended, told-left}
 use Rattle.suite_session.proofs.LeadsLemmas.{leads-on, leads-fault}
 use Rattle.suite_session.proofs.DueLemmas.{earlier-stays}
 use Rattle.suite_session.proofs.GrowsLemmas.{grew-extends, tells-grow}
+use Rattle.suite_session.proofs.WalkingLemmas.{backup-calls, backup-quiet, step-change}
 
 -- ---- A fault of the commit
 
@@ -87,131 +81,6 @@ pub commit-ended : {A State : Type 0} (next : State) (answer : Result A FolderFa
 commit-ended next (Err came) fault shown =
     ap Err (sym (ap (λ (one : StageFault). one.fault) shown ∙ commit-same came))
 commit-ended next (Ok answer) fault shown = absurd shown
-
--- ---- Calls for a table at the place
-
--- a backup is of a table that differs, so the session is to change it
-pub backup-calls : (runner : Runner) (answer : FinalAnswer) (walker : Walker) (next : NewTable) →
-    IsOfChange runner walker.change answer →
-    slice_get (changed walker.change) walker.place ≡ Some next →
-    IsTurnCall (Runs runner commit_uncalled (BacksUp walker)) (backup_call walker next)
-backup-calls runner answer walker next of_change is = cases walker.is_staged
-  where
-    cases : (staged : Bool) → IsTurnCall (Runs runner commit_uncalled (BacksUp walker))
-        (backup_call (record walker { is_staged = staged }) next)
-    cases true = λ stood runs. is-to-change runner answer walker.change of_change walker.place next
-        is stood (record {
-          holds = runs.holds.keeps.knows.inputs;
-          asked = runs.asked;
-          commits = runs.commits;
-        })
-    cases false = tt
-
--- neither a write nor a rename of a backup commits
-pub backup-quiet : (walker : Walker) (next : NewTable)
-    (result : CallResult (Answer (backup_call walker next))) (stood : Standing) →
-    own_command (standing_step (backup_call walker next) result stood) ≡ own_command stood
-backup-quiet walker next = cases walker.is_staged
-  where
-    cases : (staged : Bool)
-        (result : CallResult (Answer (backup_call (record walker { is_staged = staged }) next)))
-        (stood : Standing) →
-        own_command (standing_step (backup_call (record walker { is_staged = staged }) next)
-        result stood) ≡ own_command stood
-    cases true result stood = refl
-    cases false result stood = refl
-
--- nor does its answer show anything
-pub backup-shows : (walker : Walker) (next : NewTable) → IsQuiet (backup_call walker next)
-backup-shows walker next = cases walker.is_staged
-  where
-    cases : (staged : Bool) → IsQuiet (backup_call (record walker { is_staged = staged }) next)
-    cases true given stood met shows = shows
-    cases false given stood met shows = shows
-
--- nor does one of an installation, which backs up nothing
-pub install-calls : (Stood : Standing → Type 0) (walker : Walker) (next : NewTable) →
-    IsTurnCall Stood (install_call walker next)
-install-calls Stood walker next = cases walker.is_staged
-  where
-    cases : (staged : Bool) →
-        IsTurnCall Stood (install_call (record walker { is_staged = staged }) next)
-    cases true = tt
-    cases false = tt
-
-pub install-quiet : (walker : Walker) (next : NewTable)
-    (result : CallResult (Answer (install_call walker next))) (stood : Standing) →
-    own_command (standing_step (install_call walker next) result stood) ≡ own_command stood
-install-quiet walker next = cases walker.is_staged
-  where
-    cases : (staged : Bool)
-        (result : CallResult (Answer (install_call (record walker { is_staged = staged }) next)))
-        (stood : Standing) →
-        own_command (standing_step (install_call (record walker { is_staged = staged }) next)
-        result stood) ≡ own_command stood
-    cases true result stood = refl
-    cases false result stood = refl
-
-pub install-shows : (walker : Walker) (next : NewTable) → IsQuiet (install_call walker next)
-install-shows walker next = cases walker.is_staged
-  where
-    cases : (staged : Bool) → IsQuiet (install_call (record walker { is_staged = staged }) next)
-    cases true given stood met shows = shows
-    cases false given stood met shows = shows
-
--- where a step is left, there is a table at the place
-next-there : (walker : Walker) → 0 < steps_left walker →
-    slice_get (changed walker.change) walker.place ≡ None → ⊥
-next-there walker some is = absurd (cc (sym is
-    ∙ slice_get-get_or (changed walker.change) walker.place (record { table = Passwd; bytes = [] })
-    (place-within (length (changed walker.change)) walker.place walker.is_staged some)))
-
--- so what holds of the one there holds of a table
-pub at-place : {P : NewTable → Type 0} (walker : Walker) → 0 < steps_left walker →
-    IfSome (slice_get (changed walker.change) walker.place) P →
-    (next : NewTable) × P next × (slice_get (changed walker.change) walker.place ≡ Some next)
-at-place {P} walker some holds = cases (slice_get (changed walker.change) walker.place) refl holds
-  where
-    cases : (found : Option NewTable) →
-        slice_get (changed walker.change) walker.place ≡ found → IfSome found P →
-        (next : NewTable) × P next × (slice_get (changed walker.change) walker.place ≡ Some next)
-    cases (Some next) is holds = (next, holds, is)
-    cases None is holds = absurd (next-there walker some is)
-
--- ---- Each step leaves fewer
-
--- at most six tables differ
-one-more : (most : ℕ) (news : List NewTable) → length news ≤ most →
-    (same : Bool) (table : Tab) (content : Option Bytes) →
-    length (if same then news else with_new_table table content news) ≤ most + 1
-one-more most news few true table content = omega (arith, few)
-one-more most news few false table None = omega (arith, few)
-one-more most news few false table (Some bytes) = omega (arith, few)
-
-pub changed-most : (tables : List Tab) (old new : Contents) →
-    length (changed_among tables old new) ≤ length tables
-changed-most [] old new = search (arith, rules)
-changed-most (table ∷ tables) old new =
-    let more = one-more (length tables) (changed_among tables old new)
-    (changed-most tables old new) (same_content (old table) (new table)) table (new table) in
-    omega (arith, more)
-
--- a step on leaves fewer
-pub fewer-steps : (change : Change) (place : ℕ) (staged : Bool) →
-    0 < steps_left (record { change = change; place = place; is_staged = staged }) →
-    steps_left (step_on (record { change = change; place = place; is_staged = staged }))
-    < steps_left (record { change = change; place = place; is_staged = staged })
-fewer-steps change place true some = omega (arith, some)
-fewer-steps change place false some = omega (arith, some)
-
--- a step on keeps the change
-pub step-change : (walker : Walker) → (step_on walker).change ≡ walker.change
-step-change walker = cases walker.is_staged
-  where
-    cases : (staged : Bool) →
-        (step_on (record walker { is_staged = staged })).change ≡ walker.change
-    cases true = refl
-    cases false = refl
 
 -- ---- The turns
 

@@ -10,7 +10,7 @@ use Rattle.acct_outside.specs.Calls.{Call, Answer as CallAnswer}
 use Rattle.acct_outside.specs.History.{History}
 use Rattle.suite_rules.specs.OwnLock.{kept_number}
 use Rattle.suite_rules.specs.Standing.{Commit, Standing, standing}
-use Rattle.suite_rules.specs.Steps.{Work, work, StandsIn, Leaves}
+use Rattle.suite_rules.specs.Steps.{Work, work, Leaves}
 use Rattle.suite_answers.specs.declared.cause.Which.TheVariants.{File}
 use Rattle.suite_answers.specs.declared.cause.Cause.{Cause}
 use Rattle.suite_answers.specs.declared.cause.Cause.TheVariants.{Changed, Same, Refused, Held, Gone, Raced, Outrun, LockDamaged, Exhausted, IntentDamaged, TooLarge, NoTable, BadSetting, DiskFault}

@@ -9,7 +9,6 @@ use Rattle.acct_outside.specs.Calls.{Call, Answer}
 use Rattle.acct_outside.specs.History.{Event, History}
 use Rattle.acct_outside.specs.Others.{Admission, ByOthers, none_came, one_came, ByOthersThen}
 use Rattle.acct_outside.specs.Moment.{Past, Narrows}
-use Rattle.acct_outside.specs.Contract.{Tells}
 use Rattle.suite_rules.specs.Standing.{standing}
 use Rattle.suite_rules.proofs.Parts.{TellsWhere}
 use Rattle.suite_session.specs.Backing.{BacksUpChange}

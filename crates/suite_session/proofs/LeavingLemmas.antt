@@ -20,7 +20,7 @@ use Rattle.acct_outside.specs.Others.{Admission}
 use Rattle.acct_outside.specs.Moment.{Past}
 use Rattle.suite_rules.specs.OwnLock.{OwnLock, lock_made, lock_kept, kept_number, create_step, confirm_step, own_step}
 use Rattle.suite_rules.specs.Standing.{Standing, standing}
-use Rattle.suite_rules.specs.Steps.{Work, work, StandsIn, Leaves}
+use Rattle.suite_rules.specs.Steps.{Work, work}
 use Rattle.suite_rules.proofs.Parts.{LeavesWhere, StandsWhere}
 use Rattle.lock_steps.specs.States.{Lister, Asker, Maker, Overtaken}
 use Rattle.lock_steps.specs.Stands.{HasLooked, HasReadHeld, HasJudged, HasMade, WasOvertaken, KnowsNone, HasFreed}

@@ -8,7 +8,9 @@ mod BoundLemmas
 mod CallsLemmas
 mod CauseLemmas
 mod CommittingTurns
+mod WalkingLemmas
 pub mod DueLemmas
+mod DyingLemmas
 pub mod GrowsLemmas
 mod LeadsLemmas
 mod LeavingLemmas
@@ -18,6 +20,7 @@ mod LockingLemmas
 mod LockingTurns
 mod MeetingLemmas
 pub mod MetLemmas
+mod NextLemmas
 mod OwnCallLemmas
 mod RecoveringTurns
 mod RuleLemmas

@@ -3,9 +3,8 @@
 -- (`ended-stands`).
 -- Way: what the read shows (proofs/LoadingLemmas) names the keeper and what comes next; the typed
 -- step gives the standing, of which the answer is due (proofs/AnswerLemmas).
-use Rattle.std.proofs.Common.{◌≡◌, refl, sym, ap, subst, ◌∙◌, ◌<◌, ℕ, false, true, inr, Option, Some, None, IfSome, Result, Ok, Err, arith, rules}
+use Rattle.std.proofs.Common.{◌≡◌, refl, sym, ap, subst, ◌∙◌, false, true, inr, Option, Some, None, IfSome, Result, Ok, Err}
 use Rattle.acct_text.specs.declared.Tab.{Tab}
-use Rattle.acct_text.specs.declared.Tab.TheVariants.{Passwd, Shadow, Group, Gshadow, Subuid, Subgid}
 use Rattle.acct_text.specs.Bytes.{Bytes}
 use Rattle.acct_outside.specs.declared.StageFault.{StageFault}
 use Rattle.acct_outside.specs.declared.FolderFault.{FolderFault}
@@ -30,7 +29,7 @@ use Rattle.commit_steps.specs.declared.Loading.{Loading as Loaded}
 use Rattle.commit_steps.specs.declared.Loading.TheVariants.{More, Done}
 use Rattle.commit_steps.specs.declared.LoadEnd.{LoadEnd}
 use Rattle.commit_steps.specs.declared.LoadEnd.TheVariants.{Fault, TooLarge, NoTable}
-use Rattle.commit_steps.specs.States.{AreSound, Reader, Inputs, Walker, next_name, steps_left, table_after, walk_of}
+use Rattle.commit_steps.specs.States.{AreSound, Reader, Inputs, Walker, next_name, walk_of}
 use Rattle.commit_steps.specs.Stands.{BacksUp, HasRead, HasLoaded, HasMissed, StandsLoading, StandsEnded}
 use Rattle.commit_steps.specs.Outcomes.{Loads, LoadsContent, is_missing}
 use Rattle.commit_steps.proofs.BackupLemmas.{starts-backing}

@@ -12,7 +12,7 @@ use Rattle.acct_outside.specs.History.{History}
 use Rattle.acct_outside.specs.Others.{ByOthers}
 use Rattle.acct_outside.specs.Contract.{Tells as OutsideTells}
 use Rattle.suite_rules.specs.Standing.{Commit, Standing, standing}
-use Rattle.suite_rules.specs.Steps.{StandsIn, MakesCall}
+use Rattle.suite_rules.specs.Steps.{MakesCall}
 use Rattle.suite_rules.proofs.StepLemmas.{IsNoAnswer, stayed, stepped}
 use Rattle.suite_answers.specs.declared.cause.Cause.{Cause}
 use Rattle.suite_session.specs.declared.state.State.{State}
@@ -61,15 +61,15 @@ module _ (before now : Moment) (runner : Runner) (commit : Commit) (Held : Stand
       by-told NoMemory was (Some past) tells = tt
 
   module _ (old new : State) (meets : MeetsBy call made.answer Held new) where
-    -- the history got one event of the runner, or none where there was no memory
-    pub makes-one : MakesOne before.told now.told runner.token (FindsNoMemory new)
+    -- the history got one event of the runner, of this call, or none where there was no memory
+    pub makes-one : MakesOne before.told now.told runner.token call (FindsNoMemory new)
     makes-one = by-told made.answer before.told now.told stands meets told-by-runner
       where
         by-told : (answer : Result (Answer call) FolderFault) (was told : Option Past) →
             StandsWhere before.admits was runner.token (Runs runner commit Held) →
             MeetsBy call answer Held new →
             TellsWhere before.admits was told runner.token call answer →
-            MakesOne was told runner.token (FindsNoMemory new)
+            MakesOne was told runner.token call (FindsNoMemory new)
         by-told answer None None stood met tells = tt
         by-told (Ok given) (Some was) (Some past) stood met tells = (
           tells.0,

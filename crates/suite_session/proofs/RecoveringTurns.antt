@@ -1,6 +1,6 @@
 -- Claim: each step of a recovery leads to the next state, and a read of the intent to the state that
 -- follows from what it found (`seen-stands`), or to the way out (`refused-turn`).
-use Rattle.std.proofs.Common.{◌≡◌, [], refl, sym, ap, subst, ◌∙◌, ◌<◌, ◌∷◌, ℕ, List, length, slice_get, IfSome, Result, Ok, Err, rules, arith}
+use Rattle.std.proofs.Common.{◌≡◌, [], refl, sym, ap, subst, ◌∙◌, ◌<◌, ◌∷◌, ℕ, List, length, slice_get, IfSome, Result, Ok, Err, rules, arith, Some}
 use Rattle.acct_outside.specs.declared.FolderFault.{FolderFault}
 use Rattle.acct_outside.specs.declared.CommitStage.TheVariants.{Before}
 use Rattle.acct_outside.specs.declared.StageFault.{StageFault}
@@ -189,6 +189,6 @@ seen-quiet (Listed recovering) fault = fault
 
 -- what holds of the next table, where one is left
 pub some-next : {P : NewTable → Type 0} (left : List NewTable) → 0 < length left →
-    IfSome (slice_get left 0) P → (next : NewTable) × P next
+    IfSome (slice_get left 0) P → (next : NewTable) × P next × (slice_get left 0 ≡ Some next)
 some-next [] some holds = absurd (search (rules, some, arith))
-some-next (next ∷ left) some holds = (next, holds)
+some-next (next ∷ left) some holds = (next, holds, refl)

@@ -1,59 +1,45 @@
 -- Claim: a step leads on to a state to which the session's events lead (`steps-to`); and the answer of a
 -- session is its last event, which the rules permit (`answers-turn`).
 -- Way: an answer leaves the session's standing, as an event of its own after those of others.
-use Rattle.std.proofs.Common.{◌≡◌, refl, sym, ap, subst, ◌∙◌, ◌+◌, ℕ, ◌<◌, ◌≤◌, Bool, true, false, List, [], ◌∷◌, inl, inr, Option, Some, None, IfSome, Result, Ok, Err, arith}
-use Rattle.std.proofs.lemmas.List.Elements.{filter-append}
-use Rattle.std.proofs.lemmas.Slice.Eq.{bytes_eq-Decides}
-use Rattle.acct_text.specs.Bytes.{Bytes}
-use Rattle.acct_outside.specs.declared.FolderFault.{FolderFault}
-use Rattle.acct_outside.specs.declared.FolderFault.TheVariants.{Failed, Memory as NoMemory}
-use Rattle.acct_outside.specs.declared.CommitStage.TheVariants.{Before}
+use Rattle.std.proofs.Common.{◌≡◌, refl, sym, ap, subst, ◌∙◌, ◌+◌, ℕ, ◌<◌, ◌≤◌, Bool, true, false, inl, Option, Some, None, IfSome, Result, Ok, arith}
 use Rattle.acct_outside.specs.declared.streams.SinkFault.{SinkFault}
-use Rattle.acct_outside.specs.Tokens.{Token}
-use Rattle.acct_outside.specs.Calls.{Answer, Call, CallResult, Command, begins, answers, done}
-use Rattle.acct_outside.specs.History.{Event, History, is_of, own_events}
+use Rattle.acct_outside.specs.Calls.{Call, answers, done}
+use Rattle.acct_outside.specs.History.{own_events}
 use Rattle.acct_outside.specs.Life.{Life, runs_in, running, faulted, unbegun as not_begun, ended, MayCall}
 use Rattle.acct_outside.specs.Others.{Admission}
-use Rattle.acct_outside.specs.Contract.{NeverAdmits, MayAnswer, WhereTold, Tells, TellsBegin, TellsEvent}
-use Rattle.acct_outside.specs.Faults.{HasRisen}
-use Rattle.account_model.specs.Options.{Word}
-use Rattle.account_model.specs.Request.{Request}
+use Rattle.acct_outside.specs.Contract.{NeverAdmits, MayAnswer, Tells}
 use Rattle.account_model.specs.Words.{request_of}
 use Rattle.suite_rules.specs.Deeds.{SuiteDeeds}
 use Rattle.suite_rules.specs.OwnLock.{OwnLock, is_keeper, kept_number}
 use Rattle.suite_rules.specs.Knowledge.{Knowledge}
-use Rattle.suite_rules.specs.Standing.{Standing, standing, standing_step, commit_uncalled, keeper_part}
-use Rattle.suite_rules.specs.Rules.{AnswerRule, free_begin, answer_rule}
+use Rattle.suite_rules.specs.Standing.{Standing, standing, standing_step, keeper_part}
+use Rattle.suite_rules.specs.Rules.{AnswerRule, answer_rule}
 use Rattle.suite_rules.specs.Lawful.{Lawful, goes_on}
-use Rattle.suite_rules.specs.Steps.{begun_with, StandsIn, StaysLawful}
-use Rattle.suite_rules.proofs.StepLemmas.{may-answer-now, stands-begun, stands-weaker, stayed, stepped, others-lawful}
-use Rattle.suite_session.specs.Causes.{HasListedNone}
+use Rattle.suite_rules.proofs.StepLemmas.{stayed, stepped, others-lawful}
 use Rattle.suite_answers.specs.declared.cause.Cause.{Cause}
 use Rattle.suite_answers.specs.declared.cause.Cause.TheVariants.{DiskFault}
 use Rattle.suite_answers.specs.declared.answer.Answer.{Answer as FinalAnswer}
 use Rattle.suite_session.specs.declared.state.State.{State}
 use Rattle.suite_session.specs.declared.state.State.TheVariants.{Looking, Reading, Asking, Claiming, Confirming, Answering}
-use Rattle.suite_session.specs.Runner.{Question, Runner}
+use Rattle.suite_session.specs.Runner.{Runner}
 use Rattle.acct_outside.specs.Moment.{Past, Moment, Narrows}
-use Rattle.suite_rules.proofs.Parts.{MayAnswerWhere, StandsWhere, StaysLawfulWhere, TellsWhere}
-use Rattle.suite_session.specs.Moment.{Runs, At}
-use Rattle.suite_session.specs.Answers.{after_streams, memory_answer, IsTold, Says}
+use Rattle.suite_rules.proofs.Parts.{MayAnswerWhere, StaysLawfulWhere, TellsWhere}
+use Rattle.suite_session.specs.Answers.{after_streams, Says}
 use Rattle.suite_session.specs.Deeds.{AreOfTools}
 use Rattle.suite_session.specs.Due.{IsDue}
 use Rattle.suite_session.specs.Belongs.{CameTo, IsLedTo, IsOnItsWay}
 use Rattle.suite_session.specs.Counts.{CountsTo}
 use Rattle.suite_session.specs.Grows.{Grew}
 use Rattle.suite_session.specs.Left.{calls_left, most_lower}
-use Rattle.suite_session.specs.Locking.{cause_of_fault}
-use Rattle.suite_session.specs.Turning.{TakesTurn, IsFirst, GaveLeft, HasAnswered, IsNew, IsUnbegun, StepsTo}
-use Rattle.suite_session.specs.Stands.{FindsNoMemory, HasLeft, MakesOne, MayGive, IsOutside, IsStopped, StandsAs, StaysTold, TellsOutside, TurnsTo, Turns}
-use Rattle.suite_session.specs.Telling.{DropsNothing, IsToTell, MayFollow, Remembers, Tells as CauseTells}
-use Rattle.suite_session.proofs.TellingLemmas.{tells-nothing, tells-others, tells-own}
+use Rattle.suite_session.specs.NextCall.{state_call}
+use Rattle.suite_session.specs.Turning.{TakesTurn, GaveLeft, HasAnswered, StepsTo}
+use Rattle.suite_session.specs.Stands.{HasLeft, MakesOne, IsStopped, StaysTold, TurnsTo}
+use Rattle.suite_session.specs.Telling.{DropsNothing, MayFollow, Tells as CauseTells}
+use Rattle.suite_session.proofs.TellingLemmas.{tells-others, tells-own}
 use Rattle.suite_session.proofs.LeavingLemmas.{left-same}
-use Rattle.suite_session.proofs.CauseLemmas.{told-says, told-cause, fault-failed, fault-plain}
 use Rattle.suite_session.proofs.BelongsLemmas.{state-own}
-use Rattle.suite_session.proofs.BoundLemmas.{backed-first, backed-then, called-first, called-last, called-then}
-use Rattle.suite_session.proofs.GrowsLemmas.{grows-extends, others-extend, second-empty, tells-grow}
+use Rattle.suite_session.proofs.BoundLemmas.{backed-then, called-last, called-then}
+use Rattle.suite_session.proofs.GrowsLemmas.{grows-extends, tells-grow}
 use Rattle.suite_session.proofs.DueLemmas.{shown-stays}
 use Rattle.suite_session.proofs.RuleLemmas.{rule-left}
 use Rattle.suite_session.proofs.StreamLemmas.{left-given}
@@ -82,7 +68,8 @@ came-on admits runner old new (Some was) None counts grew own stays came = tt
 
 -- a turn of a session whose events led to a state leads to the next
 pub steps-to : (before now : Moment) (runner : Runner) (old new : State) →
-    IsLedTo before runner old → TakesTurn before now runner old new → StepsTo before now runner new
+    IsLedTo before runner old → TakesTurn before now runner old new →
+    StepsTo before now runner (state_call old) new
 steps-to before now runner old new led made =
     let turns = made.turns.turns in
     record {
@@ -115,7 +102,7 @@ turn-fewer told runner old new counts = counts
 -- ---- The answer
 
 -- a session that runs may answer
-answer-may : (lived : Life) (status : ℕ) → runs_in lived ≡ true → MayCall lived (answers status)
+pub answer-may : (lived : Life) (status : ℕ) → runs_in lived ≡ true → MayCall lived (answers status)
 answer-may running status is = tt
 answer-may faulted status is = tt
 answer-may not_begun status is = cc
@@ -225,11 +212,12 @@ module _ (before now : Moment) (runner : Runner) (status : ℕ) where
   -- it is one event of the session
   pub answer-one : MayAnswer before runner.token →
       Tells before now runner.token call (Ok tt) →
-      MakesOne before.told now.told runner.token ⊥
+      MakesOne before.told now.told runner.token call ⊥
   answer-one = by-told before.told now.told
     where
       by-told : (was told : Option Past) → MayAnswerWhere before.admits was runner.token →
-          TellsWhere before.admits was told runner.token call (Ok tt) → MakesOne was told runner.token ⊥
+          TellsWhere before.admits was told runner.token call (Ok tt) →
+          MakesOne was told runner.token call ⊥
       by-told None None may tells = tt
       by-told (Some was) (Some past) may tells = (
         tells.0,

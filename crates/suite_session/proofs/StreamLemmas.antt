@@ -2,7 +2,7 @@
 -- the session's events lead to it (`going-led`); and where the streams left an answer, the session had
 -- one to give (`left-given`).
 -- Way: by the state; a fault of a stream changes an answer alone.
-use Rattle.std.proofs.Common.{◌≡◌, ◌<◌, refl, sym, ap, subst, ◌∙◌, Some, None, IfSome, Result, Ok, Err, arith, rules}
+use Rattle.std.proofs.Common.{◌≡◌, ◌<◌, refl, sym, ap, subst, ◌∙◌, Some, None, IfSome, Result, Ok, Err, arith}
 use Rattle.acct_outside.specs.declared.streams.SinkFault.{SinkFault}
 use Rattle.suite_answers.specs.declared.answer.Answer.{Answer}
 use Rattle.suite_session.specs.declared.state.State.{State}
@@ -12,7 +12,7 @@ use Rattle.acct_outside.specs.Moment.{Moment}
 use Rattle.suite_session.specs.Answers.{after_fault, after_streams}
 use Rattle.suite_session.specs.Left.{calls_left}
 use Rattle.suite_session.specs.Belongs.{CameTo, IsLedTo, IsOnItsWay}
-use Rattle.suite_session.specs.Session.{given_in, state_after, state_failed}
+use Rattle.suite_session.specs.Session.{HasText, HasTextIn, given_in, state_after, state_failed}
 use Rattle.suite_session.specs.Stands.{MayGive}
 
 -- the state gives no answer
@@ -73,25 +73,27 @@ module _ (now : Moment) (runner : Runner) where
     pub may : MayGive now runner given
     pub came : IfSome now.told (CameTo runner (Answering given))
     pub left : answer ≡ after_streams put given
+    pub texted : (fault : SinkFault) → put ≡ Err fault → HasText given
 
   failed-given : (fault : SinkFault) (answer : Answer) (own : State) → IsLedTo now runner own →
-      Answering answer ≡ state_failed fault own → Had answer
-  failed-given fault answer (Answering given) led is = record {
+      Answering answer ≡ state_failed fault own → HasTextIn own → Had answer
+  failed-given fault answer (Answering given) led is text = record {
     given = given;
     put = Err fault;
     may = led.stands;
     came = led.came;
     left = (let same : answer ≡ after_fault fault given = cc is in same);
+    texted = λ last failed. text;
   }
-  failed-given fault answer own led is = absurd (cc is)
+  failed-given fault answer own led is text = absurd (cc is)
 
   -- the third claim
   pub left-given : (answer : Answer) → IsOnItsWay now runner (Answering answer) → Had answer
-  left-given answer way = by-put way.put way.left
+  left-given answer way = by-put way.put way.left way.texted
     where
       by-put : (put : Result (Unit {0}) SinkFault) → Answering answer ≡ state_after put way.own →
-          Had answer
-      by-put (Ok unit) is =
+          ((fault : SinkFault) → put ≡ Err fault → HasTextIn way.own) → Had answer
+      by-put (Ok unit) is texted =
           let led = subst (IsLedTo now runner) (sym is) way.led in
           record {
             given = answer;
@@ -99,5 +101,7 @@ module _ (now : Moment) (runner : Runner) where
             may = led.stands;
             came = led.came;
             left = λ i. answer;
+            texted = λ last failed. absurd (cc failed);
           }
-      by-put (Err fault) is = failed-given fault answer way.own way.led is
+      by-put (Err fault) is texted =
+          failed-given fault answer way.own way.led is (texted fault refl)

@@ -31,8 +31,9 @@ use Rattle.suite_session.specs.Causes.{Met}
 use Rattle.suite_session.specs.Due.{IsShown, IsDue}
 use Rattle.suite_session.specs.Grows.{Grew}
 use Rattle.suite_session.specs.Locking.{cause_of_fault}
+use Rattle.suite_session.specs.NextCall.{state_call}
 use Rattle.suite_session.specs.Telling.{IsToTell, MayFollow}
-use Rattle.suite_session.specs.Stands.{Extends, Gives, MayGive, HasLeft, StandsAs, AnswersWith, LeavesWith, IsOutside, IsStopped, TellsOutside, Turns}
+use Rattle.suite_session.specs.Stands.{Extends, FindsNoMemory, Gives, MakesOne, MayGive, HasLeft, StandsAs, AnswersWith, LeavesWith, IsOutside, IsStopped, TellsOutside, Turns}
 use Rattle.suite_session.proofs.BackingLemmas.{IsTurnCall, turn-no-answer, turn-backs-then}
 use Rattle.suite_session.proofs.CauseLemmas.{IsMetAs, IsPlain, answers-fault, fault-failed, fault-plain, fault-stage, given-cause, plain-shown, plain-undecided, told-cause, told-met, told-plain, told-says, told-stage}
 use Rattle.suite_session.proofs.GrowsLemmas.{tells-grow, grew-extends}
@@ -263,7 +264,7 @@ module _ (before now : Moment) (runner : Runner) (commit : Commit) (Held : Stand
   leaves-turn keeper cause state shown plain met quiet is owned next = absurd shown
 
   module _ (lawful : AlwaysStaysLawful before now)
-      (never_falls : before.faults ≤ now.faults) (old state : State)
+      (never_falls : before.faults ≤ now.faults) (old state : State) (is : state_call old ≡ call)
       (meets : MeetsBy call made.answer Held state)
       (leads : (met : Cause) → IsToTell old met → IsToTell state met × MayFollow met call) where
     -- a turn to a state, by how it stands there and of which faults it tells
@@ -279,8 +280,9 @@ module _ (before now : Moment) (runner : Runner) (commit : Commit) (Held : Stand
         never_falls = never_falls;
         risen = risen;
       };
-      makes_one = makes-one before now runner commit Held stands token same call no_answer Shows
-          made old state meets;
+      makes_one = subst (λ one. MakesOne before.told now.told runner.token one (FindsNoMemory state))
+          (sym is) (makes-one before now runner commit Held stands token same call no_answer Shows
+          made old state meets);
       remembers = stays-told before now runner commit Held stands token same call no_answer Shows
           made old state meets leads;
     }
@@ -302,14 +304,15 @@ module _ (before now : Moment) (runner : Runner) (commit : Commit) (Held : Stand
 
   -- a turn to the answer of a call that came to a fault
   pub faults : AlwaysStaysLawful before now → before.faults ≤ now.faults →
-      (old state : State) → ((met : Cause) → IsToTell old met → MayFollow met call) →
+      (old state : State) → state_call old ≡ call →
+      ((met : Cause) → IsToTell old met → MayFollow met call) →
       (stage : CommitStage) (fault : FolderFault) → made.answer ≡ Err fault →
       AnswersWith runner.asked.request.tool (cause_of_fault stage fault) state →
       commit ≡ commit_at stage → (fault ≡ Failed → HasRisen before.faults now.faults) →
       Turns before now runner old state
-  faults lawful never_falls old state follow stage fault is told at risen =
+  faults lawful never_falls old state called follow stage fault is told at risen =
       let tool = runner.asked.request.tool in
-      stops lawful never_falls old state
+      stops lawful never_falls old state called
       (fault-ends tool stage fault state told call made.answer Held is)
       (λ met is_told. (fault-tells tool stage fault state told met, follow met is_told))
       (cause_of_fault stage fault) told (fault-plain stage fault) (ended stage fault is)

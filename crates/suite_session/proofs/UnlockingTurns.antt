@@ -13,6 +13,7 @@ use Rattle.suite_rules.specs.Steps.{StandsIn, AlwaysStaysLawful, Leaves, MakesCa
 use Rattle.lock_steps.specs.States.{Maker, Kept}
 use Rattle.lock_steps.specs.declared.keeping.Ended.{Ended}
 use Rattle.lock_steps.specs.Outcomes.{LeadsTo, cleaned_once, freeing_of, the_end}
+use Rattle.lock_steps.specs.NextCall.{unlocking_call}
 use Rattle.lock_steps.specs.Stands.{Keeps, KnowsAnything, HasStagedFree, HasFreed}
 use Rattle.suite_answers.specs.declared.cause.Cause.{Cause}
 use Rattle.suite_answers.specs.declared.cause.Cause.TheVariants.{DiskFault}
@@ -68,14 +69,14 @@ module _ (before now : Moment) (runner : Runner) (answer : FinalAnswer) where
 
   module _ (keeper : Kept) (stood : StandsUnlocking before runner keeper answer) where
     -- it removes a lower lock
-    pub lowers : (number : ℕ) (kept : Kept) →
+    pub lowers : (number : ℕ) (kept : Kept) → unlocking_call keeper ≡ removes (Lock number) →
         MakesCall before now keeper.token (removes (Lock number))
         (λ result. LeadsTo (cleaned_once keeper) result (Ok kept)) →
         StandsIn now keeper.token (Keeps kept KnowsAnything) →
         Leaves work keeper.token before now →
         AlwaysStaysLawful before now → before.faults ≤ now.faults →
         Turns before now runner (Unlocking keeper answer) (Unlocking kept answer)
-    lowers number kept made next left lawful never_falls =
+    lowers number kept called made next left lawful never_falls =
         let is = leads (cleaned_once keeper) made.answer kept made.shown in
         let call = removes (Lock number) in
         let stands = goes-on before now runner commit (Keeps keeper KnowsAnything) stood.stands
@@ -85,7 +86,7 @@ module _ (before now : Moment) (runner : Runner) (answer : FinalAnswer) where
         left in
         turns before now runner commit (Keeps keeper KnowsAnything) stood.stands keeper.token
         stood.same call tt _ (λ result stood. refl) made lawful never_falls
-        (Unlocking keeper answer) (Unlocking kept answer)
+        (Unlocking keeper answer) (Unlocking kept answer) called
         (quiet-on call (λ given one met shows. shows) made.answer tt _ _ (locks-done _ _ _ made.shown).1)
         (λ met is_told. (
           is_told,
@@ -110,14 +111,14 @@ module _ (before now : Moment) (runner : Runner) (answer : FinalAnswer) where
         (λ fault. fault)
 
     -- it stages the free text
-    pub stages : (freeing : Maker) →
+    pub stages : (freeing : Maker) → unlocking_call keeper ≡ writes FreeStage free_text →
         MakesCall before now keeper.token
         (writes FreeStage free_text) (λ result. LeadsTo (freeing_of keeper) result (Ok freeing)) →
         StandsIn now keeper.token (HasStagedFree freeing) →
         Leaves work keeper.token before now →
         AlwaysStaysLawful before now → before.faults ≤ now.faults →
         Turns before now runner (Unlocking keeper answer) (Freeing freeing answer)
-    stages freeing made next left lawful never_falls =
+    stages freeing called made next left lawful never_falls =
         let is = leads (freeing_of keeper) made.answer freeing made.shown in
         let call = writes FreeStage free_text in
         let stands = goes-on before now runner commit (Keeps keeper KnowsAnything) stood.stands
@@ -126,7 +127,7 @@ module _ (before now : Moment) (runner : Runner) (answer : FinalAnswer) where
         left in
         turns before now runner commit (Keeps keeper KnowsAnything) stood.stands keeper.token
         stood.same call tt _ (λ result stood. refl) made lawful never_falls
-        (Unlocking keeper answer) (Freeing freeing answer)
+        (Unlocking keeper answer) (Freeing freeing answer) called
         (quiet-on call (λ given one met shows. shows) made.answer tt _ _ (locks-done _ _ _ made.shown).1)
         (λ met is_told. (
           is_told,
@@ -168,7 +169,7 @@ module _ (before now : Moment) (runner : Runner) (answer : FinalAnswer) where
         left in
         turns before now runner commit (HasStagedFree freeing) stood.stands freeing.token
         stood.same call tt _ (λ result stood. refl) made lawful never_falls
-        (Freeing freeing answer) (Answering answer)
+        (Freeing freeing answer) (Answering answer) refl
         (quiet-on call (λ given one met shows. shows) made.answer tt _ _ (locks-done _ _ _ made.shown).1)
         (λ met is_told. (
           inl is_told,

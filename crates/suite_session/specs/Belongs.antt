@@ -1,7 +1,9 @@
 -- When a session belongs to a folder, at one moment of it: the condition of a turn. It speaks of the
 -- session's own events alone, in a history that may be lawful or not, so the session belongs there still
 -- whatever others have done since (docs/ARCHITECTURE.md, "The session").
-use Rattle.std.specs.Prelude.{◌≡◌, ◌∷◌, ⊤, ℕ, Some, IfSome, Result}
+use Rattle.std.specs.Prelude.{◌≡◌, ◌∷◌, ⊤, ℕ, Some, IfSome, Result, Err}
+use Rattle.acct_outside.specs.declared.CommitStage.TheVariants.{Before}
+use Rattle.acct_outside.specs.declared.FolderFault.{FolderFault}
 use Rattle.acct_outside.specs.declared.streams.SinkFault.{SinkFault}
 use Rattle.acct_outside.specs.Tokens.{Token, IsToken}
 use Rattle.acct_outside.specs.Calls.{answers, done}
@@ -9,18 +11,20 @@ use Rattle.acct_outside.specs.History.{History, own_events}
 use Rattle.acct_outside.specs.Others.{Admission, ByOthers}
 use Rattle.acct_outside.specs.Contract.{NeverAdmits, WhereTold}
 use Rattle.acct_outside.specs.Moment.{Past, Moment, Narrows}
+use Rattle.account_model.specs.declared.tool.Tool.{Tool}
 use Rattle.suite_answers.specs.declared.answer.Answer.{Answer}
 use Rattle.suite_session.specs.declared.state.State.{State}
 use Rattle.suite_session.specs.declared.session.Phase.{Phase}
 use Rattle.suite_session.specs.declared.session.Phase.TheVariants.{Waiting, Begun, Over, Unbegun}
 use Rattle.suite_session.specs.Runner.{Runner}
-use Rattle.suite_session.specs.Answers.{Says, after_streams}
+use Rattle.suite_session.specs.Answers.{IsTold, Says, after_streams}
 use Rattle.suite_session.specs.Backing.{BackedUpChanges}
 use Rattle.suite_session.specs.Bound.{HasCalled, IsWithin}
 use Rattle.suite_session.specs.Due.{IsDue}
+use Rattle.suite_session.specs.Locking.{cause_of_fault}
 use Rattle.suite_session.specs.Stands.{HasLeft, IsStopped, StandsAs}
 use Rattle.suite_session.specs.Telling.{DropsNothing, Remembers}
-use Rattle.suite_session.specs.Session.{output_failed, state_after, token_of}
+use Rattle.suite_session.specs.Session.{HasText, HasTextIn, IsToPut, output_failed, state_after, token_of}
 
 -- ---- A session on its way
 
@@ -38,12 +42,13 @@ pub record IsLedTo (now : Moment) (runner : Runner) (state : State) : Type 0 whe
   pub stands : StandsAs now runner state
   pub came : IfSome now.told (CameTo runner state)
 
--- the runner's events lead to the state, or to one of which a stream that failed left this
+-- the runner's events lead to the state, or to one of which a stream left this that failed to take its text
 pub record IsOnItsWay (now : Moment) (runner : Runner) (state : State) : Type 0 where
   pub own : State
   pub led : IsLedTo now runner own
   pub put : Result (Unit {0}) SinkFault
   pub left : state ≡ state_after put own
+  pub texted : (fault : SinkFault) → put ≡ Err fault → HasTextIn own
 
 -- ---- A session that has answered
 
@@ -69,17 +74,31 @@ pub record HasGiven (now : Moment) (runner : Runner) (answer : Answer) : Type 0 
   pub given : Answer
   pub put : Result (Unit {0}) SinkFault
   pub left : answer ≡ after_streams put given
+  pub texted : (fault : SinkFault) → put ≡ Err fault → HasText given
   pub says : Says runner.asked given given.outcome.cause
   pub own : IfSome now.told (λ past. NeverAdmits now.admits runner.token)
   pub ended : IfSome now.told (HasEnded runner given answer.outcome.status)
 
+-- ---- A session without a token
+
+-- The begin gave no token: the session had an answer that tells a fault of the folder before the commit,
+-- or that there was no memory, and the streams left this of it.
+pub record HasNoToken (tool : Tool) (answer : Answer) : Type 0 where
+  pub given : Answer
+  pub put : Result (Unit {0}) SinkFault
+  pub left : answer ≡ after_streams put given
+  pub texted : (fault : SinkFault) → put ≡ Err fault → HasText given
+  pub fault : FolderFault
+  pub tells : IsTold tool (cause_of_fault Before fault) given
+
 -- ---- Each session
 
--- The session belongs to the folder at the moment: it hasn't begun; or its begin gave no token; or its
--- state is one to which its events lead, or what a failed stream left of one; or it has answered so.
+-- The session belongs to the folder at the moment: it hasn't begun; or its begin gave no token, which
+-- its answer tells; or its state is one to which its events lead, or what a failed stream left of one;
+-- or it has answered so.
 abbrev pub Belongs : Moment → Phase → Type 0
 Belongs now (Waiting asked) = ⊤
-Belongs now (Unbegun answer) = ⊤
+Belongs now (Unbegun tool answer) = HasNoToken tool answer
 Belongs now (Begun runner state) = IsOnItsWay now runner state
 Belongs now (Over runner answer) = HasGiven now runner answer
 
@@ -99,10 +118,10 @@ pub record OthersCame (before now : Moment) (token : Token) : Type 0 where
   pub narrows : Narrows before.admits now.admits
 
 -- A session belongs to a folder still after whatever events of others, be they calls, or the deaths of
--- other sessions; and where a stream failed that was to take its answer.
+-- other sessions; and where a stream failed that was to take a text of its answer.
 pub record BelongingStays {F : Type 0} (moment : F → Moment) : Type 0 where
   pub others : (before now : F) (session : Phase) → Belongs (moment before) session →
       IfSome (token_of session) (OthersCame (moment before) (moment now)) →
       Belongs (moment now) session
-  pub output : (now : F) (fault : SinkFault) (session : Phase) → Belongs (moment now) session →
-      Belongs (moment now) (output_failed fault session)
+  pub output : (now : F) (fault : SinkFault) (session : Phase) → IsToPut session →
+      Belongs (moment now) session → Belongs (moment now) (output_failed fault session)

@@ -8,6 +8,7 @@ pub mod Due
 pub mod Telling
 pub mod Backing
 pub mod Grows
+pub mod NextCall
 pub mod Stands
 pub mod Recovering
 pub mod Loading
@@ -17,3 +18,4 @@ pub mod Bound
 pub mod Session
 pub mod Belongs
 pub mod Turning
+pub mod Dying

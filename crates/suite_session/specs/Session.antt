@@ -29,7 +29,7 @@ abbrev pub token_of : Phase → Option Token
 token_of (Waiting asked) = None
 token_of (Begun runner state) = Some runner.token
 token_of (Over runner answer) = Some runner.token
-token_of (Unbegun answer) = None
+token_of (Unbegun tool answer) = None
 
 -- ---- Its answer
 
@@ -43,21 +43,21 @@ abbrev pub answer_of : Phase → Option Answer
 answer_of (Waiting asked) = None
 answer_of (Begun runner state) = given_in state
 answer_of (Over runner answer) = Some answer
-answer_of (Unbegun answer) = Some answer
+answer_of (Unbegun tool answer) = Some answer
 
 -- the outcome of a session that has no call left
 abbrev pub outcome_of : Phase → Option Outcome
 outcome_of (Waiting asked) = None
 outcome_of (Begun runner state) = None
 outcome_of (Over runner answer) = Some answer.outcome
-outcome_of (Unbegun answer) = Some answer.outcome
+outcome_of (Unbegun tool answer) = Some answer.outcome
 
 -- the calls that a session has left at most
 abbrev pub phase_left : Phase → ℕ
 phase_left (Waiting asked) = most_calls + most_lower
 phase_left (Begun runner state) = calls_left state
 phase_left (Over runner answer) = 0
-phase_left (Unbegun answer) = 0
+phase_left (Unbegun tool answer) = 0
 
 -- ---- A fault of a stream
 
@@ -69,10 +69,15 @@ HasMessage answer = (answer.err ≢ []) ⊎ IsMemory answer.outcome.cause
 abbrev pub HasText : Answer → Type 0
 HasText answer = (answer.out ≢ []) ⊎ HasMessage answer
 
+-- the state has an answer with a text
+abbrev pub HasTextIn : State → Type 0
+HasTextIn (Answering answer) = HasText answer
+HasTextIn state = ⊥
+
 -- the session has an answer with a text, and hasn't answered
 abbrev pub IsToPut : Phase → Type 0
-IsToPut (Begun runner (Answering answer)) = HasText answer
-IsToPut (Unbegun answer) = HasText answer
+IsToPut (Begun runner state) = HasTextIn state
+IsToPut (Unbegun tool answer) = HasText answer
 IsToPut phase = ⊥
 
 -- the state after a fault of a stream, which changes an answer alone
@@ -90,4 +95,4 @@ abbrev pub output_failed : SinkFault → Phase → Phase
 output_failed fault (Waiting asked) = Waiting asked
 output_failed fault (Begun runner state) = Begun runner (state_failed fault state)
 output_failed fault (Over runner answer) = Over runner answer
-output_failed fault (Unbegun answer) = Unbegun (after_fault fault answer)
+output_failed fault (Unbegun tool answer) = Unbegun tool (after_fault fault answer)

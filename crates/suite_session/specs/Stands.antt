@@ -4,8 +4,8 @@ use Rattle.acct_outside.specs.Faults.{HasRisen}
 use Rattle.acct_outside.specs.declared.Name.TheVariants.{Table, Defs}
 use Rattle.acct_outside.specs.Names.{greatest_lock}
 use Rattle.acct_outside.specs.Tokens.{Token}
-use Rattle.acct_outside.specs.History.{Event, History, own_events}
-use Rattle.acct_outside.specs.Others.{Admission}
+use Rattle.acct_outside.specs.Calls.{Call, Answer as CallAnswer, CallResult}
+use Rattle.acct_outside.specs.History.{History, own_events}
 use Rattle.acct_outside.specs.Contract.{MayAnswer, WhereTold}
 use Rattle.suite_rules.specs.OwnLock.{kept_number}
 use Rattle.suite_rules.specs.Standing.{Standing, standing, commit_uncalled, commit_done}
@@ -34,6 +34,7 @@ use Rattle.suite_session.specs.Answers.{answer_on, IsAnswerOn, given_for, memory
 use Rattle.suite_session.specs.Deeds.{AreOfTools}
 use Rattle.suite_session.specs.Causes.{HasListedNone}
 use Rattle.suite_session.specs.Due.{IsDue}
+use Rattle.suite_session.specs.NextCall.{state_call}
 use Rattle.suite_session.specs.Telling.{Remembers}
 use Rattle.suite_session.specs.Grows.{Grew}
 
@@ -212,10 +213,13 @@ pub record TurnsTo (before now : Moment) (token : Token) (most : ℕ) (Stands Te
   pub never_falls : before.faults ≤ now.faults
   pub risen : TellsFault → HasRisen before.faults now.faults
 
--- the history has exactly one more event of the session; or none, where there was no memory
-abbrev pub MakesOne : Option Past → Option Past → Token → Type 0 → Type 0
-MakesOne before now token NoMemory = WhereTold before now (λ first old new.
-    ((event : Event) × (own_events token new ≡ event ∷ own_events token old))
+-- the history has exactly one more event of the session, which is of this call; or none, where there was
+-- no memory
+abbrev pub MakesOne : Option Past → Option Past → Token → Call → Type 0 → Type 0
+MakesOne before now token call NoMemory = WhereTold before now (λ first old new.
+    ((result : CallResult (CallAnswer call))
+    × (own_events token new
+    ≡ record { token = token; call = call; result = result } ∷ own_events token old))
     ⊎ (NoMemory × (own_events token new ≡ own_events token old)))
 
 -- what the session has met is to be told in the one state, so what it has met since in the other
@@ -223,9 +227,9 @@ abbrev pub StaysTold : Option Past → Option Past → Token → State → State
 StaysTold before now token old new = WhereTold before now (λ first older newer.
     Remembers token old older → Remembers token new newer)
 
--- One turn of the runner from a state to another: it makes one call, or none where there was no memory,
--- and drops nothing that it has met.
+-- One turn of the runner from a state to another: it makes the call of the old state, or none where there
+-- was no memory, and drops nothing that it has met.
 pub record Turns (before now : Moment) (runner : Runner) (old new : State) : Type 0 where
   pub turns : TurnsTo before now runner.token 1 (StandsAs now runner new) (TellsOutside new)
-  pub makes_one : MakesOne before.told now.told runner.token (FindsNoMemory new)
+  pub makes_one : MakesOne before.told now.told runner.token (state_call old) (FindsNoMemory new)
   pub remembers : StaysTold before.told now.told runner.token old new

@@ -1,6 +1,6 @@
 -- What one turn of a session does: its begin, a step, or its answer; and what it leaves to others.
 use Rattle.std.specs.Prelude.{◌≡◌, [], ◌∷◌, ℕ, Option, IfSome, Result, Err}
-use Rattle.acct_outside.specs.Calls.{answers, done}
+use Rattle.acct_outside.specs.Calls.{Call, answers, begins, done}
 use Rattle.acct_outside.specs.Tokens.{Token}
 use Rattle.acct_outside.specs.History.{History, own_events}
 use Rattle.acct_outside.specs.Contract.{TellsBegin, WhereTold}
@@ -17,6 +17,7 @@ use Rattle.suite_session.specs.Runner.{Question, Runner}
 use Rattle.suite_session.specs.Answers.{IsTold, Says, after_streams, memory_answer}
 use Rattle.suite_session.specs.Counts.{CountsTo}
 use Rattle.suite_session.specs.Locking.{cause_of_fault}
+use Rattle.suite_session.specs.NextCall.{state_call}
 use Rattle.suite_session.specs.Stands.{FindsNoMemory, IsOutside, MakesOne, MayGive, TellsOutside, Turns, TurnsTo}
 use Rattle.suite_session.specs.Belongs.{AreApart, Belongs, CameTo, HasEnded, IsLedTo}
 
@@ -77,28 +78,32 @@ pub record TakesTurn (before now : Moment) (runner : Runner) (old new : State) :
   pub turns : Turns before now runner old new
   pub counts : CountsTo now.told runner old new
 
--- A turn of the session of a runner leads to this state. It makes one call, or none where there was no
--- memory.
-pub record StepsTo (before now : Moment) (runner : Runner) (state : State) : Type 0 where
+-- A turn of the session of a runner leads to this state. It makes this one call, or none where there was
+-- no memory.
+pub record StepsTo (before now : Moment) (runner : Runner) (call : Call) (state : State)
+    : Type 0 where
   pub turns : TurnsTo before now runner.token 1 (IsLedTo now runner state) (TellsOutside state)
-  pub makes_one : MakesOne before.told now.told runner.token (FindsNoMemory state)
+  pub makes_one : MakesOne before.told now.told runner.token call (FindsNoMemory state)
 
--- One turn of a session: its begin, a step, or its answer. A begin gives a new token; one that gave
--- none is told as a fault, and leaves nothing to call.
+-- One turn of a session: its begin, a step, or its answer, by the call that it makes next
+-- (specs/NextCall). A begin gives a new token; one that gave none is told as a fault, and leaves nothing
+-- to call.
 abbrev pub SessionTurns : Moment → Moment → Phase → Phase → Type 0
 SessionTurns before now (Waiting asked) (Begun runner state) =
-    (runner.asked ≡ asked) × StepsTo before now runner state × IsNew before.told runner.token
-SessionTurns before now (Waiting asked) (Unbegun answer) =
-    TurnsTo before now [] 1 (IsUnbegun asked before now answer) (IsOutside answer.outcome.cause)
+    (runner.asked ≡ asked) × StepsTo before now runner (begins asked.command) state
+    × IsNew before.told runner.token
+SessionTurns before now (Waiting asked) (Unbegun tool answer) = (tool ≡ asked.request.tool)
+    × TurnsTo before now [] 1 (IsUnbegun asked before now answer) (IsOutside answer.outcome.cause)
 SessionTurns before now (Begun runner state) (Begun same next) =
-    (same ≡ runner) × StepsTo before now runner next
+    (same ≡ runner) × StepsTo before now runner (state_call state) next
 SessionTurns before now (Begun runner state) (Over same answer) = (same ≡ runner)
     × (state ≡ Answering answer)
     × TurnsTo before now runner.token 1 (GaveLeft before now runner answer) ⊥
-    × MakesOne before.told now.told runner.token ⊥
+    × MakesOne before.told now.told runner.token (state_call state) ⊥
 SessionTurns before now (Over runner answer) (Over same given) =
     (same ≡ runner) × (given ≡ answer) × Stays before now
-SessionTurns before now (Unbegun answer) (Unbegun same) = (same ≡ answer) × Stays before now
+SessionTurns before now (Unbegun tool answer) (Unbegun same given) =
+    (same ≡ tool) × (given ≡ answer) × Stays before now
 SessionTurns before now old new = ⊥
 
 -- Another session belongs to the folder still, and where a history is told it has another token.

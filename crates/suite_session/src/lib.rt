@@ -7,9 +7,11 @@
 #![tactic(auto)]
 
 mod committing;
+mod dying;
 mod laws;
 mod loading;
 mod locking;
+mod next_call;
 mod recovering;
 mod runner;
 mod session;

@@ -15,7 +15,7 @@ use crate::tools::Tools;
 use crate::turning::turned;
 use acct_outside::{CommitStage, Folder, SinkFault};
 use acct_text::{Bytes, Word};
-use option_words::{Parsed, WordFault, read_words};
+use option_words::{Parsed, Tool, WordFault, read_words};
 use std::alloc::{AllocError, Global};
 use std::marker::{Model, PhantomData};
 use std::mem;
@@ -30,15 +30,15 @@ pub(crate) enum Phase {
     Begun(Runner, State),
     /// It has answered.
     Over(Runner, Answer),
-    /// Its begin gave no token, so it has nothing to call.
-    Unbegun(Answer),
+    /// Its begin gave no token, so it has nothing to call. The tool is the one that was asked for.
+    Unbegun(Tool, Answer),
 }
 
 /// A session of a command of these tools, which makes one call of the folder a turn.
 #[derive(Drop)]
 pub struct Session<T: Tools> {
-    alloc: Global,
-    phase: Phase,
+    pub(crate) alloc: Global,
+    pub(crate) phase: Phase,
     tools: PhantomData<T>,
 }
 
@@ -108,7 +108,7 @@ impl<T: Tools> Session<T> {
         match &self.phase {
             Phase::Begun(_, State::Answering(answer))
             | Phase::Over(_, answer)
-            | Phase::Unbegun(answer) => Some(answer),
+            | Phase::Unbegun(_, answer) => Some(answer),
             _ => None,
         }
     }
@@ -134,7 +134,7 @@ impl<T: Tools> Session<T> {
     {
         let alloc = self.alloc;
         // No other call sees what stands here meanwhile.
-        let meanwhile = Phase::Unbegun(memory_answer(alloc, CommitStage::Before));
+        let meanwhile = no_phase(alloc);
         let phase = mem::replace(&mut self.phase, meanwhile);
         let next = turned::<T, F>(alloc, phase, folder);
         // What stood here meanwhile has empty texts, so nothing is lost where it is forgotten.
@@ -149,7 +149,7 @@ impl<T: Tools> Session<T> {
         requires to_put { IsToPut self.old }
         ensures { self.new ≡ output_failed fault self.old }
     {
-        let meanwhile = Phase::Unbegun(memory_answer(self.alloc, CommitStage::Before));
+        let meanwhile = no_phase(self.alloc);
         let next = failed_phase(fault, mem::replace(&mut self.phase, meanwhile));
         mem::forget(mem::replace(&mut self.phase, next));
     }
@@ -161,10 +161,15 @@ impl<T: Tools> Session<T> {
     {
         match self.phase {
             Phase::Over(_runner, answer) => answer.outcome,
-            Phase::Unbegun(answer) => answer.outcome,
+            Phase::Unbegun(_tool, answer) => answer.outcome,
             _ => unreachable!(),
         }
     }
+}
+
+/// What stands in a session's place while its phase is taken out.
+fn no_phase(alloc: Global) -> Phase {
+    Phase::Unbegun(Tool::Useradd, memory_answer(alloc, CommitStage::Before))
 }
 
 /// The phase after a fault of a stream.
@@ -175,7 +180,7 @@ fn failed_phase(fault: SinkFault, phase: Phase) -> Phase
         Phase::Waiting(asked) => Phase::Waiting(asked),
         Phase::Begun(runner, state) => Phase::Begun(runner, failed_state(fault, state)),
         Phase::Over(runner, answer) => Phase::Over(runner, answer),
-        Phase::Unbegun(answer) => Phase::Unbegun(failed_answer(fault, answer)),
+        Phase::Unbegun(tool, answer) => Phase::Unbegun(tool, failed_answer(fault, answer)),
     }
 }
 

@@ -35,7 +35,7 @@ pub(crate) fn turned<T: Tools, F: Folder>(alloc: Global, phase: Phase, folder: &
         Phase::Waiting(asked) => begin(alloc, asked, folder),
         Phase::Begun(runner, state) => stepped::<T, F>(alloc, runner, state, folder),
         Phase::Over(runner, answer) => Phase::Over(runner, answer),
-        Phase::Unbegun(answer) => Phase::Unbegun(answer),
+        Phase::Unbegun(tool, answer) => Phase::Unbegun(tool, answer),
     }
 }
 
@@ -73,7 +73,7 @@ fn begin<F: Folder>(alloc: Global, asked: Asked, folder: &mut F) -> Phase
             let state = first_state(alloc, &runner);
             Phase::Begun(runner, state)
         }
-        Err(fault) => Phase::Unbegun(unbegun(alloc, asked, fault)),
+        Err(fault) => Phase::Unbegun(asked.tool(), unbegun(alloc, asked, fault)),
     }
 }
 
@@ -145,7 +145,7 @@ fn answered<F: Folder>(runner: Runner, answer: Answer, folder: &mut F) -> Phase
 }
 
 /// A law: the words of what was asked have one reading, which is its request.
-fn asks_once(asked: &Asked)
+pub(crate) fn asks_once(asked: &Asked)
     ensures { request_of asked.now.command.words ≡ Ok asked.now.request }
 {
     words_have_one_reading();

@@ -12,7 +12,7 @@ pub waiting-belongs : (now : Moment) (phase : Phase) → IsWaiting phase → Bel
 waiting-belongs now (Waiting asked) is = tt
 waiting-belongs now (Begun runner state) is = absurd is
 waiting-belongs now (Over runner answer) is = absurd is
-waiting-belongs now (Unbegun answer) is = absurd is
+waiting-belongs now (Unbegun tool answer) is = absurd is
 
 -- the second claim
 pub waiting-apart : (phase other : Phase) → IsWaiting phase → AreApart phase other
@@ -20,4 +20,4 @@ waiting-apart (Waiting asked) other is = λ token own also.
     absurd (let none : None ≡ Some token = own in cc)
 waiting-apart (Begun runner state) other is = absurd is
 waiting-apart (Over runner answer) other is = absurd is
-waiting-apart (Unbegun answer) other is = absurd is
+waiting-apart (Unbegun tool answer) other is = absurd is

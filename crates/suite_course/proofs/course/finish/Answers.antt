@@ -24,12 +24,15 @@ pub conclude-requires : goal.conclude-requires
 conclude-requires g c =
     let entry = g.F.Folder.moment c.args.folder.now in
     let between = g.F.Folder.moment c.to_answer-session.new.folder in
+    let was = streams (g.O.Sink.moment c.args.out.now) (g.E.Sink.moment c.args.err.now) in
+    let holds = streams (g.O.Sink.moment c.put_answer-put.new.out) (g.E.Sink.moment c.put_answer-put.new.err) in
     let session = c.to_answer-session.result in
     let waits = waiting-is c.args.session c.requires in
     record {
       belongs = subst (λ (one : Phase). Belongs between one) (sym c.after_streams.ensures)
-          (streams-belong waits.0 entry between c.put_answer-put.result session
-          (c.to_answer-session.ensures.comes waits.0 waits.1));
+          (streams-belong waits.0 entry between c.args.tool was holds c.put_answer-put.result session
+          (c.to_answer-session.ensures.comes waits.0 waits.1) c.to_answer-session.ensures.answers
+          c.put_answer-put.ensures);
       answers = subst (λ (one : Phase). IsSome (answer_of one)) (sym c.after_streams.ensures)
           (streams-answer c.put_answer-put.result session c.to_answer-session.ensures.answers);
     }

@@ -8,10 +8,12 @@ use Rattle.commit_steps.specs.Outcomes.{backup_call}
 use Rattle.suite_rules.specs.Outcomes.{before_commit}
 use Rattle.suite_session.specs.declared.state.State.TheVariants.{BackingUp}
 use Rattle.suite_session.specs.Moment.{commit_at}
+use Rattle.commit_steps.proofs.NextLemmas.{backs-some}
 use Rattle.suite_session.proofs.TurnLemmas.{turns, faults}
 use Rattle.suite_session.proofs.CauseLemmas.{fault-outside}
 use Rattle.suite_session.proofs.LeadsLemmas.{leads-on, leads-stage, leads-failed}
-use Rattle.suite_session.proofs.CommittingTurns.{at-place, backup-shows, backs-on, backup-calls, backup-quiet}
+use Rattle.suite_session.proofs.CommittingTurns.{backs-on}
+use Rattle.suite_session.proofs.WalkingLemmas.{at-place, backup-shows, backup-calls, backup-quiet}
 use Rattle.suite_session.proofs.MeetingLemmas.{quiet-on, leads-done, leads-ended}
 use Rattle.suite_session.proofs.CallsLemmas.{answers-fewer, backed-calls, backing-some, some-left}
 use Rattle.suite_session.proofs.committing.back_up.Goals as goal
@@ -31,6 +33,7 @@ returns-in-Ok g c = record {
       (backup-quiet c.args.backing shown.0) shown.1
       c.back_up_next.ensures.lawful c.back_up_next.ensures.faults.never_falls
       (BackingUp c.args.backing c.args.answer) (BackingUp c.in-Ok.backing c.args.answer)
+      (backs-some c.args.backing shown.0 shown.2)
       (quiet-on (backup_call c.args.backing shown.0) (backup-shows c.args.backing shown.0)
       shown.1.answer
       done.0 _ _ done.1)
@@ -60,6 +63,7 @@ returns-in-Err g c = record {
       (backup-quiet c.args.backing shown.0) shown.1
       c.back_up_next.ensures.lawful c.back_up_next.ensures.faults.never_falls
       (BackingUp c.args.backing c.args.answer) c.given_up.result
+      (backs-some c.args.backing shown.0 shown.2)
       (λ met none. absurd none) fault.stage fault.fault
       (leads-ended (step_on c.args.backing) Before _ fault shown.1.shown) c.given_up.ensures
       (ap commit_at (sym stage))

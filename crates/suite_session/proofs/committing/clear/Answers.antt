@@ -10,6 +10,7 @@ use Rattle.commit_steps.specs.Stands.{Installs}
 use Rattle.suite_session.specs.declared.state.State.TheVariants.{Installing, Unlocking}
 use Rattle.suite_session.specs.Stands.{Turns}
 use Rattle.suite_session.specs.Moment.{commit_at}
+use Rattle.commit_steps.proofs.NextLemmas.{installs-none}
 use Rattle.suite_session.proofs.TurnLemmas.{turns, faults}
 use Rattle.suite_session.proofs.CauseLemmas.{fault-outside}
 use Rattle.suite_session.proofs.LeadsLemmas.{leads-on, leads-stage, leads-failed}
@@ -33,6 +34,7 @@ returns-in-Ok g c = record {
       (removes Intent) tt _ (λ result stood. refl) c.in-Ok.ensures.call
       c.clear.ensures.lawful c.clear.ensures.faults.never_falls
       (Installing c.args.installing c.args.answer) (Unlocking c.in-Ok.cleared c.args.answer)
+      (installs-none c.args.installing c.requires.left)
       (quiet-on (removes Intent) (λ given one met shows. shows) c.in-Ok.ensures.call.answer done.0 _
       _
       done.1)
@@ -63,6 +65,7 @@ returns-in-Err g c = record {
       (λ result stood. refl) c.in-Err.ensures.call
       c.clear.ensures.lawful c.clear.ensures.faults.never_falls
       (Installing c.args.installing c.args.answer) c.given_up.result
+      (installs-none c.args.installing c.requires.left)
       (λ met none. absurd none) fault.stage fault.fault
       (leads-ended c.args.installing.change.inputs.keeper Committed _ fault
       c.in-Err.ensures.call.shown) c.given_up.ensures

@@ -8,10 +8,12 @@ use Rattle.commit_steps.specs.Outcomes.{install_call}
 use Rattle.suite_rules.specs.Outcomes.{after_commit}
 use Rattle.suite_session.specs.declared.state.State.TheVariants.{Installing}
 use Rattle.suite_session.specs.Moment.{commit_at}
+use Rattle.commit_steps.proofs.NextLemmas.{installs-some}
 use Rattle.suite_session.proofs.TurnLemmas.{turns, faults}
 use Rattle.suite_session.proofs.CauseLemmas.{fault-outside}
 use Rattle.suite_session.proofs.LeadsLemmas.{leads-on, leads-stage, leads-failed}
-use Rattle.suite_session.proofs.CommittingTurns.{at-place, install-shows, installs-on, install-calls, install-quiet}
+use Rattle.suite_session.proofs.CommittingTurns.{installs-on}
+use Rattle.suite_session.proofs.WalkingLemmas.{at-place, install-shows, install-calls, install-quiet}
 use Rattle.suite_session.proofs.MeetingLemmas.{quiet-on, leads-done, leads-ended}
 use Rattle.suite_session.proofs.CallsLemmas.{answers-fewer, installed-calls, installing-some, some-left}
 use Rattle.suite_session.proofs.committing.install.Goals as goal
@@ -30,6 +32,7 @@ returns-in-Ok g c = record {
       (install-quiet c.args.installing shown.0) shown.1
       c.install_next.ensures.lawful c.install_next.ensures.faults.never_falls
       (Installing c.args.installing c.args.answer) (Installing c.in-Ok.installing c.args.answer)
+      (installs-some c.args.installing shown.0 shown.2)
       (quiet-on (install_call c.args.installing shown.0) (install-shows c.args.installing shown.0)
       shown.1.answer done.0 _ _ done.1)
       (λ met none. absurd none)
@@ -62,6 +65,7 @@ returns-in-Err g c = record {
       (install-quiet c.args.installing shown.0) shown.1
       c.install_next.ensures.lawful c.install_next.ensures.faults.never_falls
       (Installing c.args.installing c.args.answer) c.given_up.result
+      (installs-some c.args.installing shown.0 shown.2)
       (λ met none. absurd none) fault.stage fault.fault
       (leads-ended (step_on c.args.installing) Committed _ fault shown.1.shown) c.given_up.ensures
       (ap commit_at (sym stage))

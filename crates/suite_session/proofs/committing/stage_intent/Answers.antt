@@ -10,6 +10,7 @@ use Rattle.commit_steps.specs.Walks.{token_of}
 use Rattle.commit_steps.specs.Stands.{BacksUp}
 use Rattle.suite_session.specs.declared.state.State.TheVariants.{BackingUp, Committing}
 use Rattle.suite_session.specs.Moment.{commit_at}
+use Rattle.commit_steps.proofs.NextLemmas.{backs-none}
 use Rattle.suite_session.proofs.TurnLemmas.{turns, faults}
 use Rattle.suite_session.proofs.CauseLemmas.{fault-outside}
 use Rattle.suite_session.proofs.LeadsLemmas.{leads-on, leads-stage, leads-failed}
@@ -32,6 +33,7 @@ returns-in-Ok g c = record {
       c.in-Ok.ensures.call
       c.stage_intent.ensures.lawful c.stage_intent.ensures.faults.never_falls
       (BackingUp c.args.backing c.args.answer) (Committing c.in-Ok.staged c.args.answer)
+      (backs-none c.args.backing c.requires.left)
       (quiet-on (writes IntentStage (intent_text (intended c.args.backing.change)))
       (λ given one met shows. shows) c.in-Ok.ensures.call.answer done.0 _ _ done.1)
       (λ met none. absurd none)
@@ -58,6 +60,7 @@ returns-in-Err g c = record {
       (λ result stood. refl) c.in-Err.ensures.call
       c.stage_intent.ensures.lawful c.stage_intent.ensures.faults.never_falls
       (BackingUp c.args.backing c.args.answer) c.given_up.result
+      (backs-none c.args.backing c.requires.left)
       (λ met none. absurd none) fault.stage fault.fault
       (leads-ended c.args.backing.change Before _ fault c.in-Err.ensures.call.shown)
       c.given_up.ensures

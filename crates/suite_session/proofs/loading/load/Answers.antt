@@ -19,7 +19,7 @@ returns-in-Ok g c = record {
       (λ result stood. refl) c.in-Ok.ensures.step.call
       c.load_next.ensures.step.lawful c.load_next.ensures.step.faults.never_falls
       (Loading c.args.loader)
-      c.after_load.result
+      c.after_load.result refl
       (load-on c.args.loader c.in-Ok.ensures.step.call.answer c.in-Ok.loading
       c.in-Ok.ensures.step.call.shown _)
       (λ met none. absurd none)
@@ -45,7 +45,7 @@ returns-in-Err g c = record {
       (λ result stood. refl) c.in-Err.ensures.step.call
       c.load_next.ensures.step.lawful c.load_next.ensures.step.faults.never_falls
       (Loading c.args.loader)
-      c.ended.result
+      c.ended.result refl
       (load-ends tool c.args.loader c.in-Err.ensures.step.call.answer end c.ended.result
       c.in-Err.ensures.step.call.shown c.ended.ensures)
       (λ met none. absurd none)

@@ -1,4 +1,4 @@
-use Rattle.std.proofs.Common.{refl, sym, ap, ◌∙◌, Err, arith, rules}
+use Rattle.std.proofs.Common.{refl, sym, ap, ◌∙◌, Err, arith}
 use Rattle.suite_session.specs.declared.state.State.TheVariants.{Asking, Claiming}
 use Rattle.acct_outside.specs.Calls.{asks}
 use Rattle.suite_rules.specs.Standing.{commit_uncalled}
@@ -23,7 +23,7 @@ returns-in-Ok g c = record {
       c.args.asking.token c.requires.0 (asks c.args.asking.asked) tt _ (λ result stood. refl)
       c.in-Ok.ensures.call
       c.ask.ensures.lawful c.ask.ensures.faults.never_falls
-      (Asking c.args.asking) (Claiming c.in-Ok.judged)
+      (Asking c.args.asking) (Claiming c.in-Ok.judged) refl
       (ask-on c.args.runner.now.asked.request.tool (Claiming c.in-Ok.judged) c.args.asking
       c.in-Ok.ensures.call.answer c.in-Ok.judged
       c.in-Ok.ensures.call.shown)
@@ -48,7 +48,7 @@ returns-in-Err g c = record {
       c.args.asking.token c.requires.0 (asks c.args.asking.asked) tt _ (λ result stood. refl)
       c.in-Err.ensures.call
       c.ask.ensures.lawful c.ask.ensures.faults.never_falls
-      (Asking c.args.asking) c.stopped.result
+      (Asking c.args.asking) c.stopped.result refl
       (ask-ends c.args.runner.now.asked.request.tool c.stopped.result c.args.asking
       c.in-Err.ensures.call.answer
       c.in-Err.end c.in-Err.ensures.call.shown c.stopped.ensures)

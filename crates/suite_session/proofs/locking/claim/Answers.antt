@@ -1,4 +1,4 @@
-use Rattle.std.proofs.Common.{refl, sym, ap, ◌∙◌, ◌+◌, Err, arith, rules}
+use Rattle.std.proofs.Common.{refl, sym, ap, ◌∙◌, ◌+◌, Err, arith}
 use Rattle.suite_session.specs.declared.state.State.TheVariants.{Claiming, Confirming}
 use Rattle.acct_outside.specs.Calls.{creates}
 use Rattle.suite_rules.specs.Standing.{commit_uncalled}
@@ -24,7 +24,7 @@ returns-in-Ok g c = record {
       (λ result stood. refl)
       c.in-Ok.ensures.call
       c.claim.ensures.lawful c.claim.ensures.faults.never_falls
-      (Claiming c.args.judged) (Confirming c.in-Ok.claimed)
+      (Claiming c.args.judged) (Confirming c.in-Ok.claimed) refl
       (claim-on c.args.runner.now.asked.request.tool (Confirming c.in-Ok.claimed) c.args.judged
       c.in-Ok.ensures.call.answer c.in-Ok.claimed
       c.in-Ok.ensures.call.shown)
@@ -50,7 +50,7 @@ returns-in-Err g c = record {
       (λ result stood. refl)
       c.in-Err.ensures.call
       c.claim.ensures.lawful c.claim.ensures.faults.never_falls
-      (Claiming c.args.judged) c.stopped.result
+      (Claiming c.args.judged) c.stopped.result refl
       (claim-ends c.args.runner.now.asked.request.tool c.stopped.result c.args.judged
       c.in-Err.ensures.call.answer
       c.in-Err.end c.in-Err.ensures.call.shown c.stopped.ensures)

@@ -25,7 +25,7 @@ returns-in-Ok g c = record {
       c.args.claimed.token c.requires.0 (lists) tt _ (λ result stood. refl)
       c.in-Ok.ensures.call
       c.confirm.ensures.lawful c.confirm.ensures.faults.never_falls
-      (Confirming c.args.claimed) _
+      (Confirming c.args.claimed) _ refl
       (confirm-on c.args.claimed c.in-Ok.ensures.call.answer c.in-Ok.confirmed
       c.in-Ok.ensures.call.shown)
       (λ met none. absurd none)
@@ -52,7 +52,7 @@ returns-in-Err g c = record {
       c.args.claimed.token c.requires.0 (lists) tt _ (λ result stood. refl)
       c.in-Err.ensures.call
       c.confirm.ensures.lawful c.confirm.ensures.faults.never_falls
-      (Confirming c.args.claimed) c.stopped.result
+      (Confirming c.args.claimed) c.stopped.result refl
       (confirm-ends c.args.runner.now.asked.request.tool c.stopped.result c.args.claimed
       c.in-Err.ensures.call.answer
       c.in-Err.end c.in-Err.ensures.call.shown c.stopped.ensures)

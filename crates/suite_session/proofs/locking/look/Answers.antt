@@ -1,4 +1,4 @@
-use Rattle.std.proofs.Common.{refl, sym, ap, ◌∙◌, Err, arith, rules}
+use Rattle.std.proofs.Common.{refl, sym, ap, ◌∙◌, Err, arith}
 use Rattle.acct_outside.specs.Calls.{lists}
 use Rattle.suite_rules.specs.Standing.{commit_uncalled}
 use Rattle.suite_session.specs.Causes.{HasListedNone}
@@ -25,7 +25,7 @@ returns-in-Ok g c = record {
       c.args.looking c.requires.0 (lists) tt _ (λ result stood. refl)
       c.in-Ok.ensures.call
       c.look.ensures.lawful c.look.ensures.faults.never_falls
-      (Looking c.args.looking) _
+      (Looking c.args.looking) _ refl
       (look-on c.args.runner.now.asked.request.tool _ c.args.looking c.in-Ok.ensures.call.answer
       c.in-Ok.seen
       c.in-Ok.ensures.call.shown)
@@ -46,7 +46,7 @@ returns-in-Err g c = record {
       c.args.looking c.requires.0 (lists) tt _ (λ result stood. refl)
       c.in-Err.ensures.call
       c.look.ensures.lawful c.look.ensures.faults.never_falls
-      (Looking c.args.looking) c.stopped.result
+      (Looking c.args.looking) c.stopped.result refl
       (look-ends c.args.runner.now.asked.request.tool c.stopped.result c.args.looking
       c.in-Err.ensures.call.answer
       c.in-Err.end c.in-Err.ensures.call.shown c.stopped.ensures)

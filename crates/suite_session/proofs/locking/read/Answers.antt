@@ -1,4 +1,4 @@
-use Rattle.std.proofs.Common.{refl, sym, ap, ◌∙◌, Err, arith, rules}
+use Rattle.std.proofs.Common.{refl, sym, ap, ◌∙◌, Err, arith}
 use Rattle.acct_outside.specs.declared.Name.TheVariants.{Lock}
 use Rattle.acct_outside.specs.Calls.{reads}
 use Rattle.suite_rules.specs.Standing.{commit_uncalled}
@@ -26,7 +26,7 @@ returns-in-Ok g c = record {
       c.args.seen.token c.requires.0 (reads (Lock c.args.seen.greatest)) tt _ (λ result stood. refl)
       c.in-Ok.ensures.call
       c.read.ensures.lawful c.read.ensures.faults.never_falls
-      (Reading c.args.seen) _
+      (Reading c.args.seen) _ refl
       (read-on c.args.runner.now.asked.request.tool _ c.args.seen c.in-Ok.ensures.call.answer
       c.in-Ok.told
       c.in-Ok.ensures.call.shown)
@@ -47,7 +47,7 @@ returns-in-Err g c = record {
       c.args.seen.token c.requires.0 (reads (Lock c.args.seen.greatest)) tt _ (λ result stood. refl)
       c.in-Err.ensures.call
       c.read.ensures.lawful c.read.ensures.faults.never_falls
-      (Reading c.args.seen) c.stopped.result
+      (Reading c.args.seen) c.stopped.result refl
       (read-ends c.args.runner.now.asked.request.tool c.stopped.result c.args.seen
       c.in-Err.ensures.call.answer
       c.in-Err.end c.in-Err.ensures.call.shown c.stopped.ensures)

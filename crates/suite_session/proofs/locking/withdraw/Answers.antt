@@ -25,7 +25,7 @@ returns g c = record {
       (λ result stood. refl)
       c.withdraw.ensures.call
       c.withdraw.ensures.lawful c.withdraw.ensures.faults.never_falls
-      (Withdrawing c.args.loser) c.stopped.result
+      (Withdrawing c.args.loser) c.stopped.result refl
       (withdraw-ends c.args.runner.now.asked.request.tool c.stopped.result c.args.loser
       c.withdraw.ensures.call.answer
       c.withdraw.result c.withdraw.ensures.call.shown c.stopped.ensures)

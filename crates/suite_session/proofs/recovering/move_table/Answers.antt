@@ -1,6 +1,9 @@
 use Rattle.std.proofs.Common.{refl, sym, ap, ◌∙◌, Err}
+use Rattle.acct_outside.specs.declared.Name.TheVariants.{Intent}
+use Rattle.acct_outside.specs.Calls.{removes}
 use Rattle.suite_rules.specs.Standing.{commit_uncalled}
 use Rattle.suite_rules.specs.Outcomes.{installs, before_commit}
+use Rattle.lock_steps.specs.NextCall.{next_or}
 use Rattle.recovery.specs.States.{Recoverer, moved_once}
 use Rattle.recovery.specs.Stands.{Recovers, HasStagedNext}
 use Rattle.suite_session.specs.declared.state.State.TheVariants.{Moving, Recovering}
@@ -33,7 +36,7 @@ returns-in-Ok g c = record {
       turns before now c.args.runner.now commit_uncalled (HasStagedNext c.args.moving) c.requires.2
       c.args.moving.keeper.token c.requires.0 (installs shown.0) tt _ (λ result stood. refl) shown.1
       c.move_next.ensures.lawful c.move_next.ensures.faults.never_falls (Moving c.args.moving)
-      (Recovering c.in-Ok.recovering)
+      (Recovering c.in-Ok.recovering) (ap (next_or (removes Intent) installs) shown.2)
       (quiet-on (installs shown.0) (λ given one met shows. shows) shown.1.answer done.0 _ _
       done.1)
       (λ met none. absurd none) (
@@ -62,7 +65,7 @@ returns-in-Err g c = record {
       faults before now c.args.runner.now commit_uncalled (HasStagedNext c.args.moving) c.requires.2
       c.args.moving.keeper.token c.requires.0 (installs shown.0) tt _ (λ result stood. refl) shown.1
       c.move_next.ensures.lawful c.move_next.ensures.faults.never_falls (Moving c.args.moving)
-      c.stopped.result
+      c.stopped.result (ap (next_or (removes Intent) installs) shown.2)
       (λ met none. absurd none) fault.stage fault.fault
       (leads-ended (moved_once c.args.moving) Before _ fault shown.1.shown) c.stopped.ensures
       (ap commit_at (sym (leads-stage (moved_once c.args.moving) Before _ fault shown.1.shown)))

@@ -28,7 +28,7 @@ returns-in-Ok g c = record {
       c.args.keeper.token c.requires.0 (reads Intent) tt _ (λ result stood. refl)
       c.in-Ok.ensures.step.call
       c.read_intent.ensures.step.lawful c.read_intent.ensures.step.faults.never_falls
-      (ReadingIntent c.args.keeper) _
+      (ReadingIntent c.args.keeper) _ refl
       (intent-on c.args.runner.now.asked.request.tool _ c.args.keeper
       c.in-Ok.ensures.step.call.answer
       c.in-Ok.seen c.in-Ok.ensures.step.call.shown)
@@ -51,7 +51,7 @@ returns-in-Err g c = record {
       c.requires.1 c.args.keeper.token c.requires.0 (reads Intent) tt _ (λ result stood. refl)
       c.in-Err.ensures.step.call
       c.read_intent.ensures.step.lawful c.read_intent.ensures.step.faults.never_falls
-      (ReadingIntent c.args.keeper) c.refused.result
+      (ReadingIntent c.args.keeper) c.refused.result refl
       (intent-ends c.args.runner.now.asked.request.tool c.refused.result c.args.keeper
       c.in-Err.ensures.step.call.answer end c.in-Err.ensures.step.call.shown c.refused.ensures)
       (λ met none. absurd none)

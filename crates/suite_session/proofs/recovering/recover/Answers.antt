@@ -1,6 +1,9 @@
 use Rattle.std.proofs.Common.{refl, sym, ap, subst, ◌∙◌, ◌<◌, length, Err}
+use Rattle.acct_outside.specs.declared.Name.TheVariants.{Intent}
+use Rattle.acct_outside.specs.Calls.{removes}
 use Rattle.suite_rules.specs.Standing.{commit_uncalled}
 use Rattle.suite_rules.specs.Outcomes.{stages, before_commit}
+use Rattle.lock_steps.specs.NextCall.{next_or}
 use Rattle.recovery.specs.States.{Recoverer}
 use Rattle.recovery.specs.Stands.{Recovers, HasStagedNext}
 use Rattle.suite_session.specs.declared.state.State.TheVariants.{Recovering, Moving}
@@ -34,7 +37,7 @@ returns-in-Ok g c = record {
       shown.1
       c.stage_next.ensures.lawful c.stage_next.ensures.faults.never_falls
       (Recovering c.args.recovering)
-      (Moving c.in-Ok.moving)
+      (Moving c.in-Ok.moving) (ap (next_or (removes Intent) stages) shown.2)
       (quiet-on (stages shown.0) (λ given one met shows. shows) shown.1.answer done.0 _ _
       done.1)
       (λ met none. absurd none) (
@@ -66,6 +69,7 @@ returns-in-Err g c = record {
       shown.1
       c.stage_next.ensures.lawful c.stage_next.ensures.faults.never_falls
       (Recovering c.args.recovering) c.stopped.result
+      (ap (next_or (removes Intent) stages) shown.2)
       (λ met none. absurd none) fault.stage fault.fault
       (leads-ended c.args.recovering Before _ fault shown.1.shown) c.stopped.ensures
       (ap commit_at (sym (leads-stage c.args.recovering Before _ fault shown.1.shown)))

@@ -3,6 +3,7 @@ use Rattle.acct_outside.specs.declared.Name.TheVariants.{Intent}
 use Rattle.acct_outside.specs.Calls.{removes}
 use Rattle.suite_rules.specs.Standing.{commit_uncalled}
 use Rattle.recovery.specs.Stands.{Recovers}
+use Rattle.recovery.proofs.NextLemmas.{recovers-none}
 use Rattle.lock_steps.specs.States.{Kept}
 use Rattle.lock_steps.specs.Stands.{Keeps, KnowsNoneYet}
 use Rattle.suite_session.specs.declared.state.State.TheVariants.{Recovering, Loading}
@@ -41,6 +42,7 @@ returns-in-Ok g c = record {
       c.in-Ok.ensures.call
       c.remove_intent.ensures.lawful c.remove_intent.ensures.faults.never_falls
       (Recovering c.args.recovering) (Loading (start_of c.in-Ok.keeper))
+      (recovers-none c.args.recovering c.requires.none)
       (quiet-on (removes Intent) (λ given one met shows. shows) c.in-Ok.ensures.call.answer done.0 _
       _
       done.1)
@@ -74,6 +76,7 @@ returns-in-Err g c = record {
       c.in-Err.ensures.call
       c.remove_intent.ensures.lawful c.remove_intent.ensures.faults.never_falls
       (Recovering c.args.recovering) c.stopped.result
+      (recovers-none c.args.recovering c.requires.none)
       (λ met none. absurd none) fault.stage fault.fault
       (leads-ended c.args.recovering.keeper Before _ fault c.in-Err.ensures.call.shown)
       c.stopped.ensures

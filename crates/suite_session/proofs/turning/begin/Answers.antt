@@ -25,10 +25,12 @@ returns-in-Err-clause-turns g c =
     let before = g.F.Folder.moment c.args.folder.now in
     let now = g.F.Folder.moment c.begin.new.self in
     let same = asked-command c.asked.inside.input c.asked.inside.day c.args.asked
-    c.deref.ensures.value c.asked.view_is in
-    unbegun before now c.args.asked c.in-Err.fault
-    (subst (λ (command : Command). WhereTold before.told now.told
-    (TellsBegin before.admits command (Err c.in-Err.fault))) same c.in-Err.ensures.call.told)
-    c.unbegun.result c.unbegun.ensures
-    c.begin.ensures.call.narrows c.begin.ensures.call.faults.never_falls
-    (λ is. c.begin.ensures.call.faults.failed (c.in-Err.is ∙ ap Err is))
+    c.deref.ensures.value c.asked.view_is in (
+      c.tool.ensures.value,
+      unbegun before now c.args.asked c.in-Err.fault
+          (subst (λ (command : Command). WhereTold before.told now.told
+          (TellsBegin before.admits command (Err c.in-Err.fault))) same c.in-Err.ensures.call.told)
+          c.unbegun.result c.unbegun.ensures
+          c.begin.ensures.call.narrows c.begin.ensures.call.faults.never_falls
+          (λ is. c.begin.ensures.call.faults.failed (c.in-Err.is ∙ ap Err is)),
+    )

@@ -37,7 +37,7 @@ returns-in-Err g c = record {
       (λ result stood. refl)
       c.in-Err.ensures.call
       c.move_free.ensures.lawful c.move_free.ensures.faults.never_falls
-      (Freeing c.args.freeing c.args.answer) c.replaced.result
+      (Freeing c.args.freeing c.args.answer) c.replaced.result refl
       (λ met is_told. out-follows c.args.answer.outcome.cause met is_told c.requires.quiet
       (renames FreeStage (Lock c.args.freeing.number)) tt)
       (stage_of c.args.answer.outcome.cause) c.in-Err.fault

@@ -3,6 +3,7 @@ use Rattle.acct_outside.specs.declared.Name.TheVariants.{FreeStage}
 use Rattle.acct_outside.specs.Tokens.{free_text}
 use Rattle.acct_outside.specs.Calls.{writes}
 use Rattle.lock_steps.specs.Stands.{Keeps, KnowsAnything}
+use Rattle.lock_steps.proofs.NextLemmas.{unlocks-none}
 use Rattle.suite_session.proofs.TurnLemmas.{may-step, faults}
 use Rattle.suite_session.proofs.UnlockingTurns.{stages, out-follows}
 use Rattle.suite_session.proofs.MeetingLemmas.{locks-ended}
@@ -23,7 +24,7 @@ returns-in-Ok g c = record {
       let before = g.F.Folder.moment c.args.folder.now in
       let now = g.F.Folder.moment c.stage_free.new.folder in
       stages before now c.args.runner.now c.args.answer c.args.keeper c.requires.stands
-      c.in-Ok.freeing c.in-Ok.ensures.call c.in-Ok.ensures.next
+      c.in-Ok.freeing (unlocks-none c.args.keeper c.requires.left) c.in-Ok.ensures.call c.in-Ok.ensures.next
       c.stage_free.ensures.left c.stage_free.ensures.lawful c.stage_free.ensures.faults.never_falls;
   counts =
       unlocking-more c.args.keeper c.args.answer;
@@ -40,6 +41,7 @@ returns-in-Err g c = record {
       c.in-Err.ensures.call
       c.stage_free.ensures.lawful c.stage_free.ensures.faults.never_falls
       (Unlocking c.args.keeper c.args.answer) c.replaced.result
+      (unlocks-none c.args.keeper c.requires.left)
       (λ met is_told. out-follows c.args.answer.outcome.cause met is_told c.requires.stands.quiet
       (writes FreeStage free_text) tt)
       (stage_of c.args.answer.outcome.cause) c.in-Err.fault

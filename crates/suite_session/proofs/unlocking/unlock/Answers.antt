@@ -3,6 +3,7 @@ use Rattle.acct_outside.specs.declared.Name.TheVariants.{Lock}
 use Rattle.acct_outside.specs.Calls.{removes}
 use Rattle.lock_steps.specs.Outcomes.{cleaned_once}
 use Rattle.lock_steps.specs.Stands.{Keeps, KnowsAnything}
+use Rattle.lock_steps.proofs.NextLemmas.{unlocks-some}
 use Rattle.suite_session.proofs.TurnLemmas.{may-step, faults}
 use Rattle.suite_session.proofs.UnlockingTurns.{leads, lowers, out-follows}
 use Rattle.suite_session.proofs.MeetingLemmas.{locks-ended}
@@ -23,7 +24,9 @@ returns-in-Ok g c = record {
       let before = g.F.Folder.moment c.args.folder.now in
       let now = g.F.Folder.moment c.clean_next.new.folder in
       lowers before now c.args.runner.now c.args.answer c.args.keeper c.requires
-      _ c.in-Ok.keeper c.in-Ok.ensures.call c.in-Ok.ensures.next
+      _ c.in-Ok.keeper
+      (unlocks-some c.args.keeper (some-left _ _ c.lower.ensures c.if-lower-eq0.false))
+      c.in-Ok.ensures.call c.in-Ok.ensures.next
       c.clean_next.ensures.left c.clean_next.ensures.lawful c.clean_next.ensures.faults.never_falls;
   counts =
       cleaned-calls c.args.keeper c.in-Ok.keeper c.args.answer
@@ -42,6 +45,7 @@ returns-in-Err g c = record {
       c.in-Err.ensures.call
       c.clean_next.ensures.lawful c.clean_next.ensures.faults.never_falls
       (Unlocking c.args.keeper c.args.answer) c.replaced.result
+      (unlocks-some c.args.keeper (some-left _ _ c.lower.ensures c.if-lower-eq0.false))
       (λ met is_told. out-follows c.args.answer.outcome.cause met is_told c.requires.quiet
       (removes (Lock (slice_index c.args.keeper.lower 0))) tt)
       (stage_of c.args.answer.outcome.cause) c.in-Err.fault
