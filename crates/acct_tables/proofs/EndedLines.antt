@@ -1,6 +1,5 @@
--- Claim: lines of which each is given an end, one after another, have all got one (`end-next`,
--- `all-ended`), and with a new line among them they are those of `with_line` (`ended-with`,
--- `appended`).
+-- Claim: lines of which each is given an end, one after another, have all got one (`end-next`),
+-- and with a new line among them they are those of `with_line` (`ended-with`, `appended`).
 use Rattle.std.proofs.Common.{◌≡◌, ℕ, ◌+◌, ◌<◌, ◌≤◌, true, List, [], ◌∷◌, ◌++◌, length, map, take, drop, get_or, zero, suc, refl, sym, ◌∙◌, ap, arith, add-one}
 use Rattle.std.proofs.Math.ListN.{set}
 use Rattle.std.proofs.lemmas.List.{append-nil, length-map, map-append, take_all}
@@ -35,11 +34,6 @@ end-next lines now place line new so_far inside is ended =
     ∙ ap (λ all. set all place (as_ended line)) so_far
     ∙ end-step lines place line inside (is ∙ ap (λ all. get_or all place line) so_far)
     ∙ ap (λ n. ended_up_to n lines) (sym (add-one place))
-
--- behind the last all have one
-pub all-ended : (lines : List Line) → ended_up_to (length lines) lines ≡ map as_ended lines
-all-ended [] = refl
-all-ended (line ∷ rest) = ap (λ lines. as_ended line ∷ lines) (all-ended rest)
 
 -- lines of which a new one is the last
 pub ended-with :

@@ -1,11 +1,16 @@
 -- Claim: the first record that passes a test is that of the first line whose record passes
--- (`found-at`). Way: line by line.
-use Rattle.std.proofs.Common.{◌≡◌, ℕ, suc, ◌+◌, Bool, true, false, List, [], ◌∷◌, refl, ◌∙◌, ap, arith, if◌then◌else◌}
-use Rattle.std.specs.Prelude.{Option, Some, None, find}
+-- (`found-at`), and none in front of it does (`first-from`). Way: line by line.
+use Rattle.std.proofs.Common.{◌≡◌, ℕ, suc, ◌+◌, ◌<◌, Bool, true, false, List, [], ◌∷◌, length, drop, get_or, refl, sym, ◌∙◌, ap, arith, cond, zero-add, if◌then◌else◌}
+use Rattle.std.specs.Prelude.{Option, Some, None, count_by, find}
 use Rattle.std.specs.List.{cons_option, position_from}
+use Rattle.std.proofs.lemmas.List.Sums.{sum_by-cons}
 use Rattle.acct_text.specs.Lines.{Line}
 use Rattle.account_model.specs.Format.{Format, records_of}
 use Rattle.acct_tables.specs.TableLines.{record_at}
+
+-- a line without bytes, for a place that isn't there
+abbrev pub no_line : Line
+no_line = record { text = []; ended = true }
 
 -- the record of a line, if there is one
 abbrev pub record_of : {R : Type 0} → Format R → List Line → Option ℕ → Option R
@@ -33,11 +38,26 @@ module _ {R : Type 0} (format : Format R) (test : R → Bool) where
   passed None rest is = refl
   passed (Some r) rest is = rw is refl
 
+  -- one that doesn't doesn't count, and other text neither
+  skipped :
+      (kept : Option R) (rest : List R)
+      → (elim kept [ None ↦ false | Some r ↦ test r ]) ≡ false
+      → count_by test (cons_option kept rest) ≡ count_by test rest
+  skipped None rest is = refl
+  skipped (Some r) rest is =
+      sum_by-cons (λ x. cond (test x) 1 0) r rest
+      ∙ ap (λ now. cond now 1 0 + count_by test rest) is
+      ∙ zero-add (count_by test rest)
+
   -- the place is so far behind the start, and its record is the first that passes
-  record IsFirst (lines : List Line) (start place : ℕ) : Type 0 where
-    behind : ℕ
-    is : place ≡ start + behind
-    found : find test (records_of format lines) ≡ record_at format lines behind
+  pub record IsFirst (lines : List Line) (start place : ℕ) : Type 0 where
+    pub behind : ℕ
+    pub is : place ≡ start + behind
+    pub inside : behind < length lines
+    pub passing : passes (get_or lines behind no_line) ≡ true
+    pub counted : count_by test (records_of format (drop behind lines))
+        ≡ count_by test (records_of format lines)
+    pub found : find test (records_of format lines) ≡ record_at format lines behind
 
   -- by whether the first line passes
   first-by :
@@ -49,6 +69,9 @@ module _ {R : Type 0} (format : Format R) (test : R → Bool) where
   first-by line rest start place true behind is first later = record {
     behind = 0;
     is = (let same : start ≡ place = cc in omega arith);
+    inside = omega arith;
+    passing = is;
+    counted = refl;
     found = met (format.read line.text) (records_of format rest) is;
   }
   first-by line rest start place false behind is first later =
@@ -56,11 +79,14 @@ module _ {R : Type 0} (format : Format R) (test : R → Bool) where
       record {
         behind = suc there.behind;
         is = omega (arith, there.is);
+        inside = omega (arith, there.inside);
+        passing = there.passing;
+        counted = there.counted ∙ sym (skipped (format.read line.text) (records_of format rest) is);
         found = passed (format.read line.text) (records_of format rest) is ∙ there.found;
       }
 
   -- the first line that passes
-  first-from :
+  pub first-from :
       (lines : List Line) (start place : ℕ)
       → position_from passes start lines ≡ Some place
       → IsFirst lines start place

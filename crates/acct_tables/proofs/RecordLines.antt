@@ -1,7 +1,6 @@
 -- Claim: the records behind a place are those behind the next, with the record of the line there
 -- (`records-from`), so what is found and counted among the records is found and counted line by
--- line (`find-met`, `find-passed`, `count-met`, `count-passed`), or place by place (`find-named`,
--- `find-unnamed`).
+-- line (`met-by`, `passed-by`, `count-met`), or place by place (`counted-as`, `counted-past`).
 use Rattle.std.proofs.Common.{◌≡◌, ℕ, ◌+◌, ◌<◌, ◌≤◌, arith, Bool, true, false, List, [], ◌∷◌, length, take, drop, get_or, zero, suc, refl, sym, ◌∙◌, ap, zero-add, add-one}
 use Rattle.std.specs.Prelude.{Option, Some, None, is_some, if◌then◌else◌}
 use Rattle.std.specs.List.{cons_option}
@@ -10,7 +9,7 @@ use Rattle.std.proofs.lemmas.List.Sums.{sum_by-cons, sum_by-append}
 use Rattle.std.proofs.lemmas.List.Elements.{filter_map-append}
 use Rattle.acct_text.specs.Lines.{Line}
 use Rattle.account_model.specs.Format.{Format, records_of, is_named, find_named, count_named}
-use Rattle.acct_tables.specs.TableLines.{is_named_at, line_is_named, named_at}
+use Rattle.acct_tables.specs.TableLines.{is_named_at, line_is_named}
 
 -- the lines from a place on begin with the line there
 pub lines-from :
@@ -66,38 +65,10 @@ module _ {R : Type 0} (format : Format R) (name : List ℕ) where
       sum_by-cons (λ x. if is_named format name x then 1 else 0) r rest
       ∙ ap (λ test. (if test then 1 else 0) + count_named format name rest) named
 
-  -- a record of another name doesn't count, and other text neither
-  skips-by :
-      (kept : Option R) (rest : List R)
-      → (elim kept [ None ↦ false | Some r ↦ is_named format name r ]) ≡ false
-      → count_named format name (cons_option kept rest) ≡ count_named format name rest
-  skips-by None rest other = refl
-  skips-by (Some r) rest other =
-      sum_by-cons (λ x. if is_named format name x then 1 else 0) r rest
-      ∙ ap (λ test. (if test then 1 else 0) + count_named format name rest) other
-      ∙ zero-add (count_named format name rest)
-
   module _
       (lines : List Line) (place : ℕ) (line : Line)
       (inside : place < length lines)
       (is : line ≡ get_or lines place line) where
-    -- at the first line of the name its record is found
-    pub find-met :
-        line_is_named format name line ≡ true
-        → find_named format name (records_of format (drop place lines)) ≡ format.read line.text
-    find-met named =
-        ap (find_named format name) (records-from lines place line inside is)
-        ∙ met-by (format.read line.text) (records_of format (drop (place + 1) lines)) named
-
-    -- another line is passed
-    pub find-passed :
-        line_is_named format name line ≡ false
-        → find_named format name (records_of format (drop place lines))
-        ≡ find_named format name (records_of format (drop (place + 1) lines))
-    find-passed other =
-        ap (find_named format name) (records-from lines place line inside is)
-        ∙ passed-by (format.read line.text) (records_of format (drop (place + 1) lines)) other
-
     -- a line of the name counts
     pub count-met :
         line_is_named format name line ≡ true
@@ -106,69 +77,6 @@ module _ {R : Type 0} (format : Format R) (name : List ℕ) where
     count-met named =
         ap (count_named format name) (records-from lines place line inside is)
         ∙ counts-by (format.read line.text) (records_of format (drop (place + 1) lines)) named
-
-    -- another line doesn't
-    pub count-passed :
-        line_is_named format name line ≡ false
-        → count_named format name (records_of format (drop place lines))
-        ≡ count_named format name (records_of format (drop (place + 1) lines))
-    count-passed other =
-        ap (count_named format name) (records-from lines place line inside is)
-        ∙ skips-by (format.read line.text) (records_of format (drop (place + 1) lines)) other
-
-  -- what is found, where this record is met first
-  abbrev found_first : Option R → Option R → Option R
-  found_first first later = elim first [ None ↦ later | Some r ↦ Some r ]
-
-  -- a record that is met, by whether it has the name
-  first-some :
-      (r : R) (rest : List R) (named : Bool)
-      → (if named then Some r else find_named format name rest)
-      ≡ found_first (if named then Some r else None) (find_named format name rest)
-  first-some r rest true = refl
-  first-some r rest false = refl
-
-  -- a line that is met, by what it reads as
-  first-by :
-      (kept : Option R) (rest : List R)
-      → find_named format name (cons_option kept rest)
-      ≡ found_first (elim kept [ None ↦ None | Some r ↦ if is_named format name r then Some r else None ])
-      (find_named format name rest)
-  first-by None rest = refl
-  first-by (Some r) rest = first-some r rest (is_named format name r)
-
-  -- what is found from a place on is the record there, where it has the name
-  first-at :
-      (lines : List Line) (place : ℕ)
-      → find_named format name (records_of format (drop place lines))
-      ≡ found_first (named_at format name lines place)
-      (find_named format name (records_of format (drop (suc place) lines)))
-  first-at [] zero = refl
-  first-at [] (suc place) = refl
-  first-at (line ∷ lines) zero = first-by (format.read line.text) (records_of format lines)
-  first-at (line ∷ lines) (suc place) = first-at lines place
-
-  -- a record of the name at a place is the first from there on
-  pub find-named :
-      (lines : List Line) (place : ℕ) (r : R)
-      → Some r ≡ named_at format name lines place
-      → find_named format name (records_of format (drop place lines)) ≡ Some r
-  find-named lines place r named =
-      first-at lines place
-      ∙ ap (λ first. found_first first (find_named format name (records_of format (drop (suc place) lines))))
-      (sym named)
-
-  -- a place without one is passed
-  pub find-unnamed :
-      (lines : List Line) (place : ℕ)
-      → None ≡ named_at format name lines place
-      → find_named format name (records_of format (drop place lines))
-      ≡ find_named format name (records_of format (drop (place + 1) lines))
-  find-unnamed lines place unnamed =
-      first-at lines place
-      ∙ ap (λ first. found_first first (find_named format name (records_of format (drop (suc place) lines))))
-      (sym unnamed)
-      ∙ ap (λ n. find_named format name (records_of format (drop n lines))) (sym (add-one place))
 
   -- one line, by what it reads as
   pub counted-by :

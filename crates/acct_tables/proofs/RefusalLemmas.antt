@@ -1,9 +1,14 @@
 -- What `?` makes of a refusal that it passes on, and of want of memory.
 use Rattle.std.proofs.Common.{◌≡◌, ◌≢◌, ℕ, ◌<◌, zero, suc, Option, Result, Ok, Err, Some, None, refl, sym, arith}
-use Rattle.std.specs.Prelude.{IsErrAnd}
+use Rattle.std.specs.Prelude.{IsErrAnd, OnErr}
 use Rattle.acct_tables.specs.declared.fault.TableFault.{TableFault}
 use Rattle.acct_tables.specs.declared.fault.TableFault.TheVariants.{Absent, Multiple, Present, Memory}
 use Rattle.acct_tables.specs.Refusals.{AnswersRefusal, not_single}
+
+-- what holds anyway holds at an error
+pub on-err : {X Y P : Type 0} (result : Result X Y) → P → OnErr result P
+on-err (Ok x) holds = tt
+on-err (Err y) holds = holds
 
 -- want of memory is answered where there is no refusal
 pub memory-answers :
@@ -29,13 +34,6 @@ refusal-answers (Err Memory) fault refusal told is other = absurd (other (sym to
 refusal-answers (Err Absent) fault refusal told is other = cc
 refusal-answers (Err Present) fault refusal told is other = cc
 refusal-answers (Err (Multiple n)) fault refusal told is other = cc
-
--- a wanted single record that isn't there is no want of memory
-pub single-no_memory :
-    (records : ℕ) (fault : TableFault) → not_single records ≡ Some fault → fault ≢ Memory
-single-no_memory zero fault is = λ memory. absurd cc
-single-no_memory (suc zero) fault is = λ memory. absurd cc
-single-no_memory (suc (suc more)) fault is = λ memory. absurd cc
 
 -- two records or more are several
 pub several :

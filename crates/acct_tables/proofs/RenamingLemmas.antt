@@ -2,7 +2,7 @@
 -- come with the renamed rest the whole (`next-kept`, `next-first`, `next-again`). Way: each name is
 -- the new one after the renaming or stays, and the new one is put where none stands yet.
 use Rattle.std.proofs.Common.{◌≡◌, ℕ, ◌+◌, ◌<◌, Bool, true, false, List, [], ◌∷◌, ◌++◌, length, drop, get_or, refl, sym, ◌∙◌, ap, append_assoc}
-use Rattle.std.specs.Prelude.{bytes_eq, ◌||◌, if◌then◌else◌}
+use Rattle.std.specs.Prelude.{bytes_eq, if◌then◌else◌}
 use Rattle.std.proofs.lemmas.List.{drop_more}
 use Rattle.std.proofs.lemmas.Bool.{true≢false}
 use Rattle.std.proofs.lemmas.Slice.Eq.{bytes_eq-Decides}
@@ -14,13 +14,6 @@ use Rattle.acct_tables.specs.Renaming.{once_more, renamed_name}
 -- a text is itself
 itself : (name : List ℕ) → bytes_eq name name ≡ true
 itself name = (bytes_eq-Decides name name).1 refl
-
--- whether a name is the new one after the renaming, by whether it is the old one
-pub is-new :
-    (old new name : List ℕ) (is_old : Bool)
-    → (is_old || bytes_eq name new) ≡ bytes_eq (if is_old then new else name) new
-is-new old new name true = sym (itself new)
-is-new old new name false = refl
 
 -- a name that isn't the new one after the renaming stays
 stays-by :

@@ -5,10 +5,10 @@ pub mod Decisions
 pub mod Lists
 pub mod Order
 pub mod Renaming
-pub mod RenamedRecords
 pub mod Refusing
-pub mod DecimalTexts
 pub mod LinePlaces
 pub mod EditedTexts
 pub mod SeenLines
 pub mod NameIndex
+pub mod TableNames
+pub mod RenamedRecords

@@ -24,13 +24,6 @@ abbrev pub line_is_named : {R : Type 0} → Format R → List ℕ → Line → B
 line_is_named format name line =
     elim (format.read line.text) [ None ↦ false | Some r ↦ is_named format name r ]
 
--- the record at this place, where it has the name
-abbrev pub named_at : {R : Type 0} → Format R → List ℕ → List Line → ℕ → Option R
-named_at format name lines place = elim (record_at format lines place) [
-  | None ↦ None
-  | Some r ↦ if is_named format name r then Some r else None
-]
-
 -- whether the line at this place is a record of the name
 abbrev pub is_named_at : {R : Type 0} → Format R → List ℕ → List Line → ℕ → Bool
 is_named_at format name lines place =

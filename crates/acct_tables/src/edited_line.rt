@@ -7,10 +7,10 @@ ghost use Rattle.account_model.specs.Edits.{as_ended, printed_line};
 ghost use Rattle.account_model.specs.Written.{IsWritten};
 ghost use Rattle.acct_tables.specs.EditedTexts.{text_of};
 ghost use Rattle.acct_tables.specs.Kept.{is_printed_as};
-ghost use Rattle.acct_tables.specs.TableLines.{line_is_named, with_record};
+ghost use Rattle.acct_tables.specs.TableLines.{with_record};
 
-use crate::line::{is_record, read_record};
-use acct_lines::{TableRecord, first_field};
+use crate::line::read_record;
+use acct_lines::TableRecord;
 use acct_text::Bytes;
 use std::alloc::{AllocError, Global};
 use std::marker::Model;
@@ -93,13 +93,6 @@ impl<'a> EditedLine<'a> {
         ensures { result.now ≡ self.now.text }
     {
         self.text.as_slice()
-    }
-
-    /// Whether the line is a record of the name.
-    pub(crate) fn is_named<R: TableRecord>(&self, name: &[u8]) -> bool
-        ensures { result ≡ line_is_named R.format name.now self.now }
-    {
-        first_field(self.text()) == name && is_record::<R>(self.text())
     }
 
     /// Gives the line an end.

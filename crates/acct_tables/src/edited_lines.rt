@@ -1,15 +1,15 @@
 // The lines of a table's file while edits change them.
-ghost use Rattle.std.specs.Prelude.{◌≡◌, ◌<◌, ◌≤◌, length, map, IfOk, IfSome, OnOk, OnErr};
-ghost use Rattle.std.specs.List.{remove};
+ghost use Rattle.std.specs.Prelude.{◌≡◌, ◌<◌, length, map, IfOk, IfSome, OnOk, OnErr};
 ghost use Rattle.acct_text.specs.Lines.{lines_of, file_bytes};
 ghost use Rattle.account_model.specs.Edits.{as_ended, with_line};
 ghost use Rattle.account_model.specs.Written.{IsWritten};
 ghost use Rattle.acct_tables.specs.Order.{text_at};
-ghost use Rattle.acct_tables.specs.TableLines.{changed_at, is_named_at, record_at, with_record, with_record_at};
+ghost use Rattle.acct_tables.specs.TableLines.{changed_at, record_at, with_record};
 
+use crate::Lines;
 use crate::edited_line::EditedLine;
 use acct_lines::TableRecord;
-use acct_text::{Bytes, lines};
+use acct_text::Bytes;
 use std::alloc::{AllocError, Global};
 use std::marker::Model;
 
@@ -36,11 +36,11 @@ impl<'a> EditedLines<'a> {
     pub fn of(alloc: Global, text: &'a [u8]) -> Result<Self, AllocError>
         ensures { IfOk result (λ lines. lines ≡ lines_of text.now) }
     {
-        let places = lines(alloc, text)?;
         let mut kept = Vec::new(alloc);
-        'lines: for (start, end) in &places {
-            let ended = *end < text.len();
-            kept.push(EditedLine::of(&text[*start..*end], ended))?;
+        let mut left = Lines::of(text);
+        'lines: while let Some(line) = left.take() {
+            let edited = EditedLine::of(line.text, line.ended);
+            kept.push(edited)?;
         }
         Ok(EditedLines { lines: kept })
     }
@@ -71,16 +71,6 @@ impl<'a> EditedLines<'a> {
         match self.lines.get(place) {
             Some(line) => line.text(),
             None => &[],
-        }
-    }
-
-    /// Whether a record of the name stands at the place. It takes no memory.
-    pub fn is_named_at<R: TableRecord>(&self, place: usize, name: &[u8]) -> bool
-        ensures { result ≡ is_named_at R.format name.now self.now place }
-    {
-        match self.lines.get(place) {
-            Some(line) => line.is_named::<R>(name),
-            None => false,
         }
     }
 
@@ -125,35 +115,6 @@ impl<'a> EditedLines<'a> {
     {
         let alloc = self.allocator();
         self.lines[place].put(alloc, item)
-    }
-
-    /// Puts the line of a new record, with an end, in front of the line at a place; at the end it
-    /// is `append_any`. At `AllocError` the lines are as before.
-    pub fn insert_at<R: TableRecord + Drop>(
-        &mut self,
-        place: usize,
-        item: &R,
-    ) -> Result<(), AllocError>
-        requires inside { place ≤ length self.old }
-        requires written { IsWritten R.format item.now }
-        ensures inserted { OnOk result (self.new ≡
-            with_record_at R.format item.now place self.old) }
-        ensures unchanged { OnErr result (self.new ≡ self.old) }
-    {
-        if place == self.lines.len() {
-            return self.append_any(item);
-        }
-        let line = EditedLine::printed(self.allocator(), item)?;
-        self.lines.insert(place, line)?;
-        Ok(())
-    }
-
-    /// Removes the line at a place, with its end.
-    pub fn remove_at(&mut self, place: usize)
-        requires { place < length self.old }
-        ensures { self.new ≡ remove self.old place }
-    {
-        self.lines.remove(place);
     }
 
     /// The bytes of the lines, one behind the other.

@@ -2,10 +2,10 @@
 ghost use Rattle.std.specs.Prelude.{◌≡◌, length, is_some, nat_le, IfOk, IfSome, option_map};
 ghost use Rattle.std.specs.Option.{option_copied};
 ghost use Rattle.acct_text.specs.Lines.{lines_of};
-ghost use Rattle.account_model.specs.Format.{count_named, records_of, find_named};
+ghost use Rattle.account_model.specs.Format.{count_named, records_of};
 ghost use Rattle.account_model.specs.Written.{IsWritten};
 ghost use Rattle.acct_tables.specs.Order.{text_at};
-ghost use Rattle.acct_tables.specs.TableLines.{is_named_at, named_at, record_at};
+ghost use Rattle.acct_tables.specs.TableLines.{is_named_at, record_at};
 
 use crate::line::{is_record, read_record};
 use acct_lines::{TableRecord, first_field};
@@ -115,40 +115,5 @@ impl<'a> FileLines<'a> {
             }
         }
         records >= 2
-    }
-
-    /// The first record of the name; none where no record has it. Only lines that begin with the
-    /// name are read.
-    pub fn find<R: TableRecord + Drop>(
-        &self,
-        alloc: Global,
-        name: &[u8],
-    ) -> Result<Option<R>, AllocError>
-        ensures found { IfOk result (λ found.
-            found ≡ find_named R.format name.now (records_of R.format self.now)) }
-        ensures written { IfOk result (λ found. IfSome found (IsWritten R.format)) }
-    {
-        for place in 0..self.places.len() {
-            if let Some(record) = self.named_at::<R>(alloc, place, name)? {
-                return Ok(Some(record));
-            }
-        }
-        Ok(None)
-    }
-
-    // The record at a place, where it has the name.
-    fn named_at<R: TableRecord + Drop>(
-        &self,
-        alloc: Global,
-        place: usize,
-        name: &[u8],
-    ) -> Result<Option<R>, AllocError>
-        ensures found { IfOk result (λ found. found ≡ named_at R.format name.now self.now place) }
-        ensures written { IfOk result (λ found. IfSome found (IsWritten R.format)) }
-    {
-        if first_field(self.text_at(place)) != name {
-            return Ok(None);
-        }
-        self.record_at(alloc, place)
     }
 }

@@ -8,7 +8,8 @@ ghost use Rattle.account_model.specs.Edits.{as_ended};
 ghost use Rattle.account_model.specs.Written.{IsListed, IsWritten};
 ghost use Rattle.acct_tables.specs.Kept.{is_printed_as};
 ghost use Rattle.acct_tables.specs.Lists.{changed_line};
-ghost use Rattle.acct_tables.specs.TableLines.{line_is_named, text_is_named, with_record};
+ghost use Rattle.acct_tables.specs.NameIndex.{line_name};
+ghost use Rattle.acct_tables.specs.TableLines.{text_is_named, with_record};
 
 use crate::ListRecord;
 use acct_lines::{ReadFault, TableRecord, first_field};
@@ -23,7 +24,7 @@ pub fn read_record<R: TableRecord>(alloc: Global, line: &[u8]) -> Result<Option<
         → IfOk result (λ found. IfSome found (IsWritten R.format)) }
 {
     match R::read(alloc, line) {
-        Ok(record) => Ok(Some(record)),
+        Ok(found) => Ok(Some(found)),
         Err(ReadFault::Line(_)) => Ok(None),
         Err(ReadFault::Memory) => Err(AllocError),
     }
@@ -58,7 +59,7 @@ pub fn is_named<R: TableRecord>(line: &[u8], name: &[u8]) -> bool
 pub(crate) struct TableLine<R: TableRecord> {
     text: Bytes,
     ended: bool,
-    record: Option<R>,
+    kept: Option<R>,
 }
 
 impl<R: TableRecord> Model for TableLine<R> {
@@ -69,7 +70,7 @@ impl<R: TableRecord> Model for TableLine<R> {
 
     ghost view = { λ l. record { text = l.text; ended = l.ended } };
 
-    ghost invariant = { λ l. IsKept R.format l.text l.record };
+    ghost invariant = { λ l. IsKept R.format l.text l.kept };
 }
 
 impl<R: TableRecord + Drop> TableLine<R> {
@@ -78,11 +79,11 @@ impl<R: TableRecord + Drop> TableLine<R> {
         requires { Lacks newline text.now }
         ensures { IfOk result (λ line. line ≡ record { text = text.now; ended = ended }) }
     {
-        let record = read_record(alloc, text)?;
+        let kept = read_record(alloc, text)?;
         Ok(TableLine {
             text: Bytes::of(alloc, text)?,
             ended,
-            record,
+            kept,
         })
     }
 
@@ -95,7 +96,7 @@ impl<R: TableRecord + Drop> TableLine<R> {
         Ok(TableLine {
             text: item.print(alloc)?,
             ended,
-            record: Some(item),
+            kept: Some(item),
         })
     }
 
@@ -104,7 +105,7 @@ impl<R: TableRecord + Drop> TableLine<R> {
         ensures found { option_copied result ≡ R.format.read self.now.text }
         ensures written { IfSome (option_copied result) (IsWritten R.format) }
     {
-        self.record.as_ref()
+        self.kept.as_ref()
     }
 
     /// The bytes of the line, without its newline.
@@ -114,14 +115,11 @@ impl<R: TableRecord + Drop> TableLine<R> {
         self.text.as_slice()
     }
 
-    /// Whether the line is a record of the name.
-    pub(crate) fn is_named(&self, name: &[u8]) -> bool
-        ensures { result ≡ line_is_named R.format name.now self.now }
+    /// The name of the record that the line is; none where it is other text.
+    pub(crate) fn name(&self) -> Option<&[u8]>
+        ensures { option_copied result ≡ line_name R.format self.now }
     {
-        match &self.record {
-            Some(kept) => kept.name() == name,
-            None => false,
-        }
+        Some(self.kept.as_ref()?.name())
     }
 
     /// An equal line.
@@ -143,7 +141,7 @@ impl<R: TableRecord + Drop> TableLine<R> {
     pub(crate) fn is_record(&self) -> bool
         ensures { result ≡ is_some (R.format.read self.now.text) }
     {
-        self.record.is_some()
+        self.kept.is_some()
     }
 
     /// Gives the line an end.
@@ -163,7 +161,7 @@ impl<R: TableRecord + Drop> TableLine<R> {
         let text = item.print(alloc)?;
         if !self.prints_as(alloc, text.as_slice())? {
             self.text = text;
-            self.record = Some(item);
+            self.kept = Some(item);
         }
         Ok(())
     }
@@ -173,7 +171,7 @@ impl<R: TableRecord + Drop> TableLine<R> {
         ensures { IfOk result (λ same. same ≡
             is_printed_as R.format text.now (R.format.read self.now.text)) }
     {
-        match &self.record {
+        match &self.kept {
             Some(kept) => Ok(kept.print(alloc)?.as_slice() == text),
             None => Ok(false),
         }

@@ -83,8 +83,8 @@ impl<'a> NameIndex<'a> {
     }
 }
 
-// The records of a name with one more at this place, behind the others.
-fn with_last(place: usize, found: Option<NamedLines>) -> NamedLines
+/// The records of a name with one more at this place, behind the others.
+pub(crate) fn with_last(place: usize, found: Option<NamedLines>) -> NamedLines
     requires behind { IfSome found (λ lines. lines.count ≤ place) }
     requires room { place + 1 < 2 ^ 64 }
     ensures { result ≡ with_last place found }

@@ -1,15 +1,13 @@
 // Whose a range of subordinate IDs is, and where it ends (subuid(5), subgid(5)).
 ghost use Rattle.std.specs.Prelude.{◌≡◌, ◌≤◌, bytes_eq};
 ghost use Rattle.std.specs.Fmt.{decimal};
-ghost use Rattle.acct_text.specs.Numbers.{number_of};
 ghost use Rattle.account_model.specs.Records.{greatest_id, last_id, subid_format};
 ghost use Rattle.account_model.specs.declared.records.SubidRecord.{SubidRecord};
 ghost use Rattle.account_model.specs.SubidOwner.{is_owned};
 ghost use Rattle.account_model.specs.Written.{IsWritten};
-ghost use Rattle.acct_tables.specs.DecimalTexts.{has_leading_zero, is_number};
 
 use acct_lines::{SubidRecord, TableRecord};
-use acct_text::read_decimal;
+use itoa::Buffer;
 
 /// The last ID of a range.
 pub fn last_id(range: &SubidRecord) -> u32
@@ -38,29 +36,10 @@ pub fn is_owner(owner: &[u8], name: &[u8], uid: Option<u32>) -> bool
         }
 }
 
-// Whether the text is the decimal text of the number, which has no leading zero.
+// Whether the text is the decimal text of the number.
 fn is_decimal(text: &[u8], number: u32) -> bool
     ensures { result ≡ bytes_eq text.now (decimal number) }
 {
-    if has_leading_zero(text) {
-        return false;
-    }
-    reads_as(text, number)
-}
-
-// Whether the text begins with a `0` that isn't all of it.
-fn has_leading_zero(text: &[u8]) -> bool
-    ensures { result ≡ has_leading_zero text.now }
-{
-    text.len() > 1 && text[0] == b'0'
-}
-
-// Whether the text is all digits, and the number is their value.
-fn reads_as(text: &[u8], number: u32) -> bool
-    ensures { result ≡ is_number number (number_of number text.now) }
-{
-    match read_decimal(text, u64::from(number)) {
-        Ok(value) => value == u64::from(number),
-        Err(_) => false,
-    }
+    let mut buffer = Buffer::new();
+    text == buffer.format(number).as_bytes()
 }

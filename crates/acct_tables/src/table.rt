@@ -8,30 +8,39 @@ ghost use Rattle.acct_tables.specs.TableLines.{record_at, IsOnlyPlace};
 ghost use Rattle.acct_tables.specs.Order.{text_at};
 ghost use Rattle.acct_tables.specs.Refusals.{single_refusal};
 
-use crate::TableFault;
+use self::names::TableNames;
 use crate::line::TableLine;
+use crate::{Lines, TableFault};
 use acct_lines::TableRecord;
-use acct_text::{Bytes, lines};
+use acct_text::Bytes;
 use std::alloc::{AllocError, Global};
 use std::marker::Model;
 
 mod edits;
 mod lists;
+mod names;
 mod order;
 
-/// The lines of a table's file, each a record of the table or other text.
+/// The lines of a table's file, each a record of the table or other text. The records of a name are
+/// found and counted by an index, which an edit that moves lines or names makes anew.
 #[derive(Drop)]
 pub struct Table<R: TableRecord> {
     lines: Vec<TableLine<R>>,
+    // where the records of each name stand among the lines
+    names: TableNames,
 }
 
 impl<R: TableRecord> Model for Table<R> {
     ghost use Rattle.std.specs.Prelude.{List};
     ghost use Rattle.acct_text.specs.Lines.{Line};
+    ghost use Rattle.acct_tables.specs.NameIndex.{Tells, line_names};
+    ghost use Rattle.acct_tables.specs.TableNames.{told_names};
 
     ghost Value = { List Line };
 
     ghost view = { λ t. t.lines.items };
+
+    ghost invariant = { λ t. Tells (line_names R.format t.lines.items) (told_names t.names) };
 }
 
 impl<R: TableRecord + Drop> Table<R> {
@@ -41,13 +50,21 @@ impl<R: TableRecord + Drop> Table<R> {
         ensures lines { IfOk result (λ table. table ≡ lines_of text.now) }
         ensures same_bytes { IfOk result (λ table. file_bytes table ≡ text.now) }
     {
-        let places = lines(alloc, text)?;
         let mut table = Vec::new(alloc);
-        'lines: for (start, end) in &places {
-            let ended = *end < text.len();
-            table.push(TableLine::read(alloc, &text[*start..*end], ended)?)?;
+        let mut left = Lines::of(text);
+        'lines: while let Some(line) = left.take() {
+            let kept = TableLine::read(alloc, line.text, line.ended)?;
+            table.push(kept)?;
         }
-        Ok(Table { lines: table })
+        Table::of_lines(alloc, table)
+    }
+
+    // The table of these lines.
+    fn of_lines(alloc: Global, lines: Vec<TableLine<R>>) -> Result<Self, AllocError>
+        ensures { IfOk result (λ table. table ≡ lines.items) }
+    {
+        let names = TableNames::of(alloc, &lines)?;
+        Ok(Table { lines, names })
     }
 
     /// The first record of the name; none where no record has it.
@@ -56,25 +73,20 @@ impl<R: TableRecord + Drop> Table<R> {
             find_named R.format name.now (records_of R.format self.now) }
         ensures written { IfSome (option_copied result) (IsWritten R.format) }
     {
-        for line in &self.lines {
-            if line.is_named(name) {
-                return line.record();
-            }
+        match self.names.get(name) {
+            Some(found) => self.at(found.first),
+            None => None,
         }
-        None
     }
 
     /// The number of records that have the name.
     pub fn count(&self, name: &[u8]) -> usize
         ensures { result ≡ count_named R.format name.now (records_of R.format self.now) }
     {
-        let mut records = 0;
-        for line in &self.lines {
-            if line.is_named(name) {
-                records += 1;
-            }
+        match self.names.get(name) {
+            Some(found) => found.count,
+            None => 0,
         }
-        records
     }
 
     /// The number of lines, of records and other text.
@@ -108,16 +120,13 @@ impl<R: TableRecord + Drop> Table<R> {
         ensures { MatchResult result (IsOnlyPlace R.format name.now self.now)
             (λ fault. single_refusal R.format name.now self.now ≡ Some fault) }
     {
-        let records = self.count(name);
-        if records > 1 {
-            return Err(TableFault::Multiple(records));
+        let Some(found) = self.names.get(name) else {
+            return Err(TableFault::Absent);
+        };
+        if found.count > 1 {
+            return Err(TableFault::Multiple(found.count));
         }
-        for place in 0..self.lines.len() {
-            if self.lines[place].is_named(name) {
-                return Ok(place);
-            }
-        }
-        Err(TableFault::Absent)
+        Ok(found.first)
     }
 
     /// The bytes of the table's file: those of its lines, one behind the other.

@@ -6,7 +6,7 @@ ghost use Rattle.account_model.specs.Records.{group_format};
 ghost use Rattle.account_model.specs.Written.{IsWritten};
 
 use acct_lines::{GroupRecord, TableRecord};
-use acct_tables::{EditedLines, FileLines, Table, TableFault};
+use acct_tables::{EditedLines, FileLines, Table, TableFault, find_record};
 use std::alloc::{AllocError, Global};
 use std::test::Fail;
 
@@ -28,6 +28,11 @@ fn has(alloc: Global, table: &Table<GroupRecord>, wanted: &[u8]) -> Result<bool,
 
 // The GID of a group, where there is one.
 fn gid(found: Option<GroupRecord>) -> Option<u32> {
+    Some(found?.gid)
+}
+
+// The GID of a group of a table, where there is one.
+fn gid_of(found: Option<&GroupRecord>) -> Option<u32> {
     Some(found?.gid)
 }
 
@@ -84,8 +89,9 @@ fn lines_are_set_and_moved_by_their_places(rt: HostRuntime) -> Result<(), Fail> 
 #[test]
 fn the_first_of_a_name_is_found_where_it_stands(rt: HostRuntime) -> Result<(), Fail> {
     let alloc = rt.alloc();
-    let lines = FileLines::of(alloc, b"# x\nab:x:1:\na:x:2:\na:x:3:")?;
-    assert_eq!(rt; gid(lines.find(alloc, b"a")?), Some(2));
+    let text = b"# x\nab:x:1:\na:x:2:\na:x:3:".as_slice();
+    assert_eq!(rt; gid(find_record(alloc, text, b"a")?), Some(2));
+    let lines = FileLines::of(alloc, text)?;
     assert_eq!(rt; gid(lines.record_at(alloc, 0)?), None);
     assert_eq!(rt; gid(lines.record_at(alloc, 3)?), Some(3));
     Ok(())
@@ -97,9 +103,31 @@ fn edited_lines_keep_the_bytes_of_the_same_record(rt: HostRuntime) -> Result<(),
     let mut lines = EditedLines::of(alloc, b"a:x:01:\nb:x:2:")?;
     lines.set_at(0, &group(alloc, b"a:x:1:")?)?;
     lines.append_any(&group(alloc, b"c:x:3:")?)?;
-    lines.remove_at(1);
-    lines.insert_at(1, &group(alloc, b"d:x:4:")?)?;
-    let wanted = b"a:x:01:\nd:x:4:\nc:x:3:\n".as_slice();
+    let wanted = b"a:x:01:\nb:x:2:\nc:x:3:\n".as_slice();
     assert_eq!(rt; lines.text()?.as_slice(), wanted);
+    Ok(())
+}
+
+// So many groups, with the numbers from 1 on in their names and as GIDs.
+fn many_groups(alloc: Global, count: u32) -> Result<Table<GroupRecord>, AllocError> {
+    let mut text = String::new(alloc);
+    for number in 1..=count {
+        write!(text, "g{number}:x:{number}:\n")?;
+    }
+    Table::load(alloc, text.as_bytes())
+}
+
+#[test]
+fn each_of_many_groups_is_found_and_counted_at_once(rt: HostRuntime) -> Result<(), Fail> {
+    let alloc = rt.alloc();
+    let table = many_groups(alloc, 200000)?;
+    for number in 1..200001 {
+        let name = format!(in alloc; "g{number}")?;
+        let other = format!(in alloc; "h{number}")?;
+        assert_eq!(rt; gid_of(table.find(name.as_bytes())), Some(number));
+        assert_eq!(rt; table.count(name.as_bytes()), 1);
+        assert_eq!(rt; gid_of(table.find(other.as_bytes())), None);
+        assert_eq!(rt; table.count(other.as_bytes()), 0);
+    }
     Ok(())
 }

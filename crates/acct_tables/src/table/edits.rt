@@ -9,6 +9,7 @@ ghost use Rattle.acct_tables.specs.Refusals.{AnswersRefusal, single_refusal, pre
 ghost use Rattle.acct_tables.specs.TableLines.{changed_at, with_record, with_record_at};
 
 use super::Table;
+use super::names::TableNames;
 use crate::line::TableLine;
 use crate::{TableFault, TableRecord};
 use std::alloc::{AllocError, Global};
@@ -38,22 +39,16 @@ impl<R: TableRecord + Drop> Table<R> {
         ensures appended { OnOk result (self.new ≡ with_line (R.format.print item) self.old) }
         ensures unchanged { OnErr result (self.new ≡ self.old) }
     {
-        let line = TableLine::of(self.allocator(), item, true)?;
+        let alloc = self.allocator();
+        let name = Vec::from_slice(alloc, item.name())?;
+        let line = TableLine::of(alloc, item, true)?;
         self.lines.push(line)?;
+        let place = self.lines.len() - 1;
+        if let Err(fault) = self.names.add(name, place) {
+            self.lines.pop();
+            return Err(fault);
+        }
         end_all(&mut self.lines);
-        Ok(())
-    }
-
-    /// Adds a record behind the last line, where each line has an end: `append_any`, without a pass
-    /// over the table. At `AllocError` the table is as before.
-    pub fn append_ended(&mut self, item: R) -> Result<(), AllocError>
-        requires written { IsWritten R.format item }
-        requires ended { map as_ended self.old ≡ self.old }
-        ensures appended { OnOk result (self.new ≡ with_line (R.format.print item) self.old) }
-        ensures unchanged { OnErr result (self.new ≡ self.old) }
-    {
-        let line = TableLine::of(self.allocator(), item, true)?;
-        self.lines.push(line)?;
         Ok(())
     }
 
@@ -104,7 +99,12 @@ impl<R: TableRecord + Drop> Table<R> {
         ensures unchanged { OnErr result (self.new ≡ self.old) }
     {
         let alloc = self.allocator();
-        self.lines[place].put(alloc, item)
+        let before = &self.lines[..place];
+        let behind = &self.lines[place + 1..];
+        let names = TableNames::around(alloc, before, &item, behind)?;
+        self.lines[place].put(alloc, item)?;
+        self.names = names;
+        Ok(())
     }
 
     /// Puts the line of a new record, with an end, in front of the line at a place; at the end it
@@ -118,8 +118,12 @@ impl<R: TableRecord + Drop> Table<R> {
         if place == self.lines.len() {
             return self.append_any(item);
         }
-        let line = TableLine::of(self.allocator(), item, true)?;
+        let alloc = self.allocator();
+        let before = &self.lines[..place];
+        let names = TableNames::around(alloc, before, &item, &self.lines[place..])?;
+        let line = TableLine::of(alloc, item, true)?;
         self.lines.insert(place, line)?;
+        self.names = names;
         Ok(())
     }
 
@@ -129,7 +133,12 @@ impl<R: TableRecord + Drop> Table<R> {
         ensures removed { OnOk result (self.new ≡ remove self.old place) }
         ensures unchanged { OnErr result (self.new ≡ self.old) }
     {
+        let alloc = self.allocator();
+        let before = &self.lines[..place];
+        let behind = &self.lines[place + 1..];
+        let names = TableNames::of_both(alloc, before, behind)?;
         self.lines.remove(place);
+        self.names = names;
         Ok(())
     }
 

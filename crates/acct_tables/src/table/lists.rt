@@ -29,7 +29,7 @@ impl<R: ListRecord + Drop> Table<R> {
         if let Some(fault) = self.list_fault(old) {
             return Err(fault);
         }
-        self.lines = self.renamed_lines(old, new)?;
+        *self = Table::of_lines(*self.lines.allocator(), self.renamed_lines(old, new)?)?;
         Ok(())
     }
 

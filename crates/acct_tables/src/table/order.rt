@@ -20,7 +20,7 @@ impl<R: TableRecord + Drop> Table<R> {
         ensures arranged { OnOk result (self.new ≡ arranged R.format places.now self.old) }
         ensures unchanged { OnErr result (self.new ≡ self.old) }
     {
-        self.lines = self.arranged_lines(places)?;
+        *self = Table::of_lines(*self.lines.allocator(), self.arranged_lines(places)?)?;
         Ok(())
     }
 

@@ -1,14 +1,20 @@
-use Rattle.std.proofs.Common.{arith}
-use Rattle.acct_tables.proofs.LoadedLines.{line-lacks, all-lines}
+use Rattle.std.proofs.Common.{◌∙◌, [], ◌∷◌, ◌++◌, length, ap, arith}
+use Rattle.acct_text.specs.Lines.{Line, lines_of}
+use Rattle.acct_tables.specs.SeenLines.{seen_line}
+use Rattle.acct_tables.proofs.LoadedLines.{all-taken, next-taken}
 use Rattle.acct_tables.proofs.edited_lines.EditedLines.of.Goals as goal
 
-pub of-requires : goal.of-requires
-of-requires c =
-    line-lacks c.args.text.now c.in_ok-places.places.items c.deref-start-items.result.now
-    c.lines.start-index c.deref-start-items.ensures.value c.in_ok-places.ensures.texts (omega arith)
+pub lines-preserved : goal.lines-preserved
+lines-preserved c =
+    let done = c.lines.kept.items in
+    next-taken done c.lines.left (lines_of c.args.text.now) c.lines.invariant c.push.new.self.items
+    c.take.new.self (seen_line c.in-Some.line) c.in-Some.ensures.taken
+    (c.in_ok-push.ensures.items ∙ ap (λ (l : Line). done ++ l ∷ []) c.of-edited.ensures)
+
+pub lines-smaller : goal.lines-smaller
+lines-smaller c = omega (arith, ap length c.in-Some.ensures.taken)
 
 pub returns : goal.returns
 returns c =
-    all-lines c.args.text.now c.in_ok-places.places.items c.deref-start-items.result.now
-    c.lines.start-index c.lines.kept.items c.deref-start-items.ensures.value
-    c.in_ok-places.ensures.places c.in_ok-places.ensures.texts (omega arith) c.lines.invariant
+    all-taken c.lines.kept.items c.lines.left (lines_of c.args.text.now) c.lines.invariant
+    c.in_default.ensures.taken

@@ -1,7 +1,10 @@
-use Rattle.std.proofs.Common.{◌≡◌, map, take}
-use Rattle.acct_tables.proofs.LoadedLines.{line_at}
+use Rattle.std.proofs.Common.{◌≡◌, ◌++◌, length}
+use Rattle.acct_text.specs.Lines.{lines_of}
 use Rattle.acct_tables.proofs.edited_lines.EditedLines.of.Given as goal
 
--- the lines so far are those at the places so far
+-- the lines so far and those left are all
 abbrev pub invariant-lines : goal.invariant-lines
-invariant-lines l = l.kept.items ≡ map (line_at l.text) (take l.start-index l.start-items)
+invariant-lines l = l.kept.items ++ l.left ≡ lines_of l.text
+
+abbrev pub decreases-lines : goal.decreases-lines
+decreases-lines l = length l.left
