@@ -1,0 +1,5 @@
+mod ActLemmas
+mod SceneLemmas
+mod StepLemmas
+mod StagedLemmas
+mod StagedCalls

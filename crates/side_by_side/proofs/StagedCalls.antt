@@ -1,0 +1,314 @@
+-- Claims: what a call of a staged folder tells, in the words of the trait: after the events of its
+-- sessions (`calls-so`, `lists-so`, `reads-so`, `begins-so`), or where these found no
+-- memory (`want-of` and its likes); and that they take part still (`part-so`, `begin-part`).
+-- Way: StagedLemmas. The staged folder is `start` before and `between` after the steps of its sessions;
+-- `folder` is the folder in memory after its own call.
+use Rattle.std.proofs.Common.{◌≡◌, refl, sym, subst, ℕ, ◌≤◌, List, Some, Result, Ok, Err, arith}
+use Rattle.std.specs.Prelude.{IfOk, IsErr, IsErrAnd, IsErrOf}
+use Rattle.std.specs.Global.{Vec}
+use Rattle.acct_outside.specs.declared.Name.{Name}
+use Rattle.acct_outside.specs.declared.FolderFault.{FolderFault}
+use Rattle.acct_outside.specs.declared.FolderFault.TheVariants.{Failed, Memory}
+use Rattle.acct_outside.specs.declared.Found.{Found as Reading}
+use Rattle.acct_outside.specs.declared.memory.MemoryFolder.{MemoryFolder}
+use Rattle.acct_outside.specs.Tokens.{Token}
+use Rattle.acct_outside.specs.Folder.{Folder}
+use Rattle.acct_outside.specs.Calls.{Answer, Call, CallResult, Command, answers, lists, reads}
+use Rattle.acct_outside.specs.Contract.{BeginsSession, CallsFolder, GivesRead, ListsLocks, MayAct, MayAnswer, NeverAdmits, Passes, ReadsFolder, Tells, TellsBegin, TellsCall, TellsRead, WhereTold, found_result, locks_result}
+use Rattle.acct_outside.specs.Faults.{CountsFailure}
+use Rattle.acct_outside.specs.Gives.{GivesResult}
+use Rattle.acct_outside.specs.History.{History, after}
+use Rattle.acct_outside.specs.Memory.{TellsIn, faults_of, moment_of, no_others, past_of}
+use Rattle.suite_session.specs.declared.session.Phase.{Phase}
+use Rattle.side_by_side.specs.Scenes.{Scene, TakePart, scene, telling}
+use Rattle.side_by_side.specs.Advances.{Advances, IsOutsider, by_sessions}
+use Rattle.side_by_side.specs.Staged.{scene_in, staged_moment}
+use Rattle.side_by_side.proofs.SceneLemmas.{advances-narrow, advances-none}
+use Rattle.side_by_side.proofs.StagedLemmas.{OneCame, acting-outside, answering-outside, begin-strangers, begins-after, begun-one, begun-outside, begun_token, never-outsiders, part-after, passes-after, tells-after, told-one}
+
+-- what the folder gives to a call
+abbrev pub gives_call : Token → (call : Call) → Folder → History → CallResult (Answer call) → Type 0
+gives_call token call first between result =
+    GivesResult (after first between) between token call result
+
+-- what it gives to a read up to a limit
+abbrev pub gives_read : ℕ → (name : Name) → Folder → History → CallResult (Answer (reads name)) → Type 0
+gives_read limit name first between result = GivesRead limit (after first between) name result
+
+module _ (start between : MemoryFolder × List Phase) (folder : MemoryFolder)
+    (advances : Advances (scene_in start) (scene_in between)) (token : Token) where
+  -- the scene after the call
+  abbrev later : Scene
+  later = scene folder between.1
+
+  -- a call
+  pub calls-so : (call : Call) (result : Result (Answer call) FolderFault) →
+      TellsIn between.0 folder token call result →
+      CountsFailure Failed (faults_of between.0) (faults_of folder) result →
+      CallsFolder (staged_moment start) (staged_moment (folder, between.1)) token call result
+  calls-so call result told counts =
+      passes-after (scene_in start) (scene_in between) later advances refl token
+      (told-one (telling between.0) (telling folder) token call (gives_call token call) result told)
+      _ (tells-after (scene_in start) (scene_in between) later advances refl token call
+      (gives_call token call) result told) result counts
+
+  -- a listing
+  pub lists-so : (result : Result (Vec ℕ) FolderFault) →
+      TellsIn between.0 folder token lists (locks_result result) →
+      CountsFailure Failed (faults_of between.0) (faults_of folder) result →
+      ListsLocks (staged_moment start) (staged_moment (folder, between.1)) token result
+  lists-so result told counts =
+      passes-after (scene_in start) (scene_in between) later advances refl token
+      (told-one (telling between.0) (telling folder) token lists (gives_call token lists)
+      (locks_result result) told)
+      _ (tells-after (scene_in start) (scene_in between) later advances refl token lists
+      (gives_call token lists) (locks_result result) told) result counts
+
+  -- a read
+  pub reads-so : (name : Name) (limit : ℕ) (result : Result Reading FolderFault) →
+      TellsRead (moment_of between.0) (moment_of folder) token name limit result →
+      CountsFailure Failed (faults_of between.0) (faults_of folder) result →
+      ReadsFolder (staged_moment start) (staged_moment (folder, between.1)) token name limit result
+  reads-so name limit result told counts =
+      passes-after (scene_in start) (scene_in between) later advances refl token
+      (told-one (telling between.0) (telling folder) token (reads name) (gives_read limit name)
+      (found_result result) told)
+      _ (tells-after (scene_in start) (scene_in between) later advances refl token (reads name)
+      (gives_read limit name) (found_result result) told) result counts
+
+  -- the sessions after a call of an outsider
+  pub part-so : (call : Call) (gives : Folder → History → CallResult (Answer call) → Type 0)
+      (result : Result (Answer call) FolderFault) →
+      WhereTold (Some (past_of between.0)) (Some (past_of folder))
+      (λ first old new. TellsCall no_others token call (gives first) result old new) →
+      IsOutsider (scene_in start) token → TakePart (scene_in between) → TakePart later
+  part-so call gives result told outsider part =
+      part-after (telling between.0) (telling folder) token
+      (told-one (telling between.0) (telling folder) token call gives result told) between.1
+      (advances.outsiders token outsider).stranger part
+
+-- ---- Where the sessions found no memory
+
+module _ (start between : MemoryFolder × List Phase)
+    (advances : Advances (scene_in start) (scene_in between)) where
+  -- the folder passes on with what is told
+  want-passes : {T : Type 0} (Told : Type 0) → Told →
+      Passes {T = T} (staged_moment start) (staged_moment between) Told (Err Memory)
+  want-passes Told told = record {
+    told = told;
+    narrows = advances-narrow (scene_in start) (scene_in between) advances;
+    faults = record {
+      never_falls = advances.never_falls;
+      failed = λ is. absurd (cc is);
+    };
+  }
+
+  -- a result that passes on want of memory
+  want-result : (T : Type 0) (Told : Result T FolderFault → Type 0) → Told (Err Memory) →
+      (result : Result T FolderFault) → IsErr result × IsErrAnd result (λ fault. fault ≡ Memory) →
+      Passes (staged_moment start) (staged_moment between) (Told result) result
+  want-result T Told told (Ok value) is = absurd (cc (is.0))
+  want-result T Told told (Err fault) is =
+      subst (λ (one : FolderFault). Passes {T = T} (staged_moment start) (staged_moment between)
+      (Told (Err one)) (Err one)) (sym is.1) (want-passes (Told (Err Memory)) told)
+
+  -- a call
+  pub want-of : (token : Token) (call : Call) (result : Result (Answer call) FolderFault) →
+      IsErr result × IsErrAnd result (λ fault. fault ≡ Memory) →
+      CallsFolder (staged_moment start) (staged_moment between) token call result
+  want-of token call = want-result (Answer call)
+      (Tells (staged_moment start) (staged_moment between) token call)
+      (advances.first, advances.came)
+
+  -- a listing
+  pub want-lists : (token : Token) (result : Result (Vec ℕ) FolderFault) →
+      IsErr result × IsErrAnd result (λ fault. fault ≡ Memory) →
+      ListsLocks (staged_moment start) (staged_moment between) token result
+  want-lists token = want-result (Vec ℕ)
+      (λ result. Tells (staged_moment start) (staged_moment between) token lists (locks_result result))
+      (advances.first, advances.came)
+
+  -- a read
+  pub want-reads : (token : Token) (name : Name) (limit : ℕ) (result : Result Reading FolderFault) →
+      IsErr result × IsErrAnd result (λ fault. fault ≡ Memory) →
+      ReadsFolder (staged_moment start) (staged_moment between) token name limit result
+  want-reads token name limit = want-result Reading
+      (TellsRead (staged_moment start) (staged_moment between) token name limit)
+      (advances.first, advances.came)
+
+  -- a begin
+  pub want-begins : (command : Command) (result : Result Token FolderFault) →
+      IsErr result × IsErrAnd result (λ fault. fault ≡ Memory) →
+      BeginsSession (staged_moment start) (staged_moment between) command result
+  want-begins command = want-result Token
+      (λ result. WhereTold (staged_moment start).told (staged_moment between).told
+      (TellsBegin (staged_moment start).admits command result))
+      (advances.first, advances.came)
+
+-- ---- A begin
+
+module _ (start between : MemoryFolder × List Phase) (folder : MemoryFolder)
+    (advances : Advances (scene_in start) (scene_in between)) (part : TakePart (scene_in between))
+    (command : Command) (result : Result Token FolderFault)
+    (told : WhereTold (Some (past_of between.0)) (Some (past_of folder))
+    (TellsBegin no_others command result)) where
+  -- its one event
+  begin-one : OneCame (telling between.0) (telling folder) (begun_token result)
+  begin-one = begun-one (telling between.0) (telling folder) command result told
+
+  -- what it tells
+  pub begins-so : CountsFailure Failed (faults_of between.0) (faults_of folder) result →
+      BeginsSession (staged_moment start) (staged_moment (folder, between.1)) command result
+  begins-so counts =
+      passes-after (scene_in start) (scene_in between) (scene folder between.1) advances refl
+      (begun_token result) begin-one _
+      (begins-after (scene_in start) (scene_in between) (scene folder between.1) advances refl
+      command result told) result counts
+
+  -- the sessions after it
+  pub begin-part : TakePart (scene folder between.1)
+  begin-part = part-after (telling between.0) (telling folder) (begun_token result) begin-one between.1
+      (begin-strangers (telling between.0) (telling folder) command result told between.1 part.each)
+      part
+
+-- none of the events of the session that begins is admitted
+pub begin-own : (between : MemoryFolder × List Phase) (folder : MemoryFolder) →
+    TakePart (scene_in between) → (command : Command) (result : Result Token FolderFault) →
+    WhereTold (Some (past_of between.0)) (Some (past_of folder))
+    (TellsBegin no_others command result) →
+    IfOk result (NeverAdmits (by_sessions (scene folder between.1)))
+begin-own between folder part command (Ok token) told =
+    never-outsiders (scene folder between.1) token
+    (begun-outside (telling between.0) (telling folder) command token told between.1 part.each)
+begin-own between folder part command (Err fault) told = tt
+
+-- ---- In the words of a call, whose staged folder has this value before
+
+module _ (start value between : MemoryFolder × List Phase) (folder : MemoryFolder)
+    (is : start ≡ value) (advances : Advances (scene_in start) (scene_in between)) where
+  -- what is said of the parts is said of the value
+  said : (Says : MemoryFolder × List Phase → Type 0) → Says start → Says value
+  said Says told = subst Says is told
+
+  -- who may call is an outsider
+  may-outside : (token : Token) → MayAct (staged_moment value) token → IsOutsider (scene_in start) token
+  may-outside token may = acting-outside (scene_in start) token
+      (subst (λ (parts : MemoryFolder × List Phase). MayAct (staged_moment parts) token) (sym is) may)
+
+  -- a call
+  pub calls-told : (token : Token) (call : Call) (result : Result (Answer call) FolderFault) →
+      TellsIn between.0 folder token call result →
+      CountsFailure Failed (faults_of between.0) (faults_of folder) result →
+      CallsFolder (staged_moment value) (staged_moment (folder, between.1)) token call result
+  calls-told token call result told counts = said
+      (λ parts. CallsFolder (staged_moment parts) (staged_moment (folder, between.1)) token call result)
+      (calls-so start between folder advances token call result told counts)
+
+  -- the sessions after it
+  pub calls-part : (token : Token) (call : Call) (result : Result (Answer call) FolderFault) →
+      TellsIn between.0 folder token call result → MayAct (staged_moment value) token →
+      TakePart (scene_in between) → TakePart (scene folder between.1)
+  calls-part token call result told may = part-so start between folder advances token call
+      (gives_call token call) result told (may-outside token may)
+
+  -- a listing
+  pub lists-told : (token : Token) (result : Result (Vec ℕ) FolderFault) →
+      TellsIn between.0 folder token lists (locks_result result) →
+      CountsFailure Failed (faults_of between.0) (faults_of folder) result →
+      ListsLocks (staged_moment value) (staged_moment (folder, between.1)) token result
+  lists-told token result told counts = said
+      (λ parts. ListsLocks (staged_moment parts) (staged_moment (folder, between.1)) token result)
+      (lists-so start between folder advances token result told counts)
+
+  -- a read
+  pub reads-told : (token : Token) (name : Name) (limit : ℕ) (result : Result Reading FolderFault) →
+      TellsRead (moment_of between.0) (moment_of folder) token name limit result →
+      CountsFailure Failed (faults_of between.0) (faults_of folder) result →
+      ReadsFolder (staged_moment value) (staged_moment (folder, between.1)) token name limit result
+  reads-told token name limit result told counts = said
+      (λ parts. ReadsFolder (staged_moment parts) (staged_moment (folder, between.1)) token name limit
+      result)
+      (reads-so start between folder advances token name limit result told counts)
+
+  -- the sessions after it
+  pub reads-part : (token : Token) (name : Name) (limit : ℕ) (result : Result Reading FolderFault) →
+      TellsRead (moment_of between.0) (moment_of folder) token name limit result →
+      MayAct (staged_moment value) token → TakePart (scene_in between) →
+      TakePart (scene folder between.1)
+  reads-part token name limit result told may = part-so start between folder advances token
+      (reads name) (gives_read limit name) (found_result result) told (may-outside token may)
+
+  -- a begin
+  pub begins-told : (command : Command) (result : Result Token FolderFault) →
+      WhereTold (Some (past_of between.0)) (Some (past_of folder))
+      (TellsBegin no_others command result) →
+      CountsFailure Failed (faults_of between.0) (faults_of folder) result →
+      TakePart (scene_in between) →
+      BeginsSession (staged_moment value) (staged_moment (folder, between.1)) command result
+  begins-told command result told counts part = said
+      (λ parts. BeginsSession (staged_moment parts) (staged_moment (folder, between.1)) command result)
+      (begins-so start between folder advances part command result told counts)
+
+module _ (start value between : MemoryFolder × List Phase) (is : start ≡ value)
+    (advances : Advances (scene_in start) (scene_in between)) where
+  -- want of memory, of a call
+  pub want-told : (token : Token) (call : Call) (result : Result (Answer call) FolderFault) →
+      IsErr result × IsErrAnd result (λ fault. fault ≡ Memory) →
+      CallsFolder (staged_moment value) (staged_moment between) token call result
+  want-told token call result none = subst
+      (λ (parts : MemoryFolder × List Phase). CallsFolder (staged_moment parts)
+      (staged_moment between) token call result) is
+      (want-of start between advances token call result none)
+
+  -- of a listing
+  pub want-listed : (token : Token) (result : Result (Vec ℕ) FolderFault) →
+      IsErr result × IsErrAnd result (λ fault. fault ≡ Memory) →
+      ListsLocks (staged_moment value) (staged_moment between) token result
+  want-listed token result none = subst
+      (λ (parts : MemoryFolder × List Phase). ListsLocks (staged_moment parts)
+      (staged_moment between) token result) is
+      (want-lists start between advances token result none)
+
+  -- of a read
+  pub want-read : (token : Token) (name : Name) (limit : ℕ) (result : Result Reading FolderFault) →
+      IsErr result × IsErrAnd result (λ fault. fault ≡ Memory) →
+      ReadsFolder (staged_moment value) (staged_moment between) token name limit result
+  want-read token name limit result none = subst
+      (λ (parts : MemoryFolder × List Phase). ReadsFolder (staged_moment parts)
+      (staged_moment between) token name limit result) is
+      (want-reads start between advances token name limit result none)
+
+  -- of a begin
+  pub want-begun : (command : Command) (result : Result Token FolderFault) →
+      IsErr result × IsErrAnd result (λ fault. fault ≡ Memory) →
+      BeginsSession (staged_moment value) (staged_moment between) command result
+  want-begun command result none = subst
+      (λ (parts : MemoryFolder × List Phase). BeginsSession (staged_moment parts)
+      (staged_moment between) command result) is
+      (want-begins start between advances command result none)
+
+-- who may answer is an outsider, so the sessions take part still, and the answer is told
+module _ (start value : MemoryFolder × List Phase) (folder : MemoryFolder) (is : start ≡ value)
+    (token : Token) (status : ℕ)
+    (told : TellsIn start.0 folder token (answers status) (Ok tt)) where
+  -- the sessions after it
+  pub answered-part : MayAnswer (staged_moment value) token → TakePart (scene_in start) →
+      TakePart (scene folder start.1)
+  answered-part may part = part-so start start folder (advances-none (scene_in start)) token
+      (answers status) (gives_call token (answers status)) (Ok tt) told
+      (answering-outside (scene_in start) token
+      (subst (λ (parts : MemoryFolder × List Phase). MayAnswer (staged_moment parts) token) (sym is)
+      may)) part
+
+  -- what it tells
+  pub answered-told : faults_of folder ≡ faults_of start.0 →
+      CallsFolder (staged_moment value) (staged_moment (folder, start.1)) token (answers status)
+      (Ok tt)
+  answered-told same = subst
+      (λ (parts : MemoryFolder × List Phase). CallsFolder (staged_moment parts)
+      (staged_moment (folder, start.1)) token (answers status) (Ok tt)) is
+      (calls-so start start folder (advances-none (scene_in start)) token (answers status) (Ok tt)
+      told (record {
+        never_falls = subst (λ (count : ℕ). faults_of start.0 ≤ count) (sym same) (omega arith);
+        failed = λ wrong. absurd (cc wrong);
+      }))

@@ -1,0 +1,5 @@
+pub mod Places
+pub mod Scenes
+pub mod Steps
+pub mod Advances
+pub mod Staged
