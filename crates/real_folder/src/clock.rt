@@ -116,6 +116,3 @@ impl<R: SystemClock + Env + AllocGlobal + Drop> Clock for RealClock<R> {
         self.faults.count
     }
 }
-
-#[cfg(test)]
-mod tests;

@@ -109,21 +109,3 @@ impl Faults {
         self.last = None;
     }
 }
-
-#[cfg(test)]
-mod tests {
-    use super::*;
-    use std::test::Fail;
-
-    #[test]
-    fn a_reason_stands_without_its_number(rt: HostRuntime) -> Result<(), Fail> {
-        let full = SystemError::new(rt.alloc(), "etc/shadow", io::Error::from_raw_os_error(28));
-        assert_eq!(rt;
-            full.text(rt.alloc())?.as_str(),
-            "etc/shadow: No space left on device"
-        );
-        let own = SystemError::from(io::Error::other("A is no B"));
-        assert_eq!(rt; own.text(rt.alloc())?.as_str(), "A is no B");
-        Ok(())
-    }
-}

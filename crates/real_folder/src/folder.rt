@@ -261,6 +261,3 @@ fn links_at(name: Name) -> Links {
         _ => Links::Refused,
     }
 }
-
-#[cfg(test)]
-mod tests;

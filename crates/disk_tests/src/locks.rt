@@ -1,7 +1,13 @@
 // What a real folder does with the files of locks, and what it tells of their holders.
-use super::linkless::Linkless;
-use super::*;
-use std::str;
+use crate::calls::{entered, holds, image, is_so, mode_of, put, tells, token};
+use crate::linkless::Linkless;
+use acct_outside::{Created, Folder, Name, Token, Verdict};
+use acct_text::Bytes;
+use real_folder::RealFolder;
+use std::fs::File;
+use std::rt::Files;
+use std::test::Fail;
+use std::{fs, str};
 
 /// A token of another boot and another namespace, whose holder locked its file in the kernel.
 const ELSEWHERE: &str = "00000000-0000-4000-8000-000000000000.1.1.1.flock";

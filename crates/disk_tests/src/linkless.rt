@@ -7,12 +7,12 @@ use std::rt::Files;
 
 /// The files of a runtime without hard links: the trait's own `hard_link` refuses each.
 #[derive(Clone, Drop)]
-pub(super) struct Linkless<R: Files + Clone + Drop> {
+pub(crate) struct Linkless<R: Files + Clone + Drop> {
     rt: R,
 }
 
 impl<R: Files + Clone + Drop> Linkless<R> {
-    pub(super) fn new(rt: R) -> Self {
+    pub(crate) fn new(rt: R) -> Self {
         Linkless { rt }
     }
 }

@@ -1,20 +1,17 @@
 // What a real folder does on a disk, which no clause can say. The images stand in out/, which is no part
-// of the repository. A test makes the folder, and lends it to a function that tries it: on each of its
-// ways out that one drops little, so it is soon proved.
+// of the repository.
 ghost use Rattle.acct_outside.specs.Contract.{IsName};
 
-use super::*;
-use acct_outside::{Folder, Verdict};
-use acct_text::Tab;
+use acct_outside::{Folder, Found, Name, Token};
+use acct_text::{Bytes, Tab};
+use real_folder::RealFolder;
+use std::fs;
 use std::fs::Permissions;
 use std::os::unix::fs::{MetadataExt, PermissionsExt, symlink};
 use std::test::Fail;
 
-mod linkless;
-mod locks;
-
 /// The folder DIR/etc of a new image with no files.
-fn image(rt: &HostRuntime, dir: &str) -> Result<RealFolder<HostRuntime>, Fail> {
+pub(crate) fn image(rt: &HostRuntime, dir: &str) -> Result<RealFolder<HostRuntime>, Fail> {
     let alloc = rt.alloc();
     let etc = format!(in alloc; "{dir}/etc")?;
     let _ = fs::remove_dir_all(rt, dir);
@@ -23,14 +20,14 @@ fn image(rt: &HostRuntime, dir: &str) -> Result<RealFolder<HostRuntime>, Fail> {
 }
 
 /// The folder DIR/etc as it stands, if it does.
-fn entered(rt: &HostRuntime, dir: &str) -> Result<RealFolder<HostRuntime>, Fail> {
+pub(crate) fn entered(rt: &HostRuntime, dir: &str) -> Result<RealFolder<HostRuntime>, Fail> {
     let mut folder = RealFolder::new(rt.clone()?);
     folder.enter(&Bytes::of(rt.alloc(), dir.as_bytes())?)?;
     Ok(folder)
 }
 
 /// A token of no process.
-fn token(rt: &HostRuntime, text: &str) -> Result<Token, Fail> {
+pub(crate) fn token(rt: &HostRuntime, text: &str) -> Result<Token, Fail> {
     match Token::read(rt.alloc(), text.as_bytes())? {
         Some(token) => Ok(token),
         None => Err(Fail::from("no token")),
@@ -38,24 +35,24 @@ fn token(rt: &HostRuntime, text: &str) -> Result<Token, Fail> {
 }
 
 /// Makes a table that its group may read.
-fn make_shadow(rt: &HostRuntime, path: &str) -> Result<(), Fail> {
+pub(crate) fn make_shadow(rt: &HostRuntime, path: &str) -> Result<(), Fail> {
     fs::write(rt, path, "old\n")?;
     fs::set_permissions(rt, path, Permissions::from_mode(0o640))?;
     Ok(())
 }
 
 /// The mode of a file.
-fn mode_of(rt: &HostRuntime, path: &str) -> Result<u32, Fail> {
+pub(crate) fn mode_of(rt: &HostRuntime, path: &str) -> Result<u32, Fail> {
     Ok(fs::metadata(rt, path)?.mode() % 0o1000)
 }
 
 /// Fails where the fact isn't so.
-fn is_so(is_so: bool, fact: &'static str) -> Result<(), Fail> {
+pub(crate) fn is_so(is_so: bool, fact: &'static str) -> Result<(), Fail> {
     if is_so { Ok(()) } else { Err(Fail::from(fact)) }
 }
 
 /// Writes a text at a name.
-fn put(
+pub(crate) fn put(
     rt: &HostRuntime,
     folder: &mut RealFolder<HostRuntime>,
     by: &Token,
@@ -69,7 +66,7 @@ fn put(
 }
 
 /// Whether a write of a text at a name fails.
-fn fails_to_put(
+pub(crate) fn fails_to_put(
     rt: &HostRuntime,
     folder: &mut RealFolder<HostRuntime>,
     by: &Token,
@@ -85,12 +82,12 @@ fn fails_to_put(
 }
 
 /// Whether a file holds the text.
-fn holds(rt: &HostRuntime, path: &str, text: &str) -> Result<bool, Fail> {
+pub(crate) fn holds(rt: &HostRuntime, path: &str, text: &str) -> Result<bool, Fail> {
     Ok(fs::read_to_string(rt, path)?.as_str() == text)
 }
 
 /// Whether a read finds the text.
-fn finds(
+pub(crate) fn finds(
     folder: &mut RealFolder<HostRuntime>,
     by: &Token,
     name: Name,
@@ -106,18 +103,88 @@ fn finds(
 }
 
 /// Whether the last error is told so.
-fn tells(rt: &HostRuntime, folder: &RealFolder<HostRuntime>, text: &str) -> Result<bool, Fail> {
+pub(crate) fn tells(
+    rt: &HostRuntime,
+    folder: &RealFolder<HostRuntime>,
+    text: &str,
+) -> Result<bool, Fail> {
     match folder.last_error() {
         Some(error) => Ok(error.text(rt.alloc())?.as_str() == text),
         None => Ok(false),
     }
 }
 
+/// What is tried of a folder, each on an image of its own.
+#[derive(Clone, Copy)]
+enum Trial {
+    /// Locks are listed by their numbers.
+    Listing,
+    /// A staged table is its owner's alone.
+    Staging,
+    /// A table keeps its mode.
+    Mode,
+    /// A backup takes the table's mode.
+    Backup,
+    /// A rename of nothing is a fault.
+    Rename,
+    /// What is absent is removed at once.
+    Removal,
+    /// An intent that stands is read.
+    Intent,
+    /// A table is read up to its limit.
+    Limit,
+    /// A link is no table.
+    Link,
+    /// A folder is no table.
+    Folder,
+    /// A link may stand for login.defs.
+    Settings,
+}
+
+/// The image of each trial.
+const TRIALS: [(&str, Trial); 11] = [
+    ("out/listed", Trial::Listing),
+    ("out/staged", Trial::Staging),
+    ("out/kept", Trial::Mode),
+    ("out/backup", Trial::Backup),
+    ("out/nothing", Trial::Rename),
+    ("out/removed", Trial::Removal),
+    ("out/intent", Trial::Intent),
+    ("out/limit", Trial::Limit),
+    ("out/links", Trial::Link),
+    ("out/folders", Trial::Folder),
+    ("out/defs", Trial::Settings),
+];
+
 #[test]
-fn locks_are_listed_by_number(rt: HostRuntime) -> Result<(), Fail> {
+fn each_call_does_as_it_says(rt: HostRuntime) -> Result<(), Fail> {
     let by = token(&rt, "me")?;
-    let mut folder = image(&rt, "out/listed")?;
-    lists_by_number(&rt, &mut folder, &by)
+    for (dir, trial) in TRIALS {
+        let mut folder = image(&rt, dir)?;
+        tries(&rt, &mut folder, &by, trial)?;
+    }
+    Ok(())
+}
+
+fn tries(
+    rt: &HostRuntime,
+    folder: &mut RealFolder<HostRuntime>,
+    by: &Token,
+    trial: Trial,
+) -> Result<(), Fail> {
+    match trial {
+        Trial::Listing => lists_by_number(rt, folder, by),
+        Trial::Staging => stages_for_the_owner_alone(rt, folder, by),
+        Trial::Mode => keeps_the_mode(rt, folder, by),
+        Trial::Backup => backs_up_with_the_mode(rt, folder, by),
+        Trial::Rename => fails_to_rename_nothing(rt, folder, by),
+        Trial::Removal => removes_what_is_absent(rt, folder, by),
+        Trial::Intent => reads_an_intent(rt, folder, by),
+        Trial::Limit => reads_up_to_the_limit(rt, folder, by),
+        Trial::Link => refuses_a_link(rt, folder, by),
+        Trial::Folder => refuses_a_folder(rt, folder, by),
+        Trial::Settings => follows_a_link(rt, folder, by),
+    }
 }
 
 fn lists_by_number(
@@ -145,13 +212,6 @@ fn lists_by_number(
     Ok(())
 }
 
-#[test]
-fn a_staged_table_is_its_owners_alone(rt: HostRuntime) -> Result<(), Fail> {
-    let by = token(&rt, "me")?;
-    let mut folder = image(&rt, "out/staged")?;
-    stages_for_the_owner_alone(&rt, &mut folder, &by)
-}
-
 fn stages_for_the_owner_alone(
     rt: &HostRuntime,
     folder: &mut RealFolder<HostRuntime>,
@@ -174,13 +234,6 @@ fn stages_for_the_owner_alone(
     Ok(())
 }
 
-#[test]
-fn a_table_keeps_its_mode(rt: HostRuntime) -> Result<(), Fail> {
-    let by = token(&rt, "me")?;
-    let mut folder = image(&rt, "out/kept")?;
-    keeps_the_mode(&rt, &mut folder, &by)
-}
-
 fn keeps_the_mode(
     rt: &HostRuntime,
     folder: &mut RealFolder<HostRuntime>,
@@ -198,13 +251,6 @@ fn keeps_the_mode(
         "the table has mode 640",
     )?;
     Ok(())
-}
-
-#[test]
-fn a_backup_takes_the_tables_mode(rt: HostRuntime) -> Result<(), Fail> {
-    let by = token(&rt, "me")?;
-    let mut folder = image(&rt, "out/backup")?;
-    backs_up_with_the_mode(&rt, &mut folder, &by)
 }
 
 fn backs_up_with_the_mode(
@@ -226,13 +272,6 @@ fn backs_up_with_the_mode(
     Ok(())
 }
 
-#[test]
-fn a_rename_of_nothing_is_a_fault(rt: HostRuntime) -> Result<(), Fail> {
-    let by = token(&rt, "me")?;
-    let mut folder = image(&rt, "out/nothing")?;
-    fails_to_rename_nothing(&rt, &mut folder, &by)
-}
-
 fn fails_to_rename_nothing(
     rt: &HostRuntime,
     folder: &mut RealFolder<HostRuntime>,
@@ -244,13 +283,6 @@ fn fails_to_rename_nothing(
     )?;
     is_so(folder.faults() == 1, "one fault is counted")?;
     Ok(())
-}
-
-#[test]
-fn what_is_absent_is_removed_at_once(rt: HostRuntime) -> Result<(), Fail> {
-    let by = token(&rt, "me")?;
-    let mut folder = image(&rt, "out/removed")?;
-    removes_what_is_absent(&rt, &mut folder, &by)
 }
 
 fn removes_what_is_absent(
@@ -269,13 +301,6 @@ fn removes_what_is_absent(
     Ok(())
 }
 
-#[test]
-fn an_intent_that_stands_is_read(rt: HostRuntime) -> Result<(), Fail> {
-    let by = token(&rt, "me")?;
-    let mut folder = image(&rt, "out/intent")?;
-    reads_an_intent(&rt, &mut folder, &by)
-}
-
 fn reads_an_intent(
     rt: &HostRuntime,
     folder: &mut RealFolder<HostRuntime>,
@@ -288,13 +313,6 @@ fn reads_an_intent(
     )?;
     is_so(folder.faults() == 0, "no fault is counted")?;
     Ok(())
-}
-
-#[test]
-fn a_table_is_read_up_to_its_limit(rt: HostRuntime) -> Result<(), Fail> {
-    let by = token(&rt, "me")?;
-    let mut folder = image(&rt, "out/limit")?;
-    reads_up_to_the_limit(&rt, &mut folder, &by)
 }
 
 fn reads_up_to_the_limit(
@@ -354,13 +372,6 @@ fn fails_each_call(
     Ok(())
 }
 
-#[test]
-fn a_link_is_no_table(rt: HostRuntime) -> Result<(), Fail> {
-    let by = token(&rt, "me")?;
-    let mut folder = image(&rt, "out/links")?;
-    refuses_a_link(&rt, &mut folder, &by)
-}
-
 fn refuses_a_link(
     rt: &HostRuntime,
     folder: &mut RealFolder<HostRuntime>,
@@ -383,13 +394,6 @@ fn refuses_a_link(
     Ok(())
 }
 
-#[test]
-fn a_folder_is_no_table(rt: HostRuntime) -> Result<(), Fail> {
-    let by = token(&rt, "me")?;
-    let mut folder = image(&rt, "out/folders")?;
-    refuses_a_folder(&rt, &mut folder, &by)
-}
-
 fn refuses_a_folder(
     rt: &HostRuntime,
     folder: &mut RealFolder<HostRuntime>,
@@ -400,13 +404,6 @@ fn refuses_a_folder(
     is_so(found.is_err(), "the read fails")?;
     is_so(folder.faults() == 1, "one fault is counted")?;
     Ok(())
-}
-
-#[test]
-fn a_link_may_stand_for_login_defs(rt: HostRuntime) -> Result<(), Fail> {
-    let by = token(&rt, "me")?;
-    let mut folder = image(&rt, "out/defs")?;
-    follows_a_link(&rt, &mut folder, &by)
 }
 
 fn follows_a_link(

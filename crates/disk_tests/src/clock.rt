@@ -1,7 +1,10 @@
 // Which day the clock gives, by the system's time and by SOURCE_DATE_EPOCH.
-use super::*;
+use acct_outside::{Clock, ClockFault};
+use real_folder::RealClock;
 use std::alloc::Global;
 use std::env::FillError;
+use std::io;
+use std::rt::{Clock as SystemClock, Env};
 use std::test::Fail;
 use std::time::Duration;
 
