@@ -103,7 +103,7 @@ pub(crate) fn renew<R: Files>(rt: &R, path: &str, mode: u32) -> io::Result<R::Fi
 
 /// Gives a file the owner, the group and the mode of another, where that one stands.
 ///
-/// The system lets few give a file away, so a refusal leaves the owner or the group as it is.
+/// The system lets few give a file away, so where it forbids that, the owner or the group stays as it is.
 pub(crate) fn take_on<R: Files + AllocGlobal>(
     rt: &R,
     path: &str,
@@ -113,10 +113,20 @@ pub(crate) fn take_on<R: Files + AllocGlobal>(
         Err(e) if e.kind() == io::ErrorKind::NotFound => return Ok(()),
         standing => about(rt.alloc(), model, standing)?,
     };
-    let _ = lchown(rt, path, Some(standing.uid()), None);
-    let _ = lchown(rt, path, None, Some(standing.gid()));
+    let owned = unless_forbidden(lchown(rt, path, Some(standing.uid()), None));
+    about(rt.alloc(), path, owned)?;
+    let owned = unless_forbidden(lchown(rt, path, None, Some(standing.gid())));
+    about(rt.alloc(), path, owned)?;
     let set = fs::set_permissions(rt, path, standing.permissions());
     about(rt.alloc(), path, set)
+}
+
+/// What the system answered a change of owner, where that it forbids it is no error.
+fn unless_forbidden(changed: io::Result<()>) -> io::Result<()> {
+    match changed {
+        Err(e) if e.kind() == io::ErrorKind::PermissionDenied => Ok(()),
+        changed => changed,
+    }
 }
 
 /// Makes what was written to a file last.
