@@ -3,14 +3,13 @@
 -- that did, with another token (`other-stays`).
 -- Way: the history grows by at most one event of the session's token (`grown-one`); that token is new or
 -- its own. A session that died has an ended life, which no event of others changes.
-use Rattle.std.proofs.Common.{◌≡◌, ◌≢◌, ◌⊎◌, inl, inr, refl, sym, ap, subst, ◌∙◌, ℕ, suc, ◌≤◌, ◌∷◌, [], length, true, false, not, Bool, Option, Some, None, Ok, true≢false, arith}
+use Rattle.std.proofs.Common.{◌≡◌, ◌≢◌, ◌⊎◌, inl, inr, refl, sym, ap, subst, ◌∙◌, ℕ, ◌≤◌, ◌∷◌, [], length, true, false, not, Some, None, Ok, true≢false, arith}
 use Rattle.std.specs.Prelude.{bytes_eq}
 use Rattle.std.proofs.lemmas.Bool.{cases_Bool, cond-true, cond-false, not-false}
 use Rattle.acct_outside.specs.declared.Effect.{Effect as CallEffect}
 use Rattle.acct_outside.specs.declared.CommitStage.TheVariants.{Before}
 use Rattle.acct_outside.specs.declared.FolderFault.TheVariants.{Memory as NoMemory}
 use Rattle.acct_outside.specs.Tokens.{IsToken, Token}
-use Rattle.acct_outside.specs.Folder.{Folder}
 use Rattle.acct_outside.specs.Calls.{Call, Effect, answers, died}
 use Rattle.acct_outside.specs.History.{Event, History, is_of, own_events}
 use Rattle.acct_outside.specs.Life.{Life, unbegun, running, faulted, ended, life, life_step, runs_in, is_running}
@@ -19,21 +18,18 @@ use Rattle.acct_outside.specs.Moment.{Past}
 use Rattle.acct_outside.specs.Memory.{no_others}
 use Rattle.acct_outside.specs.Contract.{has_begun, was_begun}
 use Rattle.acct_outside.proofs.TokenLemmas.{bytes_eq-self, bytes_eq-true, unbegun-without}
-use Rattle.suite_rules.specs.Deeds.{SuiteDeeds}
 use Rattle.suite_rules.specs.Lawful.{Lawful}
-use Rattle.suite_rules.specs.Steps.{LawfulOthers}
 use Rattle.suite_session.specs.declared.session.Phase.{Phase}
 use Rattle.suite_session.specs.declared.session.Phase.TheVariants.{Waiting, Begun, Over, Unbegun}
 use Rattle.suite_session.specs.Runner.{Runner}
 use Rattle.suite_session.specs.Answers.{memory_answer}
 use Rattle.suite_session.specs.Belongs.{AreApart, Belongs}
-use Rattle.suite_session.specs.Deeds.{AreOfTools}
 use Rattle.suite_session.specs.Grows.{Grows, none_new, others_new, own_new}
 use Rattle.suite_session.specs.Session.{token_of}
 use Rattle.suite_session.specs.Stands.{StaysOurs}
 use Rattle.suite_session.specs.Turning.{KeepsOthers, SessionTurns}
 use Rattle.side_by_side.specs.Scenes.{HasBegun, HasDied, HasEnded, TakesPart, Telling, has_ended, moment_in}
-use Rattle.side_by_side.specs.Steps.{Dies, MakesTurn}
+use Rattle.side_by_side.specs.Steps.{Dies}
 use Rattle.side_by_side.specs.Advances.{KeepsLawful}
 
 -- ---- One event at most

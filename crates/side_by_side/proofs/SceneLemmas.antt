@@ -2,7 +2,7 @@
 -- part (`acted-part`), and the scene advances (`acted-advances`); and advances follow one another
 -- (`advances-then`).
 -- Way: a list with one element put is looked at by its places.
-use Rattle.std.proofs.Common.{◌≡◌, ◌≢◌, inl, inr, refl, sym, ap, subst, ◌∙◌, ℕ, ◌<◌, ◌≤◌, ◌∷◌, Bool, true, false, List, length, get_or, Some, cond, true≢false, arith}
+use Rattle.std.proofs.Common.{◌≡◌, ◌≢◌, inl, inr, refl, sym, ap, subst, ◌∙◌, ℕ, ◌<◌, ◌∷◌, true, List, length, get_or, Some, true≢false, arith}
 use Rattle.std.specs.Prelude.{All, AllPairs, slice_set}
 use Rattle.std.proofs.lemmas.List.{get_or-set_other, length-set}
 use Rattle.std.proofs.lemmas.Bool.{cases_Bool, cases_eq, cases_order, cond-false, cond-true}
@@ -10,15 +10,14 @@ use Rattle.std.proofs.lemmas.Grind.{get_or-set_at}
 use Rattle.acct_outside.specs.Tokens.{Token}
 use Rattle.acct_outside.specs.Folder.{Folder}
 use Rattle.acct_outside.specs.History.{Event, History, is_of}
-use Rattle.acct_outside.specs.Calls.{Answer, Call, CallResult, Effect, answers, done, failed, died}
+use Rattle.acct_outside.specs.Calls.{Answer, Call, CallResult, answers, done, failed, died}
 use Rattle.acct_outside.specs.Life.{Life, unbegun, running, faulted, ended, life, life_step}
 use Rattle.acct_outside.specs.Contract.{has_begun, was_begun}
-use Rattle.acct_outside.specs.Moment.{Past}
 use Rattle.acct_outside.specs.Others.{Admission, ByOthers, none_came, one_came}
 use Rattle.suite_session.specs.declared.session.Phase.{Phase}
 use Rattle.suite_session.specs.Belongs.{AreApart}
 use Rattle.suite_session.specs.Session.{token_of}
-use Rattle.side_by_side.specs.Scenes.{HasBegun, Scene, TakePart, TakesPart, Telling}
+use Rattle.side_by_side.specs.Scenes.{Scene, TakePart, TakesPart}
 use Rattle.side_by_side.specs.Advances.{Advances, IsOutsider, KeepsLawful, by_sessions}
 use Rattle.side_by_side.proofs.ActLemmas.{Does}
 

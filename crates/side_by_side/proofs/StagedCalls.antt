@@ -4,7 +4,7 @@
 -- Way: StagedLemmas. The staged folder is `start` before and `between` after the steps of its sessions;
 -- `folder` is the folder in memory after its own call.
 use Rattle.std.proofs.Common.{◌≡◌, refl, sym, subst, ℕ, ◌≤◌, List, Some, Result, Ok, Err, arith}
-use Rattle.std.specs.Prelude.{IfOk, IsErr, IsErrAnd, IsErrOf}
+use Rattle.std.specs.Prelude.{IfOk, IsErr, IsErrAnd}
 use Rattle.std.specs.Global.{Vec}
 use Rattle.acct_outside.specs.declared.Name.{Name}
 use Rattle.acct_outside.specs.declared.FolderFault.{FolderFault}

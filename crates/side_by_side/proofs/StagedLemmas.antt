@@ -1,40 +1,38 @@
 -- Claims: a call of a staged folder is the events of its sessions, and then the call of the folder in
 -- memory (`passes-after`, `tells-after`, `begins-after`); where the sessions found no memory it is their
--- events alone (`want-after`). Who calls it is an outsider (`acting-outside`), so its sessions take part
+-- events alone. Who calls it is an outsider (`acting-outside`), so its sessions take part
 -- still after the call (`part-after`), and none of its events is admitted (`never-outsiders`). A begin
 -- makes an outsider (`begun-outside`).
 -- Way: an event of a session that is no outsider is admitted after an unlawful history, so the folder
 -- admits none only of outsiders. A call in memory adds one event at most (`told-one`, `begun-one`).
-use Rattle.std.proofs.Common.{◌≡◌, ◌≢◌, ◌⊎◌, inl, inr, refl, sym, ap, subst, ◌∙◌, ℕ, ◌<◌, ◌≤◌, ◌∷◌, [], Bool, true, false, List, length, get_or, Option, Some, None, IfSome, Result, Ok, Err, true≢false, arith}
-use Rattle.std.specs.Prelude.{All, IsErrOf, bytes_eq}
+use Rattle.std.proofs.Common.{◌≡◌, ◌≢◌, ◌⊎◌, inl, inr, refl, sym, ap, subst, ◌∙◌, ◌∷◌, [], true, List, get_or, Option, Some, None, IfSome, Result, Ok, Err, true≢false, arith}
+use Rattle.std.specs.Prelude.{All, bytes_eq}
 use Rattle.std.proofs.lemmas.Bool.{cond-true}
 use Rattle.acct_outside.specs.declared.FolderFault.{FolderFault}
 use Rattle.acct_outside.specs.declared.FolderFault.TheVariants.{Failed, Memory}
-use Rattle.acct_outside.specs.declared.memory.MemoryFolder.{MemoryFolder}
-use Rattle.acct_outside.specs.Tokens.{IsToken, Token}
+use Rattle.acct_outside.specs.Tokens.{Token}
 use Rattle.acct_outside.specs.Folder.{Folder}
 use Rattle.acct_outside.specs.Calls.{Answer, Call, CallResult, Command, answers, begins, done}
-use Rattle.acct_outside.specs.Contract.{ActsIn, MayAct, MayAnswer, NeverAdmits, Passes, RunsIn, TellsBegin, TellsCall, TellsEvent, WhereTold, has_begun, was_begun}
-use Rattle.acct_outside.specs.Faults.{CountsFailure, HasRisen}
-use Rattle.acct_outside.specs.History.{Event, History, is_of, own_events}
+use Rattle.acct_outside.specs.Contract.{MayAct, MayAnswer, NeverAdmits, Passes, TellsBegin, TellsCall, TellsEvent, WhereTold, has_begun, was_begun}
+use Rattle.acct_outside.specs.Faults.{CountsFailure}
+use Rattle.acct_outside.specs.History.{Event, History, own_events}
 use Rattle.acct_outside.specs.Life.{Life, life, runs_in, unbegun, running, faulted, ended}
-use Rattle.acct_outside.specs.Memory.{faults_of, moment_of, no_others, past_of}
-use Rattle.acct_outside.specs.Moment.{Past}
-use Rattle.acct_outside.specs.Others.{Admission, ByOthers, none_came, one_came}
+use Rattle.acct_outside.specs.Memory.{no_others}
+use Rattle.acct_outside.specs.Others.{ByOthers, none_came, one_came}
 use Rattle.acct_outside.proofs.OthersLemmas.{begun-running}
 use Rattle.acct_outside.proofs.TokenLemmas.{bytes_eq-self}
 use Rattle.suite_rules.specs.Deeds.{SuiteDeeds}
 use Rattle.suite_rules.specs.Lawful.{Lawful, goes_on}
 use Rattle.suite_session.specs.declared.session.Phase.{Phase}
 use Rattle.suite_session.specs.declared.session.Phase.TheVariants.{Waiting, Begun, Over, Unbegun}
-use Rattle.suite_session.specs.Belongs.{Belongs, OthersCame, of_others}
+use Rattle.suite_session.specs.Belongs.{OthersCame, of_others}
 use Rattle.suite_session.specs.Session.{token_of}
 use Rattle.suite_session.proofs.BelongsLemmas.{belonging-stays, present}
-use Rattle.side_by_side.specs.Scenes.{HasBegun, HasDied, HasEnded, Scene, TakePart, TakesPart, Telling, moment_in, scene, telling}
+use Rattle.side_by_side.specs.Scenes.{HasBegun, HasDied, HasEnded, Scene, TakePart, TakesPart, Telling, moment_in}
 use Rattle.side_by_side.specs.Advances.{Advances, IsOutsider, KeepsLawful, by_sessions}
 use Rattle.side_by_side.specs.Staged.{staged}
 use Rattle.side_by_side.proofs.ActLemmas.{began-life, life-stays, token-named}
-use Rattle.side_by_side.proofs.SceneLemmas.{advances-narrow, begun-event, came-then}
+use Rattle.side_by_side.proofs.SceneLemmas.{begun-event, came-then}
 
 -- ---- One event of a call in memory
 

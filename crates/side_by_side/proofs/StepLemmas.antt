@@ -2,11 +2,10 @@
 -- a loop over them takes all, or where there was no memory a front (`taken-more`, `taken-all`,
 -- `taken-front`).
 -- Way: each step is an act of one session, or none.
-use Rattle.std.proofs.Common.{◌≡◌, ◌≢◌, refl, sym, ap, subst, ◌∙◌, ℕ, ◌<◌, Bool, true, false, List, [], ◌∷◌, ◌++◌, length, get_or, take, drop, ◌+◌, ◌≤◌, Option, Some, None, inl, inr, take-append-drop}
-use Rattle.std.specs.Prelude.{All, MatchBool, slice_get, slice_set}
+use Rattle.std.proofs.Common.{◌≡◌, refl, sym, ap, subst, ◌∙◌, ℕ, ◌<◌, Bool, true, false, List, [], ◌∷◌, ◌++◌, length, get_or, take, drop, ◌+◌, ◌≤◌, Option, Some, None, inl, take-append-drop}
+use Rattle.std.specs.Prelude.{MatchBool, slice_get}
 use Rattle.std.proofs.lemmas.List.{take_all, take_more}
 use Rattle.std.proofs.lemmas.Option.{get_or_from_slice_get, slice_get_within}
-use Rattle.acct_outside.specs.declared.Effect.{Effect}
 use Rattle.suite_session.specs.declared.session.Phase.{Phase}
 use Rattle.suite_session.specs.Belongs.{AreApart}
 use Rattle.suite_session.specs.Session.{token_of}

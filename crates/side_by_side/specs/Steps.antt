@@ -1,5 +1,5 @@
 -- What the steps of a schedule do, one after another.
-use Rattle.std.specs.Prelude.{◌≡◌, ◌≤◌, List, [], ◌∷◌, ◌++◌, Option, None, Some, MatchBool, slice_get, slice_set}
+use Rattle.std.specs.Prelude.{◌≡◌, List, [], ◌∷◌, ◌++◌, Option, None, Some, MatchBool, slice_get, slice_set}
 use Rattle.acct_outside.specs.declared.Effect.{Effect}
 use Rattle.suite_session.specs.declared.session.Phase.{Phase}
 use Rattle.suite_session.specs.Belongs.{Belongs}

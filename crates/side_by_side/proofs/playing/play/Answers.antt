@@ -1,5 +1,5 @@
-use Rattle.std.proofs.Common.{refl, sym, subst, take, arith}
-use Rattle.side_by_side.specs.Scenes.{Scene, TakePart, scene}
+use Rattle.std.proofs.Common.{refl, sym, subst, arith}
+use Rattle.side_by_side.specs.Scenes.{TakePart, scene}
 use Rattle.side_by_side.specs.Advances.{Advances}
 use Rattle.side_by_side.proofs.StepLemmas.{steps-lead, taken-all, taken-front, taken-more}
 use Rattle.side_by_side.proofs.playing.play.Goals as goal

@@ -1,4 +1,3 @@
-use Rattle.std.proofs.Common.{subst}
 use Rattle.acct_outside.specs.Calls.{renames}
 use Rattle.side_by_side.proofs.StagedCalls.{calls-part, calls-told, want-told}
 use Rattle.side_by_side.proofs.staged_calls.StagedFolderFolder.rename.Goals as goal
