@@ -15,3 +15,4 @@ pub mod FileLemmas
 pub mod GidLemmas
 pub mod NameSets
 pub mod StoppingLemmas
+pub mod RemovalLemmas

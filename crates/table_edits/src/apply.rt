@@ -82,8 +82,8 @@ fn apply_by_name<'a, R: EditedRecord + Drop>(
     Ok(edits.len())
 }
 
-// The text after the edits, one after another.
-fn edited_in_order<R: EditedRecord + Drop>(
+/// The text after the edits, one after another.
+pub(crate) fn edited_in_order<R: EditedRecord + Drop>(
     alloc: Global,
     mut text: Bytes,
     edits: &[Edit<R, R::Change>],

@@ -16,7 +16,7 @@ use acct_text::Bytes;
 use std::alloc::{AllocError, Global};
 
 /// The text in which each record became what the change gives of it.
-pub(crate) fn changed_text<R: EditedRecord + Drop>(
+pub fn changed_text<R: EditedRecord + Drop>(
     alloc: Global,
     text: &[u8],
     change: &R::Change,

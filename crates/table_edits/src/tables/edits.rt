@@ -2,13 +2,15 @@
 ghost use Rattle.std.specs.Prelude.{◌≡◌, IfOk};
 ghost use Rattle.std.specs.List.{AllByRecursion};
 ghost use Rattle.account_model.specs.RecordEdits.{IsWrittenEdit};
+ghost use Rattle.account_model.specs.Records.{subid_format};
 ghost use Rattle.account_model.specs.Tables.{files_after, table_after};
 ghost use Rattle.account_model.specs.WrittenScript.{IsWrittenScript};
 ghost use Rattle.table_edits.specs.SeenEdits.{seen_edits};
 ghost use Rattle.table_edits.specs.SeenScript.{seen_script};
+ghost use Rattle.table_edits.specs.SubidChanges.{subid_becomes};
 
 use super::Tables;
-use crate::{Edit, EditedRecord, Script, edited_text};
+use crate::{Edit, EditedRecord, Script, SubidChange, SubidRecord, edited_ranges, edited_text};
 use acct_text::{Bytes, Files};
 use std::alloc::{AllocError, Global};
 
@@ -24,8 +26,8 @@ impl Tables<'_> {
             shadow: file_after(alloc, &files.shadow, &script.shadow)?,
             group: file_after(alloc, &files.group, &script.group)?,
             gshadow: file_after(alloc, &files.gshadow, &script.gshadow)?,
-            subuid: file_after(alloc, &files.subuid, &script.subuid)?,
-            subgid: file_after(alloc, &files.subgid, &script.subgid)?,
+            subuid: ranges_after(alloc, &files.subuid, &script.subuid)?,
+            subgid: ranges_after(alloc, &files.subgid, &script.subgid)?,
         })
     }
 }
@@ -42,6 +44,22 @@ fn file_after<R: EditedRecord + Drop>(
 {
     match file {
         Some(text) => Ok(Some(edited_text(alloc, text.as_slice(), edits)?)),
+        None => Ok(None),
+    }
+}
+
+// The bytes of subuid or subgid after its edits, where there is the table.
+fn ranges_after(
+    alloc: Global,
+    file: &Option<Bytes>,
+    edits: &[Edit<SubidRecord, SubidChange>],
+) -> Result<Option<Bytes>, AllocError>
+    requires { AllByRecursion (IsWrittenEdit subid_format) (seen_edits subid_becomes edits.now) }
+    ensures { IfOk result (λ new.
+        new ≡ table_after subid_format (seen_edits subid_becomes edits.now) file.now) }
+{
+    match file {
+        Some(text) => Ok(Some(edited_ranges(alloc, text.as_slice(), edits)?)),
         None => Ok(None),
     }
 }

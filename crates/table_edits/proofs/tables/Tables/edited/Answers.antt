@@ -23,9 +23,9 @@ returns c =
     let of_gshadow = edited-file gshadow_format gshadow_becomes c.deref-4.result.now script.gshadow.items
     files.gshadow c.in_ok-file_after-4.field-0 c.deref-4.ensures.value c.in_ok-file_after-4.ensures in
     let of_subuid = edited-file subid_format subid_becomes c.deref-5.result.now script.subuid.items
-    files.subuid c.in_ok-file_after-5.field-0 c.deref-5.ensures.value c.in_ok-file_after-5.ensures in
+    files.subuid c.in_ok-ranges_after.field-0 c.deref-5.ensures.value c.in_ok-ranges_after.ensures in
     let of_subgid = edited-file subid_format subid_becomes c.deref-6.result.now script.subgid.items
-    files.subgid c.in_ok-file_after-6.field-0 c.deref-6.ensures.value c.in_ok-file_after-6.ensures in
+    files.subgid c.in_ok-ranges_after-2.field-0 c.deref-6.ensures.value c.in_ok-ranges_after-2.ensures in
     (λ i. record {
       passwd = of_passwd i;
       shadow = of_shadow i;

@@ -1,0 +1,43 @@
+use Rattle.std.proofs.Common.{◌∙◌, take, refl, sym, ap, subst}
+use Rattle.std.specs.List.{AllByRecursion}
+use Rattle.std.proofs.lemmas.List.{take_rest}
+use Rattle.std.proofs.lemmas.Result.{IfOk-weaker}
+use Rattle.acct_text.specs.Lines.{file_bytes, lines_of}
+use Rattle.account_model.specs.Edits.{edited_by}
+use Rattle.account_model.specs.RecordEdits.{IsWrittenEdit}
+use Rattle.account_model.specs.Records.{subid_format}
+use Rattle.table_edits.specs.SeenEdits.{seen_edits}
+use Rattle.table_edits.specs.SubidChanges.{subid_becomes}
+use Rattle.table_edits.proofs.EditLists.{edited-apart, edits-from, edits-up_to}
+use Rattle.table_edits.proofs.range_edits.edited_ranges.Goals as goal
+
+pub edited_in_order-requires : goal.edited_in_order-requires
+edited_in_order-requires c =
+    edits-up_to subid_becomes (IsWrittenEdit subid_format) c.args.edits.now c.first_cut-first.result
+    c.requires
+
+pub edited_from_cut-requires : goal.edited_from_cut-requires
+edited_from_cut-requires c =
+    let edits = c.args.edits.now in
+    let first = c.first_cut-first.result in
+    subst (λ left. AllByRecursion (IsWrittenEdit subid_format) (seen_edits subid_becomes left))
+    (sym (take_rest edits first))
+    (edits-from subid_becomes (IsWrittenEdit subid_format) edits first c.requires)
+
+pub returns : goal.returns
+returns c =
+    let edits = c.args.edits.now in
+    let first = c.first_cut-first.result in
+    let before = c.in_ok-before.before in
+    IfOk-weaker c.edited_from_cut.result _ _ (λ bytes is.
+    is
+    ∙ ap (λ left. file_bytes
+    (edited_by subid_format (seen_edits subid_becomes left) (lines_of before)))
+    (take_rest edits first)
+    ∙ ap file_bytes (edited-apart subid_becomes subid_format edits first c.args.text.now before refl
+    c.requires
+    (c.in_ok-before.ensures {u = tt}
+    ∙ ap (λ text. file_bytes
+    (edited_by subid_format (seen_edits subid_becomes (take first edits)) (lines_of text)))
+    (c.in_ok-of.ensures {u = tt}))))
+    c.edited_from_cut.ensures
