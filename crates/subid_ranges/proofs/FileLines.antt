@@ -7,6 +7,7 @@ use Rattle.std.proofs.lemmas.Bool.{ltb-true}
 use Rattle.acct_text.specs.Lines.{file_bytes, lines_of}
 use Rattle.account_model.specs.declared.records.SubidRecord.{SubidRecord}
 use Rattle.account_model.specs.Edits.{Add}
+use Rattle.account_model.specs.RecordEdits.{IsWrittenEdit}
 use Rattle.account_model.specs.Records.{greatest_id, last_id, subid_format}
 use Rattle.account_model.specs.SubidOwner.{is_owned, left_above, left_below, left_without}
 use Rattle.account_model.specs.UsermodRanges.{cut_range}
@@ -86,6 +87,13 @@ left-written first last r true held = all-written (left_without first last r)
     (above-held last r (nat_lt last (last_id r)) refl held))
 left-written first last r false held = (range-written r held, tt)
 
+-- the removal of IDs from an owner prints only ranges that read back
+pub cut-written :
+    (name : List ℕ) (uid : Option ℕ) (first last : ℕ)
+    → IsWrittenEdit subid_format (cut_range (owner_of name uid) (ids_from first last))
+cut-written name uid first last text r lacks read =
+    left-written first last r (is_owned name uid r) (subid-holds.read text r lacks read)
+
 -- a text without the IDs of an owner has the lines that are left
 pub cut-found :
     (name : List ℕ) (uid : Option ℕ) (first last : ℕ) (text left : List ℕ)
@@ -93,6 +101,4 @@ pub cut-found :
     → lines_of left ≡ without_range name uid first last (lines_of text)
 cut-found name uid first last text left is =
     edit-found subid_format refl (cut_range (owner_of name uid) (ids_from first last))
-    (λ text r lacks read. left-written first last r (is_owned name uid r)
-    (subid-holds.read text r lacks read))
-    text left is
+    (cut-written name uid first last) text left is

@@ -3,4 +3,3 @@ pub mod LeastStart
 pub mod TakenLemmas
 pub mod TellLemmas
 pub mod FileLines
-pub mod CutLines

@@ -1,14 +1,13 @@
 -- The lines of a file of subordinate IDs, and what comes into them or goes out of them (useradd(8),
 -- usermod(8), `-v`, `-V`, `-w` and `-W`; subuid(5), subgid(5)).
-use Rattle.std.specs.Prelude.{ℕ, Bool, false, ◌&&◌, ◌||◌, not, List, [], ◌∷◌, nat_le, nat_lt, map, Option, Some, None, if◌then◌else◌}
+use Rattle.std.specs.Prelude.{ℕ, Bool, false, ◌&&◌, not, List, nat_le, Option, Some, None}
 use Rattle.std.specs.List.{position_from}
 use Rattle.acct_text.specs.Lines.{Line}
 use Rattle.account_model.specs.declared.records.SubidRecord.{SubidRecord}
 use Rattle.account_model.specs.Edits.{edited, Add}
 use Rattle.account_model.specs.Format.{records_of}
 use Rattle.account_model.specs.FreeRange.{meets}
-use Rattle.account_model.specs.Records.{greatest_id, last_id, print_subid, subid_format}
-use Rattle.account_model.specs.SubidOwner.{is_owned, left_without}
+use Rattle.account_model.specs.Records.{greatest_id, subid_format}
 use Rattle.account_model.specs.UsermodRanges.{IdRange, RangeOwner, cut_range, line_meets}
 
 -- the ranges of the lines, in their order
@@ -50,38 +49,7 @@ with_range owner first count lines =
 abbrev pub owner_of : List ℕ → Option ℕ → RangeOwner
 owner_of name uid = record { old_name = name; new_name = name; uid = uid }
 
--- what is left of a range when these IDs of an owner go
-abbrev pub without_ids : List ℕ → Option ℕ → ℕ → ℕ → SubidRecord → List SubidRecord
-without_ids name uid first last r =
-    if is_owned name uid r then left_without first last r else r ∷ []
-
 -- the lines when these IDs of an owner go
 abbrev pub without_range : List ℕ → Option ℕ → ℕ → ℕ → List Line → List Line
 without_range name uid first last lines =
     edited subid_format lines (cut_range (owner_of name uid) (ids_from first last))
-
--- the range is the owner's, and loses an ID
-abbrev pub is_cut : List ℕ → Option ℕ → ℕ → ℕ → SubidRecord → Bool
-is_cut name uid first last r = is_owned name uid r && meets first last r
-
--- the range that a line is, where it loses an ID
-abbrev pub range_cut : List ℕ → Option ℕ → ℕ → ℕ → Option SubidRecord → Option SubidRecord
-range_cut name uid first last None = None
-range_cut name uid first last (Some r) = if is_cut name uid first last r then Some r else None
-
--- a line with this text
-abbrev pub line_of : List ℕ → Bool → Line
-line_of text ended = record { text = text; ended = ended }
-
--- the canonical lines of ranges, all with an end or none
-abbrev pub lines_of_ranges : Bool → List SubidRecord → List Line
-lines_of_ranges ended ranges = map (λ r. line_of (print_subid r) ended) ranges
-
--- whether what is left of a range has ends: two pieces are left, or its line had one
-abbrev pub left_ended : ℕ → ℕ → SubidRecord → Bool → Bool
-left_ended first last r ended = nat_lt r.first first && nat_lt last (last_id r) || ended
-
--- the lines of what is left of a range that loses an ID
-abbrev pub left_lines : ℕ → ℕ → SubidRecord → Bool → List Line
-left_lines first last r ended =
-    lines_of_ranges (left_ended first last r ended) (left_without first last r)

@@ -7,7 +7,6 @@
 //! memory all lines are as before the call.
 #![tactic(auto)]
 
-mod cut;
 mod fault;
 mod owned;
 mod range_line;

@@ -13,18 +13,16 @@ ghost use Rattle.subid_ranges.specs.Owned.{owned_ranges};
 ghost use Rattle.subid_ranges.specs.RangeLines.{is_bad, meets_at, meeting_line, new_range, ranges_of, with_range, without_range};
 ghost use Rattle.subid_ranges.specs.Refusals.{AnswersRange, add_refusal, bad_refusal, gap_refusal};
 
-use crate::cut::{Cut, text_without};
 use crate::range_line::{end_of, range_in};
 use crate::taken::Taken;
 use crate::{OwnedRanges, RangeFault};
+use account_model::GREATEST_ID;
 use acct_lines::{SubidRecord, TableRecord};
 use acct_tables::{FileLine, Lines, append_line};
 use acct_text::Bytes;
 use std::alloc::{AllocError, Global};
 use std::marker::Model;
-
-// The greatest ID that a user can have (useradd(8), `-u`).
-const GREATEST_ID: u32 = u32::MAX - 1;
+use table_edits::{RangeCut, SubidChange, changed_text};
 
 /// The lines of a file of subordinate IDs, each a range of an owner or other text.
 #[derive(Drop)]
@@ -101,7 +99,7 @@ impl Ranges {
     /// Adds the IDs from the first to the last to the owner's: the line `owner:first:count` comes
     /// behind the last line, which gets an end where it had none (usermod(8), `-v` and `-w`).
     ///
-    /// `BadRange` comes where `first` passes `last` or `last` passes 4294967294. Else `Overlap`
+    /// `BadRange` comes where `first` passes `last` or `last` passes `GREATEST_ID`. Else `Overlap`
     /// comes with the number of the first line, counted from 1 over all lines, whose range has an
     /// ID in common, of any owner. At any fault the ranges are as before.
     pub fn add(
@@ -136,7 +134,7 @@ impl Ranges {
     /// same owner, and a line with nothing left goes. A line that becomes one line keeps its end or
     /// the want of one; two lines both have an end.
     ///
-    /// `BadRange` comes where `first` passes `last` or `last` passes 4294967294. At any fault the
+    /// `BadRange` comes where `first` passes `last` or `last` passes `GREATEST_ID`. At any fault the
     /// ranges are as before.
     pub fn take_away(
         &mut self,
@@ -154,13 +152,17 @@ impl Ranges {
         if is_bad(first, last) {
             return Err(RangeFault::BadRange);
         }
-        let cut = Cut {
-            owner,
+        let cut = RangeCut {
+            owner: Bytes::of(alloc, owner)?,
             uid,
             first,
             last,
         };
-        let left = text_without(alloc, self.text.as_slice(), &cut)?;
+        let left = changed_text::<SubidRecord>(
+            alloc,
+            self.text.as_slice(),
+            &SubidChange::Cut(cut),
+        )?;
         self.taken = Taken::of(alloc, left.as_slice())?;
         self.text = left;
         Ok(())
