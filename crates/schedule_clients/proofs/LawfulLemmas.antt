@@ -1,9 +1,9 @@
 -- Claim: where a scene advances from a lawful history, all is kept (`kept-lawfully`). Way: each event that
 -- came keeps a lawful history lawful; the rest is what the laws say.
-use Rattle.std.proofs.Common.{◌≡◌, sym, subst, ◌∷◌, List, get_or}
+use Rattle.std.proofs.Common.{sym, subst, List, get_or}
 use Rattle.acct_outside.specs.declared.memory.MemoryFolder.{MemoryFolder}
 use Rattle.acct_outside.specs.Folder.{Folder}
-use Rattle.acct_outside.specs.History.{Event, History}
+use Rattle.acct_outside.specs.History.{History}
 use Rattle.acct_outside.specs.Others.{ByOthers, none_came, one_came}
 use Rattle.acct_outside.specs.Memory.{moment_of}
 use Rattle.suite_rules.specs.Deeds.{SuiteDeeds}
@@ -14,7 +14,7 @@ use Rattle.suite_session.specs.Deeds.{AreOfTools}
 use Rattle.suite_course.specs.Turned.{AnswersKeepPromises}
 use Rattle.side_by_side.specs.Scenes.{Scene, scene}
 use Rattle.side_by_side.specs.Advances.{Advances, by_sessions}
-use Rattle.schedule_clients.specs.Lawfully.{HoldsLawfully, IsKept}
+use Rattle.schedule_clients.specs.Lawfully.{HoldsLawfully}
 
 module _ (before : Scene) (deeds : SuiteDeeds) (are : AreOfTools deeds) where
   -- events of its sessions keep a lawful history so
@@ -31,9 +31,9 @@ pub kept-lawfully : (before : Scene) (folder : MemoryFolder) (sessions : List Ph
 kept-lawfully before folder sessions keeps advances deeds are was =
     let now = scene folder sessions in
     let lawful : Lawful deeds now.told.past.first now.told.past.history =
-        subst (λ (first : Folder). Lawful deeds first now.told.past.history) (sym advances.first)
-        (stays-lawful before deeds are before.told.past.history now.told.past.history
-        advances.came was) in record {
+    subst (λ (first : Folder). Lawful deeds first now.told.past.history) (sym advances.first)
+    (stays-lawful before deeds are before.told.past.history now.told.past.history
+    advances.came was) in record {
       lawful = lawful;
       settles = lawful-settles.is_fold deeds now.told.past.first now.told.past.history lawful;
       promised = λ k d within belongs.
