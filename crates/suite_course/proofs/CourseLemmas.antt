@@ -1,7 +1,7 @@
 -- Claim: turn by turn a session comes from its entry to its answer (`comes-turn`), and what holds from
 -- the entry to a moment and from there on holds from the entry on (`turns-then`).
 -- Way: histories grow and stay lawful one after another, as a folder never admits more than before.
-use Rattle.std.proofs.Common.{◌≡◌, refl, sym, ap, subst, ◌∙◌, ◌<◌, ◌≤◌, ◌+◌, [], ℕ, inl, inr, Option, Some, None, IfSome, Ok, Err, true, is_none, arith}
+use Rattle.std.proofs.Common.{◌≡◌, refl, sym, ap, subst, ◌∙◌, ◌≤◌, ◌+◌, [], ℕ, inl, inr, Option, Some, None, Ok, Err, true, is_none, arith}
 use Rattle.std.proofs.lemmas.List.Elements.{filter-append}
 use Rattle.acct_outside.specs.declared.FolderFault.{FolderFault}
 use Rattle.acct_outside.specs.declared.FolderFault.TheVariants.{Failed, Memory as NoMemory}
@@ -15,7 +15,7 @@ use Rattle.acct_outside.specs.Contract.{TellsBegin, WhereTold}
 use Rattle.account_model.specs.declared.tool.Tool.{Tool}
 use Rattle.suite_rules.specs.Deeds.{SuiteDeeds}
 use Rattle.suite_rules.specs.Lawful.{Lawful}
-use Rattle.suite_rules.specs.Steps.{LawfulOthers, StaysLawful}
+use Rattle.suite_rules.specs.Steps.{LawfulOthers}
 use Rattle.suite_answers.specs.declared.answer.Answer.{Answer}
 use Rattle.suite_session.specs.declared.session.Phase.{Phase}
 use Rattle.suite_session.specs.declared.session.Phase.TheVariants.{Waiting, Begun, Over, Unbegun}

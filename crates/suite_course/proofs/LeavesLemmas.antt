@@ -2,7 +2,7 @@
 -- where its tool decided, and backups of what it changed (`leaves-alone`).
 -- Way: what it has left by its own events (`HasLeft`, `BackedUpChanges`) is so in the folder, as nobody
 -- else touched that (AloneLocks, AloneBackups).
-use Rattle.std.proofs.Common.{◌≡◌, refl, sym, ap, subst, ◌∙◌, [], ◌∷◌, ℕ, Option, Some, None}
+use Rattle.std.proofs.Common.{◌≡◌, refl, sym, ap, ◌∙◌, [], ◌∷◌, ℕ, Option, Some, None}
 use Rattle.acct_outside.specs.declared.Name.TheVariants.{Table, Defs}
 use Rattle.acct_outside.specs.Tokens.{Token}
 use Rattle.acct_outside.specs.Folder.{Folder}

@@ -15,7 +15,7 @@ use Rattle.acct_outside.specs.Others.{Admission, none_came}
 use Rattle.acct_outside.specs.Contract.{TellsBegin, WhereTold}
 use Rattle.suite_rules.specs.Deeds.{SuiteDeeds}
 use Rattle.suite_rules.specs.Lawful.{Lawful}
-use Rattle.suite_rules.specs.Steps.{LawfulOthers, StaysLawful}
+use Rattle.suite_rules.specs.Steps.{LawfulOthers}
 use Rattle.suite_rules.proofs.Cut.{lawful-prefix}
 use Rattle.suite_rules.proofs.Settles.{lawful-settles}
 use Rattle.suite_answers.specs.declared.cause.Cause.{Cause}

@@ -1,7 +1,7 @@
 -- Claims: a command that got no input lacks it (`lacks-input`); one that got its input and no day had
 -- all that the source had left (`all-came`).
 -- Way: by the cause, and by what the source tells.
-use Rattle.std.proofs.Common.{◌≡◌, ◌≤◌, ◌++◌, [], length, refl, subst, sym, ap, true, Option, Some, None, Ok, Err}
+use Rattle.std.proofs.Common.{◌≡◌, ◌≤◌, [], length, refl, subst, sym, true, Option, Some, None, Ok, Err}
 use Rattle.acct_text.specs.Bytes.{Bytes}
 use Rattle.acct_text.specs.Limits.{table_limit}
 use Rattle.acct_outside.specs.declared.CommitStage.TheVariants.{Before}

@@ -13,7 +13,7 @@ use Rattle.suite_rules.proofs.Settles.{lawful-settles}
 use Rattle.suite_answers.specs.declared.answer.Answer.{Answer}
 use Rattle.suite_session.specs.declared.state.State.TheVariants.{Answering}
 use Rattle.suite_session.specs.declared.session.Phase.{Phase}
-use Rattle.suite_session.specs.declared.session.Phase.TheVariants.{Waiting, Begun, Over, Unbegun}
+use Rattle.suite_session.specs.declared.session.Phase.TheVariants.{Begun, Over, Unbegun}
 use Rattle.suite_session.specs.Runner.{Runner}
 use Rattle.suite_session.specs.Answers.{Says}
 use Rattle.suite_session.specs.Backing.{BackedUpChanges}
