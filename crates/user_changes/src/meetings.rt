@@ -19,7 +19,7 @@ use acct_text::{Bytes, Tab};
 use command_values::{Asked, IdRange, ToolFault};
 use std::alloc::{AllocError, Global};
 use subid_ranges::{RangeFault, Ranges};
-use table_edits::{Tables, edited_text};
+use table_edits::{Tables, edited_ranges};
 
 /// Refuses the first range of `-v` that meets a line of subuid as it stands then: `Meets`. An
 /// absent subuid is met by none.
@@ -82,7 +82,7 @@ fn lines_before(alloc: Global, ranges: &UserRanges, text: &[u8]) -> Result<Range
 {
     let mut edits = Vec::new(alloc);
     ranges.push_removals(alloc, &mut edits)?;
-    let text = edited_text(alloc, text, edits.as_slice())?;
+    let text = edited_ranges(alloc, text, edits.as_slice())?;
     Ranges::load(alloc, text.as_slice())
 }
 

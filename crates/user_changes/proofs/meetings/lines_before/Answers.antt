@@ -12,8 +12,8 @@ use Rattle.user_changes.specs.Ranges.{change_of, owner_of}
 use Rattle.user_changes.proofs.MeetingLemmas.{lines-before, removals-written}
 use Rattle.user_changes.proofs.meetings.lines_before.Goals as goal
 
-pub edited_text-requires : goal.edited_text-requires
-edited_text-requires c =
+pub edited_ranges-requires : goal.edited_ranges-requires
+edited_ranges-requires c =
     let owner = owner_of c.args.ranges.now in
     let change = change_of c.args.ranges.now in
     let before = edits_before_adding owner change in
