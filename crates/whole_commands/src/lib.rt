@@ -20,5 +20,5 @@ mod rehearsals;
 mod transcript;
 
 pub use images::{Contents, IMAGE, folder_of, image, no_accounts, put, sound_folder, with_file};
-pub use play::{Streams, die_after, run, tables, text_at, told, told_with};
+pub use play::{Streams, die_after, run, session_of, tables, text_at, told, told_with};
 pub use transcript::push_done;

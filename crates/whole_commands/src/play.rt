@@ -3,7 +3,7 @@ ghost use Rattle.std.specs.Prelude.{IfOk};
 ghost use Rattle.suite_session.specs.Session.{IsWaiting};
 
 use acct_outside::{
-    Call, Effect, MemoryClock, MemoryFolder, MemorySink, MemorySource, Name, Token,
+    Call, Effect, Folder, MemoryClock, MemoryFolder, MemorySink, MemorySource, Name, Token,
 };
 use acct_text::{Bytes, Tab, Word, push_decimal};
 use std::alloc::{AllocError, Global};
@@ -11,10 +11,10 @@ use std::mem;
 use suite_answers::WordFault;
 use suite_core::{Outcome, Session, run_suite};
 
-// The day of each command, which is 2024-10-04.
-const DAY: u32 = 20000;
+/// The day of each command, which is 2024-10-04.
+pub(crate) const DAY: u32 = 20000;
 
-/// What a command reads, and what it prints to.
+/// What a command reads, what it prints to, and its clock.
 #[derive(Drop)]
 pub struct Streams {
     /// What chpasswd(8) takes.
@@ -23,28 +23,30 @@ pub struct Streams {
     pub out: MemorySink,
     /// Where the message goes.
     pub err: MemorySink,
+    /// What gives the day.
+    pub clock: MemoryClock,
 }
 
 impl Streams {
-    /// An input of this text, and streams that hold nothing. No call of them fails.
+    /// An input of this text, streams that hold nothing, and a clock of the day. No call of them fails.
     pub fn new(alloc: Global, input: &[u8]) -> Result<Self, AllocError> {
         Ok(Streams {
             input: MemorySource::new(alloc, Bytes::of(alloc, input)?, Vec::new(alloc)),
             out: MemorySink::new(alloc, Vec::new(alloc)),
             err: MemorySink::new(alloc, Vec::new(alloc)),
+            clock: MemoryClock::new(DAY, Vec::new(alloc)),
         })
     }
 }
 
 /// Runs a command on these streams.
-pub fn run(
+pub fn run<F: Folder>(
     alloc: Global,
-    folder: &mut MemoryFolder,
+    folder: &mut F,
     command: &[u8],
     streams: &mut Streams,
 ) -> Result<Outcome, AllocError> {
     let words = words_of(alloc, command)?;
-    let mut clock = MemoryClock::new(DAY, Vec::new(alloc));
     Ok(run_suite(
         alloc,
         words.as_slice(),
@@ -52,7 +54,7 @@ pub fn run(
         &mut streams.input,
         &mut streams.out,
         &mut streams.err,
-        &mut clock,
+        &mut streams.clock,
     ))
 }
 
@@ -68,8 +70,17 @@ pub fn told_with(
     command: &[u8],
     input: &[u8],
 ) -> Result<Bytes, AllocError> {
-    let mut streams = Streams::new(alloc, input)?;
-    let outcome = run(alloc, folder, command, &mut streams)?;
+    told_on(alloc, folder, command, &mut Streams::new(alloc, input)?)
+}
+
+/// The same of a command on these streams.
+pub(crate) fn told_on(
+    alloc: Global,
+    folder: &mut MemoryFolder,
+    command: &[u8],
+    streams: &mut Streams,
+) -> Result<Bytes, AllocError> {
+    let outcome = run(alloc, folder, command, streams)?;
     let mut told = Bytes::new(alloc);
     push_decimal(&mut told, u64::from(outcome.status))?;
     told.push(b" ")?;
@@ -92,7 +103,7 @@ pub fn die_after(
 }
 
 /// The session of a command, which hasn't begun.
-pub(crate) fn session_of(alloc: Global, command: &[u8]) -> Result<Session, WordFault>
+pub fn session_of(alloc: Global, command: &[u8]) -> Result<Session, WordFault>
     ensures { IfOk result IsWaiting }
 {
     let words = words_of(alloc, command)?;
