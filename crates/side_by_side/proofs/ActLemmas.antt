@@ -174,7 +174,7 @@ abbrev telling_of : Past → ℕ → Telling
 telling_of past faults = record { past = past; faults = faults }
 
 -- what tells the same is the same
-telling-same : (before now : Telling) → now.past ≡ before.past → now.faults ≡ before.faults →
+pub telling-same : (before now : Telling) → now.past ≡ before.past → now.faults ≡ before.faults →
     before ≡ now
 telling-same before now past faults =
     ap (λ (one : Past). telling_of one before.faults) (sym past)

@@ -1,5 +1,6 @@
-mod ActLemmas
-mod SceneLemmas
-mod StepLemmas
+pub mod ActLemmas
+pub mod SceneLemmas
+pub mod StepLemmas
 mod StagedLemmas
 mod StagedCalls
+mod ListLemmas

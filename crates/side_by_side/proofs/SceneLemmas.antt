@@ -59,7 +59,7 @@ module _ (sessions : List Phase) (place : ℕ) (new : Phase) (low : place < leng
       inside = subst (λ (n : ℕ). j < n) (length-set sessions place new) within
 
 -- each of two places apart holds another session
-apart-at : (sessions : List Phase) → AllPairs AreApart sessions → (k place : ℕ) (d : Phase) →
+pub apart-at : (sessions : List Phase) → AllPairs AreApart sessions → (k place : ℕ) (d : Phase) →
     k < length sessions → place < length sessions → k ≢ place →
     AreApart (get_or sessions place d) (get_or sessions k d)
 apart-at sessions apart k place d within low other = elim (cases_order k place) [

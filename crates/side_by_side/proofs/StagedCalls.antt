@@ -1,9 +1,10 @@
 -- Claims: what a call of a staged folder tells, in the words of the trait: after the events of its
 -- sessions (`calls-so`, `lists-so`, `reads-so`, `begins-so`), or where these found no
--- memory (`want-of` and its likes); and that they take part still (`part-so`, `begin-part`).
+-- memory (`want-of` and its likes); that they take part still (`part-so`, `begin-part`); and that the
+-- next list is taken before the call (`calls-next`), or breaks off (`breaks-off`).
 -- Way: StagedLemmas. The staged folder is `start` before and `between` after the steps of its sessions;
 -- `folder` is the folder in memory after its own call.
-use Rattle.std.proofs.Common.{◌≡◌, refl, sym, subst, ℕ, ◌≤◌, List, Some, Result, Ok, Err, arith}
+use Rattle.std.proofs.Common.{◌≡◌, inl, inr, refl, sym, ap, subst, ℕ, ◌≤◌, Some, Result, Ok, Err, arith}
 use Rattle.std.specs.Prelude.{IfOk, IsErr, IsErrAnd}
 use Rattle.std.specs.Global.{Vec}
 use Rattle.acct_outside.specs.declared.Name.{Name}
@@ -19,12 +20,18 @@ use Rattle.acct_outside.specs.Faults.{CountsFailure}
 use Rattle.acct_outside.specs.Gives.{GivesResult}
 use Rattle.acct_outside.specs.History.{History, after}
 use Rattle.acct_outside.specs.Memory.{TellsIn, faults_of, moment_of, no_others, past_of}
-use Rattle.suite_session.specs.declared.session.Phase.{Phase}
+use Rattle.acct_outside.specs.Moment.{Moment}
 use Rattle.side_by_side.specs.Scenes.{Scene, TakePart, scene, telling}
 use Rattle.side_by_side.specs.Advances.{Advances, IsOutsider, by_sessions}
-use Rattle.side_by_side.specs.Staged.{scene_in, staged_moment}
+use Rattle.side_by_side.specs.Staged.{Stage, scene_in, stage_of, staged_moment}
+use Rattle.side_by_side.specs.Lists.{CallsAtOnce, CallsNext, lists_behind, next_list}
+use Rattle.side_by_side.specs.Steps.{TakesFront, TakesSteps}
 use Rattle.side_by_side.proofs.SceneLemmas.{advances-narrow, advances-none}
 use Rattle.side_by_side.proofs.StagedLemmas.{OneCame, acting-outside, answering-outside, begin-strangers, begins-after, begun-one, begun-outside, begun_token, never-outsiders, part-after, passes-after, tells-after, told-one}
+
+-- the stage with another folder in memory
+abbrev pub with_files : MemoryFolder → Stage → Stage
+with_files folder stage = stage_of folder stage.others stage.left
 
 -- what the folder gives to a call
 abbrev pub gives_call : Token → (call : Call) → Folder → History → CallResult (Answer call) → Type 0
@@ -35,43 +42,46 @@ gives_call token call first between result =
 abbrev pub gives_read : ℕ → (name : Name) → Folder → History → CallResult (Answer (reads name)) → Type 0
 gives_read limit name first between result = GivesRead limit (after first between) name result
 
-module _ (start between : MemoryFolder × List Phase) (folder : MemoryFolder)
+module _ (start between : Stage) (folder : MemoryFolder)
     (advances : Advances (scene_in start) (scene_in between)) (token : Token) where
   -- the scene after the call
   abbrev later : Scene
-  later = scene folder between.1
+  later = scene folder between.others
 
   -- a call
   pub calls-so : (call : Call) (result : Result (Answer call) FolderFault) →
-      TellsIn between.0 folder token call result →
-      CountsFailure Failed (faults_of between.0) (faults_of folder) result →
-      CallsFolder (staged_moment start) (staged_moment (folder, between.1)) token call result
+      TellsIn between.files folder token call result →
+      CountsFailure Failed (faults_of between.files) (faults_of folder) result →
+      CallsFolder (staged_moment start)
+      (staged_moment (with_files folder between)) token call result
   calls-so call result told counts =
       passes-after (scene_in start) (scene_in between) later advances refl token
-      (told-one (telling between.0) (telling folder) token call (gives_call token call) result told)
+      (told-one (telling between.files) (telling folder) token call
+      (gives_call token call) result told)
       _ (tells-after (scene_in start) (scene_in between) later advances refl token call
       (gives_call token call) result told) result counts
 
   -- a listing
   pub lists-so : (result : Result (Vec ℕ) FolderFault) →
-      TellsIn between.0 folder token lists (locks_result result) →
-      CountsFailure Failed (faults_of between.0) (faults_of folder) result →
-      ListsLocks (staged_moment start) (staged_moment (folder, between.1)) token result
+      TellsIn between.files folder token lists (locks_result result) →
+      CountsFailure Failed (faults_of between.files) (faults_of folder) result →
+      ListsLocks (staged_moment start) (staged_moment (with_files folder between)) token result
   lists-so result told counts =
       passes-after (scene_in start) (scene_in between) later advances refl token
-      (told-one (telling between.0) (telling folder) token lists (gives_call token lists)
+      (told-one (telling between.files) (telling folder) token lists (gives_call token lists)
       (locks_result result) told)
       _ (tells-after (scene_in start) (scene_in between) later advances refl token lists
       (gives_call token lists) (locks_result result) told) result counts
 
   -- a read
   pub reads-so : (name : Name) (limit : ℕ) (result : Result Reading FolderFault) →
-      TellsRead (moment_of between.0) (moment_of folder) token name limit result →
-      CountsFailure Failed (faults_of between.0) (faults_of folder) result →
-      ReadsFolder (staged_moment start) (staged_moment (folder, between.1)) token name limit result
+      TellsRead (moment_of between.files) (moment_of folder) token name limit result →
+      CountsFailure Failed (faults_of between.files) (faults_of folder) result →
+      ReadsFolder (staged_moment start)
+      (staged_moment (with_files folder between)) token name limit result
   reads-so name limit result told counts =
       passes-after (scene_in start) (scene_in between) later advances refl token
-      (told-one (telling between.0) (telling folder) token (reads name) (gives_read limit name)
+      (told-one (telling between.files) (telling folder) token (reads name) (gives_read limit name)
       (found_result result) told)
       _ (tells-after (scene_in start) (scene_in between) later advances refl token (reads name)
       (gives_read limit name) (found_result result) told) result counts
@@ -79,17 +89,18 @@ module _ (start between : MemoryFolder × List Phase) (folder : MemoryFolder)
   -- the sessions after a call of an outsider
   pub part-so : (call : Call) (gives : Folder → History → CallResult (Answer call) → Type 0)
       (result : Result (Answer call) FolderFault) →
-      WhereTold (Some (past_of between.0)) (Some (past_of folder))
+      WhereTold (Some (past_of between.files)) (Some (past_of folder))
       (λ first old new. TellsCall no_others token call (gives first) result old new) →
       IsOutsider (scene_in start) token → TakePart (scene_in between) → TakePart later
   part-so call gives result told outsider part =
-      part-after (telling between.0) (telling folder) token
-      (told-one (telling between.0) (telling folder) token call gives result told) between.1
+      part-after (telling between.files) (telling folder) token
+      (told-one (telling between.files) (telling folder) token call gives result told)
+      between.others
       (advances.outsiders token outsider).stranger part
 
 -- ---- Where the sessions found no memory
 
-module _ (start between : MemoryFolder × List Phase)
+module _ (start between : Stage)
     (advances : Advances (scene_in start) (scene_in between)) where
   -- the folder passes on with what is told
   want-passes : {T : Type 0} (Told : Type 0) → Told →
@@ -125,7 +136,8 @@ module _ (start between : MemoryFolder × List Phase)
       IsErr result × IsErrAnd result (λ fault. fault ≡ Memory) →
       ListsLocks (staged_moment start) (staged_moment between) token result
   want-lists token = want-result (Vec ℕ)
-      (λ result. Tells (staged_moment start) (staged_moment between) token lists (locks_result result))
+      (λ result. Tells (staged_moment start) (staged_moment between)
+      token lists (locks_result result))
       (advances.first, advances.came)
 
   -- a read
@@ -147,116 +159,126 @@ module _ (start between : MemoryFolder × List Phase)
 
 -- ---- A begin
 
-module _ (start between : MemoryFolder × List Phase) (folder : MemoryFolder)
+module _ (start between : Stage) (folder : MemoryFolder)
     (advances : Advances (scene_in start) (scene_in between)) (part : TakePart (scene_in between))
     (command : Command) (result : Result Token FolderFault)
-    (told : WhereTold (Some (past_of between.0)) (Some (past_of folder))
+    (told : WhereTold (Some (past_of between.files)) (Some (past_of folder))
     (TellsBegin no_others command result)) where
   -- its one event
-  begin-one : OneCame (telling between.0) (telling folder) (begun_token result)
-  begin-one = begun-one (telling between.0) (telling folder) command result told
+  begin-one : OneCame (telling between.files) (telling folder) (begun_token result)
+  begin-one = begun-one (telling between.files) (telling folder) command result told
 
   -- what it tells
-  pub begins-so : CountsFailure Failed (faults_of between.0) (faults_of folder) result →
-      BeginsSession (staged_moment start) (staged_moment (folder, between.1)) command result
+  pub begins-so : CountsFailure Failed (faults_of between.files) (faults_of folder) result →
+      BeginsSession (staged_moment start) (staged_moment (with_files folder between)) command result
   begins-so counts =
-      passes-after (scene_in start) (scene_in between) (scene folder between.1) advances refl
+      passes-after (scene_in start) (scene_in between) (scene folder between.others) advances refl
       (begun_token result) begin-one _
-      (begins-after (scene_in start) (scene_in between) (scene folder between.1) advances refl
+      (begins-after (scene_in start) (scene_in between) (scene folder between.others) advances refl
       command result told) result counts
 
   -- the sessions after it
-  pub begin-part : TakePart (scene folder between.1)
-  begin-part = part-after (telling between.0) (telling folder) (begun_token result) begin-one between.1
-      (begin-strangers (telling between.0) (telling folder) command result told between.1 part.each)
+  pub begin-part : TakePart (scene folder between.others)
+  begin-part = part-after (telling between.files) (telling folder) (begun_token result) begin-one
+      between.others
+      (begin-strangers (telling between.files) (telling folder) command result told
+      between.others part.each)
       part
 
 -- none of the events of the session that begins is admitted
-pub begin-own : (between : MemoryFolder × List Phase) (folder : MemoryFolder) →
+pub begin-own : (between : Stage) (folder : MemoryFolder) →
     TakePart (scene_in between) → (command : Command) (result : Result Token FolderFault) →
-    WhereTold (Some (past_of between.0)) (Some (past_of folder))
+    WhereTold (Some (past_of between.files)) (Some (past_of folder))
     (TellsBegin no_others command result) →
-    IfOk result (NeverAdmits (by_sessions (scene folder between.1)))
+    IfOk result (NeverAdmits (by_sessions (scene folder between.others)))
 begin-own between folder part command (Ok token) told =
-    never-outsiders (scene folder between.1) token
-    (begun-outside (telling between.0) (telling folder) command token told between.1 part.each)
+    never-outsiders (scene folder between.others) token
+    (begun-outside (telling between.files) (telling folder) command token told
+    between.others part.each)
 begin-own between folder part command (Err fault) told = tt
 
 -- ---- In the words of a call, whose staged folder has this value before
 
-module _ (start value between : MemoryFolder × List Phase) (folder : MemoryFolder)
+module _ (start value between : Stage) (folder : MemoryFolder)
     (is : start ≡ value) (advances : Advances (scene_in start) (scene_in between)) where
   -- what is said of the parts is said of the value
-  said : (Says : MemoryFolder × List Phase → Type 0) → Says start → Says value
+  said : (Says : Stage → Type 0) → Says start → Says value
   said Says told = subst Says is told
 
   -- who may call is an outsider
-  may-outside : (token : Token) → MayAct (staged_moment value) token → IsOutsider (scene_in start) token
+  may-outside : (token : Token) → MayAct (staged_moment value) token →
+      IsOutsider (scene_in start) token
   may-outside token may = acting-outside (scene_in start) token
-      (subst (λ (parts : MemoryFolder × List Phase). MayAct (staged_moment parts) token) (sym is) may)
+      (subst (λ (parts : Stage). MayAct (staged_moment parts) token) (sym is) may)
 
   -- a call
   pub calls-told : (token : Token) (call : Call) (result : Result (Answer call) FolderFault) →
-      TellsIn between.0 folder token call result →
-      CountsFailure Failed (faults_of between.0) (faults_of folder) result →
-      CallsFolder (staged_moment value) (staged_moment (folder, between.1)) token call result
+      TellsIn between.files folder token call result →
+      CountsFailure Failed (faults_of between.files) (faults_of folder) result →
+      CallsFolder (staged_moment value)
+      (staged_moment (with_files folder between)) token call result
   calls-told token call result told counts = said
-      (λ parts. CallsFolder (staged_moment parts) (staged_moment (folder, between.1)) token call result)
+      (λ parts. CallsFolder (staged_moment parts)
+      (staged_moment (with_files folder between)) token call result)
       (calls-so start between folder advances token call result told counts)
 
   -- the sessions after it
   pub calls-part : (token : Token) (call : Call) (result : Result (Answer call) FolderFault) →
-      TellsIn between.0 folder token call result → MayAct (staged_moment value) token →
-      TakePart (scene_in between) → TakePart (scene folder between.1)
+      TellsIn between.files folder token call result → MayAct (staged_moment value) token →
+      TakePart (scene_in between) → TakePart (scene folder between.others)
   calls-part token call result told may = part-so start between folder advances token call
       (gives_call token call) result told (may-outside token may)
 
   -- a listing
   pub lists-told : (token : Token) (result : Result (Vec ℕ) FolderFault) →
-      TellsIn between.0 folder token lists (locks_result result) →
-      CountsFailure Failed (faults_of between.0) (faults_of folder) result →
-      ListsLocks (staged_moment value) (staged_moment (folder, between.1)) token result
+      TellsIn between.files folder token lists (locks_result result) →
+      CountsFailure Failed (faults_of between.files) (faults_of folder) result →
+      ListsLocks (staged_moment value) (staged_moment (with_files folder between)) token result
   lists-told token result told counts = said
-      (λ parts. ListsLocks (staged_moment parts) (staged_moment (folder, between.1)) token result)
+      (λ parts. ListsLocks (staged_moment parts)
+      (staged_moment (with_files folder between)) token result)
       (lists-so start between folder advances token result told counts)
 
   -- a read
   pub reads-told : (token : Token) (name : Name) (limit : ℕ) (result : Result Reading FolderFault) →
-      TellsRead (moment_of between.0) (moment_of folder) token name limit result →
-      CountsFailure Failed (faults_of between.0) (faults_of folder) result →
-      ReadsFolder (staged_moment value) (staged_moment (folder, between.1)) token name limit result
+      TellsRead (moment_of between.files) (moment_of folder) token name limit result →
+      CountsFailure Failed (faults_of between.files) (faults_of folder) result →
+      ReadsFolder (staged_moment value)
+      (staged_moment (with_files folder between)) token name limit result
   reads-told token name limit result told counts = said
-      (λ parts. ReadsFolder (staged_moment parts) (staged_moment (folder, between.1)) token name limit
+      (λ parts. ReadsFolder (staged_moment parts)
+      (staged_moment (with_files folder between)) token name limit
       result)
       (reads-so start between folder advances token name limit result told counts)
 
   -- the sessions after it
   pub reads-part : (token : Token) (name : Name) (limit : ℕ) (result : Result Reading FolderFault) →
-      TellsRead (moment_of between.0) (moment_of folder) token name limit result →
+      TellsRead (moment_of between.files) (moment_of folder) token name limit result →
       MayAct (staged_moment value) token → TakePart (scene_in between) →
-      TakePart (scene folder between.1)
+      TakePart (scene folder between.others)
   reads-part token name limit result told may = part-so start between folder advances token
       (reads name) (gives_read limit name) (found_result result) told (may-outside token may)
 
   -- a begin
   pub begins-told : (command : Command) (result : Result Token FolderFault) →
-      WhereTold (Some (past_of between.0)) (Some (past_of folder))
+      WhereTold (Some (past_of between.files)) (Some (past_of folder))
       (TellsBegin no_others command result) →
-      CountsFailure Failed (faults_of between.0) (faults_of folder) result →
+      CountsFailure Failed (faults_of between.files) (faults_of folder) result →
       TakePart (scene_in between) →
-      BeginsSession (staged_moment value) (staged_moment (folder, between.1)) command result
+      BeginsSession (staged_moment value) (staged_moment (with_files folder between)) command result
   begins-told command result told counts part = said
-      (λ parts. BeginsSession (staged_moment parts) (staged_moment (folder, between.1)) command result)
+      (λ parts. BeginsSession (staged_moment parts)
+      (staged_moment (with_files folder between)) command result)
       (begins-so start between folder advances part command result told counts)
 
-module _ (start value between : MemoryFolder × List Phase) (is : start ≡ value)
+module _ (start value between : Stage) (is : start ≡ value)
     (advances : Advances (scene_in start) (scene_in between)) where
   -- want of memory, of a call
   pub want-told : (token : Token) (call : Call) (result : Result (Answer call) FolderFault) →
       IsErr result × IsErrAnd result (λ fault. fault ≡ Memory) →
       CallsFolder (staged_moment value) (staged_moment between) token call result
   want-told token call result none = subst
-      (λ (parts : MemoryFolder × List Phase). CallsFolder (staged_moment parts)
+      (λ (parts : Stage). CallsFolder (staged_moment parts)
       (staged_moment between) token call result) is
       (want-of start between advances token call result none)
 
@@ -265,7 +287,7 @@ module _ (start value between : MemoryFolder × List Phase) (is : start ≡ valu
       IsErr result × IsErrAnd result (λ fault. fault ≡ Memory) →
       ListsLocks (staged_moment value) (staged_moment between) token result
   want-listed token result none = subst
-      (λ (parts : MemoryFolder × List Phase). ListsLocks (staged_moment parts)
+      (λ (parts : Stage). ListsLocks (staged_moment parts)
       (staged_moment between) token result) is
       (want-lists start between advances token result none)
 
@@ -274,7 +296,7 @@ module _ (start value between : MemoryFolder × List Phase) (is : start ≡ valu
       IsErr result × IsErrAnd result (λ fault. fault ≡ Memory) →
       ReadsFolder (staged_moment value) (staged_moment between) token name limit result
   want-read token name limit result none = subst
-      (λ (parts : MemoryFolder × List Phase). ReadsFolder (staged_moment parts)
+      (λ (parts : Stage). ReadsFolder (staged_moment parts)
       (staged_moment between) token name limit result) is
       (want-reads start between advances token name limit result none)
 
@@ -283,32 +305,91 @@ module _ (start value between : MemoryFolder × List Phase) (is : start ≡ valu
       IsErr result × IsErrAnd result (λ fault. fault ≡ Memory) →
       BeginsSession (staged_moment value) (staged_moment between) command result
   want-begun command result none = subst
-      (λ (parts : MemoryFolder × List Phase). BeginsSession (staged_moment parts)
+      (λ (parts : Stage). BeginsSession (staged_moment parts)
       (staged_moment between) command result) is
       (want-begins start between advances command result none)
 
+-- ---- The next list, and then the call
+
+-- a call of the folder in memory, which admits none of others, passes on so
+pub in-memory : {T : Type 0} (old new : MemoryFolder) (Told : Type 0) → Told →
+    (result : Result T FolderFault) → CountsFailure Failed (faults_of old) (faults_of new) result →
+    Passes (moment_of old) (moment_of new) Told result
+in-memory old new Told told result counts = record {
+  told = told;
+  narrows = λ history event admitted. admitted;
+  faults = counts;
+}
+
+module _ (start value between : Stage) (is : start ≡ value)
+    (left : between.left ≡ lists_behind start.left) where
+  -- the list was taken, and the call was made
+  pub calls-next : {T : Type 0} (folder : MemoryFolder) →
+      TakesSteps (next_list start.left) (scene_in start) (scene_in between) →
+      (Told : Moment → Moment → Type 0) (result : Result T FolderFault) →
+      Told (moment_of between.files) (moment_of folder) →
+      CallsNext value (with_files folder between) Told result
+  calls-next folder taken Told result told = subst
+      (λ (before : Stage). CallsNext before (with_files folder between) Told result) is
+      (inl (
+        between,
+        record { left = left; taken = taken },
+        record { told = told; others = refl; left = refl },
+      ))
+
+  -- the list broke off
+  pub breaks-off : {T : Type 0} →
+      TakesFront (next_list start.left) (scene_in start) (scene_in between) →
+      (Told : Moment → Moment → Type 0) (result : Result T FolderFault) →
+      IsErr result × IsErrAnd result (λ fault. fault ≡ Memory) →
+      CallsNext value between Told result
+  breaks-off front Told (Ok answer) wrong = absurd (cc (wrong.0))
+  breaks-off {T = T} front Told (Err fault) is_memory = subst
+      (λ (before : Stage). CallsNext {T = T} before between Told (Err fault)) is
+      (inr (record { left = left; taken = front }, ap (λ (one : FolderFault). Err one) is_memory.1))
+
 -- who may answer is an outsider, so the sessions take part still, and the answer is told
-module _ (start value : MemoryFolder × List Phase) (folder : MemoryFolder) (is : start ≡ value)
+module _ (start value : Stage) (folder : MemoryFolder) (is : start ≡ value)
     (token : Token) (status : ℕ)
-    (told : TellsIn start.0 folder token (answers status) (Ok tt)) where
+    (told : TellsIn start.files folder token (answers status) (Ok tt)) where
   -- the sessions after it
   pub answered-part : MayAnswer (staged_moment value) token → TakePart (scene_in start) →
-      TakePart (scene folder start.1)
+      TakePart (scene folder start.others)
   answered-part may part = part-so start start folder (advances-none (scene_in start)) token
       (answers status) (gives_call token (answers status)) (Ok tt) told
       (answering-outside (scene_in start) token
-      (subst (λ (parts : MemoryFolder × List Phase). MayAnswer (staged_moment parts) token) (sym is)
+      (subst (λ (parts : Stage). MayAnswer (staged_moment parts) token) (sym is)
       may)) part
 
+  -- an answer is no fault
+  answered-counts : faults_of folder ≡ faults_of start.files →
+      CountsFailure {T = Answer (answers status)} Failed
+      (faults_of start.files) (faults_of folder) (Ok tt)
+  answered-counts same = record {
+    never_falls = subst (λ (count : ℕ). faults_of start.files ≤ count) (sym same) (omega arith);
+    failed = λ wrong. absurd (cc wrong);
+  }
+
   -- what it tells
-  pub answered-told : faults_of folder ≡ faults_of start.0 →
-      CallsFolder (staged_moment value) (staged_moment (folder, start.1)) token (answers status)
+  pub answered-told : faults_of folder ≡ faults_of start.files →
+      CallsFolder (staged_moment value)
+      (staged_moment (with_files folder start)) token (answers status)
       (Ok tt)
   answered-told same = subst
-      (λ (parts : MemoryFolder × List Phase). CallsFolder (staged_moment parts)
-      (staged_moment (folder, start.1)) token (answers status) (Ok tt)) is
+      (λ (parts : Stage). CallsFolder (staged_moment parts)
+      (staged_moment (with_files folder start)) token (answers status) (Ok tt)) is
       (calls-so start start folder (advances-none (scene_in start)) token (answers status) (Ok tt)
-      told (record {
-        never_falls = subst (λ (count : ℕ). faults_of start.0 ≤ count) (sym same) (omega arith);
-        failed = λ wrong. absurd (cc wrong);
-      }))
+      told (answered-counts same))
+
+  -- it is told at once
+  pub answered-at-once : faults_of folder ≡ faults_of start.files →
+      CallsAtOnce value (with_files folder start)
+      (λ before now. CallsFolder before now token (answers status) (Ok tt))
+  answered-at-once same = subst
+      (λ (parts : Stage). CallsAtOnce parts (with_files folder start)
+      (λ before now. CallsFolder before now token (answers status) (Ok tt))) is
+      (record {
+        told = in-memory start.files folder _ told (Ok tt) (answered-counts same);
+        others = refl;
+        left = refl;
+      })

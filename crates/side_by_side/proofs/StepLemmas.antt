@@ -6,13 +6,14 @@ use Rattle.std.proofs.Common.{◌≡◌, refl, sym, ap, subst, ◌∙◌, ℕ, �
 use Rattle.std.specs.Prelude.{MatchBool, slice_get}
 use Rattle.std.proofs.lemmas.List.{take_all, take_more}
 use Rattle.std.proofs.lemmas.Option.{get_or_from_slice_get, slice_get_within}
+use Rattle.acct_outside.specs.declared.memory.MemoryFolder.{MemoryFolder}
 use Rattle.suite_session.specs.declared.session.Phase.{Phase}
 use Rattle.suite_session.specs.Belongs.{AreApart}
 use Rattle.suite_session.specs.Session.{token_of}
 use Rattle.side_by_side.specs.declared.step.Step.{Step}
 use Rattle.side_by_side.specs.declared.step.Step.TheVariants.{Turn, Die}
 use Rattle.side_by_side.specs.Places.{place_of}
-use Rattle.side_by_side.specs.Scenes.{Scene, TakePart, TakesPart, Telling, has_ended}
+use Rattle.side_by_side.specs.Scenes.{Scene, TakePart, TakesPart, Telling, has_ended, scene}
 use Rattle.side_by_side.specs.Steps.{Acts, ActsAmong, Goes, StaysAside, TakesAt, TakesFront, TakesStep, TakesSteps}
 use Rattle.side_by_side.specs.Advances.{Advances}
 use Rattle.side_by_side.proofs.ActLemmas.{Does, death-does, death-takes-part, does-nothing, other-stays, turn-does}
@@ -114,33 +115,45 @@ pub steps-lead : (steps : List Step) (before now : Scene) → TakePart before �
     TakesSteps steps before now → Leads before now
 steps-lead [] before now part same = leads-none before now same part
 steps-lead (step ∷ steps) before now part takes =
-    let first = step-leads before part step takes.0 takes.1 in
-    let rest = steps-lead steps takes.0 now first.part takes.2 in record {
+    let between = scene takes.0 takes.1 in
+    let first = step-leads before part step between takes.2 in
+    let rest = steps-lead steps between now first.part takes.3 in record {
       part = rest.part;
-      advances = advances-then before takes.0 now first.advances rest.advances;
+      advances = advances-then before between now first.advances rest.advances;
     }
 
 -- the second claim
-pub step-more : (steps : List Step) (step : Step) (before between now : Scene) →
-    TakesSteps steps before between → TakesStep step between now →
-    TakesSteps (steps ++ step ∷ []) before now
-step-more [] step before between now same takes =
-    (now, subst (λ (here : Scene). TakesStep step here now) same takes, refl)
-step-more (first ∷ steps) step before between now taken takes =
-    (taken.0, taken.1, step-more steps step taken.0 between now taken.2 takes)
+pub step-more : (steps : List Step) (step : Step) (before between : Scene) (folder : MemoryFolder)
+    (sessions : List Phase) → TakesSteps steps before between →
+    TakesStep step between (scene folder sessions) →
+    TakesSteps (steps ++ step ∷ []) before (scene folder sessions)
+step-more [] step before between folder sessions same takes = (
+  folder,
+  sessions,
+  subst (λ (here : Scene). TakesStep step here (scene folder sessions)) same takes,
+  refl,
+)
+step-more (first ∷ steps) step before between folder sessions taken takes = (
+  taken.0,
+  taken.1,
+  taken.2,
+  step-more steps step (scene taken.0 taken.1) between folder sessions taken.3 takes,
+)
 
 -- ---- A loop over steps
 
-module _ (steps : List Step) (place : ℕ) (before now : Scene) where
-  -- one more of them
-  pub taken-more : (between : Scene) (step : Step) → place < length steps →
-      step ≡ get_or steps place step → TakesSteps (take place steps) before between →
-      TakesStep step between now → TakesSteps (take (place + 1) steps) before now
-  taken-more between step within is taken takes =
-      subst (λ (done : List Step). TakesSteps done before now)
-      (ap (λ (one : Step). take place steps ++ one ∷ []) is ∙ sym (take_more steps place step within))
-      (step-more (take place steps) step before between now taken takes)
+-- one more of them
+pub taken-more : (steps : List Step) (place : ℕ) (before between : Scene) (folder : MemoryFolder)
+    (sessions : List Phase) (step : Step) → place < length steps →
+    step ≡ get_or steps place step → TakesSteps (take place steps) before between →
+    TakesStep step between (scene folder sessions) →
+    TakesSteps (take (place + 1) steps) before (scene folder sessions)
+taken-more steps place before between folder sessions step within is taken takes =
+    subst (λ (done : List Step). TakesSteps done before (scene folder sessions))
+    (ap (λ (one : Step). take place steps ++ one ∷ []) is ∙ sym (take_more steps place step within))
+    (step-more (take place steps) step before between folder sessions taken takes)
 
+module _ (steps : List Step) (place : ℕ) (before now : Scene) where
   -- a front of them
   pub taken-front : (same : Scene) → now ≡ same → TakesSteps (take place steps) before same →
       TakesFront steps before now

@@ -3,3 +3,4 @@ pub mod Scenes
 pub mod Steps
 pub mod Advances
 pub mod Staged
+pub mod Lists

@@ -1,14 +1,27 @@
 -- What a staged folder tells of itself.
 use Rattle.std.specs.Prelude.{List, Some}
+use Rattle.std.specs.Global.{Vec}
 use Rattle.acct_outside.specs.declared.memory.MemoryFolder.{MemoryFolder}
 use Rattle.acct_outside.specs.Moment.{Moment}
 use Rattle.suite_session.specs.declared.session.Phase.{Phase}
+use Rattle.side_by_side.specs.declared.step.Step.{Step}
 use Rattle.side_by_side.specs.Scenes.{Scene, scene}
 use Rattle.side_by_side.specs.Advances.{by_sessions}
 
+-- what contracts see of a staged folder: the folder in memory, its other sessions, and the lists of
+-- steps that are left of its schedule
+pub record Stage : Type 0 where
+  pub files : MemoryFolder
+  pub others : List Phase
+  pub left : List (Vec Step)
+
+-- the stage of these
+abbrev pub stage_of : MemoryFolder → List Phase → List (Vec Step) → Stage
+stage_of files others left = record { files = files; others = others; left = left }
+
 -- the folder with its other sessions
-abbrev pub scene_in : MemoryFolder × List Phase → Scene
-scene_in parts = scene parts.0 parts.1
+abbrev pub scene_in : Stage → Scene
+scene_in stage = scene stage.files stage.others
 
 -- a scene tells its history, and admits the lawful events of sessions other than outsiders
 abbrev pub staged : Scene → Moment
@@ -19,5 +32,5 @@ staged here = record {
 }
 
 -- so does a staged folder, for which outsiders are those that call it
-abbrev pub staged_moment : MemoryFolder × List Phase → Moment
-staged_moment parts = staged (scene_in parts)
+abbrev pub staged_moment : Stage → Moment
+staged_moment stage = staged (scene_in stage)

@@ -1,6 +1,7 @@
 -- What the steps of a schedule do, one after another.
 use Rattle.std.specs.Prelude.{◌≡◌, List, [], ◌∷◌, ◌++◌, Option, None, Some, MatchBool, slice_get, slice_set}
 use Rattle.acct_outside.specs.declared.Effect.{Effect}
+use Rattle.acct_outside.specs.declared.memory.MemoryFolder.{MemoryFolder}
 use Rattle.suite_session.specs.declared.session.Phase.{Phase}
 use Rattle.suite_session.specs.Belongs.{Belongs}
 use Rattle.suite_session.specs.Dying.{SessionDies}
@@ -9,7 +10,7 @@ use Rattle.suite_session.specs.Turning.{KeepsOthers, SessionTurns}
 use Rattle.side_by_side.specs.declared.step.Step.{Step}
 use Rattle.side_by_side.specs.declared.step.Step.TheVariants.{Turn, Die}
 use Rattle.side_by_side.specs.Places.{place_of}
-use Rattle.side_by_side.specs.Scenes.{Scene, Telling, has_ended, moment_in}
+use Rattle.side_by_side.specs.Scenes.{Scene, Telling, has_ended, moment_in, scene}
 
 -- nothing is done: the folder tells what it told, and the session is as it was
 pub record StaysAside (before now : Telling) (old new : Phase) : Type 0 where
@@ -55,11 +56,13 @@ TakesAt step before now (Some old) = ActsAmong step before now old
 abbrev pub TakesStep : Step → Scene → Scene → Type 0
 TakesStep step before now = TakesAt step before now (slice_get before.sessions (place_of step))
 
--- the steps are taken, one after another
+-- the steps are taken, one after another; in between are scenes of a folder in memory
 abbrev pub TakesSteps : List Step → Scene → Scene → Type 0
 TakesSteps [] before now = now ≡ before
 TakesSteps (step ∷ steps) before now =
-    (between : Scene) × TakesStep step before between × TakesSteps steps between now
+    (folder : MemoryFolder) × (sessions : List Phase)
+    × TakesStep step before (scene folder sessions)
+    × TakesSteps steps (scene folder sessions) now
 
 -- a front of the steps is taken
 pub record TakesFront (steps : List Step) (before now : Scene) : Type 0 where

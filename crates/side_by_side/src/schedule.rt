@@ -1,6 +1,9 @@
 // A schedule: lists of steps, of which one is taken before each call of a staged folder.
+ghost use Rattle.std.specs.Prelude.{◌≡◌, OnOk, drop};
 ghost use Rattle.side_by_side.specs.Scenes.{TakePart, scene};
+ghost use Rattle.side_by_side.specs.Steps.{TakesFront, TakesSteps};
 ghost use Rattle.side_by_side.specs.Advances.{Advances};
+ghost use Rattle.side_by_side.specs.Lists.{lists_behind, next_list};
 
 use crate::playing::play;
 use crate::step::Step;
@@ -16,30 +19,49 @@ pub(crate) struct Schedule {
 }
 
 impl Schedule {
-    /// The sessions take the steps of the next list; none where no list is left.
+    ghost use Rattle.side_by_side.specs.Lists.{lists_left};
+
+    /// The sessions take the steps of the next list; none where no list is left. The error says that
+    /// there was no memory for a step: then those before it are taken, and the list is none that is left.
     pub(crate) fn play_next<T: Tools>(
         &mut self,
         sessions: &mut Vec<Session<T>>,
         folder: &mut MemoryFolder,
     ) -> Result<(), AllocError>
         requires { TakePart (scene folder.old sessions.old.items) }
+        ensures left { lists_left self.new ≡ lists_behind (lists_left self.old) }
+        ensures front { TakesFront (next_list (lists_left self.old))
+            (scene folder.old sessions.old.items) (scene folder.new sessions.new.items) }
+        ensures whole { OnOk result (TakesSteps (next_list (lists_left self.old))
+            (scene folder.old sessions.old.items) (scene folder.new sessions.new.items)) }
         ensures advances { Advances (scene folder.old sessions.old.items)
             (scene folder.new sessions.new.items) }
         ensures take_part { TakePart (scene folder.new sessions.new.items) }
     {
         let list = self.taken;
-        if list < self.lists.len() {
-            self.taken = list + 1;
-        }
+        self.taken = place_behind(&self.lists, list);
         play(sessions, list_at(&self.lists, list), folder)
     }
 }
 
 // The list at the place, counted from 0; an empty one behind the last.
-fn list_at(lists: &[Vec<Step>], place: usize) -> &[Step] {
+fn list_at(lists: &[Vec<Step>], place: usize) -> &[Step]
+    ensures { result.now ≡ next_list (drop place lists.now) }
+{
     if place < lists.len() {
         &lists[place]
     } else {
         &[]
+    }
+}
+
+// The place behind that of a list, counted from 0; the same where no list stands there.
+fn place_behind(lists: &[Vec<Step>], place: usize) -> usize
+    ensures { drop result lists.now ≡ lists_behind (drop place lists.now) }
+{
+    if place < lists.len() {
+        place + 1
+    } else {
+        place
     }
 }

@@ -1,7 +1,7 @@
 // A folder in memory in which the sessions of a schedule take their steps between the calls of others.
 ghost use Rattle.std.specs.Prelude.{◌≡◌};
 ghost use Rattle.side_by_side.specs.Scenes.{TakePart, scene};
-ghost use Rattle.side_by_side.specs.Staged.{scene_in};
+ghost use Rattle.side_by_side.specs.Staged.{scene_in, stage_of};
 
 use crate::schedule::Schedule;
 use crate::step::Step;
@@ -11,7 +11,7 @@ use suite_session::{Session, Tools};
 
 /// A folder in memory with other sessions, which take their steps by a schedule: the first list of it
 /// before the first call, the next before the next, counted without `enter`, `answered` and `faults`.
-/// Contracts see the folder and these sessions.
+/// Contracts see the folder, these sessions and the lists that are left.
 ///
 /// It tells the history of that folder, and admits exactly the lawful events of sessions other than
 /// those that call it. Where a list finds no memory, the call answers `Memory`, and the steps before
@@ -24,14 +24,14 @@ pub struct StagedFolder<T: Tools> {
 }
 
 impl<T: Tools> Model for StagedFolder<T> {
-    ghost use Rattle.std.specs.Prelude.{List};
-    ghost use Rattle.acct_outside.specs.declared.memory.MemoryFolder.{MemoryFolder as Files};
-    ghost use Rattle.suite_session.specs.declared.session.Phase.{Phase};
     ghost use Rattle.side_by_side.specs.Scenes.{TakePart, scene};
+    ghost use Rattle.side_by_side.specs.Staged.{Stage, stage_of};
+    ghost use Rattle.side_by_side.specs.Lists.{lists_left};
 
-    ghost Value = { Files × List Phase };
+    ghost Value = { Stage };
 
-    ghost view = { λ staged. (staged.folder, staged.others.items) };
+    ghost view = { λ staged. stage_of staged.folder staged.others.items
+        (lists_left staged.schedule) };
 
     ghost invariant = { λ staged. TakePart (scene staged.folder staged.others.items) };
 }
@@ -40,7 +40,7 @@ impl<T: Tools> StagedFolder<T> {
     /// A folder in which these sessions take part, with the lists of their steps.
     pub fn new(folder: MemoryFolder, others: Vec<Session<T>>, schedule: Vec<Vec<Step>>) -> Self
         requires { TakePart (scene folder others.items) }
-        ensures { result ≡ (folder, others.items) }
+        ensures { result ≡ stage_of folder others.items schedule.items }
     {
         StagedFolder {
             folder,
@@ -54,14 +54,14 @@ impl<T: Tools> StagedFolder<T> {
 
     /// The folder in memory, as it stands.
     pub fn folder(&self) -> &MemoryFolder
-        ensures { result.now ≡ self.now.0 }
+        ensures { result.now ≡ self.now.files }
     {
         &self.folder
     }
 
     /// The other sessions, which take part in the folder.
     pub fn others(&self) -> &[Session<T>]
-        ensures others { result.now ≡ self.now.1 }
+        ensures others { result.now ≡ self.now.others }
         ensures take_part { TakePart (scene_in self.now) }
     {
         &self.others

@@ -14,8 +14,8 @@ take-requires g c = (steps-lead _ (scene c.args.folder.now c.args.sessions.now.i
 pub steps-preserved : goal.steps-preserved
 steps-preserved g c = taken-more c.args.steps.now c.steps.step-index
     (scene c.args.folder.now c.args.sessions.now.items)
-    (scene c.take.new.folder c.take.new.sessions.items)
-    (scene c.steps.folder c.steps.sessions.items) c.step-item.result (omega arith) c.step-item.is
+    (scene c.steps.folder c.steps.sessions.items) c.take.new.folder c.take.new.sessions.items
+    c.step-item.result (omega arith) c.step-item.is
     c.steps.invariant c.in_ok-take.ensures.taken
 
 pub returns-in_err-take-clause-front : goal.returns-in_err-take-clause-front

@@ -1,10 +1,17 @@
 use Rattle.acct_outside.specs.Calls.{Command}
-use Rattle.side_by_side.proofs.StagedCalls.{begin-own, begin-part, begins-told, want-begun}
+use Rattle.acct_outside.specs.Contract.{BeginsSession}
+use Rattle.side_by_side.specs.Lists.{lists_left}
+use Rattle.side_by_side.specs.Staged.{stage_of}
+use Rattle.side_by_side.proofs.StagedCalls.{begin-own, begin-part, begins-told, breaks-off, calls-next, in-memory, want-begun}
 use Rattle.side_by_side.proofs.staged_calls.StagedFolderFolder.begin.Goals as goal
 
 pub returns-in_err-play_next-clause-call : goal.returns-in_err-play_next-clause-call
-returns-in_err-play_next-clause-call g c = want-begun (c.self.inside.folder, c.self.inside.others.items)
-    c.args.self.now (c.play_next.new.folder, c.play_next.new.sessions.items)
+returns-in_err-play_next-clause-call g c = want-begun
+    (stage_of c.self.inside.folder c.self.inside.others.items
+    (lists_left c.self.inside.schedule))
+    c.args.self.now
+    (stage_of c.play_next.new.folder c.play_next.new.sessions.items
+    (lists_left c.play_next.new.self))
     c.self.view_is c.play_next.ensures.advances _
     c.from_residual.result c.from_residual.ensures
 
@@ -14,17 +21,55 @@ invariant_of-self-2 g c =
       words = c.args.words.now;
       input = c.args.input.now;
       day = c.args.day;
-    } in begin-part (c.self.inside.folder, c.self.inside.others.items)
-    (c.play_next.new.folder, c.play_next.new.sessions.items) c.begin.new.self
+    } in begin-part
+    (stage_of c.self.inside.folder c.self.inside.others.items
+    (lists_left c.self.inside.schedule))
+    (stage_of c.play_next.new.folder c.play_next.new.sessions.items
+    (lists_left c.play_next.new.self)) c.begin.new.self
     c.play_next.ensures.advances c.play_next.ensures.take_part command c.begin.result
     c.begin.ensures.told
 
 pub returns-clause-call : goal.returns-clause-call
-returns-clause-call g c = begins-told (c.self.inside.folder, c.self.inside.others.items) c.args.self.now
-    (c.play_next.new.folder, c.play_next.new.sessions.items) c.begin.new.self c.self.view_is
+returns-clause-call g c = begins-told
+    (stage_of c.self.inside.folder c.self.inside.others.items
+    (lists_left c.self.inside.schedule)) c.args.self.now
+    (stage_of c.play_next.new.folder c.play_next.new.sessions.items
+    (lists_left c.play_next.new.self)) c.begin.new.self c.self.view_is
     c.play_next.ensures.advances _ c.begin.result c.begin.ensures.told c.begin.ensures.faults
     c.play_next.ensures.take_part
 
 pub returns-clause-own : goal.returns-clause-own
-returns-clause-own g c = begin-own (c.play_next.new.folder, c.play_next.new.sessions.items)
+returns-clause-own g c = begin-own (stage_of c.play_next.new.folder c.play_next.new.sessions.items
+    (lists_left c.play_next.new.self))
     c.begin.new.self c.play_next.ensures.take_part _ c.begin.result c.begin.ensures.told
+
+pub returns-in_err-play_next-clause-next : goal.returns-in_err-play_next-clause-next
+returns-in_err-play_next-clause-next g c =
+    let command : Command = record {
+      words = c.args.words.now;
+      input = c.args.input.now;
+      day = c.args.day;
+    } in breaks-off
+    (stage_of c.self.inside.folder c.self.inside.others.items
+    (lists_left c.self.inside.schedule)) c.args.self.now
+    (stage_of c.play_next.new.folder c.play_next.new.sessions.items
+    (lists_left c.play_next.new.self)) c.self.view_is
+    c.play_next.ensures.left c.play_next.ensures.front
+    (λ before now. BeginsSession before now command c.from_residual.result)
+    c.from_residual.result c.from_residual.ensures
+
+pub returns-clause-next : goal.returns-clause-next
+returns-clause-next g c =
+    let command : Command = record {
+      words = c.args.words.now;
+      input = c.args.input.now;
+      day = c.args.day;
+    } in calls-next
+    (stage_of c.self.inside.folder c.self.inside.others.items
+    (lists_left c.self.inside.schedule)) c.args.self.now
+    (stage_of c.play_next.new.folder c.play_next.new.sessions.items
+    (lists_left c.play_next.new.self)) c.self.view_is
+    c.play_next.ensures.left c.begin.new.self c.in_ok-play_next.ensures.whole
+    (λ before now. BeginsSession before now command c.begin.result) c.begin.result
+    (in-memory c.play_next.new.folder c.begin.new.self _ c.begin.ensures.told c.begin.result
+    c.begin.ensures.faults)
