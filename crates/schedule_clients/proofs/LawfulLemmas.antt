@@ -14,7 +14,7 @@ use Rattle.suite_session.specs.Deeds.{AreOfTools}
 use Rattle.suite_course.specs.Turned.{AnswersKeepPromises}
 use Rattle.side_by_side.specs.Scenes.{Scene, scene}
 use Rattle.side_by_side.specs.Advances.{Advances, by_sessions}
-use Rattle.schedule_clients.specs.Lawfully.{HoldsLawfully}
+use Rattle.schedule_clients.specs.Lawfully.{HoldsLawfully, IsLawfulFor}
 
 module _ (before : Scene) (deeds : SuiteDeeds) (are : AreOfTools deeds) where
   -- events of its sessions keep a lawful history so
@@ -24,16 +24,21 @@ module _ (before : Scene) (deeds : SuiteDeeds) (are : AreOfTools deeds) where
   stays-lawful old _ (one_came event new came admitted) lawful =
       admitted.0 deeds are (stays-lawful old new came lawful)
 
+-- so does a scene that advances
+pub lawful-on : (deeds : SuiteDeeds) → AreOfTools deeds → (before now : Scene) → Advances before now →
+    IsLawfulFor deeds before.told.past → IsLawfulFor deeds now.told.past
+lawful-on deeds are before now advances was =
+    subst (λ (first : Folder). Lawful deeds first now.told.past.history) (sym advances.first)
+    (stays-lawful before deeds are before.told.past.history now.told.past.history
+    advances.came was)
+
 -- the claim
 pub kept-lawfully : (before : Scene) (folder : MemoryFolder) (sessions : List Phase) →
     AnswersKeepPromises moment_of → Advances before (scene folder sessions) →
     HoldsLawfully before (scene folder sessions)
 kept-lawfully before folder sessions keeps advances deeds are was =
     let now = scene folder sessions in
-    let lawful : Lawful deeds now.told.past.first now.told.past.history =
-    subst (λ (first : Folder). Lawful deeds first now.told.past.history) (sym advances.first)
-    (stays-lawful before deeds are before.told.past.history now.told.past.history
-    advances.came was) in record {
+    let lawful = lawful-on deeds are before now advances was in record {
       lawful = lawful;
       settles = lawful-settles.is_fold deeds now.told.past.first now.told.past.history lawful;
       promised = λ k d within belongs.
