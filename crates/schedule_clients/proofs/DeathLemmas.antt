@@ -91,9 +91,9 @@ module _ (deeds : SuiteDeeds) (are : AreOfTools deeds) where
         BelongsOrDied deeds now new
     dies-is effect (Waiting asked) going dies was = elim (death-takes-part before now effect
         (Waiting asked) new going (inl tt) dies) [
-      | inl belongs ↦ inl belongs
-      | inr dead ↦ absurd (subst (HasDied now) dies.dies.0 dead)
-    ]
+          | inl belongs ↦ inl belongs
+          | inr dead ↦ absurd (subst (HasDied now) dies.dies.0 dead)
+        ]
     dies-is effect (Begun runner state) going dies (inl belongs) =
         inr (subst (DiedPromising deeds now) (sym dies.dies.0) (record {
           runner = runner;
