@@ -8,5 +8,6 @@ loop-preserved c = (
   c.turn.ensures.belongs,
   λ other belongs apart.
       let kept = c.loop.invariant.1 other belongs apart in
-      c.turn.ensures.others other kept.belongs kept.apart,
+      let turned = c.turn.ensures.others other kept.belongs kept.apart in
+      record { belongs = turned.belongs; apart = turned.apart },
 )
