@@ -18,10 +18,11 @@ use Rattle.acct_outside.specs.Tokens.{Token}
 use Rattle.acct_outside.specs.Calls.{Call, Effect, renames, done, failed}
 use Rattle.acct_outside.specs.Moment.{Past, Narrows, Moment}
 use Rattle.acct_outside.specs.Contract.{Tells}
+use Rattle.acct_outside.specs.declared.CommitStage.TheVariants.{Unsure}
 use Rattle.intent_file.specs.Intent.{NewTable, listed_in}
 use Rattle.suite_rules.specs.Deeds.{SuiteDeeds}
 use Rattle.suite_rules.specs.Knowledge.{Knowledge, commits_bytes}
-use Rattle.suite_rules.specs.Standing.{Standing, commit_called, calls_commit, standing_step}
+use Rattle.suite_rules.specs.Standing.{Standing, calls_commit, standing_step}
 use Rattle.suite_rules.specs.Rules.{KeeperRule, Permits, commit_rule}
 use Rattle.suite_rules.specs.Steps.{Stands, StandsIn}
 use Rattle.suite_rules.specs.Outcomes.{LeadsTo, at_commit}
@@ -32,7 +33,7 @@ use Rattle.suite_rules.proofs.StepLemmas.{Faulted, failed-leads, stands-memory}
 use Rattle.lock_steps.specs.Stands.{KnowsAnything}
 use Rattle.lock_steps.proofs.KeeperLemmas.{keeps-on}
 use Rattle.commit_steps.specs.States.{Change, Walker, changed, new_files, old_files, walk_of}
-use Rattle.commit_steps.specs.Stands.{HasStagedIntent, Installs, IsDeed, KnowsBackups, StandsUnsure, commit_at}
+use Rattle.commit_steps.specs.Stands.{HasStagedIntent, Installs, IsDeed, KnowsBackups, StandsUnsure}
 
 -- the call
 abbrev pub commit_call : Call
@@ -109,7 +110,7 @@ module _ (change : Change) where
 
   -- one that failed was called, whatever came of it
   was-called : (effect : Effect) (stood : Standing) → HasStagedIntent change stood →
-      (standing_step commit_call (failed effect) stood).commit ≡ commit_called
+      (standing_step commit_call (failed effect) stood).commit ≡ Unsure
   was-called effect stood held = ap calls_commit held.uncommitted
 
   -- after a fault the session is as far as its stage tells
@@ -123,15 +124,15 @@ module _ (change : Change) where
   commit-unsure before now narrows token (Err Failed) (Err came)
       shown stands tells =
       called now.told (failed-leads before.admits now.admits narrows token commit_call tt
-      (HasStagedIntent change) (λ stood. stood.commit ≡ commit_called) was-called
+      (HasStagedIntent change) (λ stood. stood.commit ≡ Unsure) was-called
       before.told now.told stands tells)
     where
       called : (told : Option Past) →
-          IfSome told (Faulted token (λ stood. stood.commit ≡ commit_called)) →
+          IfSome told (Faulted token (λ stood. stood.commit ≡ Unsure)) →
           StandsUnsure told token came
       called None faulted = tt
       called (Some past) faulted =
-          faulted.holds ∙ sym (ap (λ (fault : StageFault). commit_at fault.stage) shown)
+          faulted.holds ∙ sym (ap (λ (fault : StageFault). fault.stage) shown)
   commit-unsure before now narrows token (Err Memory) (Err came)
       shown stands tells =
       uncalled now.told (stands-memory before.admits now.admits narrows token commit_call tt
@@ -141,7 +142,7 @@ module _ (change : Change) where
           StandsUnsure told token came
       uncalled None stands = tt
       uncalled (Some past) stands = stands.holds.uncommitted
-          ∙ sym (ap (λ (fault : StageFault). commit_at fault.stage) shown)
+          ∙ sym (ap (λ (fault : StageFault). fault.stage) shown)
   commit-unsure before now narrows token (Ok answer) (Err came)
       shown stands tells = absurd shown
   commit-unsure before now narrows token answer (Ok state)

@@ -21,9 +21,10 @@ use Rattle.acct_outside.specs.Tokens.{Token}
 use Rattle.acct_outside.specs.Calls.{Command, Found, found_absent, found_bytes, found_too_large, reads, done}
 use Rattle.acct_outside.specs.Moment.{Narrows, Moment}
 use Rattle.acct_outside.specs.Contract.{IsName, Tells, TellsRead, found_result}
+use Rattle.acct_outside.specs.declared.CommitStage.TheVariants.{Before}
 use Rattle.acct_text.specs.Limits.{table_limit}
 use Rattle.suite_rules.specs.Knowledge.{Knowledge, Seen, knows_none, whole_content, seen_with, input_step, read_step}
-use Rattle.suite_rules.specs.Standing.{Standing, commit_uncalled, standing_step}
+use Rattle.suite_rules.specs.Standing.{Standing, standing_step}
 use Rattle.suite_rules.specs.Rules.{HasSeen}
 use Rattle.suite_rules.specs.Steps.{StandsIn}
 use Rattle.suite_rules.proofs.Names.{table-is}
@@ -65,7 +66,7 @@ next-told next name is before now by token same found tells =
 
 -- a clean keeper that hasn't called its commit has read nothing
 pub starts-reading : (keeper : Kept) (stood : Standing) → Keeps keeper KnowsNone stood →
-    stood.commit ≡ commit_uncalled → HasRead (start_of keeper) stood
+    stood.commit ≡ Before → HasRead (start_of keeper) stood
 starts-reading keeper stood keeps uncommitted = record {
   keeps = keeps-on keeper KnowsNone (KnowsSome (start_of keeper)) stood stood refl refl keeps
       (record {

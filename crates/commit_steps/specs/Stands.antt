@@ -5,8 +5,7 @@ use Rattle.acct_text.specs.declared.Tab.{Tab}
 use Rattle.acct_text.specs.declared.files.Files.{Files}
 use Rattle.acct_text.specs.Files.{table_of}
 use Rattle.acct_outside.specs.declared.Name.TheVariants.{Table, BackupStage, IntentStage, Defs}
-use Rattle.acct_outside.specs.declared.CommitStage.{CommitStage}
-use Rattle.acct_outside.specs.declared.CommitStage.TheVariants.{Before, Unsure, Committed}
+use Rattle.acct_outside.specs.declared.CommitStage.TheVariants.{Before, Committed}
 use Rattle.acct_outside.specs.declared.StageFault.{StageFault}
 use Rattle.acct_outside.specs.Tokens.{Token}
 use Rattle.acct_outside.specs.Calls.{Command}
@@ -14,7 +13,7 @@ use Rattle.acct_outside.specs.Moment.{Past, Moment}
 use Rattle.intent_file.specs.Intent.{NewTable, intent_text, ReadsIntent}
 use Rattle.suite_rules.specs.Deeds.{SuiteDeeds}
 use Rattle.suite_rules.specs.Knowledge.{Seen, Knowledge, knows_none}
-use Rattle.suite_rules.specs.Standing.{Standing, Commit, commit_uncalled, commit_called, commit_done, standing}
+use Rattle.suite_rules.specs.Standing.{Standing, standing}
 use Rattle.suite_rules.specs.Steps.{StandsIn}
 use Rattle.lock_steps.specs.States.{Kept}
 use Rattle.recovery.specs.Carrying.{Carries, HasStagedFirst}
@@ -35,7 +34,7 @@ pub record KnowsSome (reader : Reader) (knows : Knowledge) : Type 0 where
 -- it keeps its number and hasn't called its commit, and knows this of the tables
 pub record HasRead (reader : Reader) (standing : Standing) : Type 0 where
   pub keeps : Keeps reader.keeper (KnowsSome reader) standing
-  pub uncommitted : standing.commit ≡ commit_uncalled
+  pub uncommitted : standing.commit ≡ Before
 
 -- it has read the table as absent, and before it those that come first, which stand as they must.
 pub record HasMissed (table : Tab) (keeper : Kept) (standing : Standing) : Type 0 where
@@ -54,7 +53,7 @@ pub record KnowsInputs (inputs : Inputs) (knows : Knowledge) : Type 0 where
 -- it keeps its number and hasn't called its commit, and knows this of the inputs
 pub record HasLoaded (inputs : Inputs) (standing : Standing) : Type 0 where
   pub keeps : Keeps inputs.keeper (KnowsInputs inputs) standing
-  pub uncommitted : standing.commit ≡ commit_uncalled
+  pub uncommitted : standing.commit ≡ Before
 
 -- It knows the inputs, and has since moved the bytes that it saw of these tables to their backups.
 pub record KnowsBackups (change : Change) (tables : List NewTable) (knows : Knowledge)
@@ -67,7 +66,7 @@ pub record KnowsBackups (change : Change) (tables : List NewTable) (knows : Know
 pub record BacksUp (walker : Walker) (standing : Standing) : Type 0 where
   pub keeps : Keeps walker.change.inputs.keeper
       (KnowsBackups walker.change (take walker.place (changed walker.change))) standing
-  pub uncommitted : standing.commit ≡ commit_uncalled
+  pub uncommitted : standing.commit ≡ Before
   pub staged : walker.is_staged ≡ true → IsSomeAnd (slice_get (changed walker.change) walker.place)
       (λ next. standing.staged BackupStage ≡ Some (old_bytes walker.change next.table))
 
@@ -75,7 +74,7 @@ pub record BacksUp (walker : Walker) (standing : Standing) : Type 0 where
 -- intent, which reads.
 pub record HasStagedIntent (change : Change) (standing : Standing) : Type 0 where
   pub keeps : Keeps change.inputs.keeper (KnowsBackups change (changed change)) standing
-  pub uncommitted : standing.commit ≡ commit_uncalled
+  pub uncommitted : standing.commit ≡ Before
   pub reads_it : ReadsIntent (intent_text (intended change)) (intended change)
   pub staged : standing.staged IntentStage ≡ Some (intent_text (intended change))
 
@@ -86,29 +85,23 @@ pub record IsDeed (deeds : SuiteDeeds) (change : Change) (standing : Standing) :
   pub is_deed : deeds.deed command (table_of change.inputs.files) change.inputs.defs
       ≡ Some (new_files change)
 
--- how far a session is with its commit where that answered with a fault of this stage
-abbrev pub commit_at : CommitStage → Commit
-commit_at Before = commit_uncalled
-commit_at Unsure = commit_called
-commit_at Committed = commit_done
-
 -- after a commit that answered with a fault: it is as far as the fault's stage tells
 abbrev pub StandsUnsure : Option Past → Token → StageFault → Type 0
 StandsUnsure told token fault = IfSome told (λ past.
-    (standing token past.history).commit ≡ commit_at fault.stage)
+    (standing token past.history).commit ≡ fault.stage)
 
 -- Its commit was done, and it carries out the intent of the change. The tables that aren't done are
 -- left, and the new bytes of the first are staged where the walker says so.
 pub record Installs (walker : Walker) (standing : Standing) : Type 0 where
   pub carries : Carries (intended walker.change) walker.change.inputs.keeper (tables_left walker)
       standing
-  pub committed : standing.commit ≡ commit_done
+  pub committed : standing.commit ≡ Committed
   pub staged : walker.is_staged ≡ true → HasStagedFirst (tables_left walker) standing
 
 -- its commit was done, and it knows that no intent stands any more
 pub record HasCleared (keeper : Kept) (standing : Standing) : Type 0 where
   pub keeps : Keeps keeper KnowsNoneYet standing
-  pub committed : standing.commit ≡ commit_done
+  pub committed : standing.commit ≡ Committed
 
 -- after a read that leads on: more is to be read, or all is
 abbrev pub HoldsLoading : Loading → Standing → Type 0

@@ -18,9 +18,11 @@ use Rattle.acct_outside.specs.Folder.{Folder, settings_file}
 use Rattle.acct_outside.specs.Calls.{Call, Command, Answer, CallResult, Effect, begins, lists, reads, asks, creates, writes, renames, removes, answers, done, failed, died, happened, nothing, left, effect_of, changed_by}
 use Rattle.acct_outside.specs.History.{Event, History, after, own_events}
 use Rattle.acct_outside.specs.Life.{Life, unbegun, running, life, life_step}
+use Rattle.acct_outside.specs.declared.CommitStage.{CommitStage}
+use Rattle.acct_outside.specs.declared.CommitStage.TheVariants.{Before, Committed}
 use Rattle.suite_rules.specs.Deeds.{SuiteDeeds}
 use Rattle.suite_rules.specs.Knowledge.{Seen, knows_none}
-use Rattle.suite_rules.specs.Standing.{Commit, Standing, commit_uncalled, commit_done, calls_commit, command_step, commit_step, standing}
+use Rattle.suite_rules.specs.Standing.{Standing, calls_commit, command_step, commit_step, standing}
 use Rattle.suite_rules.specs.Rules.{KeeperRule, HasSeen, CommitRule, MayBackUp, moves_backup, moves_free, Permits, free_begin, free_listing, free_read, free_verdict, create_rule, staging_rule, commit_rule, install_rule, clear_rule, move_rule, unlock_rule, answer_rule}
 use Rattle.suite_rules.specs.Lawful.{IsNext, Lawful, goes_on}
 use Rattle.suite_rules.specs.Settled.{settled}
@@ -99,7 +101,7 @@ module _ (deeds : SuiteDeeds) (ours : AreOfTools deeds) (first entry : Folder) (
 
     -- ---- What the session has seen
 
-    module _ (uncalled : stood.commit ≡ commit_uncalled) where
+    module _ (uncalled : stood.commit ≡ Before) where
       -- how it stands with the backup of a table before the commit
       before : (table : Tab) →
           IsUncommitted deeds first entry folder (life token history) stood.command table
@@ -298,7 +300,7 @@ module _ (deeds : SuiteDeeds) (ours : AreOfTools deeds) (first entry : Folder) (
       -- of one without an answer nothing is asked
       unanswered : (result : CallResult (Unit {0})) → BackupsAlone deeds first entry
           (later commit result) (lives commit result) stood.command (calls_commit stood.commit)
-      unanswered result = subst (λ (one : Commit). BackupsAlone deeds first entry
+      unanswered result = subst (λ (one : CommitStage). BackupsAlone deeds first entry
           (later commit result) (lives commit result) stood.command (calls_commit one))
           (sym rule.first) tt
 
@@ -391,7 +393,7 @@ module _ (deeds : SuiteDeeds) (ours : AreOfTools deeds) (first : Folder) (token 
 -- the claim
 pub alone-backups : (deeds : SuiteDeeds) → AreOfTools deeds → (first : Folder)
     (history : History) → Lawful deeds first history → (token : Token) (old : History) →
-    IsAlone token old history → (standing token history).commit ≡ commit_done →
+    IsAlone token old history → (standing token history).commit ≡ Committed →
     BackedUpChanges token history → (table : Tab) →
     IsBackedUp (after first old) (after first history) table
 alone-backups deeds ours first history lawful token old alone is backed =

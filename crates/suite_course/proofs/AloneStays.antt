@@ -15,8 +15,10 @@ use Rattle.acct_outside.specs.Folder.{Folder, moved_content}
 use Rattle.acct_outside.specs.Calls.{Call, Answer, CallResult, Effect, begins, creates, writes, renames, removes, done, failed, died, happened, nothing, left, effect_of, changed_by}
 use Rattle.acct_outside.specs.History.{Event, History, after}
 use Rattle.acct_outside.specs.Gives.{GivesResult}
+use Rattle.acct_outside.specs.declared.CommitStage.{CommitStage}
+use Rattle.acct_outside.specs.declared.CommitStage.TheVariants.{Before}
 use Rattle.suite_rules.specs.Deeds.{SuiteDeeds}
-use Rattle.suite_rules.specs.Standing.{Commit, Standing, commit_uncalled, commit_step, no_standing, standing, standing_step}
+use Rattle.suite_rules.specs.Standing.{Standing, commit_step, no_standing, standing, standing_step}
 use Rattle.suite_rules.specs.Rules.{moves_backup, moves_free, Permits, free_begin, free_listing, free_read, free_verdict, create_rule, staging_rule, commit_rule, install_rule, clear_rule, move_rule, unlock_rule, answer_rule}
 use Rattle.suite_rules.specs.Lawful.{KeepsRulesOrNone, IsNext, Lawful, goes_on}
 use Rattle.suite_rules.proofs.Names.{else-is, fails-apart}
@@ -33,7 +35,7 @@ IsIntentOf entry now = (now.file Intent ≡ entry.file Intent) ⊎ (now.file Int
 
 -- so it is up to the own commit
 abbrev IntentAlone : Folder → Folder → Standing → Type 0
-IntentAlone entry now stood = stood.commit ≡ commit_uncalled → IsIntentOf entry now
+IntentAlone entry now stood = stood.commit ≡ Before → IsIntentOf entry now
 
 -- it stays where the file does
 same-intent : (entry before now : Folder) → now.file Intent ≡ before.file Intent →
@@ -42,16 +44,16 @@ same-intent entry before now same (inl stands) = inl (same ∙ stands)
 same-intent entry before now same (inr none) = inr (same ∙ none)
 
 -- a commit is called by its call
-commit-called : (result : CallResult (Unit {0})) (commit : Commit) →
-    commit_step (renames IntentStage Intent) result commit ≡ commit_uncalled → ⊥
+commit-called : (result : CallResult (Unit {0})) (commit : CommitStage) →
+    commit_step (renames IntentStage Intent) result commit ≡ Before → ⊥
 commit-called result commit is =
-    let was : commit ≡ commit_uncalled =
+    let was : commit ≡ Before =
     uncalled-before (renames IntentStage Intent) result commit is in
-    first result (subst (λ (one : Commit).
-    commit_step (renames IntentStage Intent) result one ≡ commit_uncalled) was is)
+    first result (subst (λ (one : CommitStage).
+    commit_step (renames IntentStage Intent) result one ≡ Before) was is)
   where
     first : (one : CallResult (Unit {0})) →
-        commit_step (renames IntentStage Intent) one commit_uncalled ≡ commit_uncalled → ⊥
+        commit_step (renames IntentStage Intent) one Before ≡ Before → ⊥
     first (done answer) same = cc same
     first (failed effect) same = cc same
     first (died effect) same = cc same
@@ -231,7 +233,7 @@ module _ (deeds : SuiteDeeds) (first : Folder) (token : Token) (old history : Hi
       (refl, tt)
 
   -- so is the intent, up to its own commit
-  pub alone-intent : (standing token history).commit ≡ commit_uncalled →
+  pub alone-intent : (standing token history).commit ≡ Before →
       IsIntentOf (after first old) (after first history)
   alone-intent = alone-holds (IntentAlone (after first old))
       (λ past folder stood call result permitted gives held.

@@ -11,8 +11,10 @@ use Rattle.acct_outside.specs.Folder.{Folder, settings_file}
 use Rattle.acct_outside.specs.Calls.{Call, Command, Answer, CallResult, begins, renames, answers, done, failed, died}
 use Rattle.acct_outside.specs.History.{History}
 use Rattle.acct_outside.specs.Life.{Life, unbegun, running, faulted, ended, life, life_step, life_after_call, MayCall}
+use Rattle.acct_outside.specs.declared.CommitStage.{CommitStage}
+use Rattle.acct_outside.specs.declared.CommitStage.TheVariants.{Before, Unsure, Committed}
 use Rattle.suite_rules.specs.Deeds.{SuiteDeeds}
-use Rattle.suite_rules.specs.Standing.{Commit, commit_uncalled, commit_called, commit_done, command_step}
+use Rattle.suite_rules.specs.Standing.{command_step}
 use Rattle.suite_rules.specs.Lawful.{KeepsRulesOrNone}
 use Rattle.suite_rules.specs.Settled.{settled}
 use Rattle.suite_course.specs.Top.{IsBackedUp}
@@ -101,11 +103,11 @@ module _ (deeds : SuiteDeeds) (first entry : Folder) where
         ⊎ IsMoved now lives asked table
 
   -- how it stands with the backups of a session that is alone, by its commit
-  abbrev pub BackupsAlone : Folder → Life → Option Command → Commit → Type 0
-  BackupsAlone now lives asked commit_uncalled =
+  abbrev pub BackupsAlone : Folder → Life → Option Command → CommitStage → Type 0
+  BackupsAlone now lives asked Before =
       (table : Tab) → IsUncommitted now lives asked table
-  BackupsAlone now lives asked commit_called = Unit {0}
-  BackupsAlone now lives asked commit_done = (table : Tab) → IsBackedUp entry now table
+  BackupsAlone now lives asked Unsure = Unit {0}
+  BackupsAlone now lives asked Committed = (table : Tab) → IsBackedUp entry now table
 
   -- a call that leaves the settled files
   module _ (before now : Folder) (lived lives : Life) (asked later : Option Command)
@@ -132,11 +134,11 @@ module _ (deeds : SuiteDeeds) (first entry : Folder) where
 
     -- and all backups
     pub leaves-all : ((table : Tab) → now.file (Backup table) ≡ before.file (Backup table)) →
-        (commit : Commit) → BackupsAlone before lived asked commit →
+        (commit : CommitStage) → BackupsAlone before lived asked commit →
         BackupsAlone now lives later commit
-    leaves-all same commit_uncalled held = λ table. leaves-one table (same table) (held table)
-    leaves-all same commit_called held = tt
-    leaves-all same commit_done held = λ table. record {
+    leaves-all same Before held = λ table. leaves-one table (same table) (held table)
+    leaves-all same Unsure held = tt
+    leaves-all same Committed held = λ table. record {
       changed = λ differs.
           same table ∙ (held table).changed (λ equal. differs (files table ∙ equal));
       unchanged = λ equal. same table ∙ (held table).unchanged (sym (files table) ∙ equal);

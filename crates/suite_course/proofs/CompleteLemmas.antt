@@ -38,7 +38,6 @@ use Rattle.suite_answers.specs.Answers.{told}
 use Rattle.suite_answers.specs.Reasons.{stage_of}
 use Rattle.suite_session.specs.Runner.{Question}
 use Rattle.acct_outside.specs.Moment.{Past, Moment}
-use Rattle.suite_session.specs.Moment.{commit_at}
 use Rattle.suite_session.specs.Answers.{IsTold, Says, after_streams}
 use Rattle.suite_session.specs.Deeds.{AreOfTools}
 use Rattle.suite_session.specs.Locking.{cause_of_fault}
@@ -56,7 +55,7 @@ module _ (deeds : SuiteDeeds) (asked : Question) (first : Folder) (old new : His
     (opened : StandsOpen (after first old) token new) (given : Answer) where
   -- it gives the tool's answer, by the cause of its own
   pub answers-as : (cause : Cause) → given.outcome.cause ≡ cause →
-      (standing token new).commit ≡ commit_at (stage_of cause) → Says asked given cause →
+      (standing token new).commit ≡ stage_of cause → Says asked given cause →
       (IsDiskFault cause → ⊥) → IsShownAt deeds asked first new token given cause →
       AnswersOnOld deeds asked first old new token given
   answers-as Changed is commits says inside shown = inr (shown.alone old alone)
@@ -144,7 +143,7 @@ module _ (asked : Question) (before now : Moment) (was holds : Streams) (outcome
       AnswersOnOld deeds asked first old new token (after_streams put given)
   answers-put (Ok unit) served ends deeds first old new lawful token answered alone opened shown =
       answers-as deeds asked first old new token lawful alone opened given given.outcome.cause refl
-      (answered.commits ∙ ap (λ (one : Outcome). commit_at (stage_of one.cause)) ends) says
+      (answered.commits ∙ ap (λ (one : Outcome). stage_of one.cause) ends) says
       (λ fault. none (failed fault)) shown
   answers-put (Err Failed) served ends deeds first old new lawful token answered alone opened shown =
       absurd (none-failed (Some asked.request.tool) was holds serve given served)

@@ -22,12 +22,13 @@ use Rattle.acct_outside.specs.Folder.{Folder, settings_file, tables}
 use Rattle.acct_outside.specs.Calls.{reads, done, found_bytes, found_too_large, found_within}
 use Rattle.acct_outside.specs.History.{Event, History, after}
 use Rattle.acct_outside.specs.Life.{Life, running, life, MayCall}
+use Rattle.acct_outside.specs.declared.CommitStage.TheVariants.{Before}
 use Rattle.account_model.specs.Answer.{FileProblem, TableTooLarge, SettingsTooLarge, Answer as ToolAnswer, must_stand, table_problem, settings_problem, files_problem, unusable}
 use Rattle.intent_file.specs.Intent.{listed_in}
 use Rattle.suite_rules.specs.Deeds.{SuiteDeeds}
 use Rattle.suite_rules.specs.OwnLock.{kept_number}
 use Rattle.suite_rules.specs.Knowledge.{Seen}
-use Rattle.suite_rules.specs.Standing.{standing, commit_uncalled}
+use Rattle.suite_rules.specs.Standing.{standing}
 use Rattle.suite_rules.specs.Lawful.{IsNext, Lawful, goes_on}
 use Rattle.suite_rules.specs.Settled.{listed_by}
 use Rattle.suite_rules.specs.Committed.{Commitment, committed, place, folded}
@@ -225,7 +226,7 @@ place-next folder files defs tables settings (Some table) = tables table
 pub large-stayed : (deeds : SuiteDeeds) (first : Folder) (history : History) →
     Lawful deeds first history → (asked : Question) (runner : Runner) (answer : Answer) →
     (name : Name) → runner.asked ≡ asked →
-    (standing runner.token history).commit ≡ commit_uncalled →
+    (standing runner.token history).commit ≡ Before →
     AnswersLarge runner answer history name →
     HasStayed deeds asked first history runner.token answer
 large-stayed deeds first history lawful asked runner answer name question uncalled large =

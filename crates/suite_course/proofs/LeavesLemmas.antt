@@ -22,7 +22,6 @@ use Rattle.suite_answers.specs.Reasons.{stage_of}
 use Rattle.suite_session.specs.Runner.{Question}
 use Rattle.suite_session.specs.Backing.{BackedUpChanges}
 use Rattle.suite_session.specs.Deeds.{AreOfTools}
-use Rattle.suite_session.specs.Moment.{commit_at}
 use Rattle.suite_session.specs.Stands.{HasLeft, IsDecided, IsStopped}
 use Rattle.suite_course.specs.Top.{IsAlone, IsShownAt, Leaves}
 use Rattle.suite_course.proofs.AloneLocks.{alone-lock, alone-intent-none}
@@ -43,7 +42,7 @@ module _ (deeds : SuiteDeeds) (asked : Question) (first : Folder) (past : Past) 
     (given : Answer) (lawful : Lawful deeds first past.history) where
   -- a session with an answer of its tool kept a lock
   was-keeper : (cause : Cause) → IsDecided cause →
-      (standing token past.history).commit ≡ commit_at (stage_of cause) →
+      (standing token past.history).commit ≡ stage_of cause →
       IsShownAt deeds asked first past.history token given cause →
       (number : ℕ) × (kept_number (standing token past.history).own ≡ Some number)
   was-keeper Changed decided commits shown =
@@ -73,7 +72,7 @@ module _ (deeds : SuiteDeeds) (asked : Question) (first : Folder) (past : Past) 
 
   -- the claim
   pub leaves-alone : AreOfTools deeds → (old : History) → IsAlone token old past.history →
-      (cause : Cause) → (standing token past.history).commit ≡ commit_at (stage_of cause) →
+      (cause : Cause) → (standing token past.history).commit ≡ stage_of cause →
       IsShownAt deeds asked first past.history token given cause →
       ((IsStopped cause → ⊥) → HasLeft token cause past) → BackedUpChanges token past.history →
       Leaves first old past.history token cause
@@ -86,5 +85,5 @@ module _ (deeds : SuiteDeeds) (asked : Question) (first : Folder) (past : Past) 
         alone-intent-none deeds first token old past.history alone lawful kept.0
         (leaves.freed kept.0 kept.1) (leaves.clean decided);
     backups = λ is. alone-backups deeds ours first past.history lawful token old alone
-        (commits ∙ ap (λ (one : Cause). commit_at (stage_of one)) is) backed;
+        (commits ∙ ap stage_of is) backed;
   }

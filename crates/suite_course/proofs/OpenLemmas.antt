@@ -21,11 +21,12 @@ use Rattle.acct_outside.specs.Tokens.{Token, IsToken, held_text}
 use Rattle.acct_outside.specs.Folder.{Folder, IsFolder, greatest, has_number, top}
 use Rattle.acct_outside.specs.Calls.{Call, Answer, Found, lists, reads, asks, creates, removes, done, found_absent, found_bytes, found_too_large, found_within}
 use Rattle.acct_outside.specs.History.{Event, History, after, is_of, own_events}
+use Rattle.acct_outside.specs.declared.CommitStage.TheVariants.{Before}
 use Rattle.intent_file.proofs.FirstFaultIsOne.{first_fault_is_one_holds}
 use Rattle.suite_rules.specs.Deeds.{SuiteDeeds}
 use Rattle.suite_rules.specs.OwnLock.{OwnLock, lock_uncalled, lock_made}
 use Rattle.suite_rules.specs.Listing.{Listing, is_held_in}
-use Rattle.suite_rules.specs.Standing.{Standing, commit_uncalled, standing, standing_step}
+use Rattle.suite_rules.specs.Standing.{Standing, standing, standing_step}
 use Rattle.suite_rules.specs.Lawful.{IsNext, Lawful, goes_on}
 use Rattle.suite_rules.proofs.Cut.{lawful-prefix}
 use Rattle.suite_rules.proofs.Effects.{bytes-stand}
@@ -107,8 +108,8 @@ held-stands content (text ∷ texts) holder all held =
 
 -- its commit wasn't called before it was
 uncalled-was : (token : Token) (later older : History) →
-    (standing token (later ++ older)).commit ≡ commit_uncalled →
-    (standing token older).commit ≡ commit_uncalled
+    (standing token (later ++ older)).commit ≡ Before →
+    (standing token older).commit ≡ Before
 uncalled-was token [] older is = is
 uncalled-was token (event ∷ later) older is =
     uncalled-was token later older (cases (is_of token event) is)
@@ -118,7 +119,7 @@ uncalled-was token (event ∷ later) older is =
 
     cases : (own : Bool) →
         (if own then standing_step event.call event.result stood else stood).commit
-        ≡ commit_uncalled → stood.commit ≡ commit_uncalled
+        ≡ Before → stood.commit ≡ Before
     cases true uncalled = uncalled-before event.call event.result stood.commit uncalled
     cases false uncalled = uncalled
 
@@ -321,7 +322,7 @@ module _ (deeds : SuiteDeeds) (first : Folder) (old new : History) (token : Toke
       true≢false (sym call.stood.is_such ∙ there (λ one. one.follows_create ≡ false)
       (standing token met.1.older).listing call.stood.listing call.stood.listed locks.1)
 
-  module _ (uncalled : (standing token new).commit ≡ commit_uncalled) where
+  module _ (uncalled : (standing token new).commit ≡ Before) where
     -- before its commit it reads the intent of the moment, or none
     intent-then : (found : Found) (met : Met token (reads Intent) found HasKept new) →
         IsIntentOf entry (after first met.older)
@@ -331,7 +332,7 @@ module _ (deeds : SuiteDeeds) (first : Folder) (old new : History) (token : Toke
         record { token = token; call = reads Intent; result = done found } in
         alone-intent deeds first token old met.older call.alone_then call.lawful_then
         (uncalled-was token (event ∷ []) met.older (uncalled-was token met.newer (event ∷ met.older)
-        (subst (λ (one : History). (standing token one).commit ≡ commit_uncalled) met.parts
+        (subst (λ (one : History). (standing token one).commit ≡ Before) met.parts
         uncalled)))
 
     -- what it read of the intent stood at the moment

@@ -17,10 +17,11 @@ use Rattle.acct_outside.specs.Tokens.{Token}
 use Rattle.acct_outside.specs.Folder.{Folder, greatest, settings_file, top}
 use Rattle.acct_outside.specs.Calls.{Command, lists, done}
 use Rattle.acct_outside.specs.History.{Event, History, after}
+use Rattle.acct_outside.specs.declared.CommitStage.TheVariants.{Before, Committed}
 use Rattle.suite_rules.specs.Deeds.{SuiteDeeds}
 use Rattle.suite_rules.specs.OwnLock.{kept_number, made_number}
 use Rattle.suite_rules.specs.Knowledge.{Seen}
-use Rattle.suite_rules.specs.Standing.{standing, commit_uncalled, commit_done}
+use Rattle.suite_rules.specs.Standing.{standing}
 use Rattle.suite_rules.specs.Lawful.{Lawful}
 use Rattle.suite_rules.specs.Committed.{Commitment, commitment_of, committed, place, folded}
 use Rattle.suite_rules.specs.Laws.{HasLooked, IsCleanKeeper}
@@ -35,7 +36,6 @@ use Rattle.suite_answers.specs.declared.cause.Cause.TheVariants.{Changed, Same, 
 use Rattle.suite_answers.specs.declared.answer.Answer.{Answer}
 use Rattle.suite_answers.specs.Reasons.{stage_of}
 use Rattle.suite_session.specs.Runner.{Question, Runner}
-use Rattle.suite_session.specs.Moment.{commit_at}
 use Rattle.suite_session.specs.Answers.{IsAnswerOn}
 use Rattle.suite_session.specs.Causes.{MetLoss}
 use Rattle.suite_session.specs.Deeds.{files_of}
@@ -80,7 +80,7 @@ module _ (deeds : SuiteDeeds) (first : Folder) (history : History)
 
   -- a session that stayed, and has seen all
   all-stayed : (runner : Runner) (answer : Answer) → runner.token ≡ token → runner.asked ≡ asked →
-      (standing token history).commit ≡ commit_uncalled →
+      (standing token history).commit ≡ Before →
       AnswersAll runner answer (standing token history) → WasKeeper token history →
       HasStayed deeds asked first history token answer
   all-stayed runner answer same question uncalled all was =
@@ -100,7 +100,7 @@ module _ (deeds : SuiteDeeds) (first : Folder) (history : History)
 
   -- one that stayed, and has seen some
   some-stayed : (runner : Runner) (answer : Answer) → runner.token ≡ token → runner.asked ≡ asked →
-      (standing token history).commit ≡ commit_uncalled →
+      (standing token history).commit ≡ Before →
       AnswersSome runner answer (standing token history) → WasKeeper token history →
       HasStayed deeds asked first history token answer
   some-stayed runner answer same question uncalled some was =
@@ -129,7 +129,7 @@ changed-at : (deeds : SuiteDeeds) (first : Folder) (history : History) →
     Lawful deeds first history → (asked : Question) (token : Token) (runner : Runner)
     (answer : Answer) → runner.token ≡ token → runner.asked ≡ asked →
     (standing token history).command ≡ Some asked.command →
-    (standing token history).commit ≡ commit_done → answer.outcome.cause ≡ Changed →
+    (standing token history).commit ≡ Committed → answer.outcome.cause ≡ Changed →
     AnsweredAll runner answer history → HasChanged deeds asked first history token answer
 changed-at deeds first history lawful asked token runner answer same question began is changed all =
     let whole = subst (Lawful deeds first) all.parts lawful in
@@ -172,7 +172,7 @@ changed-at deeds first history lawful asked token runner answer same question be
 -- one that found a file too large
 large-at : (deeds : SuiteDeeds) (first : Folder) (history : History) → Lawful deeds first history →
     (asked : Question) (runner : Runner) (answer : Answer) (name : Name) → runner.asked ≡ asked →
-    (standing runner.token history).commit ≡ commit_uncalled →
+    (standing runner.token history).commit ≡ Before →
     ShowsLarge runner answer history name →
     HasStayed deeds asked first history runner.token answer
 large-at deeds first history lawful asked runner answer name question is (inl all) =
@@ -199,7 +199,7 @@ pub shown-at : (deeds : SuiteDeeds) (first : Folder) (history : History) →
     Lawful deeds first history → (asked : Question) (runner : Runner) (answer : Answer) →
     runner.asked ≡ asked → (standing runner.token history).command ≡ Some asked.command →
     (cause : Cause) → answer.outcome.cause ≡ cause →
-    (standing runner.token history).commit ≡ commit_at (stage_of cause) →
+    (standing runner.token history).commit ≡ stage_of cause →
     IsShown runner answer history cause →
     IsShownAt deeds asked first history runner.token answer cause
 shown-at deeds first history lawful asked runner answer question began Changed told is shown =
@@ -231,13 +231,13 @@ shown-at deeds first history lawful asked runner answer question began cause tol
 reaches-stage : (deeds : SuiteDeeds) (first : Folder) (history : History) →
     Lawful deeds first history → (asked : Question) (token : Token) (stage : CommitStage) →
     (standing token history).command ≡ Some asked.command →
-    (standing token history).commit ≡ commit_at stage → ReachesStage asked history token stage
+    (standing token history).commit ≡ stage → ReachesStage asked history token stage
 reaches-stage deeds first history lawful asked token stage began commits = record {
   commits = commits;
   before = λ is.
-      committed-once.none deeds first history lawful token (commits ∙ ap commit_at is);
+      committed-once.none deeds first history lawful token (commits ∙ is);
   done = λ is.
-      let made = once deeds first history lawful token (commits ∙ ap commit_at is) in
+      let made = once deeds first history lawful token (commits ∙ is) in
       let both : Some made.command ≡ Some asked.command = sym made.asked ∙ began in
       let same : made.command ≡ asked.command = cc both in (
         made.number,
@@ -253,7 +253,7 @@ reaches-stage deeds first history lawful asked token stage began commits = recor
 pub shows-at : (deeds : SuiteDeeds) (first : Folder) (history : History) →
     Lawful deeds first history → (asked : Question) (runner : Runner) (answer : Answer) →
     runner.asked ≡ asked → (standing runner.token history).command ≡ Some asked.command →
-    (standing runner.token history).commit ≡ commit_at (stage_of answer.outcome.cause) →
+    (standing runner.token history).commit ≡ stage_of answer.outcome.cause →
     IsShown runner answer history answer.outcome.cause →
     Shows deeds asked first history runner.token answer
 shows-at deeds first history lawful asked runner answer question began commits shown = record {

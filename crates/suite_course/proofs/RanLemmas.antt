@@ -26,7 +26,6 @@ use Rattle.suite_answers.specs.Reasons.{stage_of}
 use Rattle.suite_session.specs.Runner.{Question, Runner}
 use Rattle.acct_outside.specs.Moment.{Past, Moment, Narrows}
 use Rattle.suite_rules.proofs.Parts.{StaysLawfulWhere}
-use Rattle.suite_session.specs.Moment.{commit_at}
 use Rattle.suite_session.specs.Deeds.{AreOfTools}
 use Rattle.suite_session.specs.Turning.{HasAnswered, IsNew, IsUnbegun}
 use Rattle.suite_session.specs.Answers.{after_streams, memory_answer}
@@ -93,8 +92,8 @@ module _ (asked : Question) (entry now : Moment) where
         result = done tt;
       } in event ∷ answered.older) (sym ends);
       began = answered.ended.due.asked ∙ ap (λ (one : Question). Some one.command) same;
-      commits = answered.ended.due.commits ∙ ap commit_at (sym (stage-left put given))
-          ∙ ap (λ (one : Outcome). commit_at (stage_of one.cause)) (sym ends);
+      commits = answered.ended.due.commits ∙ sym (stage-left put given)
+          ∙ ap (λ (one : Outcome). stage_of one.cause) (sym ends);
     }
 
     -- what a lawful history shows of the session that answered

@@ -34,7 +34,6 @@ use Rattle.suite_answers.specs.Reasons.{stage_of}
 use Rattle.suite_answers.specs.Answers.{told}
 use Rattle.suite_session.specs.Runner.{Question}
 use Rattle.acct_outside.specs.Moment.{Moment, Narrows}
-use Rattle.suite_session.specs.Moment.{commit_at}
 use Rattle.suite_session.specs.Bound.{IsBounded}
 use Rattle.suite_session.specs.Answers.{IsAnswerOn, IsTold, Says, after_streams, memory_answer}
 use Rattle.suite_session.specs.Causes.{HasMet, MetGreater}
@@ -83,7 +82,7 @@ pub record Answered (asked : Question) (outcome : Outcome) (token : Token) (hist
   pub last : history
       ≡ record { token = token; call = answers outcome.status; result = done tt } ∷ older
   pub began : (standing token history).command ≡ Some asked.command
-  pub commits : (standing token history).commit ≡ commit_at (stage_of outcome.cause)
+  pub commits : (standing token history).commit ≡ stage_of outcome.cause
 
 -- since an earlier moment all events are the session's own, and before it there is none of its
 pub record IsAlone (token : Token) (old new : History) : Type 0 where
@@ -152,7 +151,7 @@ IsShownAt deeds asked first history token given cause = HasMet token history cau
 -- it failed it may have.
 pub record ReachesStage (asked : Question) (history : History) (token : Token) (stage : CommitStage)
     : Type 0 where
-  pub commits : (standing token history).commit ≡ commit_at stage
+  pub commits : (standing token history).commit ≡ stage
   pub before : stage ≡ Before → commitments_of token (committed history) ≡ []
   pub done : stage ≡ Committed → (number : ℕ) × (commitments_of token (committed history)
       ≡ record { token = token; number = number; command = asked.command } ∷ [])

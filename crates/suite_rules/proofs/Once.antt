@@ -9,9 +9,10 @@ use Rattle.acct_outside.specs.Folder.{Folder}
 use Rattle.acct_outside.specs.Calls.{Command, Call, Answer, CallResult, begins, renames, done, failed, died, effect_of}
 use Rattle.acct_outside.specs.History.{Event, History}
 use Rattle.acct_outside.specs.Life.{Life, unbegun, running, faulted, ended, life, MayCall}
+use Rattle.acct_outside.specs.declared.CommitStage.TheVariants.{Before, Unsure, Committed}
 use Rattle.suite_rules.specs.Deeds.{SuiteDeeds}
 use Rattle.suite_rules.specs.OwnLock.{kept_number, made_number}
-use Rattle.suite_rules.specs.Standing.{Standing, commit_uncalled, commit_called, commit_done, calls_commit, command_step, commit_step, standing}
+use Rattle.suite_rules.specs.Standing.{Standing, calls_commit, command_step, commit_step, standing}
 use Rattle.suite_rules.specs.Rules.{KeeperRule, CommitRule, moves_backup, moves_free, Permits, commit_rule, move_rule}
 use Rattle.suite_rules.specs.Lawful.{KeepsRulesOrNone, IsNext, Lawful, goes_on}
 use Rattle.suite_rules.specs.Committed.{Commitment, commits, commitment_of, committed, commitments_of}
@@ -69,7 +70,7 @@ record CommitsNow (deeds : SuiteDeeds) (token : Token) (standing : Standing) (ca
     (result : CallResult (Answer call)) : Type 0 where
   keeper : KeeperRule standing
   rule : CommitRule deeds standing keeper.number
-  newly : commit_step call result standing.commit ≡ commit_done →
+  newly : commit_step call result standing.commit ≡ Committed →
       commits token call (effect_of call result) standing
       ≡ commitment_of token (made_number standing.own) standing.command
 
@@ -81,16 +82,16 @@ record LeavesCommit (token : Token) (standing : Standing) (call : Call)
 
 module _ (deeds : SuiteDeeds) (token : Token) (standing : Standing) where
   -- a commit that is done commits
-  commits-now : (result : CallResult (Unit {0})) → standing.commit ≡ commit_uncalled →
-      commit_step (renames IntentStage Intent) result standing.commit ≡ commit_done →
+  commits-now : (result : CallResult (Unit {0})) → standing.commit ≡ Before →
+      commit_step (renames IntentStage Intent) result standing.commit ≡ Committed →
       commits token (renames IntentStage Intent)
       (effect_of (renames IntentStage Intent) result) standing
       ≡ commitment_of token (made_number standing.own) standing.command
   commits-now (done answer) first is = refl
   commits-now (failed effect) first is =
-      let called : commit_called ≡ commit_done = sym (ap calls_commit first) ∙ is in absurd (cc)
+      let called : Unsure ≡ Committed = sym (ap calls_commit first) ∙ is in absurd (cc)
   commits-now (died effect) first is =
-      let called : commit_called ≡ commit_done = sym (ap calls_commit first) ∙ is in absurd (cc)
+      let called : Unsure ≡ Committed = sym (ap calls_commit first) ∙ is in absurd (cc)
 
   -- a permitted call commits, or has nothing to do with the commit
   permitted-step : (call : Call) (result : CallResult (Answer call)) →
@@ -129,7 +130,7 @@ pub record Once (history : History) (token : Token) : Type 0 where
 -- one that hasn't called its commit has committed nothing
 uncommitted-none : (deeds : SuiteDeeds) (first : Folder) (history : History) →
     Lawful deeds first history → (token : Token) →
-    (standing token history).commit ≡ commit_uncalled →
+    (standing token history).commit ≡ Before →
     commitments_of token (committed history) ≡ []
 uncommitted-none deeds first history lawful token uncalled =
     of-others token (committed history)
@@ -199,13 +200,13 @@ module _ (deeds : SuiteDeeds) (first : Folder) (event : Event) (history : Histor
   own-newly number command is = rw (is, token-same event.token) refl
 
   -- its own session's commitment stays the one, or is made now
-  own-once : ((standing event.token history).commit ≡ commit_done → Once history event.token) →
-      (standing event.token (event ∷ history)).commit ≡ commit_done →
+  own-once : ((standing event.token history).commit ≡ Committed → Once history event.token) →
+      (standing event.token (event ∷ history)).commit ≡ Committed →
       Once (event ∷ history) event.token
   own-once before is =
       cases (event-step deeds history event.token event.call event.result next.keeps)
     where
-      now : commit_step event.call event.result (standing event.token history).commit ≡ commit_done
+      now : commit_step event.call event.result (standing event.token history).commit ≡ Committed
       now = sym (ap (λ (one : Standing). one.commit) (own-standing event history)) ∙ is
 
       stays : newly ≡ [] → Once history event.token → Once (event ∷ history) event.token
@@ -265,11 +266,11 @@ kept-stays deeds first (event ∷ newer) older (goes_on _ _ lawful next) token n
 
 -- a session whose commit was done has committed once
 pub once : (deeds : SuiteDeeds) (first : Folder) (history : History) → Lawful deeds first history →
-    (token : Token) → (standing token history).commit ≡ commit_done → Once history token
+    (token : Token) → (standing token history).commit ≡ Committed → Once history token
 once deeds first [] lawful token is = absurd (cc)
 once deeds first (event ∷ history) (goes_on _ _ lawful next) token is =
-    each (λ asked. ((standing asked history).commit ≡ commit_done → Once history asked) →
-    (standing asked (event ∷ history)).commit ≡ commit_done → Once (event ∷ history) asked)
+    each (λ asked. ((standing asked history).commit ≡ Committed → Once history asked) →
+    (standing asked (event ∷ history)).commit ≡ Committed → Once (event ∷ history) asked)
     event.token (own-once deeds first event history lawful next)
     (λ other differs before now. other-once deeds first event history lawful next other differs
     (before (sym (ap (λ (one : Standing). one.commit)

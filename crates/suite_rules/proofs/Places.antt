@@ -12,10 +12,11 @@ use Rattle.acct_outside.specs.Folder.{Folder, top, settings_file}
 use Rattle.acct_outside.specs.Calls.{Call, Answer, CallResult, begins, reads, renames, removes, done, failed, died}
 use Rattle.acct_outside.specs.History.{Event, History, after}
 use Rattle.acct_outside.specs.Life.{Life, running, life, life_step, runs_in, MayCall}
+use Rattle.acct_outside.specs.declared.CommitStage.TheVariants.{Before}
 use Rattle.suite_rules.specs.Deeds.{SuiteDeeds}
 use Rattle.suite_rules.specs.OwnLock.{OwnLock, lock_kept, lock_freed, is_keeper, made_number, kept_number, own_step}
 use Rattle.suite_rules.specs.Knowledge.{Seen, Knowledge, knows_nothing, knows_none, knows_step}
-use Rattle.suite_rules.specs.Standing.{Standing, commit_uncalled, standing, keeper_part}
+use Rattle.suite_rules.specs.Standing.{Standing, standing, keeper_part}
 use Rattle.suite_rules.specs.Rules.{moves_backup, moves_free, Permits, free_begin, free_listing, free_read, free_verdict, create_rule, staging_rule, commit_rule, install_rule, clear_rule, move_rule, unlock_rule, answer_rule}
 use Rattle.suite_rules.specs.Lawful.{KeepsRulesOrNone, IsNext, Lawful, goes_on}
 use Rattle.suite_rules.specs.Committed.{Commitment, committed, place, folded}
@@ -268,7 +269,7 @@ module _ (deeds : SuiteDeeds) (first : Folder) where
             (sym (ap is_keeper own-part) ∙ keeps)))
             (knows-part seen looked.clean)
 
-        uncommitted : (standing event.token history).commit ≡ commit_uncalled
+        uncommitted : (standing event.token history).commit ≡ Before
         uncommitted = uncalled-before event.call event.result (standing event.token history).commit
             (sym (ap (λ (one : Standing). one.commit) (own-standing event history))
             ∙ looked.uncommitted)

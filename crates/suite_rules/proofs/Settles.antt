@@ -15,10 +15,12 @@ use Rattle.acct_outside.specs.Calls.{Command, Call, Answer, CallResult, begins, 
 use Rattle.acct_outside.specs.History.{Event, History, after}
 use Rattle.acct_outside.specs.Life.{Life, unbegun, running, life, runs_in}
 use Rattle.acct_outside.specs.Gives.{GivesResult}
+use Rattle.acct_outside.specs.declared.CommitStage.{CommitStage}
+use Rattle.acct_outside.specs.declared.CommitStage.TheVariants.{Before, Unsure, Committed}
 use Rattle.suite_rules.specs.Deeds.{SuiteDeeds}
 use Rattle.suite_rules.specs.OwnLock.{OwnLock, lock_uncalled, lock_kept, is_keeper, own_step}
 use Rattle.suite_rules.specs.Knowledge.{Seen, knows_step}
-use Rattle.suite_rules.specs.Standing.{Standing, Commit, commit_uncalled, commit_called, commit_done, calls_commit, commit_step, standing, staged_step}
+use Rattle.suite_rules.specs.Standing.{Standing, calls_commit, commit_step, standing, staged_step}
 use Rattle.suite_rules.specs.Rules.{KeeperRule, moves_backup, moves_free, Permits, commit_rule, move_rule, KeepsRules}
 use Rattle.suite_rules.specs.Lawful.{KeepsRulesOrNone, IsNext, Lawful, goes_on}
 use Rattle.suite_rules.specs.Settled.{settled}
@@ -40,7 +42,7 @@ use Rattle.suite_rules.proofs.Commitments.{each-append, each-follows, rises-appe
 -- A committed command's session was keeper of its number, and has called its commit.
 pub record Committer (history : History) (one : Commitment) : Type 0 where
   pub kept : EverKept one.token one.number history
-  pub called : (standing one.token history).commit ≢ commit_uncalled
+  pub called : (standing one.token history).commit ≢ Before
 
 -- the facts of the files at one moment
 pub record FileFacts (deeds : SuiteDeeds) (first : Folder) (history : History) : Type 0 where
@@ -93,25 +95,25 @@ done-view deeds history token folder call _ (is_done answer) keeps gives view =
     (done-keeps deeds history token call answer keeps).permitted gives view
 
 -- a session that hasn't called its commit hadn't called it before
-pub uncalled-before : (call : Call) (result : CallResult (Answer call)) (commit : Commit) →
-    commit_step call result commit ≡ commit_uncalled → commit ≡ commit_uncalled
+pub uncalled-before : (call : Call) (result : CallResult (Answer call)) (commit : CommitStage) →
+    commit_step call result commit ≡ Before → commit ≡ Before
 uncalled-before (renames IntentStage Intent) (done answer) commit is = absurd (cc)
-uncalled-before (renames IntentStage Intent) (failed effect) commit_uncalled is = refl
-uncalled-before (renames IntentStage Intent) (failed effect) commit_called is = absurd (cc)
-uncalled-before (renames IntentStage Intent) (failed effect) commit_done is = absurd (cc)
-uncalled-before (renames IntentStage Intent) (died effect) commit_uncalled is = refl
-uncalled-before (renames IntentStage Intent) (died effect) commit_called is = absurd (cc)
-uncalled-before (renames IntentStage Intent) (died effect) commit_done is = absurd (cc)
+uncalled-before (renames IntentStage Intent) (failed effect) Before is = refl
+uncalled-before (renames IntentStage Intent) (failed effect) Unsure is = absurd (cc)
+uncalled-before (renames IntentStage Intent) (failed effect) Committed is = absurd (cc)
+uncalled-before (renames IntentStage Intent) (died effect) Before is = refl
+uncalled-before (renames IntentStage Intent) (died effect) Unsure is = absurd (cc)
+uncalled-before (renames IntentStage Intent) (died effect) Committed is = absurd (cc)
 uncalled-before _ result commit is = is
 
 -- a called commit isn't uncalled
-called-is : (commit : Commit) → calls_commit commit ≢ commit_uncalled
-called-is commit_done is = cc
+called-is : (commit : CommitStage) → calls_commit commit ≢ Before
+called-is Committed is = cc
 called-is _ is = cc
 
 -- a commit is called by its call, whatever its result
-commit-called : (result : CallResult (Unit {0})) (commit : Commit) →
-    commit_step (renames IntentStage Intent) result commit ≢ commit_uncalled
+commit-called : (result : CallResult (Unit {0})) (commit : CommitStage) →
+    commit_step (renames IntentStage Intent) result commit ≢ Before
 commit-called (done answer) commit is = cc
 commit-called (failed effect) commit is = called-is commit is
 commit-called (died effect) commit is = called-is commit is
@@ -120,7 +122,7 @@ commit-called (died effect) commit is = called-is commit is
 permitted-commits : (deeds : SuiteDeeds) (token : Token) (standing : Standing) (call : Call)
     (result : CallResult (Answer call)) → Permits deeds standing call →
     (commits token call (effect_of call result) standing ≡ [])
-    ⊎ (commit_step call result standing.commit ≢ commit_uncalled)
+    ⊎ (commit_step call result standing.commit ≢ Before)
 permitted-commits deeds token standing _ result (commit_rule keeper rule) =
     inr (commit-called result standing.commit)
 permitted-commits deeds token standing _ result (move_rule _ _ keeper (moves_backup table may)) =
@@ -133,7 +135,7 @@ permitted-commits deeds token standing _ result _ = inl refl
 event-commits : (deeds : SuiteDeeds) (history : History) (token : Token) (call : Call)
     (result : CallResult (Answer call)) → KeepsRulesOrNone deeds history token call result →
     (commits token call (effect_of call result) (standing token history) ≡ [])
-    ⊎ (commit_step call result (standing token history).commit ≢ commit_uncalled)
+    ⊎ (commit_step call result (standing token history).commit ≢ Before)
 event-commits deeds history token (begins command) result keeps = inl refl
 event-commits deeds history token call result keeps =
     permitted-commits deeds token (standing token history) call result keeps.permitted
@@ -168,7 +170,7 @@ module _ (deeds : SuiteDeeds) (token : Token) (before after : Folder) (life : Li
 pub above-committed : (deeds : SuiteDeeds) (first : Folder) (history : History) →
     Lawful deeds first history → (token : Token) (number : ℕ) →
     RunsAsKeeper history token number →
-    (standing token history).commit ≡ commit_uncalled →
+    (standing token history).commit ≡ Before →
     AllByRecursion (Committer history) (committed history) →
     AllByRecursion (λ one. one.number < number) (committed history)
 above-committed deeds first history lawful token number keeper uncalled =
@@ -297,10 +299,10 @@ module _ (deeds : SuiteDeeds) (first : Folder) (event : Event) (history : Histor
           ]
 
   -- who has called its commit has called it
-  called-stays : (token : Token) → (standing token history).commit ≢ commit_uncalled →
-      (standing token (event ∷ history)).commit ≢ commit_uncalled
-  called-stays = each (λ token. (standing token history).commit ≢ commit_uncalled →
-      (standing token (event ∷ history)).commit ≢ commit_uncalled) event.token
+  called-stays : (token : Token) → (standing token history).commit ≢ Before →
+      (standing token (event ∷ history)).commit ≢ Before
+  called-stays = each (λ token. (standing token history).commit ≢ Before →
+      (standing token (event ∷ history)).commit ≢ Before) event.token
       (λ called now. called (uncalled-before event.call event.result
       (standing event.token history).commit
       (sym (ap (λ (one : Standing). one.commit) (own-standing event history)) ∙ now)))
@@ -312,7 +314,7 @@ module _ (deeds : SuiteDeeds) (first : Folder) (event : Event) (history : Histor
   pub new-facts : (P : List Commitment → Type 0) → P [] →
       ((keeper : KeeperRule (standing event.token history)) (command : Command) →
       IsActiveKeeper history event.token keeper.number →
-      (standing event.token history).commit ≡ commit_uncalled →
+      (standing event.token history).commit ≡ Before →
       newly ≡ own-commitment keeper.number command ∷ [] →
       P (own-commitment keeper.number command ∷ [])) →
       P newly
@@ -337,7 +339,7 @@ module _ (deeds : SuiteDeeds) (first : Folder) (event : Event) (history : Histor
 
   -- the event's session has called its commit where the event committed one
   newly-called : (one : Commitment) → newly ≡ one ∷ [] →
-      (standing event.token (event ∷ history)).commit ≢ commit_uncalled
+      (standing event.token (event ∷ history)).commit ≢ Before
   newly-called one is now =
       elim (event-commits deeds history event.token event.call event.result next.keeps) [
         | inl none ↦ (let differ : [] ≡ one ∷ [] = sym none ∙ is in cc)

@@ -10,12 +10,13 @@ use Rattle.acct_outside.specs.Tokens.{Token, held_text}
 use Rattle.acct_outside.specs.Folder.{Folder, IsFolder, greatest, top}
 use Rattle.acct_outside.specs.History.{History, after}
 use Rattle.acct_outside.specs.Life.{life, running, is_running}
+use Rattle.acct_outside.specs.declared.CommitStage.TheVariants.{Before}
 use Rattle.intent_file.specs.Intent.{Intended, ReadsIntent, listed_in}
 use Rattle.suite_rules.specs.Deeds.{SuiteDeeds}
 use Rattle.suite_rules.specs.OwnLock.{lock_kept, made_number, held_number}
 use Rattle.suite_rules.specs.Listing.{Listing}
 use Rattle.suite_rules.specs.Knowledge.{Stages, Seen, Knowledge, knows_nothing, knows_none, knows_bytes, is_input}
-use Rattle.suite_rules.specs.Standing.{standing, commit_uncalled}
+use Rattle.suite_rules.specs.Standing.{standing}
 use Rattle.suite_rules.specs.Lawful.{Lawful}
 use Rattle.suite_rules.specs.Settled.{settled}
 use Rattle.suite_rules.specs.Committed.{Rises, committed, folded}
@@ -112,7 +113,7 @@ pub record SettledIsFold (deeds : SuiteDeeds) (first : Folder) (history : Histor
   pub rises : Rises (committed history)
   pub at_most_top : All (λ one. one.number ≤ top (after first history)) (committed history)
   pub below_keeper : (token : Token) (number : ℕ) → RunsAsKeeper history token number →
-      (standing token history).commit ≡ commit_uncalled →
+      (standing token history).commit ≡ Before →
       All (λ one. one.number < number) (committed history)
 
 -- the invariant of a history that began with this first folder

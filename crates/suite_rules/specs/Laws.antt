@@ -9,10 +9,11 @@ use Rattle.acct_outside.specs.Calls.{Command, Call, Answer, CallResult, Effect, 
 use Rattle.acct_outside.specs.History.{History, after, own_events}
 use Rattle.acct_outside.specs.Life.{life}
 use Rattle.acct_outside.specs.Gives.{GivesResult}
+use Rattle.acct_outside.specs.declared.CommitStage.TheVariants.{Before, Committed}
 use Rattle.suite_rules.specs.Deeds.{SuiteDeeds}
 use Rattle.suite_rules.specs.OwnLock.{lock_kept, kept_number}
 use Rattle.suite_rules.specs.Knowledge.{Seen, knows_none}
-use Rattle.suite_rules.specs.Standing.{standing, commit_uncalled, commit_done}
+use Rattle.suite_rules.specs.Standing.{standing}
 use Rattle.suite_rules.specs.Rules.{HasSeen}
 use Rattle.suite_rules.specs.Lawful.{IsNext, Lawful}
 use Rattle.suite_rules.specs.Settled.{settled}
@@ -71,7 +72,7 @@ pub record OneKeeper : Type 0 where
 pub record IsCleanKeeper (history : History) (token : Token) (number : ℕ)
     (seen : Seen) : Type 0 where
   pub active : IsActiveKeeper history token number
-  pub uncommitted : (standing token history).commit ≡ commit_uncalled
+  pub uncommitted : (standing token history).commit ≡ Before
   pub clean : (standing token history).knows ≡ knows_none seen
 
 -- The settled files are the fold of the committed list, whose numbers rise. What a clean keeper has
@@ -96,7 +97,7 @@ pub record LawfulSettles : Type 0 where
 -- last came to know that no intent stands; it may have freed its lock, failed, answered or died
 pub record HasLooked (history : History) (token : Token) (number : ℕ) (seen : Seen) : Type 0 where
   pub kept : kept_number (standing token history).own ≡ Some number
-  pub uncommitted : (standing token history).commit ≡ commit_uncalled
+  pub uncommitted : (standing token history).commit ≡ Before
   pub clean : (standing token history).knows ≡ knows_none seen
 
 -- The place of a number stays, once a lock of this number or a greater one stands. What a session
@@ -125,11 +126,11 @@ pub record PlacesStay : Type 0 where
 pub record CommittedOnce : Type 0 where
   pub none : (deeds : SuiteDeeds) (first : Folder) (history : History) →
       Lawful deeds first history → (token : Token) →
-      (standing token history).commit ≡ commit_uncalled →
+      (standing token history).commit ≡ Before →
       commitments_of token (committed history) ≡ []
   pub one : (deeds : SuiteDeeds) (first : Folder) (history : History) →
       Lawful deeds first history → (token : Token) →
-      (standing token history).commit ≡ commit_done →
+      (standing token history).commit ≡ Committed →
       commitments_of token (committed history)
       ≡ commitment_of token (kept_number (standing token history).own)
       (standing token history).command

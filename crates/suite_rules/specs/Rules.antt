@@ -12,13 +12,14 @@ use Rattle.acct_outside.specs.Tokens.{Token, free_text}
 use Rattle.acct_outside.specs.Folder.{greatest}
 use Rattle.acct_outside.specs.Calls.{Command, Call, begins, lists, reads, asks, creates, writes, renames, removes, answers}
 use Rattle.acct_outside.specs.Life.{Life, MayCall}
+use Rattle.acct_outside.specs.declared.CommitStage.TheVariants.{Before, Committed}
 use Rattle.intent_file.specs.Intent.{Intended, intent_text, ReadsIntent, listed_in}
 use Rattle.intent_file.specs.ChangedTables.{changed_tables}
 use Rattle.suite_rules.specs.Deeds.{SuiteDeeds}
 use Rattle.suite_rules.specs.OwnLock.{lock_uncalled, lock_kept, made_number}
 use Rattle.suite_rules.specs.Listing.{Listing}
 use Rattle.suite_rules.specs.Knowledge.{Seen, knows_none, knows_bytes}
-use Rattle.suite_rules.specs.Standing.{Standing, commit_uncalled, commit_done}
+use Rattle.suite_rules.specs.Standing.{Standing}
 
 -- Create at most once, only one above the greatest lock of the last listing, only where that is
 -- judged, and below the greatest number of a lock.
@@ -52,7 +53,7 @@ pub record HasSeen (asked : Option Command) (seen : Seen) : Type 0 where
 -- and login.defs; where its deed on these is new files; where the staged intent has its number and
 -- the tables that differ, with their new bytes; and where each of these tables is backed up.
 pub record CommitRule (deeds : SuiteDeeds) (standing : Standing) (number : ℕ) : Type 0 where
-  pub first : standing.commit ≡ commit_uncalled
+  pub first : standing.commit ≡ Before
   pub seen : Seen
   pub knows : standing.knows ≡ knows_none seen
   pub has_seen : HasSeen standing.command seen
@@ -122,7 +123,7 @@ pub record AnswersSame (deeds : SuiteDeeds) (standing : Standing) : Type 0 where
 -- Answer with status 0 only after the own commit was done, or where nothing was to change.
 pub data AnswerRule (deeds : SuiteDeeds) (standing : Standing) (status : ℕ) : Type 0 where
   answers_refusal : status ≢ 0 → AnswerRule deeds standing status
-  answers_changed : standing.commit ≡ commit_done → AnswerRule deeds standing status
+  answers_changed : standing.commit ≡ Committed → AnswerRule deeds standing status
   answers_same : AnswersSame deeds standing → AnswerRule deeds standing status
 
 -- The standing permits the call, each by its rule. A begin has the rule of lives alone.

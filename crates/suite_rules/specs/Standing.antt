@@ -8,18 +8,11 @@ use Rattle.acct_outside.specs.Names.{same_name, is_staging}
 use Rattle.acct_outside.specs.Tokens.{Token}
 use Rattle.acct_outside.specs.Calls.{Command, Call, Answer, CallResult, begins, writes, renames, done}
 use Rattle.acct_outside.specs.History.{History, is_of}
+use Rattle.acct_outside.specs.declared.CommitStage.{CommitStage}
+use Rattle.acct_outside.specs.declared.CommitStage.TheVariants.{Before, Unsure, Committed}
 use Rattle.suite_rules.specs.OwnLock.{OwnLock, lock_uncalled, is_keeper, own_step}
 use Rattle.suite_rules.specs.Listing.{Listing, listing_step}
 use Rattle.suite_rules.specs.Knowledge.{Stages, Knowledge, knows_nothing, knows_step}
-
--- how far a session is with its commit, the rename of the staged intent to the intent
-pub data Commit : Type 0 where
-  -- it hasn't called it
-  commit_uncalled : Commit
-  -- it has called it, and knows no more
-  commit_called : Commit
-  -- it was done
-  commit_done : Commit
 
 -- the standing of a session
 pub record Standing : Type 0 where
@@ -33,8 +26,9 @@ pub record Standing : Type 0 where
   pub knows : Knowledge
   -- the bytes of its last done write as keeper at each staging name that it hasn't moved since
   pub staged : Stages
-  -- how far it is with its commit
-  pub commit : Commit
+  -- how far it is with its commit, the rename of the staged intent to the intent: before its call,
+  -- unsure after one that wasn't done, or committed
+  pub commit : CommitStage
 
 -- nothing is staged
 abbrev pub nothing_staged : Stages
@@ -48,7 +42,7 @@ no_standing = record {
   own = lock_uncalled;
   knows = knows_nothing;
   staged = nothing_staged;
-  commit = commit_uncalled;
+  commit = Before;
 }
 
 -- the command after one of its calls
@@ -68,13 +62,13 @@ staged_step (renames from to) result staged = staged_with from None staged
 staged_step _ _ staged = staged
 
 -- the commit was called without an answer; one that was done stays so
-abbrev pub calls_commit : Commit → Commit
-calls_commit commit_done = commit_done
-calls_commit _ = commit_called
+abbrev pub calls_commit : CommitStage → CommitStage
+calls_commit Committed = Committed
+calls_commit _ = Unsure
 
 -- how far it is with its commit after one of its calls
-abbrev pub commit_step : (call : Call) → CallResult (Answer call) → Commit → Commit
-commit_step (renames IntentStage Intent) (done answer) commit = commit_done
+abbrev pub commit_step : (call : Call) → CallResult (Answer call) → CommitStage → CommitStage
+commit_step (renames IntentStage Intent) (done answer) commit = Committed
 commit_step (renames IntentStage Intent) result commit = calls_commit commit
 commit_step _ _ commit = commit
 

@@ -12,9 +12,10 @@ use Rattle.acct_outside.specs.Others.{Admission}
 use Rattle.acct_outside.specs.Faults.{CountsFailure}
 use Rattle.acct_outside.specs.Moment.{Past, Moment, Narrows}
 use Rattle.acct_outside.specs.Contract.{NeverAdmits, MayAnswer, WhereTold, Tells}
+use Rattle.acct_outside.specs.declared.CommitStage.{CommitStage}
 use Rattle.suite_rules.specs.Deeds.{SuiteDeeds}
 use Rattle.suite_rules.specs.Knowledge.{Knowledge}
-use Rattle.suite_rules.specs.Standing.{Commit, Standing, no_standing, standing}
+use Rattle.suite_rules.specs.Standing.{Standing, no_standing, standing}
 use Rattle.suite_rules.specs.Lawful.{Lawful}
 
 -- the session runs and none of its calls failed, the folder admits no event of it, and this holds
@@ -51,7 +52,7 @@ AlwaysStaysLawful before now = (deeds : SuiteDeeds) → StaysLawful deeds before
 pub record Work : Type 0 where
   pub command : Option Command
   pub knows : Knowledge
-  pub commit : Commit
+  pub commit : CommitStage
 
 -- the parts of a standing that a step on the locks leaves to a keeper
 abbrev pub work : Standing → Work
@@ -65,7 +66,7 @@ asked standing = standing.command
 -- what the session itself was asked, and how far it is with its commit of that
 pub record OwnCommand : Type 0 where
   pub command : Option Command
-  pub commit : Commit
+  pub commit : CommitStage
 
 -- the part of a standing that a keeper's steps before its own commit leave
 abbrev pub own_command : Standing → OwnCommand

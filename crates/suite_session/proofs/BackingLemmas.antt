@@ -19,13 +19,14 @@ use Rattle.acct_outside.specs.History.{Event, History, is_of, own_events}
 use Rattle.acct_outside.specs.Others.{Admission, ByOthers}
 use Rattle.acct_outside.specs.Moment.{Past}
 use Rattle.acct_outside.specs.Contract.{NeverAdmits}
+use Rattle.acct_outside.specs.declared.CommitStage.TheVariants.{Before}
 use Rattle.account_model.specs.Answer.{AnswerCause, deed, new_files as new_of}
 use Rattle.account_model.specs.declared.word_fault.WordFault.{WordFault}
 use Rattle.account_model.specs.Request.{Request}
 use Rattle.account_model.proofs.AsksLaws.{asks_iff_read}
 use Rattle.intent_file.specs.Intent.{NewTable}
 use Rattle.intent_file.specs.ChangedTables.{with_new_table, changed_among}
-use Rattle.suite_rules.specs.Standing.{Standing, standing, commit_uncalled}
+use Rattle.suite_rules.specs.Standing.{Standing, standing}
 use Rattle.suite_rules.specs.Steps.{Stands}
 use Rattle.suite_rules.proofs.StepLemmas.{IsNoAnswer, stayed}
 use Rattle.suite_rules.proofs.Changed.{content-differs}
@@ -119,7 +120,7 @@ module _ (runner : Runner) (answer : Answer) (change : Change)
   -- a session that knows the inputs is to change each table that is listed
   pub is-to-change : (place : ℕ) (next : NewTable) →
       slice_get (changed change) place ≡ Some next → (stood : Standing) →
-      Runs runner commit_uncalled (λ one. KnowsInputs change.inputs one.knows) stood →
+      Runs runner Before (λ one. KnowsInputs change.inputs one.knows) stood →
       IsToChange stood next.table
   is-to-change place next is stood runs = record {
     uncommitted = runs.commits;

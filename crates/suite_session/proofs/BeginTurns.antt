@@ -18,7 +18,7 @@ use Rattle.acct_outside.specs.Faults.{HasRisen}
 use Rattle.account_model.specs.Options.{Word}
 use Rattle.account_model.specs.Request.{Request}
 use Rattle.suite_rules.specs.Deeds.{SuiteDeeds}
-use Rattle.suite_rules.specs.Standing.{Standing, commit_uncalled}
+use Rattle.suite_rules.specs.Standing.{Standing}
 use Rattle.suite_rules.specs.Rules.{free_begin}
 use Rattle.suite_rules.specs.Lawful.{Lawful, goes_on}
 use Rattle.suite_rules.specs.Steps.{begun_with}
@@ -211,9 +211,9 @@ module _ (before now : Moment) where
       (TellsBegin before.admits runner.asked.command (Ok runner.token)))
       (own : NeverAdmits now.admits runner.token) where
     -- a session that has begun has no lock, and its command
-    begun-stands : At now runner commit_uncalled HasListedNone
+    begun-stands : At now runner Before HasListedNone
     begun-stands = stands-weaker now.admits runner.token
-        (λ stood. stood ≡ begun_with runner.asked.command) (Runs runner commit_uncalled HasListedNone)
+        (λ stood. stood ≡ begun_with runner.asked.command) (Runs runner Before HasListedNone)
         (λ stood is. record {
           holds = record {
             owns = ap (λ (one : Standing). one.own) is;
@@ -228,7 +228,7 @@ module _ (before now : Moment) where
 
     -- want of memory is due then
     memory-due : (told : Option Past) →
-        StandsWhere now.admits told runner.token (Runs runner commit_uncalled HasListedNone) →
+        StandsWhere now.admits told runner.token (Runs runner Before HasListedNone) →
         IfSome told (IsDue runner (memory_answer Before))
     memory-due None stands = tt
     memory-due (Some past) stands = record {
@@ -240,7 +240,7 @@ module _ (before now : Moment) where
     -- and may be told
     memory-given : MayGive now runner (memory_answer Before)
     memory-given = record {
-      may_answer = may-answer-now now.admits runner.token (Runs runner commit_uncalled HasListedNone)
+      may_answer = may-answer-now now.admits runner.token (Runs runner Before HasListedNone)
           now.told begun-stands;
       gives = record { says = refl; due = memory-due now.told begun-stands };
       left = λ goes_on. absurd (goes_on tt);

@@ -11,8 +11,9 @@ use Rattle.acct_outside.specs.Life.{life, runs_in}
 use Rattle.acct_outside.specs.Moment.{Past, Moment}
 use Rattle.acct_outside.specs.Others.{Admission, ByOthers}
 use Rattle.acct_outside.specs.Contract.{NeverAdmits, MayAnswer, RunsIn, WhereTold}
+use Rattle.acct_outside.specs.declared.CommitStage.{CommitStage}
 use Rattle.suite_rules.specs.OwnLock.{kept_number}
-use Rattle.suite_rules.specs.Standing.{Commit, Standing}
+use Rattle.suite_rules.specs.Standing.{Standing}
 use Rattle.suite_rules.proofs.Own.{own-standing}
 use Rattle.suite_rules.proofs.StepLemmas.{may-answer-now}
 use Rattle.suite_answers.specs.declared.answer.Answer.{Answer}
@@ -165,7 +166,7 @@ module _ (before now : Moment) (runner : Runner) (others : OthersCame before now
   still-own own history event admitted = own history event (others.narrows history event admitted)
 
   -- it stands at the next moment as it did
-  at-stays : (commit : Commit) (Holds : Standing → Type 0) → At before runner commit Holds →
+  at-stays : (commit : CommitStage) (Holds : Standing → Type 0) → At before runner commit Holds →
       At now runner commit Holds
   at-stays commit Holds =
       told-stays before.told now.told (λ was past came stands. let stay = others-leave runner.token

@@ -11,7 +11,7 @@ use Rattle.acct_outside.specs.declared.FolderFault.{FolderFault}
 use Rattle.acct_outside.specs.declared.FolderFault.TheVariants.{Failed, Memory as NoMemory}
 use Rattle.acct_outside.specs.declared.StageFault.{StageFault}
 use Rattle.acct_outside.specs.declared.CommitStage.{CommitStage}
-use Rattle.acct_outside.specs.declared.CommitStage.TheVariants.{Before, Unsure, Committed}
+use Rattle.acct_outside.specs.declared.CommitStage.TheVariants.{Before, Committed}
 use Rattle.acct_outside.specs.declared.Name.TheVariants.{Intent, IntentStage}
 use Rattle.acct_outside.specs.Tokens.{Token}
 use Rattle.acct_outside.specs.Calls.{Command, Call, Answer, CallResult, renames}
@@ -19,17 +19,16 @@ use Rattle.acct_outside.specs.Contract.{MayAnswer}
 use Rattle.intent_file.specs.Intent.{NewTable}
 use Rattle.suite_rules.specs.Deeds.{SuiteDeeds}
 use Rattle.suite_rules.specs.Knowledge.{nothing_seen}
-use Rattle.suite_rules.specs.Standing.{Commit, Standing, standing_step, commit_uncalled, commit_done}
+use Rattle.suite_rules.specs.Standing.{Standing, standing_step}
 use Rattle.suite_rules.specs.Steps.{StandsIn, Leaves, MakesCall, own_command, asked as asked_of}
 use Rattle.suite_rules.specs.Outcomes.{LeadsTo, at_commit, before_commit}
 use Rattle.suite_rules.proofs.StepLemmas.{stands-left, stands-weaker}
 use Rattle.lock_steps.specs.States.{Kept}
 use Rattle.lock_steps.specs.Stands.{Keeps, KnowsAnything}
 use Rattle.commit_steps.specs.States.{Change, Walker, changed, step_on, walk_of}
-use Rattle.commit_steps.specs.Stands.{BacksUp, HasStagedIntent, HasCleared, Installs, IsDeed, StandsUnsure, commit_at as commit_for}
+use Rattle.commit_steps.specs.Stands.{BacksUp, HasStagedIntent, HasCleared, Installs, IsDeed, StandsUnsure}
 use Rattle.commit_steps.specs.Outcomes.{backup_call}
 use Rattle.commit_steps.specs.Walks.{token_of}
-use Rattle.suite_answers.specs.declared.cause.Cause.{Cause}
 use Rattle.suite_answers.specs.declared.cause.Cause.TheVariants.{Changed}
 use Rattle.suite_answers.specs.declared.answer.Answer.{Answer as FinalAnswer}
 use Rattle.suite_answers.specs.Reasons.{stage_of}
@@ -38,7 +37,7 @@ use Rattle.suite_session.specs.declared.state.State.TheVariants.{Answering}
 use Rattle.suite_session.specs.Runner.{Runner}
 use Rattle.acct_outside.specs.Moment.{Past, Moment}
 use Rattle.suite_rules.proofs.Parts.{LeavesWhere, StandsWhere}
-use Rattle.suite_session.specs.Moment.{commit_at, Runs, At}
+use Rattle.suite_session.specs.Moment.{Runs, At}
 use Rattle.suite_session.specs.Answers.{cause_of_answer, IsTold, Says}
 use Rattle.suite_session.specs.Deeds.{AreOfTools}
 use Rattle.suite_session.specs.Due.{AnsweredAll, IsShown, IsDue}
@@ -84,12 +83,6 @@ commit-ended next (Ok answer) fault shown = absurd shown
 
 -- ---- The turns
 
--- both name the same commit of a stage
-same-commit : (stage : CommitStage) → commit_for stage ≡ commit_at stage
-same-commit Before = refl
-same-commit Unsure = refl
-same-commit Committed = refl
-
 module _ (before now : Moment) (runner : Runner) (answer : FinalAnswer) where
   module _ (walker : Walker)
       (stood : StandsChanging before runner walker.change (BacksUp walker) answer) where
@@ -106,7 +99,7 @@ module _ (before now : Moment) (runner : Runner) (answer : FinalAnswer) where
         let change = ap (λ (one : Walker). one.change) is ∙ step-change walker in
         record {
           same = ap (λ (one : Change). one.inputs.keeper.token) change ∙ stood.same;
-          stands = goes-on before now runner commit_uncalled (BacksUp walker) stood.stands
+          stands = goes-on before now runner Before (BacksUp walker) stood.stands
               (token_of walker) stood.same (backup_call walker next)
               (backup-calls runner answer walker next stood.of_change place_is) _
               (backup-quiet walker next) made (BacksUp walked) stands;
@@ -116,7 +109,7 @@ module _ (before now : Moment) (runner : Runner) (answer : FinalAnswer) where
 
     -- the write of the intent
     pub stages-intent : (call : Call)
-        (of_turn : IsTurnCall (Runs runner commit_uncalled (BacksUp walker)) call)
+        (of_turn : IsTurnCall (Runs runner Before (BacksUp walker)) call)
         (quiet : (result : CallResult (Answer call)) (one : Standing) →
         own_command (standing_step call result one) ≡ own_command one) (staged : Change) →
         MakesCall before now (token_of walker) call
@@ -127,7 +120,7 @@ module _ (before now : Moment) (runner : Runner) (answer : FinalAnswer) where
         let change = leads-on walker.change before_commit made.answer staged made.shown in
         record {
           same = ap (λ (one : Change). one.inputs.keeper.token) change ∙ stood.same;
-          stands = goes-on before now runner commit_uncalled (BacksUp walker) stood.stands
+          stands = goes-on before now runner Before (BacksUp walker) stood.stands
               (token_of walker) stood.same call of_turn _ quiet made (HasStagedIntent staged)
               stands;
           of_change = subst (λ (one : Change). IsOfChange runner one answer) (sym change)
@@ -144,7 +137,7 @@ module _ (before now : Moment) (runner : Runner) (answer : FinalAnswer) where
     -- just before its commit it was a clean keeper that had seen all
     answered-all : (was : Past) →
         StandsWhere before.admits (Some was) runner.token
-        (Runs runner commit_uncalled (HasStagedIntent change)) →
+        (Runs runner Before (HasStagedIntent change)) →
         AnsweredAll runner answer was.history
     answered-all was stands =
         let held = stands.holds.holds in
@@ -173,7 +166,7 @@ module _ (before now : Moment) (runner : Runner) (answer : FinalAnswer) where
         StandsIn before change.inputs.keeper.token (IsDeed deeds change)
     is-deed deeds ours =
         stands-weaker before.admits change.inputs.keeper.token
-        (Runs runner commit_uncalled (HasStagedIntent change)) (IsDeed deeds change)
+        (Runs runner Before (HasStagedIntent change)) (IsDeed deeds change)
         (λ one runs. record {
           command = runner.asked.command;
           is_asked = runs.asked;
@@ -183,7 +176,7 @@ module _ (before now : Moment) (runner : Runner) (answer : FinalAnswer) where
         })
         before.told
         (subst (λ (token : Token). StandsIn before token
-        (Runs runner commit_uncalled (HasStagedIntent change))) (sym stood.same) stood.stands)
+        (Runs runner Before (HasStagedIntent change))) (sym stood.same) stood.stands)
 
     module _ (Shows : Result (Unit {0}) FolderFault → Type 0)
         (made : MakesCall before now
@@ -207,14 +200,14 @@ module _ (before now : Moment) (runner : Runner) (answer : FinalAnswer) where
       -- once its commit was done, the answer is due
       committed-due : (Holds : Standing → Type 0) (was told : Option Past) →
           StandsWhere before.admits was runner.token
-          (Runs runner commit_uncalled (HasStagedIntent change)) →
-          StandsWhere now.admits told runner.token (Runs runner commit_done Holds) →
+          (Runs runner Before (HasStagedIntent change)) →
+          StandsWhere now.admits told runner.token (Runs runner Committed Holds) →
           Extends was told → IfSome told (IsDue runner answer)
       committed-due Holds None None held stands extends = tt
       committed-due Holds (Some was) (Some past) held stands extends = record {
         asked = stands.holds.asked;
         commits = stands.holds.commits
-            ∙ ap (λ (cause : Cause). commit_at (stage_of cause)) (sym is-changed);
+            ∙ ap stage_of (sym is-changed);
         shown = subst (IsShown runner answer past.history) (sym is-changed)
             (earlier-stays runner answer was.history past.history extends.1.0 extends.1.1
             (answered-all was held));
@@ -227,10 +220,10 @@ module _ (before now : Moment) (runner : Runner) (answer : FinalAnswer) where
           StandsIn now change.inputs.keeper.token (Installs walked) →
           StandsInstalling now runner walked answer
       commits-stands walked is next =
-          let stands : At now runner commit_done (Installs walked) =
+          let stands : At now runner Committed (Installs walked) =
           stands-weaker now.admits runner.token
           (λ one. Installs walked one × (asked_of one ≡ Some runner.asked.command))
-          (Runs runner commit_done (Installs walked))
+          (Runs runner Committed (Installs walked))
           (λ one both. record {
             holds = both.0;
             asked = both.1;
@@ -238,7 +231,7 @@ module _ (before now : Moment) (runner : Runner) (answer : FinalAnswer) where
           })
           now.told
           (stands-left asked_of (Some runner.asked.command)
-          (Runs runner commit_uncalled (HasStagedIntent change)) (Installs walked)
+          (Runs runner Before (HasStagedIntent change)) (Installs walked)
           (λ one runs. runs.asked) before.admits now.admits runner.token before.told now.told
           stood.stands left-asked
           (subst (λ (token : Token). StandsIn now token (Installs walked))
@@ -263,7 +256,7 @@ module _ (before now : Moment) (runner : Runner) (answer : FinalAnswer) where
           IsTold runner.asked.request.tool (cause_of_fault fault.stage fault.fault) given →
           (was told : Option Past) →
           StandsWhere before.admits was runner.token
-          (Runs runner commit_uncalled (HasStagedIntent change)) →
+          (Runs runner Before (HasStagedIntent change)) →
           StandsUnsure told runner.token fault → LeavesWhere asked_of runner.token was told →
           IfSome told (λ past.
           IsMetAs runner.token past.history (cause_of_fault fault.stage fault.fault)) →
@@ -271,9 +264,9 @@ module _ (before now : Moment) (runner : Runner) (answer : FinalAnswer) where
       unsure-due fault given says None None held unsure kept met = tt
       unsure-due fault given says (Some was) (Some past) held unsure kept met = record {
         asked = kept.1 ∙ held.holds.asked;
-        commits = unsure ∙ (same-commit fault.stage ∙ ap commit_at (sym (told-stage
+        commits = unsure ∙ (sym (told-stage
             runner.asked.request.tool (cause_of_fault fault.stage fault.fault) given says
-            ∙ fault-stage fault.stage fault.fault)));
+            ∙ fault-stage fault.stage fault.fault));
         shown = plain-shown runner given past.history given.outcome.cause
             (told-plain runner.asked (cause_of_fault fault.stage fault.fault) given
             (fault-plain fault.stage fault.fault) says)
@@ -306,13 +299,13 @@ module _ (before now : Moment) (runner : Runner) (answer : FinalAnswer) where
     -- after the commit the answer stays due
     changed-due : (Holds : Standing → Type 0) (was told : Option Past) →
         IfSome was (IsDue runner answer) →
-        StandsWhere now.admits told runner.token (Runs runner commit_done Holds) →
+        StandsWhere now.admits told runner.token (Runs runner Committed Holds) →
         Extends was told → IfSome told (IsDue runner answer)
     changed-due Holds None None due stands extends = tt
     changed-due Holds (Some was) (Some past) due stands extends = record {
       asked = stands.holds.asked;
       commits = stands.holds.commits
-          ∙ ap (λ (cause : Cause). commit_at (stage_of cause)) (sym stood.changed);
+          ∙ ap stage_of (sym stood.changed);
       shown = subst (IsShown runner answer past.history) (sym stood.changed)
           (earlier-stays runner answer was.history past.history extends.1.0 extends.1.1
           (subst (IsShown runner answer was.history) stood.changed due.shown));
@@ -321,19 +314,19 @@ module _ (before now : Moment) (runner : Runner) (answer : FinalAnswer) where
     changed-due Holds (Some was) None due stands extends = absurd extends
 
     module _ (call : Call)
-        (of_turn : IsTurnCall (Runs runner commit_done (Installs walker)) call)
+        (of_turn : IsTurnCall (Runs runner Committed (Installs walker)) call)
         (Shows : Result (Answer call) FolderFault → Type 0)
         (quiet : (result : CallResult (Answer call)) (one : Standing) →
         own_command (standing_step call result one) ≡ own_command one)
         (made : MakesCall before now (token_of walker) call
         Shows) where
       -- so it has its answer to give
-      gives-still : (Holds : Standing → Type 0) → At now runner commit_done Holds →
+      gives-still : (Holds : Standing → Type 0) → At now runner Committed Holds →
           Gives now runner answer
       gives-still Holds stands = record {
         says = stood.gives.says;
         due = changed-due Holds before.told now.told stood.gives.due stands
-            (extended before now runner commit_done (Installs walker) stood.stands
+            (extended before now runner Committed (Installs walker) stood.stands
             (token_of walker) stood.same call of_turn Shows quiet made);
       }
 
@@ -342,7 +335,7 @@ module _ (before now : Moment) (runner : Runner) (answer : FinalAnswer) where
           StandsIn now (token_of walker) (Installs walked) →
           StandsInstalling now runner walked answer
       installs-on walked is next =
-          let stands = goes-on before now runner commit_done (Installs walker) stood.stands
+          let stands = goes-on before now runner Committed (Installs walker) stood.stands
           (token_of walker) stood.same call of_turn Shows quiet made (Installs walked) next in
           record {
             same = ap token_of is
@@ -358,7 +351,7 @@ module _ (before now : Moment) (runner : Runner) (answer : FinalAnswer) where
           StandsIn now (token_of walker) (HasCleared cleared) →
           StandsUnlocking now runner cleared answer
       clears cleared is next =
-          let stands = goes-on before now runner commit_done (Installs walker) stood.stands
+          let stands = goes-on before now runner Committed (Installs walker) stood.stands
           (token_of walker) stood.same call of_turn Shows quiet made
           (Keeps cleared KnowsAnything)
           (stands-weaker now.admits (token_of walker) (HasCleared cleared)
@@ -366,8 +359,8 @@ module _ (before now : Moment) (runner : Runner) (answer : FinalAnswer) where
           (λ one held. record { locks = held.keeps.locks; knows = tt }) now.told next) in
           record {
             same = ap (λ (one : Kept). one.token) is ∙ stood.same;
-            stands = subst (λ (one : Commit). At now runner one (Keeps cleared KnowsAnything))
-                (ap (λ (cause : Cause). commit_at (stage_of cause)) (sym stood.changed)) stands;
+            stands = subst (λ (one : CommitStage). At now runner one (Keeps cleared KnowsAnything))
+                (ap stage_of (sym stood.changed)) stands;
             clean = clean-known runner.token answer.outcome.cause now.admits (HasCleared cleared)
                 (λ one held. (nothing_seen, held.keeps.knows)) now.told
                 (subst (λ (token : Token). StandsIn now token (HasCleared cleared))

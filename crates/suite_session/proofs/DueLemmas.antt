@@ -9,7 +9,7 @@ use Rattle.acct_outside.specs.Tokens.{Token}
 use Rattle.acct_outside.specs.Calls.{Call, Answer as CallAnswer}
 use Rattle.acct_outside.specs.History.{History}
 use Rattle.suite_rules.specs.OwnLock.{kept_number}
-use Rattle.suite_rules.specs.Standing.{Commit, Standing, standing}
+use Rattle.suite_rules.specs.Standing.{Standing, standing}
 use Rattle.suite_rules.specs.Steps.{Work, work, Leaves}
 use Rattle.suite_answers.specs.declared.cause.Which.TheVariants.{File}
 use Rattle.suite_answers.specs.declared.cause.Cause.{Cause}
@@ -17,6 +17,7 @@ use Rattle.suite_answers.specs.declared.cause.Cause.TheVariants.{Changed, Same, 
 use Rattle.suite_answers.specs.declared.answer.Answer.{Answer}
 use Rattle.suite_session.specs.Runner.{Runner}
 use Rattle.acct_outside.specs.Moment.{Past, Moment}
+use Rattle.acct_outside.specs.declared.CommitStage.{CommitStage}
 use Rattle.suite_rules.proofs.Parts.{LeavesWhere, StandsWhere}
 use Rattle.suite_session.specs.Moment.{Runs, At}
 use Rattle.suite_session.specs.Causes.{Met, HasMet, HasYielded}
@@ -174,7 +175,7 @@ module _ (runner : Runner) (answer : Answer) where
   shown-stays old new newer parts kept knows cause shown =
       met-stays old new newer parts cause shown
 
-  module _ (commit : Commit) (number : ℕ) (Held Holds : Standing → Type 0)
+  module _ (commit : CommitStage) (number : ℕ) (Held Holds : Standing → Type 0)
       (had : (stood : Standing) → Held stood → kept_number stood.own ≡ Some number)
       (has : (stood : Standing) → Holds stood → kept_number stood.own ≡ Some number)
       (before now : Moment) where

@@ -19,7 +19,6 @@ use Rattle.account_model.proofs.DeedLaws.{deed-is}
 use Rattle.acct_text.specs.declared.files.Files.{Files}
 use Rattle.acct_text.specs.Contents.{IsChange}
 use Rattle.acct_text.specs.Files.{table_of}
-use Rattle.suite_rules.specs.Standing.{Commit, commit_uncalled}
 use Rattle.suite_rules.specs.Steps.{StandsIn, MakesCall}
 use Rattle.suite_rules.specs.Outcomes.{before_commit}
 use Rattle.suite_rules.proofs.StepLemmas.{stands-weaker}
@@ -43,8 +42,9 @@ use Rattle.suite_session.specs.declared.tools.Decided.TheVariants.{Change as Cha
 use Rattle.account_model.specs.Words.{Asks}
 use Rattle.suite_session.specs.Runner.{Question, Runner}
 use Rattle.acct_outside.specs.Moment.{Past, Moment}
+use Rattle.acct_outside.specs.declared.CommitStage.{CommitStage}
 use Rattle.suite_rules.proofs.Parts.{StandsWhere}
-use Rattle.suite_session.specs.Moment.{commit_at, Runs, At}
+use Rattle.suite_session.specs.Moment.{Runs, At}
 use Rattle.suite_session.specs.Answers.{answer_on, IsAnswerOn, given_for}
 use Rattle.suite_session.specs.Deeds.{is_change}
 use Rattle.suite_session.specs.Due.{ShowsLarge, IsShown, IsDue}
@@ -109,10 +109,10 @@ shows-next runner answer history None shows = shows
 shows-next runner answer history (Some table) shows = shows
 
 module _ (before now : Moment) (runner : Runner) (reader : Reader)
-    (stands : At before runner commit_uncalled (HasRead reader))
+    (stands : At before runner Before (HasRead reader))
     (same : reader.keeper.token ≡ runner.token) where
   module _ (inputs : Inputs) (token : inputs.keeper.token ≡ runner.token)
-      (loaded : At now runner commit_uncalled (HasLoaded inputs)) where
+      (loaded : At now runner Before (HasLoaded inputs)) where
     -- a change is backed up
     backs-stands : (walker : Walker) (answer : FinalAnswer) →
         DecidesTo runner inputs (BackingUp walker answer) →
@@ -120,8 +120,8 @@ module _ (before now : Moment) (runner : Runner) (reader : Reader)
     backs-stands walker answer decided = record {
       same = ap (λ (one : Inputs). one.keeper.token) decided.1 ∙ token;
       stands = stands-weaker now.admits runner.token
-          (Runs runner commit_uncalled (HasLoaded inputs))
-          (Runs runner commit_uncalled (BacksUp walker))
+          (Runs runner Before (HasLoaded inputs))
+          (Runs runner Before (BacksUp walker))
           (λ stood runs. record {
             holds = subst (λ (one : Walker). BacksUp one stood) (sym decided.0)
                 (starts-backing walker.change stood
@@ -138,13 +138,12 @@ module _ (before now : Moment) (runner : Runner) (reader : Reader)
         IsAnswerOn runner.asked inputs.files inputs.defs answer →
         is_change (answer_on runner.asked inputs.files inputs.defs).cause ≡ false →
         (told : Option Past) →
-        StandsWhere now.admits told runner.token (Runs runner commit_uncalled (HasLoaded inputs)) →
+        StandsWhere now.admits told runner.token (Runs runner Before (HasLoaded inputs)) →
         IfSome told (IsDue runner answer)
     stay-due answer is_answer stays None stood = tt
     stay-due answer is_answer stays (Some past) stood = record {
       asked = stood.holds.asked;
-      commits = stood.holds.commits ∙ ap commit_at
-          (sym (stay-stage runner.asked inputs.files inputs.defs answer is_answer stays));
+      commits = stood.holds.commits ∙ sym (stay-stage runner.asked inputs.files inputs.defs answer is_answer stays);
       shown = stay-shown runner inputs answer past.history stood.holds.holds stood.runs is_answer stays;
     }
 
@@ -154,12 +153,11 @@ module _ (before now : Moment) (runner : Runner) (reader : Reader)
         StandsUnlocking now runner keeper answer
     stays-stands keeper answer decided = record {
       same = ap (λ (one : Kept). one.token) decided.0 ∙ token;
-      stands = subst (λ (one : Commit). At now runner one (Keeps keeper KnowsAnything))
-          (ap commit_at
-          (sym (stay-stage runner.asked inputs.files inputs.defs answer decided.1 decided.2)))
+      stands = subst (λ (one : CommitStage). At now runner one (Keeps keeper KnowsAnything))
+          (sym (stay-stage runner.asked inputs.files inputs.defs answer decided.1 decided.2))
           (stands-weaker now.admits runner.token
-          (Runs runner commit_uncalled (HasLoaded inputs))
-          (Runs runner commit_uncalled (Keeps keeper KnowsAnything))
+          (Runs runner Before (HasLoaded inputs))
+          (Runs runner Before (Keeps keeper KnowsAnything))
           (λ stood runs. record {
             holds = subst (λ (one : Kept). Keeps one KnowsAnything stood) (sym decided.0)
                 (record { locks = runs.holds.keeps.locks; knows = tt });
@@ -168,7 +166,7 @@ module _ (before now : Moment) (runner : Runner) (reader : Reader)
           })
           now.told loaded);
       clean = clean-known runner.token answer.outcome.cause now.admits
-          (Runs runner commit_uncalled (HasLoaded inputs))
+          (Runs runner Before (HasLoaded inputs))
           (λ stood runs. (runs.holds.keeps.knows.seen, runs.holds.keeps.knows.clean))
           now.told loaded;
       quiet = answer-quiet runner.asked inputs.files inputs.defs answer decided.1;
@@ -188,16 +186,16 @@ module _ (before now : Moment) (runner : Runner) (reader : Reader)
         StandsAs now runner state
     decided-stands inputs (BackingUp walker answer) decided token next =
         backs-stands inputs token
-        (goes-on before now runner commit_uncalled (HasRead reader) stands reader.keeper.token same
+        (goes-on before now runner Before (HasRead reader) stands reader.keeper.token same
         (reads (next_name reader.next)) tt _ (λ result stood. refl) made (HasLoaded inputs) next)
         walker answer decided
     decided-stands inputs (Unlocking keeper answer) decided token next =
         stays-stands inputs token
-        (goes-on before now runner commit_uncalled (HasRead reader) stands reader.keeper.token same
+        (goes-on before now runner Before (HasRead reader) stands reader.keeper.token same
         (reads (next_name reader.next)) tt _ (λ result stood. refl) made (HasLoaded inputs) next)
         keeper answer decided
     decided-stands inputs (Answering answer) decided token next =
-        answers-turn before now runner commit_uncalled (HasRead reader) stands reader.keeper.token
+        answers-turn before now runner Before (HasRead reader) stands reader.keeper.token
         same (reads (next_name reader.next)) tt _ (λ result stood. refl) made (Memory Before)
         (Answering answer) (inr decided) tt (memory-met now runner Before)
         (λ goes_on. absurd (goes_on tt)) refl
@@ -212,7 +210,7 @@ module _ (before now : Moment) (runner : Runner) (reader : Reader)
       subst (StandsAs now runner) (sym leads) (
         ap (λ (one : Reader). one.keeper.token)
             (more-shown reader more made.answer made.shown).1.2 ∙ same,
-        goes-on before now runner commit_uncalled (HasRead reader) stands reader.keeper.token same
+        goes-on before now runner Before (HasRead reader) stands reader.keeper.token same
             (reads (next_name reader.next)) tt _ (λ result stood. refl) made (HasRead more) next,
       )
   loads-stands (Done inputs) state leads made next =
@@ -224,7 +222,7 @@ module _ (before now : Moment) (runner : Runner) (reader : Reader)
   missed-due : (table : Tab) (keeper : Kept) → is_missing table None ≡ true →
       (told : Option Past) →
       StandsWhere now.admits told runner.token
-      (Runs runner commit_uncalled (HasMissed table keeper)) →
+      (Runs runner Before (HasMissed table keeper)) →
       IfSome told (IsDue runner (given_for runner.asked.request.tool (HasNoTable table)))
   missed-due table keeper missing None stood = tt
   missed-due table keeper missing (Some past) stood = record {
@@ -235,13 +233,13 @@ module _ (before now : Moment) (runner : Runner) (reader : Reader)
 
   missed-stands : (table : Tab) (keeper : Kept) → is_missing table None ≡ true →
       keeper.token ≡ runner.token →
-      At now runner commit_uncalled (HasMissed table keeper) →
+      At now runner Before (HasMissed table keeper) →
       StandsUnlocking now runner keeper (given_for runner.asked.request.tool (HasNoTable table))
   missed-stands table keeper missing token missed = record {
     same = token;
     stands = stands-weaker now.admits runner.token
-        (Runs runner commit_uncalled (HasMissed table keeper))
-        (Runs runner commit_uncalled (Keeps keeper KnowsAnything))
+        (Runs runner Before (HasMissed table keeper))
+        (Runs runner Before (Keeps keeper KnowsAnything))
         (λ stood runs. record {
           holds = record { locks = runs.holds.is_read.keeps.locks; knows = tt };
           asked = runs.asked;
@@ -249,7 +247,7 @@ module _ (before now : Moment) (runner : Runner) (reader : Reader)
         })
         now.told missed;
     clean = clean-known runner.token (HasNoTable table) now.admits
-        (Runs runner commit_uncalled (HasMissed table keeper))
+        (Runs runner Before (HasMissed table keeper))
         (λ stood runs.
         (runs.holds.is_read.keeps.knows.seen, runs.holds.is_read.keeps.knows.clean))
         now.told missed;
@@ -269,11 +267,11 @@ module _ (before now : Moment) (runner : Runner) (reader : Reader)
       subst (λ (one : Kept). StandsUnlocking now runner one answer) (sym leaves.0)
       (subst (λ (one : FinalAnswer). StandsUnlocking now runner kept one) (sym leaves.1)
       (missed-stands table kept shown.0 (ap (λ (one : Kept). one.token) shown.1 ∙ same)
-      (goes-on before now runner commit_uncalled (HasRead reader) stands reader.keeper.token same
+      (goes-on before now runner Before (HasRead reader) stands reader.keeper.token same
       (reads (next_name reader.next)) tt _ (λ result stood. refl) made (HasMissed table kept)
       next)))
   missing-stands table kept (Answering answer) leaves made next =
-      answers-turn before now runner commit_uncalled (HasRead reader) stands reader.keeper.token
+      answers-turn before now runner Before (HasRead reader) stands reader.keeper.token
       same (reads (next_name reader.next)) tt _ (λ result stood. refl) made (Memory Before)
       (Answering answer) (inr leaves) tt (memory-met now runner Before)
       (λ goes_on. absurd (goes_on tt)) refl
@@ -281,7 +279,7 @@ module _ (before now : Moment) (runner : Runner) (reader : Reader)
 
   -- the answer that the next file is too large is due
   large-due : (kept : Kept) → AreSound reader.next reader.files → (told : Option Past) →
-      StandsWhere now.admits told runner.token (Runs runner commit_uncalled (Keeps kept KnowsNone)) →
+      StandsWhere now.admits told runner.token (Runs runner Before (Keeps kept KnowsNone)) →
       IfSome told (λ past. Met runner.token (reads (next_name reader.next)) found_too_large
       (HasRead reader) past.history) →
       IfSome told (IsDue runner
@@ -303,15 +301,15 @@ module _ (before now : Moment) (runner : Runner) (reader : Reader)
       StandsAs now runner state
   large-stands name kept (Unlocking keeper answer) sound leaves made next =
       let shown = large-shown reader name kept made.answer made.shown in
-      let stood = goes-on before now runner commit_uncalled (HasRead reader) stands
+      let stood = goes-on before now runner Before (HasRead reader) stands
       reader.keeper.token same (reads (next_name reader.next)) tt _ (λ result stood. refl) made
       (Keeps kept KnowsNone) next in
       subst (λ (one : Kept). StandsUnlocking now runner one answer) (sym leaves.0)
       (subst (λ (one : FinalAnswer). StandsUnlocking now runner kept one) (sym leaves.1) (record {
         same = ap (λ (one : Kept). one.token) shown.2 ∙ same;
         stands = stands-weaker now.admits runner.token
-            (Runs runner commit_uncalled (Keeps kept KnowsNone))
-            (Runs runner commit_uncalled (Keeps kept KnowsAnything))
+            (Runs runner Before (Keeps kept KnowsNone))
+            (Runs runner Before (Keeps kept KnowsAnything))
             (λ standing runs. record {
               holds = record { locks = runs.holds.locks; knows = tt };
               asked = runs.asked;
@@ -319,19 +317,19 @@ module _ (before now : Moment) (runner : Runner) (reader : Reader)
             })
             now.told stood;
         clean = clean-known runner.token (IsTooLarge (File (next_name reader.next))) now.admits
-            (Runs runner commit_uncalled (Keeps kept KnowsNone))
+            (Runs runner Before (Keeps kept KnowsNone))
             (λ standing runs. runs.holds.knows) now.told stood;
         quiet = λ fault. fault;
         gives = record {
           says = refl;
           due = large-due kept sound now.told stood
-              (got before now runner commit_uncalled (HasRead reader) stands reader.keeper.token same
+              (got before now runner Before (HasRead reader) stands reader.keeper.token same
               (reads (next_name reader.next)) tt _ (λ result stood. refl) made found_too_large
               shown.0);
         };
       }))
   large-stands name kept (Answering answer) sound leaves made next =
-      answers-turn before now runner commit_uncalled (HasRead reader) stands reader.keeper.token
+      answers-turn before now runner Before (HasRead reader) stands reader.keeper.token
       same (reads (next_name reader.next)) tt _ (λ result stood. refl) made (Memory Before)
       (Answering answer) (inr leaves) tt (memory-met now runner Before)
       (λ goes_on. absurd (goes_on tt)) refl
@@ -344,15 +342,15 @@ module _ (before now : Moment) (runner : Runner) (reader : Reader)
       (reads (next_name reader.next)) (λ answer. Loads reader answer (Err end)) →
       StandsEnded now reader.keeper.token end → StandsAs now runner state
   ended-stands (Fault fault) state sound ends made next =
-      answers-turn before now runner commit_uncalled (HasRead reader) stands reader.keeper.token
+      answers-turn before now runner Before (HasRead reader) stands reader.keeper.token
       same (reads (next_name reader.next)) tt _ (λ result stood. refl) made
       (cause_of_fault fault.stage fault.fault) state ends (fault-plain fault.stage fault.fault)
-      (ended before now runner commit_uncalled (HasRead reader) stands reader.keeper.token same
+      (ended before now runner Before (HasRead reader) stands reader.keeper.token same
       (reads (next_name reader.next)) tt _ (λ result stood. refl) made fault.stage fault.fault
       (load-came reader made.answer fault made.shown))
       (λ goes_on. absurd (goes_on (fault-stopped fault.stage fault.fault)))
-      (ap commit_at (sym (fault-stage fault.stage fault.fault
-      ∙ fault-before reader fault made.answer made.shown)))
+      (sym (fault-stage fault.stage fault.fault
+      ∙ fault-before reader fault made.answer made.shown))
   ended-stands (TooLarge name kept) state sound ends made next =
       large-stands name kept state sound
       (subst (λ (one : Name).

@@ -5,7 +5,7 @@ use Rattle.acct_outside.specs.Names.{greatest_lock}
 use Rattle.acct_outside.specs.Tokens.{Token}
 use Rattle.acct_outside.specs.declared.Name.TheVariants.{Lock}
 use Rattle.acct_outside.specs.Calls.{lists, reads}
-use Rattle.suite_rules.specs.Standing.{Standing, commit_uncalled}
+use Rattle.suite_rules.specs.Standing.{Standing}
 use Rattle.suite_rules.specs.Steps.{StandsIn, MakesCall}
 use Rattle.suite_rules.proofs.StepLemmas.{stands-weaker}
 use Rattle.lock_steps.specs.States.{Lister, Maker}
@@ -19,6 +19,7 @@ use Rattle.suite_session.specs.Causes.{HasListedNone}
 use Rattle.suite_session.specs.declared.state.State.TheVariants.{Claiming, Reading}
 use Rattle.suite_session.specs.Runner.{Runner}
 use Rattle.acct_outside.specs.Moment.{Moment}
+use Rattle.acct_outside.specs.declared.CommitStage.TheVariants.{Before}
 use Rattle.suite_session.specs.Moment.{At}
 use Rattle.suite_session.specs.Locking.{after_look, after_read, after_listing}
 use Rattle.suite_session.specs.Stands.{StandsAs, TellsOutside}
@@ -37,7 +38,7 @@ none-judged seen none stood looked = record {
 }
 
 module _ (before now : Moment) (runner : Runner) where
-  module _ (looking : Token) (stands : At before runner commit_uncalled HasListedNone)
+  module _ (looking : Token) (stands : At before runner Before HasListedNone)
       (same : looking ≡ runner.token) where
     -- after the first listing, by whether there is a lock
     looked : (seen : Lister) (is_none : Bool) → (seen.greatest == 0) ≡ is_none →
@@ -47,7 +48,7 @@ module _ (before now : Moment) (runner : Runner) where
         StandsAs now runner (if is_none then Claiming seen else Reading seen)
     looked seen true is made next = (
       looks-token _ _ _ made.shown ∙ same,
-      goes-on before now runner commit_uncalled HasListedNone stands looking same
+      goes-on before now runner Before HasListedNone stands looking same
           lists tt _ (λ result stood. refl) made (HasJudged seen)
           (stands-weaker now.admits looking (HasLooked seen) (HasJudged seen)
           (none-judged seen (search (rules, is))) now.told next),
@@ -55,7 +56,7 @@ module _ (before now : Moment) (runner : Runner) where
     looked seen false is made next = (
       looks-token _ _ _ made.shown ∙ same,
       (search (rules, is, arith)),
-      goes-on before now runner commit_uncalled HasListedNone stands looking same
+      goes-on before now runner Before HasListedNone stands looking same
           lists tt _ (λ result stood. refl) made (HasLooked seen) next,
       looks-last _ _ _ made.shown,
     )
@@ -67,7 +68,7 @@ module _ (before now : Moment) (runner : Runner) where
         StandsAs now runner (after_look seen)
     look-stands seen made next = looked seen _ refl made next
 
-  module _ (seen : Lister) (stands : At before runner commit_uncalled (HasLooked seen))
+  module _ (seen : Lister) (stands : At before runner Before (HasLooked seen))
       (same : seen.token ≡ runner.token) (not_last : seen.greatest ≢ greatest_lock) where
     -- after the read
     pub read-stands : (told : Told) →
@@ -76,17 +77,17 @@ module _ (before now : Moment) (runner : Runner) where
         StandsTold now seen.token told → StandsAs now runner (after_read told)
     read-stands (Judged judged) made next = (
       reads-judged _ _ _ made.shown ∙ same,
-      goes-on before now runner commit_uncalled (HasLooked seen) stands seen.token same
+      goes-on before now runner Before (HasLooked seen) stands seen.token same
           (reads (Lock seen.greatest)) tt _ (λ result stood. refl) made (HasJudged judged) next,
     )
     read-stands (Ask asking) made next = (
       reads-asking _ _ _ made.shown ∙ same,
-      goes-on before now runner commit_uncalled (HasLooked seen) stands seen.token same
+      goes-on before now runner Before (HasLooked seen) stands seen.token same
           (reads (Lock seen.greatest)) tt _ (λ result stood. refl) made (HasReadHeld asking) next,
       subst (λ (number : ℕ). number ≢ greatest_lock) (sym (reads-number _ _ _ made.shown)) not_last,
     )
 
-  module _ (claimed : Maker) (stands : At before runner commit_uncalled (HasMade claimed))
+  module _ (claimed : Maker) (stands : At before runner Before (HasMade claimed))
       (same : claimed.token ≡ runner.token) where
     -- after the second listing
     pub confirm-stands : (confirmed : Confirmed) →
@@ -96,13 +97,13 @@ module _ (before now : Moment) (runner : Runner) where
         StandsAs now runner (after_listing confirmed)
     confirm-stands (Keeper keeper) made next = (
       confirms-keeper _ _ _ made.shown ∙ same,
-      goes-on before now runner commit_uncalled (HasMade claimed) stands claimed.token same
+      goes-on before now runner Before (HasMade claimed) stands claimed.token same
           lists tt _ (λ result stood. refl) made (Keeps keeper KnowsAnything) next,
     )
     confirm-stands (Loser loser) made next = (
       confirms-loser _ _ _ made.shown ∙ same,
       confirms-less _ _ _ made.shown,
-      goes-on before now runner commit_uncalled (HasMade claimed) stands claimed.token same
+      goes-on before now runner Before (HasMade claimed) stands claimed.token same
           lists tt _ (λ result stood. refl) made (WasOvertaken loser) next,
     )
 

@@ -10,10 +10,12 @@ use Rattle.acct_outside.specs.declared.Call.{Call as FolderCall}
 use Rattle.acct_outside.specs.Calls.{Command}
 use Rattle.acct_outside.specs.Life.{Life, MayCall, life, running}
 use Rattle.acct_outside.specs.Moment.{Past, Moment}
+use Rattle.acct_outside.specs.declared.CommitStage.{CommitStage}
+use Rattle.acct_outside.specs.declared.CommitStage.TheVariants.{Before, Committed}
 use Rattle.account_model.specs.Words.{request_of}
 use Rattle.suite_rules.specs.Deeds.{SuiteDeeds}
 use Rattle.suite_rules.specs.Rules.{AnswerRule}
-use Rattle.suite_rules.specs.Standing.{Commit, Standing, commit_done, commit_uncalled, standing}
+use Rattle.suite_rules.specs.Standing.{Standing, standing}
 use Rattle.lock_steps.specs.NextCall.{IsCallWhere}
 use Rattle.lock_steps.specs.Stands.{HasJudged, HasLooked, HasMade, HasReadHeld, HasStagedFree, Keeps, KnowsAnything, WasOvertaken}
 use Rattle.recovery.specs.Stands.{HasStagedNext, Recovers}
@@ -26,7 +28,7 @@ use Rattle.suite_session.specs.Runner.{Runner}
 use Rattle.suite_session.specs.Belongs.{IsOnItsWay}
 use Rattle.suite_session.specs.Causes.{HasListedNone}
 use Rattle.suite_session.specs.Deeds.{AreOfTools}
-use Rattle.suite_session.specs.Moment.{At, Runs, commit_at}
+use Rattle.suite_session.specs.Moment.{At, Runs}
 use Rattle.suite_session.specs.NextCall.{HasLock, IsReady, state_call}
 use Rattle.suite_session.specs.Session.{given_in}
 use Rattle.suite_session.specs.Stands.{StandsAs}
@@ -72,7 +74,7 @@ module _ (now : Moment) (runner : Runner) where
 
   module _ (deeds : SuiteDeeds) where
     -- in such a state it runs
-    going : (commit : Commit) (Holds : Standing → Type 0) (state : State) →
+    going : (commit : CommitStage) (Holds : Standing → Type 0) (state : State) →
         ((stood : Standing) → Runs runner commit Holds stood → IsReady state deeds stood) →
         MayCall running (state_call state) → At now runner commit Holds →
         IfSome now.told (MayCallNext deeds runner state)
@@ -86,35 +88,35 @@ module _ (now : Moment) (runner : Runner) where
       pub next-ready : (state : State) → MayCall running (state_call state) →
           IsOnItsWay now runner state → IfSome now.told (MayCallNext deeds runner state)
       next-ready (Looking looking) may way =
-          going commit_uncalled HasListedNone _ (λ stood runs. runs.holds.owns) may
+          going Before HasListedNone _ (λ stood runs. runs.holds.owns) may
           (led (Looking looking) refl way).1
-      next-ready (Reading seen) may way = going commit_uncalled (HasLooked seen) _
+      next-ready (Reading seen) may way = going Before (HasLooked seen) _
           (λ stood runs. runs.holds) may (led (Reading seen) refl way).2
-      next-ready (Asking asking) may way = going commit_uncalled (HasReadHeld asking) _
+      next-ready (Asking asking) may way = going Before (HasReadHeld asking) _
           (λ stood runs. runs.holds) may (led (Asking asking) refl way).1
-      next-ready (Claiming judged) may way = going commit_uncalled (HasJudged judged) _
+      next-ready (Claiming judged) may way = going Before (HasJudged judged) _
           (λ stood runs. runs.holds) may (led (Claiming judged) refl way).1
-      next-ready (Confirming claimed) may way = going commit_uncalled (HasMade claimed) _
+      next-ready (Confirming claimed) may way = going Before (HasMade claimed) _
           (λ stood runs. runs.holds) may (led (Confirming claimed) refl way).1
-      next-ready (Withdrawing loser) may way = going commit_uncalled (WasOvertaken loser) _
+      next-ready (Withdrawing loser) may way = going Before (WasOvertaken loser) _
           (λ stood runs. runs.holds) may (led (Withdrawing loser) refl way).2
       next-ready (ReadingIntent keeper) may way =
-          going commit_uncalled (Keeps keeper KnowsAnything) (ReadingIntent keeper)
+          going Before (Keeps keeper KnowsAnything) (ReadingIntent keeper)
           (λ stood runs. runs.holds) may (led (ReadingIntent keeper) refl way).1
       next-ready (Recovering recovering) may way =
-          going commit_uncalled (Recovers recovering) (Recovering recovering)
+          going Before (Recovers recovering) (Recovering recovering)
           (λ stood runs. runs.holds) may (led (Recovering recovering) refl way).1
       next-ready (Moving moving) may way =
-          going commit_uncalled (HasStagedNext moving) (Moving moving)
+          going Before (HasStagedNext moving) (Moving moving)
           (λ stood runs. runs.holds) may (led (Moving moving) refl way).2
-      next-ready (Loading reader) may way = going commit_uncalled (HasRead reader) _
+      next-ready (Loading reader) may way = going Before (HasRead reader) _
           (λ stood runs. runs.holds) may (led (Loading reader) refl way).1
       next-ready (BackingUp walker answer) may way =
-          going commit_uncalled (BacksUp walker) (BackingUp walker answer)
+          going Before (BacksUp walker) (BackingUp walker answer)
           (λ stood runs. runs.holds) may (led (BackingUp walker answer) refl way).stands
       next-ready (Committing change answer) may way =
           let stands = led (Committing change answer) refl way in
-          going commit_uncalled (HasStagedIntent change) (Committing change answer)
+          going Before (HasStagedIntent change) (Committing change answer)
           (λ stood runs. (
             runs.holds,
             record {
@@ -126,14 +128,14 @@ module _ (now : Moment) (runner : Runner) where
             },
           )) may stands.stands
       next-ready (Installing walker answer) may way =
-          going commit_done (Installs walker) (Installing walker answer)
+          going Committed (Installs walker) (Installing walker answer)
           (λ stood runs. runs.holds) may (led (Installing walker answer) refl way).stands
       next-ready (Unlocking keeper answer) may way =
-          going (commit_at (stage_of answer.outcome.cause)) (Keeps keeper KnowsAnything)
+          going (stage_of answer.outcome.cause) (Keeps keeper KnowsAnything)
           (Unlocking keeper answer) (λ stood runs. runs.holds) may
           (led (Unlocking keeper answer) refl way).stands
       next-ready (Freeing freeing answer) may way =
-          going (commit_at (stage_of answer.outcome.cause)) (HasStagedFree freeing)
+          going (stage_of answer.outcome.cause) (HasStagedFree freeing)
           (Freeing freeing answer) (λ stood runs. runs.holds) may
           (led (Freeing freeing answer) refl way).stands
       next-ready (Answering answer) may way =

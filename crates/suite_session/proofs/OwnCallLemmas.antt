@@ -11,7 +11,7 @@ use Rattle.acct_outside.specs.Calls.{Call, Answer, done, failed}
 use Rattle.acct_outside.specs.History.{History}
 use Rattle.acct_outside.specs.Others.{ByOthers}
 use Rattle.acct_outside.specs.Contract.{Tells as OutsideTells}
-use Rattle.suite_rules.specs.Standing.{Commit, Standing, standing}
+use Rattle.suite_rules.specs.Standing.{Standing, standing}
 use Rattle.suite_rules.specs.Steps.{MakesCall}
 use Rattle.suite_rules.proofs.StepLemmas.{IsNoAnswer, stayed, stepped}
 use Rattle.suite_answers.specs.declared.cause.Cause.{Cause}
@@ -27,7 +27,7 @@ use Rattle.suite_session.proofs.CauseLemmas.{IsMetAs}
 use Rattle.suite_session.proofs.MeetingLemmas.{MeetsBy}
 use Rattle.suite_session.proofs.TellingLemmas.{tells-more, tells-others, tells-own}
 
-module _ (before now : Moment) (runner : Runner) (commit : Commit) (Held : Standing → Type 0)
+module _ (before now : Moment) (runner : Runner) (commit : CommitStage) (Held : Standing → Type 0)
     (stands : At before runner commit Held) (token : Token) (same : token ≡ runner.token)
     (call : Call) (no_answer : IsNoAnswer call)
     (Shows : Result (Answer call) FolderFault → Type 0)

@@ -6,7 +6,6 @@ use Rattle.acct_outside.specs.declared.CommitStage.TheVariants.{Before}
 use Rattle.acct_outside.specs.declared.StageFault.{StageFault}
 use Rattle.acct_outside.specs.declared.Name.TheVariants.{Intent}
 use Rattle.acct_outside.specs.Calls.{Found, found_absent, found_bytes, found_too_large, reads}
-use Rattle.suite_rules.specs.Standing.{commit_uncalled}
 use Rattle.suite_rules.specs.Steps.{MakesCall}
 use Rattle.intent_file.specs.Intent.{NewTable}
 use Rattle.lock_steps.specs.States.{Kept}
@@ -18,7 +17,7 @@ use Rattle.recovery.specs.declared.RecoveryEnd.{RecoveryEnd}
 use Rattle.recovery.specs.declared.RecoveryEnd.TheVariants.{Fault, Damaged, TooLarge}
 use Rattle.recovery.specs.Outcomes.{FindsIntent, failed_before}
 use Rattle.acct_outside.specs.Moment.{Moment}
-use Rattle.suite_session.specs.Moment.{Runs, commit_at, At}
+use Rattle.suite_session.specs.Moment.{Runs, At}
 use Rattle.commit_steps.specs.States.{start_of}
 use Rattle.commit_steps.specs.Stands.{HasRead}
 use Rattle.commit_steps.proofs.ReadsLemmas.{starts-reading}
@@ -84,11 +83,11 @@ large-keeper keeper (Err fault) kept shown = absurd shown
 
 -- a clean keeper that hasn't called its commit stands before its first read of a table
 pub starts-loading : (now : Moment) (runner : Runner) (keeper : Kept) →
-    At now runner commit_uncalled (Keeps keeper KnowsNoneYet) →
-    At now runner commit_uncalled (HasRead (start_of keeper))
+    At now runner Before (Keeps keeper KnowsNoneYet) →
+    At now runner Before (HasRead (start_of keeper))
 starts-loading now runner keeper stands =
-    stands-weaker now.admits runner.token (Runs runner commit_uncalled (Keeps keeper KnowsNoneYet))
-    (Runs runner commit_uncalled (HasRead (start_of keeper)))
+    stands-weaker now.admits runner.token (Runs runner Before (Keeps keeper KnowsNoneYet))
+    (Runs runner Before (HasRead (start_of keeper)))
     (λ stood runs. record {
       holds = starts-reading keeper stood
           (record { locks = runs.holds.locks; knows = (nothing_seen, runs.holds.knows) })
@@ -99,7 +98,7 @@ starts-loading now runner keeper stands =
     now.told stands
 
 module _ (before now : Moment) (runner : Runner) (keeper : Kept)
-    (stands : At before runner commit_uncalled (Keeps keeper KnowsAnything))
+    (stands : At before runner Before (Keeps keeper KnowsAnything))
     (same : keeper.token ≡ runner.token) where
   -- after a read of the intent
   pub seen-stands : (seen : IntentSeen) →
@@ -109,12 +108,12 @@ module _ (before now : Moment) (runner : Runner) (keeper : Kept)
   seen-stands (Clean kept) made next = (
     seen-keeper keeper made.answer kept made.shown ∙ same,
     starts-loading now runner kept
-        (goes-on before now runner commit_uncalled (Keeps keeper KnowsAnything) stands keeper.token
+        (goes-on before now runner Before (Keeps keeper KnowsAnything) stands keeper.token
         same (reads Intent) tt _ (λ result stood. refl) made (Keeps kept KnowsNoneYet) next),
   )
   seen-stands (Listed recovering) made next = (
     seen-recoverer keeper made.answer recovering made.shown ∙ same,
-    goes-on before now runner commit_uncalled (Keeps keeper KnowsAnything) stands keeper.token same
+    goes-on before now runner Before (Keeps keeper KnowsAnything) stands keeper.token same
         (reads Intent) tt _ (λ result stood. refl) made (Recovers recovering) next,
   )
 
@@ -139,30 +138,30 @@ module _ (before now : Moment) (runner : Runner) (keeper : Kept)
       (λ answer. FindsIntent keeper answer (Err end)) →
       StandsRefused now keeper.token end → StandsAs now runner state
   refused-stands (Fault fault) state refuses made next =
-      answers-turn before now runner commit_uncalled (Keeps keeper KnowsAnything) stands
+      answers-turn before now runner Before (Keeps keeper KnowsAnything) stands
       keeper.token same (reads Intent) tt _ (λ result stood. refl) made _ state refuses
       (fault-plain fault.stage fault.fault)
       (intent-fault-met made.answer fault made.shown
-      (ended before now runner commit_uncalled (Keeps keeper KnowsAnything) stands keeper.token same
+      (ended before now runner Before (Keeps keeper KnowsAnything) stands keeper.token same
       (reads Intent) tt _ (λ result stood. refl) made fault.stage))
       (λ goes_on. absurd (goes_on (fault-stopped fault.stage fault.fault)))
-      (ap commit_at (sym (fault-stage fault.stage fault.fault
-      ∙ fault-before keeper made.answer fault made.shown)))
+      (sym (fault-stage fault.stage fault.fault
+      ∙ fault-before keeper made.answer fault made.shown))
   refused-stands (Damaged part kept) state refuses made next =
-      leaves-turn before now runner commit_uncalled (Keeps keeper KnowsAnything) stands
+      leaves-turn before now runner Before (Keeps keeper KnowsAnything) stands
       keeper.token same (reads Intent) tt _ (λ result stood. refl) made kept (IntentDamaged part)
       state refuses tt
       (damaged-met runner.token now.told keeper made.answer part kept made.shown
-      (got before now runner commit_uncalled (Keeps keeper KnowsAnything) stands keeper.token same
+      (got before now runner Before (Keeps keeper KnowsAnything) stands keeper.token same
       (reads Intent) tt _ (λ result stood. refl) made))
       (λ fault. fault) refl
       (damaged-keeper keeper made.answer part kept made.shown ∙ same) next
   refused-stands (TooLarge kept) state refuses made next =
-      leaves-turn before now runner commit_uncalled (Keeps keeper KnowsAnything) stands
+      leaves-turn before now runner Before (Keeps keeper KnowsAnything) stands
       keeper.token same (reads Intent) tt _ (λ result stood. refl) made kept
       (IsTooLarge (File Intent)) state refuses tt
       (large-met runner.token now.told keeper made.answer kept made.shown
-      (got before now runner commit_uncalled (Keeps keeper KnowsAnything) stands keeper.token same
+      (got before now runner Before (Keeps keeper KnowsAnything) stands keeper.token same
       (reads Intent) tt _ (λ result stood. refl) made))
       (λ fault. fault) refl
       (large-keeper keeper made.answer kept made.shown ∙ same) next

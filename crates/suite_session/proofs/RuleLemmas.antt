@@ -23,7 +23,6 @@ use Rattle.suite_answers.specs.declared.cause.Cause.TheVariants.{Changed, Same, 
 use Rattle.suite_answers.specs.declared.answer.Answer.{Answer}
 use Rattle.suite_answers.specs.Reasons.{stage_of}
 use Rattle.suite_session.specs.Runner.{Runner}
-use Rattle.suite_session.specs.Moment.{commit_at}
 use Rattle.suite_session.specs.Answers.{after_streams, answer_on, cause_of_answer, given_for, Says}
 use Rattle.suite_session.specs.Deeds.{AreOfTools, is_change, tools_answer_same}
 use Rattle.suite_session.specs.Due.{AnswersAll, IsShown}
@@ -144,7 +143,7 @@ module _ (deeds : SuiteDeeds) (ours : AreOfTools deeds) (runner : Runner) (answe
 
   -- by the cause
   by-cause : (cause : Cause) → answer.outcome.cause ≡ cause → Says runner.asked answer cause →
-      IsShown runner answer history cause → stood.commit ≡ commit_at (stage_of cause) → Permitted
+      IsShown runner answer history cause → stood.commit ≡ stage_of cause → Permitted
   by-cause Changed is says shown commits = answers_changed commits
   by-cause Same is says shown commits = all-rule Same is (λ bad. cc) shown.0 _ refl
   by-cause (Refused refusal) is says shown commits =
@@ -176,14 +175,14 @@ module _ (deeds : SuiteDeeds) (ours : AreOfTools deeds) (runner : Runner) (answe
   -- whatever its cause
   pub rule-of : Says runner.asked answer answer.outcome.cause →
       IsShown runner answer history answer.outcome.cause →
-      stood.commit ≡ commit_at (stage_of answer.outcome.cause) → Permitted
+      stood.commit ≡ stage_of answer.outcome.cause → Permitted
   rule-of says shown commits = by-cause answer.outcome.cause refl says shown commits
 
   -- so may the one that the streams left of it
   pub rule-left : (put : Result (Unit {0}) SinkFault) →
       Says runner.asked answer answer.outcome.cause →
       IsShown runner answer history answer.outcome.cause →
-      stood.commit ≡ commit_at (stage_of answer.outcome.cause) →
+      stood.commit ≡ stage_of answer.outcome.cause →
       AnswerRule deeds stood (after_streams put answer).outcome.status
   rule-left (Ok unit) says shown commits = rule-of says shown commits
   rule-left (Err Failed) says shown commits = other-status output_fault_status refl

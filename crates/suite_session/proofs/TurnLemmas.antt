@@ -11,7 +11,7 @@ use Rattle.acct_outside.specs.Tokens.{Token}
 use Rattle.acct_outside.specs.Calls.{Call, Answer, CallResult}
 use Rattle.acct_outside.specs.Contract.{Tells as OutsideTells}
 use Rattle.acct_outside.specs.Faults.{HasRisen}
-use Rattle.suite_rules.specs.Standing.{Commit, Standing, standing_step}
+use Rattle.suite_rules.specs.Standing.{Standing, standing_step}
 use Rattle.suite_rules.specs.Steps.{OwnCommand, own_command, StandsIn, AlwaysStaysLawful, Leaves, MakesCall}
 use Rattle.suite_rules.proofs.StepLemmas.{IsNoAnswer, leaves, stands-done, stands-left, stands-weaker, stayed}
 use Rattle.lock_steps.specs.States.{Kept}
@@ -25,7 +25,7 @@ use Rattle.suite_session.specs.declared.state.State.TheVariants.{Unlocking, Answ
 use Rattle.suite_session.specs.Runner.{Runner}
 use Rattle.acct_outside.specs.Moment.{Past, Moment}
 use Rattle.suite_rules.proofs.Parts.{LeavesWhere, StandsWhere, TellsWhere}
-use Rattle.suite_session.specs.Moment.{commit_at, Runs, At}
+use Rattle.suite_session.specs.Moment.{Runs, At}
 use Rattle.suite_session.specs.Answers.{IsTold}
 use Rattle.suite_session.specs.Causes.{Met}
 use Rattle.suite_session.specs.Due.{IsShown, IsDue}
@@ -42,11 +42,11 @@ use Rattle.suite_session.proofs.MeetingLemmas.{MeetsBy, fault-ends, fault-tells}
 use Rattle.suite_session.proofs.OwnCallLemmas.{fault-met, makes-one, stays-told}
 
 -- what the runner was asked, and this commit
-abbrev own_of : Runner → Commit → OwnCommand
+abbrev own_of : Runner → CommitStage → OwnCommand
 own_of runner commit = record { command = Some runner.asked.command; commit = commit }
 
 -- a typed step asks for the runner's standing by the token that it keeps
-pub may-step : (now : Moment) (runner : Runner) (commit : Commit) (Holds : Standing → Type 0)
+pub may-step : (now : Moment) (runner : Runner) (commit : CommitStage) (Holds : Standing → Type 0)
     (token : Token) → token ≡ runner.token → At now runner commit Holds →
     StandsIn now token Holds
 may-step now runner commit Holds token same stands =
@@ -94,7 +94,7 @@ shown-now runner cause answer (Some past) plain tells met =
     (told-plain runner.asked cause answer plain tells)
     (told-met runner.asked cause answer runner.token past.history tells met)
 
-module _ (before now : Moment) (runner : Runner) (commit : Commit) (Held : Standing → Type 0)
+module _ (before now : Moment) (runner : Runner) (commit : CommitStage) (Held : Standing → Type 0)
     (stands : At before runner commit Held) (token : Token) (same : token ≡ runner.token)
     (call : Call) (of_turn : IsTurnCall (Runs runner commit Held) call)
     (Shows : Result (Answer call) FolderFault → Type 0)
@@ -177,7 +177,7 @@ module _ (before now : Moment) (runner : Runner) (commit : Commit) (Held : Stand
   extended = grew-extends before.admits runner.token 1 before.told now.told grown
 
   -- an answer of this commit is due, where its cause is shown
-  pub is-due : (answer : FinalAnswer) → commit ≡ commit_at (stage_of answer.outcome.cause) →
+  pub is-due : (answer : FinalAnswer) → commit ≡ stage_of answer.outcome.cause →
       (was now_told : Option Past) →
       StandsWhere before.admits was runner.token (Runs runner commit Held) →
       LeavesWhere own_command runner.token was now_told →
@@ -204,7 +204,7 @@ module _ (before now : Moment) (runner : Runner) (commit : Commit) (Held : Stand
 
   -- an answer that tells a plain cause of this commit is due
   gives-plain : (cause : Cause) (answer : FinalAnswer) →
-      commit ≡ commit_at (stage_of answer.outcome.cause) → IsPlain cause →
+      commit ≡ stage_of answer.outcome.cause → IsPlain cause →
       IsTold runner.asked.request.tool cause answer → HasMetNow now runner cause →
       Gives now runner answer
   gives-plain cause answer is plain tells met =
@@ -218,11 +218,11 @@ module _ (before now : Moment) (runner : Runner) (commit : Commit) (Held : Stand
   may-give : (cause : Cause) (answer : FinalAnswer) →
       IsTold runner.asked.request.tool cause answer → IsPlain cause →
       HasMetNow now runner cause → HasLeftNow now runner answer.outcome.cause →
-      commit ≡ commit_at (stage_of cause) → MayGive now runner answer
+      commit ≡ stage_of cause → MayGive now runner answer
   may-give cause answer told plain met has_left is = record {
     may_answer = by-runner.may_answer;
     gives = gives-plain cause answer
-        (is ∙ ap commit_at (sym (told-stage runner.asked.request.tool cause answer told))) plain
+        (is ∙ sym (told-stage runner.asked.request.tool cause answer told)) plain
         told met;
     left = has_left;
   }
@@ -231,7 +231,7 @@ module _ (before now : Moment) (runner : Runner) (commit : Commit) (Held : Stand
   pub answers-turn : (cause : Cause) (state : State) →
       AnswersWith runner.asked.request.tool cause state → IsPlain cause →
       HasMetNow now runner cause → HasLeftNow now runner cause →
-      commit ≡ commit_at (stage_of cause) → StandsAs now runner state
+      commit ≡ stage_of cause → StandsAs now runner state
   answers-turn cause (Answering answer) told plain met has_left is =
       may-give cause answer told plain met (told-left now runner cause answer told has_left) is
   answers-turn cause state told plain met has_left is = absurd told
@@ -239,16 +239,16 @@ module _ (before now : Moment) (runner : Runner) (commit : Commit) (Held : Stand
   -- or in one that leaves with a plain cause
   pub leaves-turn : (keeper : Kept) (cause : Cause) (state : State) →
       LeavesWith runner.asked.request.tool keeper cause state → IsPlain cause →
-      HasMetNow now runner cause → (IsOutside cause → ⊥) → commit ≡ commit_at (stage_of cause) →
+      HasMetNow now runner cause → (IsOutside cause → ⊥) → commit ≡ stage_of cause →
       keeper.token ≡ runner.token →
       StandsIn now token (Keeps keeper KnowsAnything) → StandsAs now runner state
   leaves-turn keeper cause (Unlocking kept answer) shown plain met quiet is owned next =
       let tool = runner.asked.request.tool in
       let has = ap (λ (given : FinalAnswer). given.outcome.cause) shown.1 ∙ given-cause tool cause in
-      let at = is ∙ ap (λ (one : Cause). commit_at (stage_of one)) (sym has) in
+      let at = is ∙ ap stage_of (sym has) in
       record {
         same = ap (λ (one : Kept). one.token) shown.0 ∙ owned;
-        stands = subst (λ (one : Commit). At now runner one (Keeps kept KnowsAnything)) at
+        stands = subst (λ (one : CommitStage). At now runner one (Keeps kept KnowsAnything)) at
             (goes-on (Keeps kept KnowsAnything)
             (subst (λ (one : Kept). StandsIn now token (Keeps one KnowsAnything))
             (sym shown.0) next));
@@ -296,7 +296,7 @@ module _ (before now : Moment) (runner : Runner) (commit : Commit) (Held : Stand
     -- a turn to the answer of a plain cause
     pub stops : (cause : Cause) → AnswersWith runner.asked.request.tool cause state →
         IsPlain cause → HasMetNow now runner cause → HasLeftNow now runner cause →
-        commit ≡ commit_at (stage_of cause) →
+        commit ≡ stage_of cause →
         (IsOutside cause → HasRisen before.faults now.faults) → Turns before now runner old state
     stops cause told plain met has_left is failed =
         turn-made (answers-turn cause state told plain met has_left is)
@@ -308,7 +308,7 @@ module _ (before now : Moment) (runner : Runner) (commit : Commit) (Held : Stand
       ((met : Cause) → IsToTell old met → MayFollow met call) →
       (stage : CommitStage) (fault : FolderFault) → made.answer ≡ Err fault →
       AnswersWith runner.asked.request.tool (cause_of_fault stage fault) state →
-      commit ≡ commit_at stage → (fault ≡ Failed → HasRisen before.faults now.faults) →
+      commit ≡ stage → (fault ≡ Failed → HasRisen before.faults now.faults) →
       Turns before now runner old state
   faults lawful never_falls old state called follow stage fault is told at risen =
       let tool = runner.asked.request.tool in
@@ -317,5 +317,5 @@ module _ (before now : Moment) (runner : Runner) (commit : Commit) (Held : Stand
       (λ met is_told. (fault-tells tool stage fault state told met, follow met is_told))
       (cause_of_fault stage fault) told (fault-plain stage fault) (ended stage fault is)
       (λ goes_on. absurd (goes_on (fault-stopped stage fault)))
-      (at ∙ ap commit_at (sym (fault-stage stage fault)))
+      (at ∙ sym (fault-stage stage fault))
       (λ outside. risen (fault-failed stage fault outside))

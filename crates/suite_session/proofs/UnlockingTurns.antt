@@ -8,7 +8,7 @@ use Rattle.acct_outside.specs.declared.Name.TheVariants.{FreeStage, Lock}
 use Rattle.acct_outside.specs.Tokens.{Token, free_text}
 use Rattle.acct_outside.specs.Calls.{Call, writes, renames, removes}
 use Rattle.suite_rules.specs.OwnLock.{kept_number}
-use Rattle.suite_rules.specs.Standing.{Commit, Standing}
+use Rattle.suite_rules.specs.Standing.{Standing}
 use Rattle.suite_rules.specs.Steps.{StandsIn, AlwaysStaysLawful, Leaves, MakesCall, work}
 use Rattle.lock_steps.specs.States.{Maker, Kept}
 use Rattle.lock_steps.specs.declared.keeping.Ended.{Ended}
@@ -22,7 +22,8 @@ use Rattle.suite_answers.specs.Reasons.{stage_of}
 use Rattle.suite_session.specs.declared.state.State.TheVariants.{Unlocking, Freeing, Answering}
 use Rattle.suite_session.specs.Runner.{Runner}
 use Rattle.acct_outside.specs.Moment.{Moment}
-use Rattle.suite_session.specs.Moment.{commit_at, Runs}
+use Rattle.acct_outside.specs.declared.CommitStage.{CommitStage}
+use Rattle.suite_session.specs.Moment.{Runs}
 use Rattle.suite_session.specs.Telling.{IsLeavingCall, MayFollow}
 use Rattle.suite_session.specs.Stands.{IsOutside, StandsUnlocking, StandsFreeing, Turns}
 use Rattle.suite_session.proofs.TurnLemmas.{goes-on, extended, turns}
@@ -64,8 +65,8 @@ freed-number : (number : ℕ) (stood : Standing) → HasFreed number stood →
 freed-number number stood freed = ap kept_number freed.owns
 
 module _ (before now : Moment) (runner : Runner) (answer : FinalAnswer) where
-  abbrev commit : Commit
-  commit = commit_at (stage_of answer.outcome.cause)
+  abbrev commit : CommitStage
+  commit = stage_of answer.outcome.cause
 
   module _ (keeper : Kept) (stood : StandsUnlocking before runner keeper answer) where
     -- it removes a lower lock

@@ -9,9 +9,10 @@ use Rattle.acct_text.specs.declared.Tab.TheVariants.{Passwd}
 use Rattle.acct_text.specs.Bytes.{Bytes}
 use Rattle.acct_text.specs.Contents.{Contents, same_content}
 use Rattle.acct_outside.specs.Calls.{Answer, CallResult}
+use Rattle.acct_outside.specs.declared.CommitStage.TheVariants.{Before}
 use Rattle.intent_file.specs.Intent.{NewTable}
 use Rattle.intent_file.specs.ChangedTables.{with_new_table, changed_among}
-use Rattle.suite_rules.specs.Standing.{Standing, standing_step, commit_uncalled}
+use Rattle.suite_rules.specs.Standing.{Standing, standing_step}
 use Rattle.suite_rules.specs.Steps.{own_command}
 use Rattle.commit_steps.specs.States.{Change, Walker, changed, step_on, steps_left}
 use Rattle.commit_steps.specs.Stands.{BacksUp}
@@ -30,10 +31,10 @@ use Rattle.suite_session.proofs.MeetingLemmas.{IsQuiet}
 pub backup-calls : (runner : Runner) (answer : FinalAnswer) (walker : Walker) (next : NewTable) →
     IsOfChange runner walker.change answer →
     slice_get (changed walker.change) walker.place ≡ Some next →
-    IsTurnCall (Runs runner commit_uncalled (BacksUp walker)) (backup_call walker next)
+    IsTurnCall (Runs runner Before (BacksUp walker)) (backup_call walker next)
 backup-calls runner answer walker next of_change is = cases walker.is_staged
   where
-    cases : (staged : Bool) → IsTurnCall (Runs runner commit_uncalled (BacksUp walker))
+    cases : (staged : Bool) → IsTurnCall (Runs runner Before (BacksUp walker))
         (backup_call (record walker { is_staged = staged }) next)
     cases true = λ stood runs. is-to-change runner answer walker.change of_change walker.place next
         is stood (record {

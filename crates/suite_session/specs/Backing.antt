@@ -7,15 +7,16 @@ use Rattle.acct_outside.specs.declared.Name.TheVariants.{Backup}
 use Rattle.acct_outside.specs.Tokens.{Token}
 use Rattle.acct_outside.specs.Calls.{Call, renames}
 use Rattle.acct_outside.specs.History.{History}
+use Rattle.acct_outside.specs.declared.CommitStage.TheVariants.{Before}
 use Rattle.suite_rules.specs.Knowledge.{Seen, knows_none}
-use Rattle.suite_rules.specs.Standing.{Standing, standing, commit_uncalled}
+use Rattle.suite_rules.specs.Standing.{Standing, standing}
 use Rattle.suite_rules.specs.Rules.{HasSeen}
 use Rattle.suite_session.specs.Deeds.{tools_deed}
 
 -- The session hasn't called its commit, and the deed of what it was asked, on what it has seen,
 -- changes the table.
 pub record IsToChange (standing : Standing) (table : Tab) : Type 0 where
-  pub uncommitted : standing.commit ≡ commit_uncalled
+  pub uncommitted : standing.commit ≡ Before
   pub seen : Seen
   pub clean : standing.knows ≡ knows_none seen
   pub has_seen : HasSeen standing.command seen

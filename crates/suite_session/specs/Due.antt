@@ -10,9 +10,10 @@ use Rattle.acct_outside.specs.Calls.{reads, found_too_large}
 use Rattle.acct_outside.specs.Tokens.{Token}
 use Rattle.acct_outside.specs.History.{History}
 use Rattle.acct_outside.specs.Moment.{Past}
+use Rattle.acct_outside.specs.declared.CommitStage.TheVariants.{Before}
 use Rattle.suite_rules.specs.OwnLock.{kept_number}
 use Rattle.suite_rules.specs.Knowledge.{Seen, knows_none}
-use Rattle.suite_rules.specs.Standing.{Standing, standing, commit_uncalled}
+use Rattle.suite_rules.specs.Standing.{Standing, standing}
 use Rattle.suite_rules.specs.Invariant.{IsActiveKeeper}
 use Rattle.suite_rules.specs.Laws.{IsCleanKeeper}
 use Rattle.commit_steps.specs.States.{AreSound, Reader, next_name}
@@ -23,7 +24,6 @@ use Rattle.suite_answers.specs.declared.cause.Cause.TheVariants.{Changed, Same, 
 use Rattle.suite_answers.specs.declared.answer.Answer.{Answer}
 use Rattle.suite_answers.specs.Reasons.{stage_of}
 use Rattle.suite_session.specs.Runner.{Runner}
-use Rattle.suite_session.specs.Moment.{commit_at}
 use Rattle.suite_session.specs.Answers.{IsAnswerOn, given_for}
 use Rattle.suite_session.specs.Causes.{Met, HasMet, HasYielded}
 
@@ -90,7 +90,7 @@ pub record WasKeeper (token : Token) (history : History) : Type 0 where
   pub parts : history ≡ newer ++ older
   pub number : ℕ
   pub active : IsActiveKeeper older token number
-  pub uncommitted : (standing token older).commit ≡ commit_uncalled
+  pub uncommitted : (standing token older).commit ≡ Before
 
 -- what it has seen of all files shows the answer, and it was keeper
 abbrev pub ShowsAll : Runner → Answer → History → Type 0
@@ -126,5 +126,5 @@ IsShown runner answer history cause = HasMet runner.token history cause
 pub record IsDue (runner : Runner) (answer : Answer) (past : Past) : Type 0 where
   pub asked : (standing runner.token past.history).command ≡ Some runner.asked.command
   pub commits : (standing runner.token past.history).commit
-      ≡ commit_at (stage_of answer.outcome.cause)
+      ≡ stage_of answer.outcome.cause
   pub shown : IsShown runner answer past.history answer.outcome.cause

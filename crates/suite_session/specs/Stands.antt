@@ -8,7 +8,7 @@ use Rattle.acct_outside.specs.Calls.{Call, Answer as CallAnswer, CallResult}
 use Rattle.acct_outside.specs.History.{History, own_events}
 use Rattle.acct_outside.specs.Contract.{MayAnswer, WhereTold}
 use Rattle.suite_rules.specs.OwnLock.{kept_number}
-use Rattle.suite_rules.specs.Standing.{Standing, standing, commit_uncalled, commit_done}
+use Rattle.suite_rules.specs.Standing.{Standing, standing}
 use Rattle.lock_steps.specs.States.{Maker, Kept}
 use Rattle.suite_rules.specs.Deeds.{SuiteDeeds}
 use Rattle.suite_rules.specs.Steps.{StaysLawful}
@@ -29,7 +29,8 @@ use Rattle.suite_session.specs.declared.state.State.{State}
 use Rattle.suite_session.specs.declared.state.State.TheVariants.{Looking, Reading, Asking, Claiming, Confirming, Withdrawing, ReadingIntent, Recovering, Moving, Loading, BackingUp, Committing, Installing, Unlocking, Freeing, Answering}
 use Rattle.suite_session.specs.Runner.{Runner}
 use Rattle.acct_outside.specs.Moment.{Past, Moment, Narrows}
-use Rattle.suite_session.specs.Moment.{At, commit_at}
+use Rattle.acct_outside.specs.declared.CommitStage.TheVariants.{Before, Committed}
+use Rattle.suite_session.specs.Moment.{At}
 use Rattle.suite_session.specs.Answers.{answer_on, IsAnswerOn, given_for, memory_answer, IsTold, Says}
 use Rattle.suite_session.specs.Deeds.{AreOfTools}
 use Rattle.suite_session.specs.Causes.{HasListedNone}
@@ -115,14 +116,14 @@ pub record IsOfChange (runner : Runner) (change : Change) (answer : Answer) : Ty
 pub record StandsChanging (now : Moment) (runner : Runner) (change : Change)
     (Holds : Standing → Type 0) (answer : Answer) : Type 0 where
   pub same : change.inputs.keeper.token ≡ runner.token
-  pub stands : At now runner commit_uncalled Holds
+  pub stands : At now runner Before Holds
   pub of_change : IsOfChange runner change answer
 
 -- it has committed a change, and has the answer to it
 pub record StandsInstalling (now : Moment) (runner : Runner) (walker : Walker) (answer : Answer)
     : Type 0 where
   pub same : token_of walker ≡ runner.token
-  pub stands : At now runner commit_done (Installs walker)
+  pub stands : At now runner Committed (Installs walker)
   pub changed : answer.outcome.cause ≡ Changed
   pub gives : Gives now runner answer
 
@@ -130,7 +131,7 @@ pub record StandsInstalling (now : Moment) (runner : Runner) (walker : Walker) (
 pub record StandsUnlocking (now : Moment) (runner : Runner) (keeper : Kept) (answer : Answer)
     : Type 0 where
   pub same : keeper.token ≡ runner.token
-  pub stands : At now runner (commit_at (stage_of answer.outcome.cause)) (Keeps keeper KnowsAnything)
+  pub stands : At now runner (stage_of answer.outcome.cause) (Keeps keeper KnowsAnything)
   pub clean : IfSome now.told (KnowsDecided runner.token answer.outcome.cause)
   pub quiet : IsOutside answer.outcome.cause → ⊥
   pub gives : Gives now runner answer
@@ -139,7 +140,7 @@ pub record StandsUnlocking (now : Moment) (runner : Runner) (keeper : Kept) (ans
 pub record StandsFreeing (now : Moment) (runner : Runner) (freeing : Maker) (answer : Answer)
     : Type 0 where
   pub same : freeing.token ≡ runner.token
-  pub stands : At now runner (commit_at (stage_of answer.outcome.cause)) (HasStagedFree freeing)
+  pub stands : At now runner (stage_of answer.outcome.cause) (HasStagedFree freeing)
   pub clean : IfSome now.told (KnowsDecided runner.token answer.outcome.cause)
   pub quiet : IsOutside answer.outcome.cause → ⊥
   pub gives : Gives now runner answer
@@ -147,27 +148,27 @@ pub record StandsFreeing (now : Moment) (runner : Runner) (freeing : Maker) (ans
 -- the runner stands in the state
 abbrev pub StandsAs : Moment → Runner → State → Type 0
 StandsAs now runner (Looking looking) =
-    (looking ≡ runner.token) × At now runner commit_uncalled HasListedNone
+    (looking ≡ runner.token) × At now runner Before HasListedNone
 StandsAs now runner (Reading seen) = (seen.token ≡ runner.token) × (0 < seen.greatest)
-    × At now runner commit_uncalled (HasLooked seen) × (seen.greatest ≢ greatest_lock)
+    × At now runner Before (HasLooked seen) × (seen.greatest ≢ greatest_lock)
 StandsAs now runner (Asking asking) = (asking.token ≡ runner.token)
-    × At now runner commit_uncalled (HasReadHeld asking) × (asking.greatest ≢ greatest_lock)
+    × At now runner Before (HasReadHeld asking) × (asking.greatest ≢ greatest_lock)
 StandsAs now runner (Claiming judged) =
-    (judged.token ≡ runner.token) × At now runner commit_uncalled (HasJudged judged)
+    (judged.token ≡ runner.token) × At now runner Before (HasJudged judged)
 StandsAs now runner (Confirming claimed) =
-    (claimed.token ≡ runner.token) × At now runner commit_uncalled (HasMade claimed)
+    (claimed.token ≡ runner.token) × At now runner Before (HasMade claimed)
 StandsAs now runner (Withdrawing loser) =
     (loser.token ≡ runner.token) × (loser.number < loser.greatest)
-    × At now runner commit_uncalled (WasOvertaken loser)
+    × At now runner Before (WasOvertaken loser)
 StandsAs now runner (ReadingIntent keeper) =
-    (keeper.token ≡ runner.token) × At now runner commit_uncalled (Keeps keeper KnowsAnything)
+    (keeper.token ≡ runner.token) × At now runner Before (Keeps keeper KnowsAnything)
 StandsAs now runner (Recovering recovering) =
-    (recovering.keeper.token ≡ runner.token) × At now runner commit_uncalled (Recovers recovering)
+    (recovering.keeper.token ≡ runner.token) × At now runner Before (Recovers recovering)
 StandsAs now runner (Moving moving) =
     (moving.keeper.token ≡ runner.token) × (0 < length moving.left)
-    × At now runner commit_uncalled (HasStagedNext moving)
+    × At now runner Before (HasStagedNext moving)
 StandsAs now runner (Loading reader) =
-    (reader.keeper.token ≡ runner.token) × At now runner commit_uncalled (HasRead reader)
+    (reader.keeper.token ≡ runner.token) × At now runner Before (HasRead reader)
 StandsAs now runner (BackingUp walker answer) =
     StandsChanging now runner walker.change (BacksUp walker) answer
 StandsAs now runner (Committing change answer) =

@@ -1,13 +1,11 @@
 use Rattle.std.proofs.Common.{sym, ap, ◌∙◌, Err}
 use Rattle.acct_outside.specs.declared.CommitStage.TheVariants.{Before}
-use Rattle.suite_rules.specs.Standing.{commit_uncalled}
 use Rattle.commit_steps.specs.States.{step_on}
 use Rattle.commit_steps.specs.Walks.{token_of}
 use Rattle.commit_steps.specs.Stands.{BacksUp}
 use Rattle.commit_steps.specs.Outcomes.{backup_call}
 use Rattle.suite_rules.specs.Outcomes.{before_commit}
 use Rattle.suite_session.specs.declared.state.State.TheVariants.{BackingUp}
-use Rattle.suite_session.specs.Moment.{commit_at}
 use Rattle.commit_steps.proofs.NextLemmas.{backs-some}
 use Rattle.suite_session.proofs.TurnLemmas.{turns, faults}
 use Rattle.suite_session.proofs.CauseLemmas.{fault-outside}
@@ -26,7 +24,7 @@ returns-in-Ok g c = record {
       let shown = at-place c.args.backing (some-left _ _ c.left.ensures c.if-left-eq0.false) c.in-Ok.ensures.call in
       let done = leads-done (step_on c.args.backing) before_commit _ c.in-Ok.backing shown.1.shown
       in
-      turns before now c.args.runner.now commit_uncalled (BacksUp c.args.backing)
+      turns before now c.args.runner.now Before (BacksUp c.args.backing)
       c.requires.stands (token_of c.args.backing) c.requires.same
       (backup_call c.args.backing shown.0) (backup-calls c.args.runner.now c.args.answer
       c.args.backing shown.0 c.requires.of_change shown.2) _
@@ -56,7 +54,7 @@ returns-in-Err g c = record {
       let shown = at-place c.args.backing (some-left _ _ c.left.ensures c.if-left-eq0.false) c.in-Err.ensures.call in
       let fault = c.in-Err.fault in
       let stage = leads-stage (step_on c.args.backing) Before shown.1.answer fault shown.1.shown in
-      faults before now c.args.runner.now commit_uncalled (BacksUp c.args.backing)
+      faults before now c.args.runner.now Before (BacksUp c.args.backing)
       c.requires.stands (token_of c.args.backing) c.requires.same
       (backup_call c.args.backing shown.0) (backup-calls c.args.runner.now c.args.answer
       c.args.backing shown.0 c.requires.of_change shown.2) _
@@ -66,7 +64,7 @@ returns-in-Err g c = record {
       (backs-some c.args.backing shown.0 shown.2)
       (λ met none. absurd none) fault.stage fault.fault
       (leads-ended (step_on c.args.backing) Before _ fault shown.1.shown) c.given_up.ensures
-      (ap commit_at (sym stage))
+      (sym stage)
       (λ failed. c.back_up_next.ensures.faults.failed (c.in-Err.is ∙ ap Err
       (leads-failed (step_on c.args.backing) Before _ fault shown.1.shown
       (fault-outside fault.stage fault.fault failed))));

@@ -2,14 +2,12 @@ use Rattle.std.proofs.Common.{refl, sym, ap, subst, ◌∙◌, Err}
 use Rattle.acct_outside.specs.declared.CommitStage.TheVariants.{Committed}
 use Rattle.acct_outside.specs.declared.Name.TheVariants.{Intent}
 use Rattle.acct_outside.specs.Calls.{removes}
-use Rattle.suite_rules.specs.Standing.{commit_done}
 use Rattle.suite_rules.specs.Outcomes.{after_commit}
 use Rattle.lock_steps.specs.States.{Kept}
 use Rattle.commit_steps.specs.Walks.{token_of}
 use Rattle.commit_steps.specs.Stands.{Installs}
 use Rattle.suite_session.specs.declared.state.State.TheVariants.{Installing, Unlocking}
 use Rattle.suite_session.specs.Stands.{Turns}
-use Rattle.suite_session.specs.Moment.{commit_at}
 use Rattle.commit_steps.proofs.NextLemmas.{installs-none}
 use Rattle.suite_session.proofs.TurnLemmas.{turns, faults}
 use Rattle.suite_session.proofs.CauseLemmas.{fault-outside}
@@ -29,7 +27,7 @@ returns-in-Ok g c = record {
       subst (λ (kept : Kept). Turns before now c.args.runner.now
       (Installing c.args.installing c.args.answer) (Unlocking kept c.args.answer))
       (sym (c.forget.ensures ∙ c.release.ensures))
-      (turns before now c.args.runner.now commit_done (Installs c.args.installing)
+      (turns before now c.args.runner.now Committed (Installs c.args.installing)
       c.requires.stands.stands (token_of c.args.installing) c.requires.stands.same
       (removes Intent) tt _ (λ result stood. refl) c.in-Ok.ensures.call
       c.clear.ensures.lawful c.clear.ensures.faults.never_falls
@@ -59,7 +57,7 @@ returns-in-Err g c = record {
       let fault = c.in-Err.fault in
       let stage = leads-stage (c.args.installing.change.inputs.keeper) Committed
       c.in-Err.ensures.call.answer fault c.in-Err.ensures.call.shown in
-      faults before now c.args.runner.now commit_done (Installs c.args.installing)
+      faults before now c.args.runner.now Committed (Installs c.args.installing)
       c.requires.stands.stands (token_of c.args.installing) c.requires.stands.same (removes Intent)
       tt _
       (λ result stood. refl) c.in-Err.ensures.call
@@ -69,7 +67,7 @@ returns-in-Err g c = record {
       (λ met none. absurd none) fault.stage fault.fault
       (leads-ended c.args.installing.change.inputs.keeper Committed _ fault
       c.in-Err.ensures.call.shown) c.given_up.ensures
-      (ap commit_at (sym stage))
+      (sym stage)
       (λ failed. c.clear.ensures.faults.failed (c.in-Err.is ∙ ap Err
       (leads-failed c.args.installing.change.inputs.keeper Committed _ fault
       c.in-Err.ensures.call.shown

@@ -9,7 +9,7 @@ use Rattle.suite_session.proofs.MeetingLemmas.{fault-ends, leads-done, quiet-on}
 use Rattle.suite_session.proofs.OwnCallLemmas.{fault-met, makes-one, stays-told}
 use Rattle.acct_outside.specs.declared.Name.TheVariants.{Intent, IntentStage}
 use Rattle.acct_outside.specs.Calls.{renames}
-use Rattle.suite_rules.specs.Standing.{commit_uncalled}
+use Rattle.acct_outside.specs.declared.CommitStage.TheVariants.{Before}
 use Rattle.commit_steps.specs.Stands.{HasStagedIntent}
 use Rattle.suite_session.specs.declared.state.State.TheVariants.{Committing, Installing}
 use Rattle.suite_session.proofs.CallsLemmas.{answers-fewer, committed-calls, committing-some}
@@ -41,12 +41,12 @@ returns-in-Ok g c = record {
           never_falls = c.commit.ensures.faults.never_falls;
           risen = λ fault. absurd fault;
         };
-        makes_one = makes-one before now c.args.runner.now commit_uncalled
+        makes_one = makes-one before now c.args.runner.now Before
             (HasStagedIntent c.args.staged) c.requires.stands _ c.requires.same
             (renames IntentStage Intent) tt _ c.in-Ok.ensures.call
             (Committing c.args.staged c.args.answer) (Installing c.in-Ok.installing c.args.answer)
             meets;
-        remembers = stays-told before now c.args.runner.now commit_uncalled
+        remembers = stays-told before now c.args.runner.now Before
             (HasStagedIntent c.args.staged) c.requires.stands _ c.requires.same
             (renames IntentStage Intent) tt _ c.in-Ok.ensures.call
             (Committing c.args.staged c.args.answer) (Installing c.in-Ok.installing c.args.answer)
@@ -76,7 +76,7 @@ returns-in-Err g c = record {
               _
               c.in-Err.ensures.call c.commit.ensures.own fault c.given_up.result c.given_up.ensures
               c.in-Err.ensures.unsure
-              (fault-met before now c.args.runner.now commit_uncalled
+              (fault-met before now c.args.runner.now Before
               (HasStagedIntent c.args.staged) c.requires.stands _ c.requires.same
               (renames IntentStage Intent) tt _ c.in-Err.ensures.call fault.stage fault.fault is);
           grew = commit-grew before now c.args.runner.now c.args.answer c.args.staged c.requires _
@@ -91,11 +91,11 @@ returns-in-Err g c = record {
               c.in-Err.ensures.call.shown (answers-fault tool
               (cause_of_fault fault.stage fault.fault) c.given_up.result c.given_up.ensures told)));
         };
-        makes_one = makes-one before now c.args.runner.now commit_uncalled
+        makes_one = makes-one before now c.args.runner.now Before
             (HasStagedIntent c.args.staged) c.requires.stands _ c.requires.same
             (renames IntentStage Intent) tt _ c.in-Err.ensures.call
             (Committing c.args.staged c.args.answer) c.given_up.result meets;
-        remembers = stays-told before now c.args.runner.now commit_uncalled
+        remembers = stays-told before now c.args.runner.now Before
             (HasStagedIntent c.args.staged) c.requires.stands _ c.requires.same
             (renames IntentStage Intent) tt _ c.in-Err.ensures.call
             (Committing c.args.staged c.args.answer) c.given_up.result meets

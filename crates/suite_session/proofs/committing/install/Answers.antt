@@ -1,13 +1,11 @@
 use Rattle.std.proofs.Common.{sym, ap, ◌∙◌, Err}
 use Rattle.acct_outside.specs.declared.CommitStage.TheVariants.{Committed}
-use Rattle.suite_rules.specs.Standing.{commit_done}
 use Rattle.commit_steps.specs.States.{step_on}
 use Rattle.commit_steps.specs.Walks.{token_of}
 use Rattle.commit_steps.specs.Stands.{Installs}
 use Rattle.commit_steps.specs.Outcomes.{install_call}
 use Rattle.suite_rules.specs.Outcomes.{after_commit}
 use Rattle.suite_session.specs.declared.state.State.TheVariants.{Installing}
-use Rattle.suite_session.specs.Moment.{commit_at}
 use Rattle.commit_steps.proofs.NextLemmas.{installs-some}
 use Rattle.suite_session.proofs.TurnLemmas.{turns, faults}
 use Rattle.suite_session.proofs.CauseLemmas.{fault-outside}
@@ -26,7 +24,7 @@ returns-in-Ok g c = record {
       let shown = at-place c.args.installing (some-left _ _ c.left.ensures c.if-left-eq0.false) c.in-Ok.ensures.call in
       let done = leads-done (step_on c.args.installing) after_commit _ c.in-Ok.installing
       shown.1.shown in
-      turns before now c.args.runner.now commit_done (Installs c.args.installing)
+      turns before now c.args.runner.now Committed (Installs c.args.installing)
       c.requires.stands (token_of c.args.installing) c.requires.same
       (install_call c.args.installing shown.0) (install-calls _ c.args.installing shown.0) _
       (install-quiet c.args.installing shown.0) shown.1
@@ -59,7 +57,7 @@ returns-in-Err g c = record {
       let fault = c.in-Err.fault in
       let stage = leads-stage (step_on c.args.installing) Committed shown.1.answer fault
       shown.1.shown in
-      faults before now c.args.runner.now commit_done (Installs c.args.installing)
+      faults before now c.args.runner.now Committed (Installs c.args.installing)
       c.requires.stands (token_of c.args.installing) c.requires.same
       (install_call c.args.installing shown.0) (install-calls _ c.args.installing shown.0) _
       (install-quiet c.args.installing shown.0) shown.1
@@ -68,7 +66,7 @@ returns-in-Err g c = record {
       (installs-some c.args.installing shown.0 shown.2)
       (λ met none. absurd none) fault.stage fault.fault
       (leads-ended (step_on c.args.installing) Committed _ fault shown.1.shown) c.given_up.ensures
-      (ap commit_at (sym stage))
+      (sym stage)
       (λ failed. c.install_next.ensures.faults.failed (c.in-Err.is ∙ ap Err
       (leads-failed (step_on c.args.installing) Committed _ fault shown.1.shown
       (fault-outside fault.stage fault.fault failed))));

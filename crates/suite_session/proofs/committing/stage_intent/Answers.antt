@@ -3,13 +3,11 @@ use Rattle.acct_outside.specs.declared.CommitStage.TheVariants.{Before}
 use Rattle.acct_outside.specs.declared.Name.TheVariants.{IntentStage}
 use Rattle.acct_outside.specs.Calls.{writes}
 use Rattle.intent_file.specs.Intent.{intent_text}
-use Rattle.suite_rules.specs.Standing.{commit_uncalled}
 use Rattle.suite_rules.specs.Outcomes.{before_commit}
 use Rattle.commit_steps.specs.States.{intended}
 use Rattle.commit_steps.specs.Walks.{token_of}
 use Rattle.commit_steps.specs.Stands.{BacksUp}
 use Rattle.suite_session.specs.declared.state.State.TheVariants.{BackingUp, Committing}
-use Rattle.suite_session.specs.Moment.{commit_at}
 use Rattle.commit_steps.proofs.NextLemmas.{backs-none}
 use Rattle.suite_session.proofs.TurnLemmas.{turns, faults}
 use Rattle.suite_session.proofs.CauseLemmas.{fault-outside}
@@ -26,7 +24,7 @@ returns-in-Ok g c = record {
       let now = g.F.Folder.moment c.stage_intent.new.folder in
       let done = leads-done c.args.backing.change before_commit _ c.in-Ok.staged
       c.in-Ok.ensures.call.shown in
-      turns before now c.args.runner.now commit_uncalled (BacksUp c.args.backing)
+      turns before now c.args.runner.now Before (BacksUp c.args.backing)
       c.requires.stands.stands (token_of c.args.backing) c.requires.stands.same
       (writes IntentStage (intent_text (intended c.args.backing.change))) tt _
       (λ result stood. refl)
@@ -54,7 +52,7 @@ returns-in-Err g c = record {
       let fault = c.in-Err.fault in
       let stage = leads-stage (c.args.backing.change) Before c.in-Err.ensures.call.answer fault
       c.in-Err.ensures.call.shown in
-      faults before now c.args.runner.now commit_uncalled (BacksUp c.args.backing)
+      faults before now c.args.runner.now Before (BacksUp c.args.backing)
       c.requires.stands.stands (token_of c.args.backing) c.requires.stands.same
       (writes IntentStage (intent_text (intended c.args.backing.change))) tt _
       (λ result stood. refl) c.in-Err.ensures.call
@@ -64,7 +62,7 @@ returns-in-Err g c = record {
       (λ met none. absurd none) fault.stage fault.fault
       (leads-ended c.args.backing.change Before _ fault c.in-Err.ensures.call.shown)
       c.given_up.ensures
-      (ap commit_at (sym stage))
+      (sym stage)
       (λ failed. c.stage_intent.ensures.faults.failed (c.in-Err.is ∙ ap Err
       (leads-failed c.args.backing.change Before _ fault c.in-Err.ensures.call.shown
       (fault-outside fault.stage fault.fault failed))));

@@ -1,6 +1,6 @@
 use Rattle.std.proofs.Common.{refl, ap, ◌∙◌, Err}
 use Rattle.acct_outside.specs.Calls.{reads}
-use Rattle.suite_rules.specs.Standing.{commit_uncalled}
+use Rattle.acct_outside.specs.declared.CommitStage.TheVariants.{Before}
 use Rattle.commit_steps.specs.States.{next_name}
 use Rattle.commit_steps.specs.Stands.{HasRead}
 use Rattle.suite_session.proofs.TurnLemmas.{turn-made, turns}
@@ -14,7 +14,7 @@ returns-in-Ok g c = record {
   turns =
       let before = g.F.Folder.moment c.args.folder.now in
       let now = g.F.Folder.moment c.load_next.new.folder in
-      turns before now c.args.runner.now commit_uncalled (HasRead c.args.loader) c.requires.1
+      turns before now c.args.runner.now Before (HasRead c.args.loader) c.requires.1
       c.args.loader.keeper.token c.requires.0 (reads (next_name c.args.loader.next)) tt _
       (λ result stood. refl) c.in-Ok.ensures.step.call
       c.load_next.ensures.step.lawful c.load_next.ensures.step.faults.never_falls
@@ -39,7 +39,7 @@ returns-in-Err g c = record {
       let now = g.F.Folder.moment c.load_next.new.folder in
       let end = c.in-Err.end in
       let tool = c.args.runner.now.asked.request.tool in
-      turn-made before now c.args.runner.now commit_uncalled (HasRead c.args.loader)
+      turn-made before now c.args.runner.now Before (HasRead c.args.loader)
       c.requires.1 c.args.loader.keeper.token c.requires.0 (reads (next_name c.args.loader.next)) tt
       _
       (λ result stood. refl) c.in-Err.ensures.step.call

@@ -1,9 +1,7 @@
 use Rattle.std.proofs.Common.{refl, sym, ap, ◌∙◌, Err, arith}
 use Rattle.suite_session.specs.declared.state.State.TheVariants.{Asking, Claiming}
 use Rattle.acct_outside.specs.Calls.{asks}
-use Rattle.suite_rules.specs.Standing.{commit_uncalled}
 use Rattle.lock_steps.specs.Stands.{HasReadHeld, HasJudged}
-use Rattle.suite_session.specs.Moment.{commit_at}
 use Rattle.suite_session.proofs.MetLemmas.{ask-met}
 use Rattle.suite_session.proofs.TurnLemmas.{ended, got, unkept-left, goes-on, turns, stops}
 use Rattle.suite_session.proofs.LeavingLemmas.{ask-unkept}
@@ -19,7 +17,7 @@ returns-in-Ok g c = record {
   turns =
       let before = g.F.Folder.moment c.args.folder.now in
       let now = g.F.Folder.moment c.ask.new.folder in
-      turns before now c.args.runner.now commit_uncalled (HasReadHeld c.args.asking) c.requires.1
+      turns before now c.args.runner.now Before (HasReadHeld c.args.asking) c.requires.1
       c.args.asking.token c.requires.0 (asks c.args.asking.asked) tt _ (λ result stood. refl)
       c.in-Ok.ensures.call
       c.ask.ensures.lawful c.ask.ensures.faults.never_falls
@@ -29,7 +27,7 @@ returns-in-Ok g c = record {
       c.in-Ok.ensures.call.shown)
       (λ met none. absurd none) (
         asks-token _ _ _ c.in-Ok.ensures.call.shown ∙ c.requires.0,
-        goes-on before now c.args.runner.now commit_uncalled (HasReadHeld c.args.asking)
+        goes-on before now c.args.runner.now Before (HasReadHeld c.args.asking)
             c.requires.1
             c.args.asking.token c.requires.0 (asks c.args.asking.asked) tt _ (λ result stood. refl)
             c.in-Ok.ensures.call
@@ -44,7 +42,7 @@ returns-in-Err g c = record {
   turns =
       let before = g.F.Folder.moment c.args.folder.now in
       let now = g.F.Folder.moment c.ask.new.folder in
-      stops before now c.args.runner.now commit_uncalled (HasReadHeld c.args.asking) c.requires.1
+      stops before now c.args.runner.now Before (HasReadHeld c.args.asking) c.requires.1
       c.args.asking.token c.requires.0 (asks c.args.asking.asked) tt _ (λ result stood. refl)
       c.in-Err.ensures.call
       c.ask.ensures.lawful c.ask.ensures.faults.never_falls
@@ -57,19 +55,19 @@ returns-in-Err g c = record {
       (ask-met c.args.runner.now.token now.told c.args.asking c.in-Err.ensures.call.answer
       c.in-Err.end
       c.requires.2 c.in-Err.ensures.call.shown
-      (got before now c.args.runner.now commit_uncalled (HasReadHeld c.args.asking) c.requires.1
+      (got before now c.args.runner.now Before (HasReadHeld c.args.asking) c.requires.1
       c.args.asking.token c.requires.0 (asks c.args.asking.asked) tt _ (λ result stood. refl)
       c.in-Err.ensures.call)
-      (ended before now c.args.runner.now commit_uncalled (HasReadHeld c.args.asking) c.requires.1
+      (ended before now c.args.runner.now Before (HasReadHeld c.args.asking) c.requires.1
       c.args.asking.token c.requires.0 (asks c.args.asking.asked) tt _ (λ result stood. refl)
       c.in-Err.ensures.call Before))
-      (unkept-left before now c.args.runner.now commit_uncalled (HasReadHeld c.args.asking)
+      (unkept-left before now c.args.runner.now Before (HasReadHeld c.args.asking)
       c.requires.1 c.args.asking.token c.requires.0 (asks c.args.asking.asked) tt _
       (λ result stood. refl)
       c.in-Err.ensures.call _ (end-plain c.in-Err.end)
       (ask-unkept c.args.asking c.in-Err.ensures.call.answer c.in-Err.end
       c.in-Err.ensures.call.shown))
-      (ap commit_at (sym (end-stage c.in-Err.end)))
+      (sym (end-stage c.in-Err.end))
       (λ fault. c.ask.ensures.faults.failed
       (c.in-Err.is ∙ ap Err (end-failed c.in-Err.end fault)));
   counts =

@@ -1,9 +1,7 @@
 use Rattle.std.proofs.Common.{refl, sym, ap, ◌∙◌, ◌+◌, Err, arith}
 use Rattle.suite_session.specs.declared.state.State.TheVariants.{Claiming, Confirming}
 use Rattle.acct_outside.specs.Calls.{creates}
-use Rattle.suite_rules.specs.Standing.{commit_uncalled}
 use Rattle.lock_steps.specs.Stands.{HasMade, HasJudged}
-use Rattle.suite_session.specs.Moment.{commit_at}
 use Rattle.suite_session.proofs.MetLemmas.{claim-met}
 use Rattle.suite_session.proofs.TurnLemmas.{ended, got, unkept-left, goes-on, turns, stops}
 use Rattle.suite_session.proofs.LeavingLemmas.{claim-unkept}
@@ -19,7 +17,7 @@ returns-in-Ok g c = record {
   turns =
       let before = g.F.Folder.moment c.args.folder.now in
       let now = g.F.Folder.moment c.claim.new.folder in
-      turns before now c.args.runner.now commit_uncalled (HasJudged c.args.judged) c.requires.1
+      turns before now c.args.runner.now Before (HasJudged c.args.judged) c.requires.1
       c.args.judged.token c.requires.0 (creates (c.args.judged.greatest + 1)) tt _
       (λ result stood. refl)
       c.in-Ok.ensures.call
@@ -30,7 +28,7 @@ returns-in-Ok g c = record {
       c.in-Ok.ensures.call.shown)
       (λ met none. absurd none) (
         claims-token _ _ _ c.in-Ok.ensures.call.shown ∙ c.requires.0,
-        goes-on before now c.args.runner.now commit_uncalled (HasJudged c.args.judged) c.requires.1
+        goes-on before now c.args.runner.now Before (HasJudged c.args.judged) c.requires.1
             c.args.judged.token c.requires.0 (creates (c.args.judged.greatest + 1)) tt _
             (λ result stood. refl)
             c.in-Ok.ensures.call
@@ -45,7 +43,7 @@ returns-in-Err g c = record {
   turns =
       let before = g.F.Folder.moment c.args.folder.now in
       let now = g.F.Folder.moment c.claim.new.folder in
-      stops before now c.args.runner.now commit_uncalled (HasJudged c.args.judged) c.requires.1
+      stops before now c.args.runner.now Before (HasJudged c.args.judged) c.requires.1
       c.args.judged.token c.requires.0 (creates (c.args.judged.greatest + 1)) tt _
       (λ result stood. refl)
       c.in-Err.ensures.call
@@ -59,21 +57,21 @@ returns-in-Err g c = record {
       (claim-met c.args.runner.now.token now.told c.args.judged c.in-Err.ensures.call.answer
       c.in-Err.end
       c.in-Err.ensures.call.shown
-      (got before now c.args.runner.now commit_uncalled (HasJudged c.args.judged) c.requires.1
+      (got before now c.args.runner.now Before (HasJudged c.args.judged) c.requires.1
       c.args.judged.token c.requires.0 (creates (c.args.judged.greatest + 1)) tt _
       (λ result stood. refl)
       c.in-Err.ensures.call)
-      (ended before now c.args.runner.now commit_uncalled (HasJudged c.args.judged) c.requires.1
+      (ended before now c.args.runner.now Before (HasJudged c.args.judged) c.requires.1
       c.args.judged.token c.requires.0 (creates (c.args.judged.greatest + 1)) tt _
       (λ result stood. refl)
       c.in-Err.ensures.call Before))
-      (unkept-left before now c.args.runner.now commit_uncalled (HasJudged c.args.judged)
+      (unkept-left before now c.args.runner.now Before (HasJudged c.args.judged)
       c.requires.1
       c.args.judged.token c.requires.0 (creates (c.args.judged.greatest + 1)) tt _
       (λ result stood. refl) c.in-Err.ensures.call _ (end-plain c.in-Err.end)
       (claim-unkept c.args.judged c.in-Err.ensures.call.answer c.in-Err.end
       c.in-Err.ensures.call.shown))
-      (ap commit_at (sym (end-stage c.in-Err.end)))
+      (sym (end-stage c.in-Err.end))
       (λ fault. c.claim.ensures.faults.failed
       (c.in-Err.is ∙ ap Err (end-failed c.in-Err.end fault)));
   counts =

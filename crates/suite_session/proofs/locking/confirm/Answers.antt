@@ -1,8 +1,6 @@
 use Rattle.std.proofs.Common.{refl, sym, ap, ◌∙◌, Err}
 use Rattle.acct_outside.specs.Calls.{lists}
-use Rattle.suite_rules.specs.Standing.{commit_uncalled}
 use Rattle.lock_steps.specs.Stands.{HasMade}
-use Rattle.suite_session.specs.Moment.{commit_at}
 use Rattle.suite_session.proofs.MetLemmas.{confirm-met}
 use Rattle.suite_session.proofs.TurnLemmas.{ended, got, unkept-left, turns, stops}
 use Rattle.suite_session.proofs.LeavingLemmas.{confirm-unkept}
@@ -21,7 +19,7 @@ returns-in-Ok g c = record {
       let before = g.F.Folder.moment c.args.folder.now in
       let now = g.F.Folder.moment c.confirm.new.folder in
       rw c.after_listing.ensures.next
-      (turns before now c.args.runner.now commit_uncalled (HasMade c.args.claimed) c.requires.1
+      (turns before now c.args.runner.now Before (HasMade c.args.claimed) c.requires.1
       c.args.claimed.token c.requires.0 (lists) tt _ (λ result stood. refl)
       c.in-Ok.ensures.call
       c.confirm.ensures.lawful c.confirm.ensures.faults.never_falls
@@ -38,7 +36,7 @@ returns-in-Ok g c = record {
       rw c.after_listing.ensures.next
       (listing-calls now.told c.args.runner.now c.args.claimed c.in-Ok.ensures.call.answer
       c.in-Ok.confirmed c.in-Ok.ensures.call.shown
-      (got before now c.args.runner.now commit_uncalled (HasMade c.args.claimed) c.requires.1
+      (got before now c.args.runner.now Before (HasMade c.args.claimed) c.requires.1
       c.args.claimed.token c.requires.0 (lists) tt _ (λ result stood. refl)
       c.in-Ok.ensures.call) c.after_listing.ensures.few);
 }
@@ -48,7 +46,7 @@ returns-in-Err g c = record {
   turns =
       let before = g.F.Folder.moment c.args.folder.now in
       let now = g.F.Folder.moment c.confirm.new.folder in
-      stops before now c.args.runner.now commit_uncalled (HasMade c.args.claimed) c.requires.1
+      stops before now c.args.runner.now Before (HasMade c.args.claimed) c.requires.1
       c.args.claimed.token c.requires.0 (lists) tt _ (λ result stood. refl)
       c.in-Err.ensures.call
       c.confirm.ensures.lawful c.confirm.ensures.faults.never_falls
@@ -61,19 +59,19 @@ returns-in-Err g c = record {
       (confirm-met c.args.runner.now.token now.told c.args.claimed c.in-Err.ensures.call.answer
       c.in-Err.end
       c.in-Err.ensures.call.shown
-      (got before now c.args.runner.now commit_uncalled (HasMade c.args.claimed) c.requires.1
+      (got before now c.args.runner.now Before (HasMade c.args.claimed) c.requires.1
       c.args.claimed.token c.requires.0 (lists) tt _ (λ result stood. refl)
       c.in-Err.ensures.call)
-      (ended before now c.args.runner.now commit_uncalled (HasMade c.args.claimed) c.requires.1
+      (ended before now c.args.runner.now Before (HasMade c.args.claimed) c.requires.1
       c.args.claimed.token c.requires.0 (lists) tt _ (λ result stood. refl)
       c.in-Err.ensures.call Before))
-      (unkept-left before now c.args.runner.now commit_uncalled (HasMade c.args.claimed)
+      (unkept-left before now c.args.runner.now Before (HasMade c.args.claimed)
       c.requires.1
       c.args.claimed.token c.requires.0 (lists) tt _ (λ result stood. refl)
       c.in-Err.ensures.call _ (end-plain c.in-Err.end)
       (confirm-unkept c.args.claimed c.in-Err.ensures.call.answer c.in-Err.end
       c.in-Err.ensures.call.shown))
-      (ap commit_at (sym (end-stage c.in-Err.end)))
+      (sym (end-stage c.in-Err.end))
       (λ fault. c.confirm.ensures.faults.failed
       (c.in-Err.is ∙ ap Err (end-failed c.in-Err.end fault)));
   counts =

@@ -1,8 +1,6 @@
 use Rattle.std.proofs.Common.{refl, sym, ap, ◌∙◌, Err, arith}
 use Rattle.acct_outside.specs.Calls.{lists}
-use Rattle.suite_rules.specs.Standing.{commit_uncalled}
 use Rattle.suite_session.specs.Causes.{HasListedNone}
-use Rattle.suite_session.specs.Moment.{commit_at}
 use Rattle.suite_session.proofs.MetLemmas.{look-met}
 use Rattle.suite_session.proofs.TurnLemmas.{ended, got, unkept-left, turns, stops}
 use Rattle.suite_session.proofs.LeavingLemmas.{look-unkept}
@@ -21,7 +19,7 @@ returns-in-Ok g c = record {
       let before = g.F.Folder.moment c.args.folder.now in
       let now = g.F.Folder.moment c.look.new.folder in
       rw c.after_look.ensures
-      (turns before now c.args.runner.now commit_uncalled (HasListedNone) c.requires.1
+      (turns before now c.args.runner.now Before (HasListedNone) c.requires.1
       c.args.looking c.requires.0 (lists) tt _ (λ result stood. refl)
       c.in-Ok.ensures.call
       c.look.ensures.lawful c.look.ensures.faults.never_falls
@@ -42,7 +40,7 @@ returns-in-Err g c = record {
   turns =
       let before = g.F.Folder.moment c.args.folder.now in
       let now = g.F.Folder.moment c.look.new.folder in
-      stops before now c.args.runner.now commit_uncalled (HasListedNone) c.requires.1
+      stops before now c.args.runner.now Before (HasListedNone) c.requires.1
       c.args.looking c.requires.0 (lists) tt _ (λ result stood. refl)
       c.in-Err.ensures.call
       c.look.ensures.lawful c.look.ensures.faults.never_falls
@@ -55,18 +53,18 @@ returns-in-Err g c = record {
       (look-met c.args.runner.now.token now.told c.args.looking c.in-Err.ensures.call.answer
       c.in-Err.end
       c.in-Err.ensures.call.shown
-      (got before now c.args.runner.now commit_uncalled (HasListedNone) c.requires.1
+      (got before now c.args.runner.now Before (HasListedNone) c.requires.1
       c.args.looking c.requires.0 (lists) tt _ (λ result stood. refl)
       c.in-Err.ensures.call)
-      (ended before now c.args.runner.now commit_uncalled (HasListedNone) c.requires.1
+      (ended before now c.args.runner.now Before (HasListedNone) c.requires.1
       c.args.looking c.requires.0 (lists) tt _ (λ result stood. refl)
       c.in-Err.ensures.call Before))
-      (unkept-left before now c.args.runner.now commit_uncalled (HasListedNone) c.requires.1
+      (unkept-left before now c.args.runner.now Before (HasListedNone) c.requires.1
       c.args.looking c.requires.0 (lists) tt _ (λ result stood. refl)
       c.in-Err.ensures.call _ (end-plain c.in-Err.end)
       (look-unkept c.args.looking c.in-Err.ensures.call.answer c.in-Err.end
       c.in-Err.ensures.call.shown))
-      (ap commit_at (sym (end-stage c.in-Err.end)))
+      (sym (end-stage c.in-Err.end))
       (λ fault. c.look.ensures.faults.failed
       (c.in-Err.is ∙ ap Err (end-failed c.in-Err.end fault)));
   counts =

@@ -1,9 +1,7 @@
 use Rattle.std.proofs.Common.{refl, sym, ap, ◌∙◌, Err, arith}
 use Rattle.acct_outside.specs.declared.Name.TheVariants.{Lock}
 use Rattle.acct_outside.specs.Calls.{reads}
-use Rattle.suite_rules.specs.Standing.{commit_uncalled}
 use Rattle.lock_steps.specs.Stands.{HasLooked}
-use Rattle.suite_session.specs.Moment.{commit_at}
 use Rattle.suite_session.proofs.MetLemmas.{read-met}
 use Rattle.suite_session.proofs.TurnLemmas.{ended, got, unkept-left, turns, stops}
 use Rattle.suite_session.proofs.LeavingLemmas.{read-unkept}
@@ -22,7 +20,7 @@ returns-in-Ok g c = record {
       let before = g.F.Folder.moment c.args.folder.now in
       let now = g.F.Folder.moment c.read.new.folder in
       rw c.after_read.ensures
-      (turns before now c.args.runner.now commit_uncalled (HasLooked c.args.seen) c.requires.2
+      (turns before now c.args.runner.now Before (HasLooked c.args.seen) c.requires.2
       c.args.seen.token c.requires.0 (reads (Lock c.args.seen.greatest)) tt _ (λ result stood. refl)
       c.in-Ok.ensures.call
       c.read.ensures.lawful c.read.ensures.faults.never_falls
@@ -43,7 +41,7 @@ returns-in-Err g c = record {
   turns =
       let before = g.F.Folder.moment c.args.folder.now in
       let now = g.F.Folder.moment c.read.new.folder in
-      stops before now c.args.runner.now commit_uncalled (HasLooked c.args.seen) c.requires.2
+      stops before now c.args.runner.now Before (HasLooked c.args.seen) c.requires.2
       c.args.seen.token c.requires.0 (reads (Lock c.args.seen.greatest)) tt _ (λ result stood. refl)
       c.in-Err.ensures.call
       c.read.ensures.lawful c.read.ensures.faults.never_falls
@@ -56,18 +54,18 @@ returns-in-Err g c = record {
       (read-met c.args.runner.now.token now.told c.args.seen c.in-Err.ensures.call.answer
       c.in-Err.end
       c.requires.1 c.requires.3 c.in-Err.ensures.call.shown
-      (got before now c.args.runner.now commit_uncalled (HasLooked c.args.seen) c.requires.2
+      (got before now c.args.runner.now Before (HasLooked c.args.seen) c.requires.2
       c.args.seen.token c.requires.0 (reads (Lock c.args.seen.greatest)) tt _ (λ result stood. refl)
       c.in-Err.ensures.call)
-      (ended before now c.args.runner.now commit_uncalled (HasLooked c.args.seen) c.requires.2
+      (ended before now c.args.runner.now Before (HasLooked c.args.seen) c.requires.2
       c.args.seen.token c.requires.0 (reads (Lock c.args.seen.greatest)) tt _ (λ result stood. refl)
       c.in-Err.ensures.call Before))
-      (unkept-left before now c.args.runner.now commit_uncalled (HasLooked c.args.seen) c.requires.2
+      (unkept-left before now c.args.runner.now Before (HasLooked c.args.seen) c.requires.2
       c.args.seen.token c.requires.0 (reads (Lock c.args.seen.greatest)) tt _ (λ result stood. refl)
       c.in-Err.ensures.call _ (end-plain c.in-Err.end)
       (read-unkept c.args.seen c.in-Err.ensures.call.answer c.in-Err.end
       c.in-Err.ensures.call.shown))
-      (ap commit_at (sym (end-stage c.in-Err.end)))
+      (sym (end-stage c.in-Err.end))
       (λ fault. c.read.ensures.faults.failed
       (c.in-Err.is ∙ ap Err (end-failed c.in-Err.end fault)));
   counts =

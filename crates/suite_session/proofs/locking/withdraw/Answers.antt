@@ -1,9 +1,7 @@
 use Rattle.std.proofs.Common.{refl, sym, ap, Err, arith, rules}
 use Rattle.acct_outside.specs.declared.Name.TheVariants.{Lock}
 use Rattle.acct_outside.specs.Calls.{removes}
-use Rattle.suite_rules.specs.Standing.{commit_uncalled}
 use Rattle.lock_steps.specs.Stands.{WasOvertaken}
-use Rattle.suite_session.specs.Moment.{commit_at}
 use Rattle.suite_session.proofs.MetLemmas.{withdraw-met}
 use Rattle.suite_session.proofs.TurnLemmas.{ended, got, unkept-left, stops}
 use Rattle.suite_session.proofs.LeavingLemmas.{withdraw-unkept}
@@ -20,7 +18,7 @@ returns g c = record {
   turns =
       let before = g.F.Folder.moment c.args.folder.now in
       let now = g.F.Folder.moment c.withdraw.new.folder in
-      stops before now c.args.runner.now commit_uncalled (WasOvertaken c.args.loser) c.requires.2
+      stops before now c.args.runner.now Before (WasOvertaken c.args.loser) c.requires.2
       c.args.loser.token c.requires.0 (removes (Lock c.args.loser.number)) tt _
       (λ result stood. refl)
       c.withdraw.ensures.call
@@ -35,20 +33,20 @@ returns g c = record {
       (cause_of_end c.withdraw.result) c.stopped.ensures (end-plain c.withdraw.result)
       (withdraw-met c.args.runner.now.token now.told c.args.loser c.withdraw.ensures.call.answer
       c.withdraw.result c.requires.1 c.withdraw.ensures.call.shown
-      (got before now c.args.runner.now commit_uncalled (WasOvertaken c.args.loser) c.requires.2
+      (got before now c.args.runner.now Before (WasOvertaken c.args.loser) c.requires.2
       c.args.loser.token c.requires.0 (removes (Lock c.args.loser.number)) tt _
       (λ result stood. refl)
       c.withdraw.ensures.call)
-      (ended before now c.args.runner.now commit_uncalled (WasOvertaken c.args.loser) c.requires.2
+      (ended before now c.args.runner.now Before (WasOvertaken c.args.loser) c.requires.2
       c.args.loser.token c.requires.0 (removes (Lock c.args.loser.number)) tt _
       (λ result stood. refl)
       c.withdraw.ensures.call Before))
-      (unkept-left before now c.args.runner.now commit_uncalled (WasOvertaken c.args.loser)
+      (unkept-left before now c.args.runner.now Before (WasOvertaken c.args.loser)
       c.requires.2 c.args.loser.token c.requires.0 (removes (Lock c.args.loser.number)) tt _
       (λ result stood. refl) c.withdraw.ensures.call _ (end-plain c.withdraw.result)
       (withdraw-unkept c.args.loser c.withdraw.ensures.call.answer c.withdraw.result
       c.withdraw.ensures.call.shown))
-      (ap commit_at (sym (end-stage c.withdraw.result)))
+      (sym (end-stage c.withdraw.result))
       (λ fault. c.withdraw.ensures.faults.failed (ap Err (end-failed c.withdraw.result fault)));
   counts =
       answers-fewer _ _ c.stopped.result c.stopped.ensures _ (search (arith, rules));

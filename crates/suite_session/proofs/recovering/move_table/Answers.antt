@@ -1,13 +1,11 @@
 use Rattle.std.proofs.Common.{refl, sym, ap, ◌∙◌, Err}
 use Rattle.acct_outside.specs.declared.Name.TheVariants.{Intent}
 use Rattle.acct_outside.specs.Calls.{removes}
-use Rattle.suite_rules.specs.Standing.{commit_uncalled}
 use Rattle.suite_rules.specs.Outcomes.{installs, before_commit}
 use Rattle.lock_steps.specs.NextCall.{next_or}
 use Rattle.recovery.specs.States.{Recoverer, moved_once}
 use Rattle.recovery.specs.Stands.{Recovers, HasStagedNext}
 use Rattle.suite_session.specs.declared.state.State.TheVariants.{Moving, Recovering}
-use Rattle.suite_session.specs.Moment.{commit_at}
 use Rattle.suite_session.proofs.TurnLemmas.{may-step, goes-on, turns, faults}
 use Rattle.suite_session.proofs.CauseLemmas.{fault-outside}
 use Rattle.suite_session.proofs.RecoveringTurns.{some-next}
@@ -20,7 +18,7 @@ use Rattle.suite_session.proofs.recovering.move_table.Goals as goal
 pub move_next-requires : goal.move_next-requires
 move_next-requires g c =
     let before = g.F.Folder.moment c.args.folder.now in
-    may-step before c.args.runner.now commit_uncalled (HasStagedNext c.args.moving)
+    may-step before c.args.runner.now Before (HasStagedNext c.args.moving)
     (c.args.moving.keeper.token) (c.requires.0) (c.requires.2)
 
 pub returns-in-Ok : goal.returns-in-Ok
@@ -33,7 +31,7 @@ returns-in-Ok g c = record {
       in
       let done = leads-done (moved_once c.args.moving) before_commit _ c.in-Ok.recovering
       shown.1.shown in
-      turns before now c.args.runner.now commit_uncalled (HasStagedNext c.args.moving) c.requires.2
+      turns before now c.args.runner.now Before (HasStagedNext c.args.moving) c.requires.2
       c.args.moving.keeper.token c.requires.0 (installs shown.0) tt _ (λ result stood. refl) shown.1
       c.move_next.ensures.lawful c.move_next.ensures.faults.never_falls (Moving c.args.moving)
       (Recovering c.in-Ok.recovering) (ap (next_or (removes Intent) installs) shown.2)
@@ -41,7 +39,7 @@ returns-in-Ok g c = record {
       done.1)
       (λ met none. absurd none) (
         ap (λ (one : Recoverer). one.keeper.token) is ∙ c.requires.0,
-        goes-on before now c.args.runner.now commit_uncalled (HasStagedNext c.args.moving)
+        goes-on before now c.args.runner.now Before (HasStagedNext c.args.moving)
             c.requires.2
             c.args.moving.keeper.token c.requires.0 (installs shown.0) tt _ (λ result stood. refl)
             shown.1
@@ -62,13 +60,13 @@ returns-in-Err g c = record {
       let now = g.F.Folder.moment c.move_next.new.folder in
       let shown = some-next c.args.moving.left c.requires.1 c.in-Err.ensures.call in
       let fault = c.in-Err.fault in
-      faults before now c.args.runner.now commit_uncalled (HasStagedNext c.args.moving) c.requires.2
+      faults before now c.args.runner.now Before (HasStagedNext c.args.moving) c.requires.2
       c.args.moving.keeper.token c.requires.0 (installs shown.0) tt _ (λ result stood. refl) shown.1
       c.move_next.ensures.lawful c.move_next.ensures.faults.never_falls (Moving c.args.moving)
       c.stopped.result (ap (next_or (removes Intent) installs) shown.2)
       (λ met none. absurd none) fault.stage fault.fault
       (leads-ended (moved_once c.args.moving) Before _ fault shown.1.shown) c.stopped.ensures
-      (ap commit_at (sym (leads-stage (moved_once c.args.moving) Before _ fault shown.1.shown)))
+      (sym (leads-stage (moved_once c.args.moving) Before _ fault shown.1.shown))
       (λ failed. c.move_next.ensures.faults.failed (c.in-Err.is ∙ ap Err
       (leads-failed (moved_once c.args.moving) Before _ fault shown.1.shown
       (fault-outside fault.stage fault.fault failed))));

@@ -1,7 +1,7 @@
 use Rattle.std.proofs.Common.{refl, ap, ◌∙◌, Err}
 use Rattle.acct_outside.specs.declared.Name.TheVariants.{Intent}
 use Rattle.acct_outside.specs.Calls.{reads}
-use Rattle.suite_rules.specs.Standing.{commit_uncalled}
+use Rattle.acct_outside.specs.declared.CommitStage.TheVariants.{Before}
 use Rattle.lock_steps.specs.Stands.{Keeps, KnowsAnything}
 use Rattle.suite_session.proofs.TurnLemmas.{may-step, turn-made, turns}
 use Rattle.suite_session.proofs.RecoveringTurns.{seen-stands, seen-quiet, refused-stands, refused-failed}
@@ -13,7 +13,7 @@ use Rattle.suite_session.proofs.recovering.read_intent.Goals as goal
 pub read_intent-requires : goal.read_intent-requires
 read_intent-requires g c =
     let before = g.F.Folder.moment c.args.folder.now in
-    may-step before c.args.runner.now commit_uncalled (Keeps c.args.keeper KnowsAnything)
+    may-step before c.args.runner.now Before (Keeps c.args.keeper KnowsAnything)
     c.args.keeper.token c.requires.0
     c.requires.1
 
@@ -23,7 +23,7 @@ returns-in-Ok g c = record {
       let before = g.F.Folder.moment c.args.folder.now in
       let now = g.F.Folder.moment c.read_intent.new.folder in
       rw c.after_intent.ensures
-      (turns before now c.args.runner.now commit_uncalled (Keeps c.args.keeper KnowsAnything)
+      (turns before now c.args.runner.now Before (Keeps c.args.keeper KnowsAnything)
       c.requires.1
       c.args.keeper.token c.requires.0 (reads Intent) tt _ (λ result stood. refl)
       c.in-Ok.ensures.step.call
@@ -47,7 +47,7 @@ returns-in-Err g c = record {
       let before = g.F.Folder.moment c.args.folder.now in
       let now = g.F.Folder.moment c.read_intent.new.folder in
       let end = c.in-Err.end in
-      turn-made before now c.args.runner.now commit_uncalled (Keeps c.args.keeper KnowsAnything)
+      turn-made before now c.args.runner.now Before (Keeps c.args.keeper KnowsAnything)
       c.requires.1 c.args.keeper.token c.requires.0 (reads Intent) tt _ (λ result stood. refl)
       c.in-Err.ensures.step.call
       c.read_intent.ensures.step.lawful c.read_intent.ensures.step.faults.never_falls

@@ -1,13 +1,11 @@
 use Rattle.std.proofs.Common.{refl, sym, ap, subst, ◌∙◌, ◌<◌, length, Err}
 use Rattle.acct_outside.specs.declared.Name.TheVariants.{Intent}
 use Rattle.acct_outside.specs.Calls.{removes}
-use Rattle.suite_rules.specs.Standing.{commit_uncalled}
 use Rattle.suite_rules.specs.Outcomes.{stages, before_commit}
 use Rattle.lock_steps.specs.NextCall.{next_or}
 use Rattle.recovery.specs.States.{Recoverer}
 use Rattle.recovery.specs.Stands.{Recovers, HasStagedNext}
 use Rattle.suite_session.specs.declared.state.State.TheVariants.{Recovering, Moving}
-use Rattle.suite_session.specs.Moment.{commit_at}
 use Rattle.suite_session.proofs.TurnLemmas.{may-step, goes-on, turns, faults}
 use Rattle.suite_session.proofs.CauseLemmas.{fault-outside}
 use Rattle.suite_session.proofs.RecoveringTurns.{some-next}
@@ -20,7 +18,7 @@ use Rattle.suite_session.proofs.recovering.recover.Goals as goal
 pub stage_next-requires-clause-stands : goal.stage_next-requires-clause-stands
 stage_next-requires-clause-stands g c =
     let before = g.F.Folder.moment c.args.folder.now in
-    may-step before c.args.runner.now commit_uncalled (Recovers c.args.recovering)
+    may-step before c.args.runner.now Before (Recovers c.args.recovering)
     (c.args.recovering.keeper.token) (c.requires.0) (c.requires.1)
 
 pub returns-in-Ok : goal.returns-in-Ok
@@ -31,7 +29,7 @@ returns-in-Ok g c = record {
       let shown = some-next c.args.recovering.left (some-left _ _ c.left.ensures c.if-left-eq0.false) c.in-Ok.ensures.call in
       let is = leads-on c.args.recovering before_commit _ c.in-Ok.moving shown.1.shown in
       let done = leads-done c.args.recovering before_commit _ c.in-Ok.moving shown.1.shown in
-      turns before now c.args.runner.now commit_uncalled (Recovers c.args.recovering)
+      turns before now c.args.runner.now Before (Recovers c.args.recovering)
       c.requires.1
       c.args.recovering.keeper.token c.requires.0 (stages shown.0) tt _ (λ result stood. refl)
       shown.1
@@ -43,7 +41,7 @@ returns-in-Ok g c = record {
       (λ met none. absurd none) (
         ap (λ (one : Recoverer). one.keeper.token) is ∙ c.requires.0,
         subst (λ (one : Recoverer). 0 < length one.left) (sym is) (some-left _ _ c.left.ensures c.if-left-eq0.false),
-        goes-on before now c.args.runner.now commit_uncalled (Recovers c.args.recovering)
+        goes-on before now c.args.runner.now Before (Recovers c.args.recovering)
             c.requires.1
             c.args.recovering.keeper.token c.requires.0 (stages shown.0) tt _ (λ result stood. refl)
             shown.1
@@ -63,7 +61,7 @@ returns-in-Err g c = record {
       let now = g.F.Folder.moment c.stage_next.new.folder in
       let shown = some-next c.args.recovering.left (some-left _ _ c.left.ensures c.if-left-eq0.false) c.in-Err.ensures.call in
       let fault = c.in-Err.fault in
-      faults before now c.args.runner.now commit_uncalled (Recovers c.args.recovering)
+      faults before now c.args.runner.now Before (Recovers c.args.recovering)
       c.requires.1
       c.args.recovering.keeper.token c.requires.0 (stages shown.0) tt _ (λ result stood. refl)
       shown.1
@@ -72,7 +70,7 @@ returns-in-Err g c = record {
       (ap (next_or (removes Intent) stages) shown.2)
       (λ met none. absurd none) fault.stage fault.fault
       (leads-ended c.args.recovering Before _ fault shown.1.shown) c.stopped.ensures
-      (ap commit_at (sym (leads-stage c.args.recovering Before _ fault shown.1.shown)))
+      (sym (leads-stage c.args.recovering Before _ fault shown.1.shown))
       (λ failed. c.stage_next.ensures.faults.failed (c.in-Err.is ∙ ap Err
       (leads-failed c.args.recovering Before _ fault shown.1.shown
       (fault-outside fault.stage fault.fault failed))));

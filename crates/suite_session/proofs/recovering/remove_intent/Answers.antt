@@ -1,14 +1,12 @@
 use Rattle.std.proofs.Common.{refl, sym, ap, ◌∙◌, Err}
 use Rattle.acct_outside.specs.declared.Name.TheVariants.{Intent}
 use Rattle.acct_outside.specs.Calls.{removes}
-use Rattle.suite_rules.specs.Standing.{commit_uncalled}
 use Rattle.recovery.specs.Stands.{Recovers}
 use Rattle.recovery.proofs.NextLemmas.{recovers-none}
 use Rattle.lock_steps.specs.States.{Kept}
 use Rattle.lock_steps.specs.Stands.{Keeps, KnowsNoneYet}
 use Rattle.suite_session.specs.declared.state.State.TheVariants.{Recovering, Loading}
 use Rattle.commit_steps.specs.States.{start_of}
-use Rattle.suite_session.specs.Moment.{commit_at}
 use Rattle.suite_session.proofs.TurnLemmas.{may-step, goes-on, turns, faults}
 use Rattle.suite_session.proofs.CauseLemmas.{fault-outside}
 use Rattle.suite_session.proofs.RecoveringTurns.{starts-loading}
@@ -22,7 +20,7 @@ use Rattle.suite_session.proofs.recovering.remove_intent.Goals as goal
 pub remove_intent-requires-clause-stands : goal.remove_intent-requires-clause-stands
 remove_intent-requires-clause-stands g c =
     let before = g.F.Folder.moment c.args.folder.now in
-    may-step before c.args.runner.now commit_uncalled (Recovers c.args.recovering)
+    may-step before c.args.runner.now Before (Recovers c.args.recovering)
     (c.args.recovering.keeper.token) (c.requires.stands.0) (c.requires.stands.1)
 
 pub returns-in-Ok : goal.returns-in-Ok
@@ -35,7 +33,7 @@ returns-in-Ok g c = record {
       let done = leads-done c.args.recovering.keeper before_commit _ c.in-Ok.keeper
       c.in-Ok.ensures.call.shown in
       rw c.start.ensures
-      (turns before now c.args.runner.now commit_uncalled (Recovers c.args.recovering)
+      (turns before now c.args.runner.now Before (Recovers c.args.recovering)
       c.requires.stands.1
       c.args.recovering.keeper.token c.requires.stands.0 (removes Intent) tt _
       (λ result stood. refl)
@@ -49,7 +47,7 @@ returns-in-Ok g c = record {
       (λ met none. absurd none) (
         ap (λ (one : Kept). one.token) is ∙ c.requires.stands.0,
         starts-loading now c.args.runner.now c.in-Ok.keeper
-            (goes-on before now c.args.runner.now commit_uncalled (Recovers c.args.recovering)
+            (goes-on before now c.args.runner.now Before (Recovers c.args.recovering)
             c.requires.stands.1
             c.args.recovering.keeper.token c.requires.stands.0 (removes Intent) tt _
             (λ result stood. refl)
@@ -69,7 +67,7 @@ returns-in-Err g c = record {
       let before = g.F.Folder.moment c.args.folder.now in
       let now = g.F.Folder.moment c.remove_intent.new.folder in
       let fault = c.in-Err.fault in
-      faults before now c.args.runner.now commit_uncalled (Recovers c.args.recovering)
+      faults before now c.args.runner.now Before (Recovers c.args.recovering)
       c.requires.stands.1
       c.args.recovering.keeper.token c.requires.stands.0 (removes Intent) tt _
       (λ result stood. refl)
@@ -80,8 +78,8 @@ returns-in-Err g c = record {
       (λ met none. absurd none) fault.stage fault.fault
       (leads-ended c.args.recovering.keeper Before _ fault c.in-Err.ensures.call.shown)
       c.stopped.ensures
-      (ap commit_at (sym (leads-stage c.args.recovering.keeper Before _ fault
-      c.in-Err.ensures.call.shown)))
+      (sym (leads-stage c.args.recovering.keeper Before _ fault
+      c.in-Err.ensures.call.shown))
       (λ failed. c.remove_intent.ensures.faults.failed (c.in-Err.is ∙ ap Err
       (leads-failed c.args.recovering.keeper Before _ fault c.in-Err.ensures.call.shown
       (fault-outside fault.stage fault.fault failed))));
