@@ -22,7 +22,7 @@ use Rattle.acct_outside.specs.declared.streams.SinkFault.TheVariants.{Failed, Me
 use Rattle.acct_outside.specs.Tokens.{Token}
 use Rattle.acct_outside.specs.Folder.{Folder, settings_file}
 use Rattle.acct_outside.specs.Calls.{Command}
-use Rattle.acct_outside.specs.History.{Event, History, after}
+use Rattle.acct_outside.specs.History.{History, after}
 use Rattle.acct_outside.specs.Moment.{Past, Moment}
 use Rattle.acct_outside.specs.Memory.{no_others}
 use Rattle.account_model.specs.declared.tool.Tool.{Tool}

@@ -1,31 +1,26 @@
 -- Claims: a turn of a session leaves together with it each other one that belonged to the folder so
 -- (`stay-together`), and so of two that are turned in alternation (`both-turned`); the turns that are left
 -- fall (`left-falls`); a lawful history settles to the fold (`settles-so`), and in it each session has
--- what the top call promises (`promised-so`). The death of a session leaves others (`death-leaves`).
+-- what the top call promises (`promised-so`).
 -- Way: a folder in memory admits no event, so that a turn keeps its history lawful; the rest is what
 -- `Session::turn` and the laws say.
-use Rattle.std.proofs.Common.{◌≡◌, ◌≢◌, is_some, refl, sym, ap, subst, ◌∷◌, ◌<◌, ◌≤◌, ◌+◌, true, false, ◌||◌, Option, Some, None, IfSome, IsSome, Result, Ok, Err, is_none, true≢false, arith}
-use Rattle.std.specs.Prelude.{OnErr, OnOk}
+use Rattle.std.proofs.Common.{◌≡◌, ◌≢◌, is_some, refl, sym, ap, subst, ◌<◌, ◌≤◌, ◌+◌, true, false, ◌||◌, Option, Some, None, IsSome, is_none, true≢false, arith}
 use Rattle.acct_outside.specs.declared.memory.MemoryFolder.{MemoryFolder}
-use Rattle.acct_outside.specs.Tokens.{Token}
 use Rattle.acct_outside.specs.Folder.{Folder}
-use Rattle.acct_outside.specs.History.{Event, History}
-use Rattle.acct_outside.specs.Logged.{with_event}
 use Rattle.acct_outside.specs.Moment.{Past}
-use Rattle.acct_outside.specs.Others.{ByOthers, none_came, one_came}
 use Rattle.acct_outside.specs.Memory.{moment_of, past_of}
 use Rattle.suite_rules.specs.Lawful.{Lawful}
 use Rattle.suite_rules.proofs.Settles.{lawful-settles}
 use Rattle.suite_answers.specs.declared.answer.Answer.{Answer}
 use Rattle.suite_session.specs.declared.session.Phase.{Phase}
 use Rattle.suite_session.specs.declared.session.Phase.TheVariants.{Waiting, Begun, Over, Unbegun}
-use Rattle.suite_session.specs.Belongs.{AreApart, Belongs, BelongingStays, OthersCame, of_others}
-use Rattle.suite_session.specs.Session.{IsWaiting, answer_of, outcome_of, phase_left, token_of}
+use Rattle.suite_session.specs.Belongs.{Belongs}
+use Rattle.suite_session.specs.Session.{IsWaiting, answer_of, outcome_of, phase_left}
 use Rattle.suite_session.specs.Stands.{StaysOurs}
 use Rattle.suite_session.specs.Turning.{KeepsOthers, SessionTurns}
 use Rattle.suite_course.specs.Turned.{AnswersKeepPromises}
 use Rattle.suite_clients.specs.Alone.{IsLawful}
-use Rattle.suite_clients.specs.Together.{BelongTogether, HasPromised, IsFoldOfCommitted, OthersBelong, StayTogether}
+use Rattle.suite_clients.specs.Together.{BelongTogether, HasPromised, IsFoldOfCommitted, StayTogether}
 use Rattle.suite_clients.proofs.AloneLemmas.{none-admitted}
 
 -- ---- A turn
@@ -103,45 +98,6 @@ waiting-belongs folder (Waiting asked) other is lawful belongs = record {
 waiting-belongs folder (Begun runner state) other is lawful belongs = absurd is
 waiting-belongs folder (Over runner answer) other is lawful belongs = absurd is
 waiting-belongs folder (Unbegun tool answer) other is lawful belongs = absurd is
-
--- ---- A death
-
-module _ (before now : MemoryFolder) (event : Event) where
-  -- where an event of one session came, it is of others for each session of another token
-  died-came : past_of now ≡ with_event event (past_of before) → (held : Option Token) →
-      held ≢ Some event.token → IfSome held (OthersCame (moment_of before) (moment_of now))
-  died-came same None differs = tt
-  died-came same (Some token) differs = record {
-    came = (
-      ap (λ (past : Past). past.first) same,
-      subst (λ (past : Past). ByOthers (of_others token) (past_of before).history past.history)
-          (sym same) (one_came event (past_of before).history none_came
-          (λ is. differs (ap (λ (one : Token). Some one) (sym is)))),
-    );
-    narrows = λ history one admitted. admitted;
-  }
-
-  -- or nothing came
-  none-died : past_of now ≡ past_of before → (held : Option Token) →
-      IfSome held (OthersCame (moment_of before) (moment_of now))
-  none-died same None = tt
-  none-died same (Some token) = record {
-    came = (
-      ap (λ (past : Past). past.first) same,
-      subst (λ (past : Past). ByOthers (of_others token) (past_of before).history past.history)
-          (sym same) none_came,
-    );
-    narrows = λ history one admitted. admitted;
-  }
-
-  -- the third claim
-  pub death-leaves : BelongingStays moment_of → {E : Type 0} (result : Result (Unit {0}) E) →
-      OnOk result (past_of now ≡ with_event event (past_of before)) →
-      OnErr result (past_of now ≡ past_of before) → OthersBelong before now event.token
-  death-leaves stays (Ok unit) told same other belongs differs =
-      stays.others before now other belongs (died-came told (token_of other) differs)
-  death-leaves stays (Err fault) told same other belongs differs =
-      stays.others before now other belongs (none-died same (token_of other))
 
 -- ---- The end
 

@@ -1,8 +1,7 @@
 -- Sessions in one folder in memory, which are turned call by call in any order.
-use Rattle.std.specs.Prelude.{◌≡◌, ◌≢◌, Some}
+use Rattle.std.specs.Prelude.{◌≡◌}
 use Rattle.acct_text.specs.declared.Tab.{Tab}
 use Rattle.acct_outside.specs.declared.memory.MemoryFolder.{MemoryFolder}
-use Rattle.acct_outside.specs.Tokens.{Token}
 use Rattle.acct_outside.specs.History.{after}
 use Rattle.acct_outside.specs.Moment.{Past}
 use Rattle.acct_outside.specs.Memory.{moment_of, past_of}
@@ -12,7 +11,6 @@ use Rattle.suite_rules.specs.Committed.{committed, folded}
 use Rattle.suite_session.specs.declared.session.Phase.{Phase}
 use Rattle.suite_session.specs.Belongs.{AreApart, Belongs}
 use Rattle.suite_session.specs.Deeds.{AreOfTools}
-use Rattle.suite_session.specs.Session.{token_of}
 use Rattle.suite_course.specs.Turned.{KeepsPromises}
 use Rattle.suite_clients.specs.Alone.{IsLawful}
 
@@ -28,11 +26,6 @@ pub record BelongTogether (folder : MemoryFolder) (one other : Phase) : Type 0 w
 abbrev pub StayTogether : MemoryFolder → MemoryFolder → Phase → Phase → Type 0
 StayTogether before now old new = (other : Phase) → BelongTogether before old other →
     BelongTogether now new other
-
--- each session that belonged to the folder, by another token than this or by none, does so still
-abbrev pub OthersBelong : MemoryFolder → MemoryFolder → Token → Type 0
-OthersBelong before now token = (other : Phase) → Belongs (moment_of before) other →
-    token_of other ≢ Some token → Belongs (moment_of now) other
 
 -- the settled files are those of the first moment as the committed commands of the tools changed them,
 -- in the order of their locks

@@ -1,16 +1,13 @@
-// Sessions in one folder in memory: two that are turned in alternation, and one that dies beside others.
+// Sessions in one folder in memory that are turned in alternation.
 ghost use Rattle.std.specs.Prelude.{◌≡◌, ◌<◌, None, IsSome, is_none, ◌||◌};
-ghost use Rattle.acct_outside.specs.Memory.{Runs, moment_of, past_of};
-ghost use Rattle.acct_outside.specs.Events.{IsLaterCall};
+ghost use Rattle.acct_outside.specs.Memory.{moment_of, past_of};
 ghost use Rattle.suite_session.specs.Belongs.{Belongs};
 ghost use Rattle.suite_session.specs.Session.{answer_of, outcome_of, phase_left};
 ghost use Rattle.suite_clients.specs.Alone.{IsLawful};
-ghost use Rattle.suite_clients.specs.Together.{BelongTogether, HasPromised, IsFoldOfCommitted, OthersBelong, StayTogether};
+ghost use Rattle.suite_clients.specs.Together.{BelongTogether, HasPromised, IsFoldOfCommitted, StayTogether};
 
-use acct_outside::{Call, Effect, MemoryFolder, Token};
-use std::alloc::AllocError;
+use acct_outside::MemoryFolder;
 use suite_core::{Session, answers_keep_promises};
-use suite_session::belonging_stays;
 
 /// Makes one call of a session. Each other session that belongs to the folder together with it does so
 /// still.
@@ -45,22 +42,6 @@ pub fn turn_both(one: &mut Session, other: &mut Session, folder: &mut MemoryFold
     }
     turn_once(one, folder);
     turn_once(other, folder);
-}
-
-/// Lets the session of a token die within a call. Each other session that belongs to the folder does so
-/// still.
-pub fn die_beside(
-    by: &Token,
-    call: Call,
-    effect: Effect,
-    folder: &mut MemoryFolder,
-) -> Result<(), AllocError>
-    requires running { Runs folder.old by.now }
-    requires call { IsLaterCall call }
-    ensures { OthersBelong folder.old folder.new by.now }
-{
-    belonging_stays::<MemoryFolder>();
-    folder.die(by, call, effect)
 }
 
 // Whether one of them has calls left before that of its answer.

@@ -1,7 +1,7 @@
 use Rattle.std.proofs.Common.{sym, ◌∙◌}
 use Rattle.acct_outside.specs.Memory.{past_of}
 use Rattle.suite_session.specs.Session.{answer_of}
-use Rattle.suite_clients.proofs.TogetherLemmas.{both-some, both-turned, left-falls, promised-so, settles-so, together-also}
+use Rattle.suite_clients.proofs.TogetherLemmas.{both-some, both-turned, left-falls, promised-so, settles-so}
 use Rattle.suite_clients.proofs.together.turn_both.Goals as goal
 
 pub turns-init : goal.turns-init
