@@ -10,14 +10,14 @@ use Rattle.acct_text.specs.Bytes.{Bytes}
 use Rattle.acct_outside.specs.declared.Created.{Created}
 use Rattle.acct_outside.specs.declared.Created.TheVariants.{Done as Fresh, Exists}
 use Rattle.acct_outside.specs.declared.Call.{Call as FolderCall}
-use Rattle.acct_outside.specs.declared.Call.TheVariants.{Begin, Create, Rename, Remove, Answered}
+use Rattle.acct_outside.specs.declared.Call.TheVariants.{Begin, Create, Append, Rename, Remove, Answered}
 use Rattle.acct_outside.specs.declared.event.Outcome.{Outcome}
 use Rattle.acct_outside.specs.declared.event.Outcome.TheVariants.{Done, Failed, Died}
 use Rattle.acct_outside.specs.declared.event.Event.{Event as KeptEvent}
 use Rattle.acct_outside.specs.declared.event.Answer.{Answer as KeptAnswer}
 use Rattle.acct_outside.specs.Tokens.{Token}
 use Rattle.acct_outside.specs.Folder.{Folder}
-use Rattle.acct_outside.specs.Calls.{Call, Effect, happened, nothing, left, failed, creates, writes, renames, removes, done, effect_of, changed_by}
+use Rattle.acct_outside.specs.Calls.{Call, Effect, happened, nothing, left, failed, creates, writes, appends, renames, removes, done, effect_of, changed_by}
 use Rattle.acct_outside.specs.History.{History, after_event, is_of, own_events}
 use Rattle.acct_outside.specs.Life.{Life, unbegun, running, faulted, ended, life, life_step, runs_in, is_running}
 use Rattle.acct_outside.specs.Gives.{GivesEffect, GivesResult}
@@ -28,6 +28,7 @@ pub nothing-changes : (token : Token) (call : Call) (folder : Folder)
     → changed_by token call nothing folder ≡ folder
 nothing-changes token (creates number) folder = refl
 nothing-changes token (writes name bytes) folder = refl
+nothing-changes token (appends name piece) folder = refl
 nothing-changes token (renames from to) folder = refl
 nothing-changes token (removes name) folder = refl
 nothing-changes token _ folder = refl
@@ -195,6 +196,13 @@ create-given : (folder : Folder) (number : ℕ) (free : Bool)
 create-given folder number true is = none-of (folder.file (Lock number)) is
 create-given folder number false is = tt
 
+-- an append that fails has happened only where its name stands
+append-given : (folder : Folder) (name : Name) (piece : Bytes) (there : Bool)
+    → is_some (folder.file name) ≡ there
+    → GivesEffect folder (appends name piece) (cond there happened nothing)
+append-given folder name piece true is = is
+append-given folder name piece false is = tt
+
 -- a rename that fails has happened only where its source stands
 rename-given : (folder : Folder) (from to : Name) (there : Bool)
     → is_some (folder.file from) ≡ there
@@ -209,6 +217,10 @@ actual-given folder (Create number) happened =
     create-given folder number (is_none (folder.file (Lock number))) refl
 actual-given folder (Create number) nothing = tt
 actual-given folder (Create number) (left content) = tt
+actual-given folder (Append name piece) happened =
+    append-given folder name piece (is_some (folder.file name)) refl
+actual-given folder (Append name piece) nothing = tt
+actual-given folder (Append name piece) (left content) = tt
 actual-given folder (Rename from to) happened =
     rename-given folder from to (is_some (folder.file from)) refl
 actual-given folder (Rename from to) nothing = tt
@@ -228,6 +240,8 @@ failed-given folder history token Begin may effect = absurd may
 failed-given folder history token (Answered status) may effect = absurd may
 failed-given folder history token (Create number) may effect =
     actual-given folder (Create number) effect
+failed-given folder history token (Append name piece) may effect =
+    actual-given folder (Append name piece) effect
 failed-given folder history token (Rename from to) may effect =
     actual-given folder (Rename from to) effect
 failed-given folder history token (Remove name) may effect =

@@ -1,18 +1,20 @@
 -- A folder stays one when a file is put or taken away, and when a file is moved:
 -- its lock numbers are those of the locks that stand, ascending and in their bounds.
 -- The claims are `IsFolder-with_file`, `IsFolder-without_file`, `IsFolder-moved` and
--- `IsFolder-folder_with`.
-use Rattle.std.proofs.Common.{◌≡◌, refl, ◌∙◌, ℕ, ◌≤◌, Bool, true, false, cond, not, ◌||◌, ◌&&◌, ◌==◌, List, [], ◌∷◌, Option, None, Some, All, arith}
+-- `IsFolder-folder_with`; and an append where nothing stands leaves it as it is (`appended-absent`).
+use Rattle.std.proofs.Common.{◌≡◌, refl, sym, ◌∙◌, ap, inl, inr, ℕ, ◌≤◌, Bool, true, false, cond, not, ◌||◌, ◌&&◌, ◌==◌, List, [], ◌∷◌, Option, None, Some, All, arith}
 use Rattle.std.specs.Option.{is_some}
+use Rattle.std.proofs.lemmas.Bool.{cases_Bool}
 use Rattle.std.proofs.lemmas.List.Elements.{All-head, All-tail, All-filter, All-nil, All-weaker}
 use Rattle.acct_text.specs.Bytes.{Bytes}
 use Rattle.acct_outside.specs.declared.Name.{Name}
 use Rattle.acct_outside.specs.declared.Name.TheVariants.{Lock}
-use Rattle.acct_outside.specs.Names.{greatest_lock}
-use Rattle.acct_outside.specs.Folder.{Folder, IsFolder, has_number, with_file, moved_content, moved}
+use Rattle.acct_outside.specs.Names.{greatest_lock, same_name}
+use Rattle.acct_outside.specs.Folder.{Folder, IsFolder, has_number, locks_with, with_file, with_piece, appended, moved_content, moved}
 use Rattle.acct_outside.specs.Contract.{IsName, IsLockNumber}
 use Rattle.acct_outside.specs.Store.{empty_folder, with_files, folder_with}
-use Rattle.acct_outside.proofs.NumberLemmas.{has_with, has_without, All-with, Ascends-with, Ascends-without}
+use Rattle.acct_outside.proofs.NameLemmas.{same_name-true}
+use Rattle.acct_outside.proofs.NumberLemmas.{has_with, has_without, without-absent, All-with, Ascends-with, Ascends-without}
 
 -- a lock number in its bounds, as a folder has it
 abbrev IsInBounds : ℕ → Type 0
@@ -112,3 +114,36 @@ pub in_bounds-are : (folder : Folder) → IsFolder folder → All IsLockNumber f
 in_bounds-are folder is =
     All-weaker IsInBounds IsLockNumber (λ n bounds. record { low = bounds.0; high = bounds.1 })
     folder.locks is.in_bounds
+
+-- what stands at each name once a name where nothing stood is taken away
+file_without-absent : (name other : Name) (folder : Folder)
+    → folder.file name ≡ None
+    → folder.file other ≡ (with_file name None folder).file other
+file_without-absent name other folder none =
+    elim (cases_Bool (same_name other name)) [
+      | inl hit ↦ rw hit (ap folder.file (same_name-true other name hit) ∙ none)
+      | inr miss ↦ rw miss refl
+    ]
+
+-- the lock numbers once a name where nothing stood is taken away
+locks_without-absent : (name : Name) (folder : Folder)
+    → IsFolder folder
+    → folder.file name ≡ None
+    → folder.locks ≡ locks_with name None folder.locks
+locks_without-absent (Lock number) folder is none =
+    sym (without-absent number folder.locks (is.standing number ∙ ap is_some none))
+locks_without-absent _ folder is none = refl
+
+-- an append where nothing stands leaves the folder as it is
+pub appended-absent : (name : Name) (piece : Bytes) (folder : Folder)
+    → IsFolder folder
+    → folder.file name ≡ None
+    → folder ≡ appended name piece folder
+appended-absent name piece folder is none =
+    let without : folder ≡ with_file name None folder =
+    λ i. record {
+      file = λ other. file_without-absent name other folder none i;
+      locks = locks_without-absent name folder is none i;
+    } in
+    without
+    ∙ ap (λ (content : Option Bytes). with_file name (with_piece piece content) folder) (sym none)

@@ -1,5 +1,6 @@
 mod Rows
 pub mod NameLemmas
+pub mod PieceLemmas
 pub mod StoreLemmas
 pub mod TokenLemmas
 pub mod NewTokenLemmas

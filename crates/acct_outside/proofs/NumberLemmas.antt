@@ -71,6 +71,26 @@ has_without m n [] = sym (no_numbers (m == n))
 has_without m n (k ∷ ks) =
     has_without-tests m n k ks (k == n) (m == k) (m == n) refl refl refl (has_without m n ks)
 
+-- a list without a number that it doesn't have, by the tests of the number in front
+without_absent-tests : (n k : ℕ) (ks : List ℕ) (dropped same rest : Bool)
+    → (k == n) ≡ dropped → (n == k) ≡ same → (same || rest) ≡ false
+    → (rest ≡ false → without_number n ks ≡ ks)
+    → cond (not dropped) (k ∷ without_number n ks) (without_number n ks) ≡ k ∷ ks
+without_absent-tests n k ks dropped true rest p q lacks before = absurd cc
+without_absent-tests n k ks dropped false true p q lacks before = absurd cc
+without_absent-tests n k ks true false false p q lacks before = both q (sym (same_number k n p))
+without_absent-tests n k ks false false false p q lacks before =
+    ap (λ (l : List ℕ). k ∷ l) (before refl)
+
+-- a list without a number that it doesn't have is itself
+pub without-absent : (n : ℕ) (ks : List ℕ)
+    → has_number n ks ≡ false
+    → without_number n ks ≡ ks
+without-absent n [] lacks = refl
+without-absent n (k ∷ ks) lacks =
+    without_absent-tests n k ks (k == n) (n == k) (has_number n ks) refl refl lacks
+    (without-absent n ks)
+
 module _ (P : ℕ → Type 0) where
   -- what holds of the numbers and of one more holds of the list with it
   pub All-with : (n : ℕ) → P n → (ks : List ℕ) → All P ks → All P (with_number n ks)

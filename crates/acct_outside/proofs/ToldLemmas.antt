@@ -1,7 +1,10 @@
 -- What a folder in memory tells after a call: nothing new, or the call's event and no other.
-use Rattle.std.proofs.Common.{◌≡◌, Bool, true, false, List, [], ◌∷◌, Some, None, Result, Ok, Err, refl, sym, ◌∙◌, ap, subst}
-use Rattle.std.specs.Prelude.{IsErr, IsErrAnd, IfOk, IfErr, OnErr, bytes_eq, ◌||◌}
+use Rattle.std.proofs.Common.{◌≡◌, Bool, true, false, List, [], ◌∷◌, Option, Some, None, Result, Ok, Err, refl, sym, ◌∙◌, ap, subst, cond}
+use Rattle.std.specs.Prelude.{IsErr, IsErrAnd, IfOk, IfErr, IsSome, OnErr, bytes_eq, is_none, ◌||◌}
 use Rattle.std.proofs.lemmas.Bool.{cond-true}
+use Rattle.acct_text.specs.Bytes.{Bytes}
+use Rattle.acct_outside.specs.declared.Effect.{Effect as CallEffect}
+use Rattle.acct_outside.specs.declared.Effect.TheVariants.{Nothing}
 use Rattle.acct_outside.specs.declared.Verdict.{Verdict}
 use Rattle.acct_outside.specs.declared.Verdict.TheVariants.{Alive, Dead}
 use Rattle.acct_outside.specs.declared.FolderFault.{FolderFault}
@@ -183,6 +186,13 @@ begun_runs old new command token is_new is =
     ∙ begin-runs token command old.history is_new token
     ∙ ap (λ (b : Bool). is_running token old.history || b) (bytes_eq-self token)
     ∙ or_true (is_running token old.history)
+
+-- a call whose source or name stands, since it isn't to fail by itself
+pub source-stands : (content : Option Bytes) (planned : Option CallEffect)
+    → cond (is_none content) (Some Nothing) planned ≡ None
+    → IsSome content
+source-stands None planned due = absurd cc
+source-stands (Some bytes) planned due = refl
 
 -- want of memory that a changing call passes on
 pub act_want : (old new : MemoryFolder) (token : Token) (call : FolderCall)

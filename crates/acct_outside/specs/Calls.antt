@@ -7,7 +7,7 @@ use Rattle.acct_outside.specs.declared.Verdict.{Verdict}
 use Rattle.acct_outside.specs.declared.Created.{Created}
 use Rattle.acct_outside.specs.declared.Created.TheVariants.{Exists}
 use Rattle.acct_outside.specs.Tokens.{Token, held_text}
-use Rattle.acct_outside.specs.Folder.{Folder, with_file, moved}
+use Rattle.acct_outside.specs.Folder.{Folder, with_file, appended, moved}
 
 -- what a session was asked to do: its words, its input and its day, counted from 1970-01-01
 pub record Command : Type 0 where
@@ -23,6 +23,7 @@ pub data Call : Type 0 where
   asks : Token → Call
   creates : ℕ → Call
   writes : Name → Bytes → Call
+  appends : Name → Bytes → Call
   renames : Name → Name → Call
   removes : Name → Call
   answers : ℕ → Call
@@ -48,8 +49,8 @@ Answer (asks token) = Verdict
 Answer (creates n) = Created
 Answer _ = Unit {0}
 
--- what a call did that failed, or within which its session died. `left` is of a write alone: these
--- bytes, or nothing, stand at its name
+-- what a call did that failed, or within which its session died. `left` is of a write or an append
+-- alone: these bytes, or nothing, stand at its name
 pub data Effect : Type 0 where
   happened : Effect
   nothing : Effect
@@ -77,6 +78,8 @@ abbrev pub changed_by : Token → Call → Effect → Folder → Folder
 changed_by token (creates n) happened folder = with_file (Lock n) (Some (held_text token)) folder
 changed_by token (writes name bytes) happened folder = with_file name (Some bytes) folder
 changed_by token (writes name bytes) (left content) folder = with_file name content folder
+changed_by token (appends name piece) happened folder = appended name piece folder
+changed_by token (appends name piece) (left content) folder = with_file name content folder
 changed_by token (renames from to) happened folder = moved from to folder
 changed_by token (removes name) happened folder = with_file name None folder
 changed_by _ _ _ folder = folder

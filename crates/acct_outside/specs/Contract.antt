@@ -12,7 +12,7 @@ use Rattle.acct_outside.specs.Names.{greatest_lock}
 use Rattle.acct_outside.specs.Tokens.{Token}
 use Rattle.acct_outside.specs.Folder.{Folder}
 use Rattle.acct_outside.specs.Calls.{Call, Answer, CallResult, Command, Effect, Found, found_absent, found_bytes, found_too_large, found_within, begins, lists, reads, done, failed}
-use Rattle.acct_outside.specs.History.{Event, History, after, own_events}
+use Rattle.acct_outside.specs.History.{History, after, own_events}
 use Rattle.acct_outside.specs.Life.{Life, life, unbegun, is_running}
 use Rattle.acct_outside.specs.Gives.{GivesResult}
 use Rattle.acct_outside.specs.Others.{Admission, AdmitsNoneOf, ByOthers, ByOthersThen}

@@ -7,7 +7,7 @@ use Rattle.acct_outside.specs.declared.Created.{Created}
 use Rattle.acct_outside.specs.declared.Effect.{Effect as CallEffect}
 use Rattle.acct_outside.specs.declared.Effect.TheVariants.{Happened, Nothing, Left}
 use Rattle.acct_outside.specs.declared.Call.{Call as FolderCall}
-use Rattle.acct_outside.specs.declared.Call.TheVariants.{Begin, Locks, Read, Verdict as Ask, Create, Write, Rename, Remove, Answered}
+use Rattle.acct_outside.specs.declared.Call.TheVariants.{Begin, Locks, Read, Verdict as Ask, Create, Write, Append, Rename, Remove, Answered}
 use Rattle.acct_outside.specs.declared.event.Command.{Command as KeptCommand}
 use Rattle.acct_outside.specs.declared.event.Answer.{Answer as KeptAnswer}
 use Rattle.acct_outside.specs.declared.event.Answer.TheVariants.{Locks as Numbers, Found as Reading, Verdict as Judged, Created as Made}
@@ -18,7 +18,7 @@ use Rattle.acct_outside.specs.declared.event.Event.TheVariants.{Begun, Called}
 use Rattle.acct_outside.specs.declared.Created.TheVariants.{Done as Fresh, Exists}
 use Rattle.acct_outside.specs.Tokens.{Token}
 use Rattle.acct_outside.specs.Folder.{Folder}
-use Rattle.acct_outside.specs.Calls.{Call, Command, Answer, CallResult, Effect, Found, found_absent, happened, nothing, left, begins, lists, reads, asks, creates, writes, renames, removes, answers, done, failed, died}
+use Rattle.acct_outside.specs.Calls.{Call, Command, Answer, CallResult, Effect, Found, found_absent, happened, nothing, left, begins, lists, reads, asks, creates, writes, appends, renames, removes, answers, done, failed, died}
 use Rattle.acct_outside.specs.History.{Event, History}
 use Rattle.acct_outside.specs.Contract.{IsName, IsLockNumber, found_of}
 
@@ -39,6 +39,7 @@ call_of (Read name) = reads name
 call_of (Ask token) = asks token
 call_of (Create number) = creates number
 call_of (Write name bytes) = writes name bytes
+call_of (Append name piece) = appends name piece
 call_of (Rename from to) = renames from to
 call_of (Remove name) = removes name
 call_of (Answered status) = answers status
@@ -138,6 +139,7 @@ IsLaterCall Begin = ⊥
 IsLaterCall (Read name) = IsName name
 IsLaterCall (Create number) = IsLockNumber number
 IsLaterCall (Write name bytes) = IsName name
+IsLaterCall (Append name piece) = IsName name
 IsLaterCall (Rename from to) = IsName from × IsName to
 IsLaterCall (Remove name) = IsName name
 IsLaterCall _ = ⊤
@@ -148,16 +150,18 @@ MayFail (Answered status) = ⊥
 MayFail call = IsLaterCall call
 
 -- the call can have happened in this folder though it failed: a create where its lock doesn't stand,
--- a rename where its source stands, no begin, and every other call
+-- an append where its name stands, a rename where its source does, no begin, and every other call
 abbrev pub may_happen : Folder → Call → Bool
 may_happen folder (begins command) = false
 may_happen folder (creates number) = is_none (folder.file (Lock number))
+may_happen folder (appends name piece) = is_some (folder.file name)
 may_happen folder (renames from to) = is_some (folder.file from)
 may_happen folder call = true
 
--- only a write leaves other bytes than its own
+-- only a write or an append leaves other bytes than its own
 abbrev pub may_leave : Call → Bool
 may_leave (writes name bytes) = true
+may_leave (appends name piece) = true
 may_leave call = false
 
 -- the effect of a call that failed or in which its session died: nothing, where the planned effect

@@ -1,5 +1,5 @@
 -- The folder as a finite map from names to bytes.
-use Rattle.std.specs.Prelude.{◌≡◌, ℕ, ◌<◌, ◌≤◌, Bool, false, ◌||◌, ◌==◌, nat_lt, not, if◌then◌else◌, max, List, [], ◌∷◌, filter, All, AllPairs, Option, Some, None, is_some}
+use Rattle.std.specs.Prelude.{◌≡◌, ℕ, ◌<◌, ◌≤◌, Bool, false, ◌||◌, ◌==◌, nat_lt, not, if◌then◌else◌, max, List, [], ◌∷◌, ◌++◌, filter, All, AllPairs, Option, Some, None, is_some}
 use Rattle.acct_text.specs.Bytes.{Bytes}
 use Rattle.acct_text.specs.Contents.{Contents}
 use Rattle.acct_outside.specs.declared.Name.{Name}
@@ -61,6 +61,15 @@ with_file name content folder = record {
   file = λ other. if same_name other name then content else folder.file other;
   locks = locks_with name content folder.locks;
 }
+
+-- what stands at a name with a piece behind it: still nothing, where nothing stood
+abbrev pub with_piece : Bytes → Option Bytes → Option Bytes
+with_piece piece None = None
+with_piece piece (Some bytes) = Some (bytes ++ piece)
+
+-- the folder with a piece behind what stands at the name
+abbrev pub appended : Name → Bytes → Folder → Folder
+appended name piece folder = with_file name (with_piece piece (folder.file name)) folder
 
 -- the folder after what stands at one name was moved to another, where anything stands there
 abbrev pub moved_content : Option Bytes → Name → Name → Folder → Folder

@@ -1,4 +1,5 @@
 pub mod Names
+pub mod Pieces
 pub mod Tokens
 pub mod Folder
 pub mod Calls

@@ -1,19 +1,11 @@
--- What a folder tells: its first moment, its history, and which event of another session it admits
--- next.
+-- Which event of another session a folder admits next, and histories with such events.
 use Rattle.std.specs.Prelude.{◌≡◌, ◌∷◌}
 use Rattle.acct_outside.specs.Tokens.{Token}
-use Rattle.acct_outside.specs.Folder.{Folder}
 use Rattle.acct_outside.specs.History.{Event, History}
 
 -- which event of another session may come next after a history
 abbrev pub Admission : Type 1
 Admission = History → Event → Type 0
-
--- what a folder tells that tells a history
-pub record Told : Type 1 where
-  pub first : Folder
-  pub history : History
-  pub admits : Admission
 
 -- no event of the session is admitted next
 abbrev pub AdmitsNoneOf : Admission → History → Token → Type 0

@@ -4,7 +4,7 @@ use Rattle.acct_outside.specs.declared.mishap.Mishap.{Mishap}
 use Rattle.acct_outside.specs.declared.Effect.{Effect}
 use Rattle.acct_outside.specs.declared.Effect.TheVariants.{Nothing}
 use Rattle.acct_outside.specs.Folder.{Folder}
-use Rattle.acct_outside.specs.Calls.{Call, renames}
+use Rattle.acct_outside.specs.Calls.{Call, appends, renames}
 
 -- what the call with this number does as it fails, by the first mishap that is planned for it
 abbrev pub planned_effect : ℕ → List Mishap → Option Effect
@@ -12,8 +12,9 @@ planned_effect number [] = None
 planned_effect number (mishap ∷ plan) =
     if mishap.call == number then Some mishap.effect else planned_effect number plan
 
--- the call fails here by itself: a rename whose source is absent
+-- the call fails here by itself: an append whose name is absent, or a rename whose source is
 abbrev pub is_refused : Folder → Call → Bool
+is_refused folder (appends name piece) = is_none (folder.file name)
 is_refused folder (renames from to) = is_none (folder.file from)
 is_refused folder call = false
 

@@ -3,7 +3,7 @@ ghost use Rattle.std.specs.Prelude.{◌≡◌, OnOk, OnErr};
 ghost use Rattle.acct_outside.specs.Calls.{changed_by, happened, left};
 ghost use Rattle.acct_outside.specs.History.{after_event};
 ghost use Rattle.acct_outside.specs.Tokens.{Token as TokenText};
-ghost use Rattle.acct_outside.specs.Events.{IsLaterCall, actual_effect, answers_exists, call_event, call_of, effect_in, may_happen};
+ghost use Rattle.acct_outside.specs.Events.{IsLaterCall, actual_effect, answers_exists, call_event, call_of, effect_in, may_happen, may_leave};
 ghost use Rattle.acct_outside.specs.Plan.{is_refused};
 
 use crate::event::{Answer, Outcome};
@@ -56,7 +56,7 @@ impl Store {
         }
     }
 
-    // A write that left these bytes, or nothing; another call leaves none.
+    // A write or an append that left these bytes, or nothing; another call leaves none.
     fn leave_content(&mut self, call: &Call, content: &Option<Bytes>) -> Result<(), AllocError>
         requires { IsLaterCall call.now }
         ensures ok { OnOk result ((token : TokenText) → folder_in self.new
@@ -64,8 +64,10 @@ impl Store {
         ensures err { OnErr result (folder_in self.new ≡ folder_in self.old) }
     {
         match (call, content) {
-            (Call::Write(name, _), Some(bytes)) => self.put(*name, bytes.copy()?),
-            (Call::Write(name, _), None) => Ok(self.remove(*name)),
+            (Call::Write(name, _) | Call::Append(name, _), Some(bytes)) => {
+                self.put(*name, bytes.copy()?)
+            }
+            (Call::Write(name, _) | Call::Append(name, _), None) => Ok(self.remove(*name)),
             _ => Ok(()),
         }
     }
@@ -80,6 +82,7 @@ impl Store {
         match call {
             Call::Create(number) => self.put(Name::Lock(*number), by.held(alloc)?),
             Call::Write(name, bytes) => self.put(*name, bytes.copy()?),
+            Call::Append(name, piece) => self.append(*name, piece),
             Call::Rename(from, to) => self.rename(*from, *to),
             Call::Remove(name) => Ok(self.remove(*name)),
             _ => Ok(()),
@@ -93,16 +96,18 @@ impl Store {
     {
         match effect {
             Effect::Happened if !self.may_happen(call) => Effect::Nothing,
-            Effect::Left(_) if !matches!(call, Call::Write(_, _)) => Effect::Nothing,
+            Effect::Left(_) if !may_leave(call) => Effect::Nothing,
             effect => effect,
         }
     }
 
-    /// Whether the call fails here by itself: a rename whose source is absent.
+    /// Whether the call fails here by itself: an append whose name is absent, or a rename whose source
+    /// is.
     pub(crate) fn refuses(&self, call: &Call) -> bool
         ensures { result ≡ is_refused (folder_in self.now) (call_of call.now) }
     {
         match call {
+            Call::Append(name, _) => !self.stands(*name),
             Call::Rename(from, _) => !self.stands(*from),
             _ => false,
         }
@@ -115,10 +120,18 @@ impl Store {
         match call {
             Call::Begin => false,
             Call::Create(number) => !self.stands(Name::Lock(*number)),
+            Call::Append(name, _) => self.stands(*name),
             Call::Rename(from, _) => self.stands(*from),
             _ => true,
         }
     }
+}
+
+// Whether the call can have left other bytes than its own.
+fn may_leave(call: &Call) -> bool
+    ensures { result ≡ may_leave (call_of call.now) }
+{
+    matches!(call, Call::Write(_, _) | Call::Append(_, _))
 }
 
 // Whether a create answered that its lock stands: then it did nothing.

@@ -1,6 +1,6 @@
 // The folder of the account files as a session sees it.
 ghost use Rattle.std.specs.Prelude.{◌≡◌, All, IfOk, IsErrOf, Ok};
-ghost use Rattle.acct_outside.specs.Calls.{asks, creates, writes, renames, removes, answers};
+ghost use Rattle.acct_outside.specs.Calls.{asks, creates, writes, appends, renames, removes, answers};
 ghost use Rattle.acct_outside.specs.Moment.{Moment};
 ghost use Rattle.acct_outside.specs.Contract.{IsName, IsLockNumber, NeverAdmits, MayAct, MayAnswer, EntersFolder, BeginsSession, ListsLocks, ReadsFolder, CallsFolder, IsWithinLimit};
 
@@ -55,11 +55,20 @@ pub trait Folder {
         requires number { IsLockNumber number }
         ensures { CallsFolder (moment self.old) (moment self.new) by.now (creates number) result };
 
-    /// Replaces the whole file. A failed write leaves any bytes or nothing at its name.
-    fn write(&mut self, by: &Token, name: Name, bytes: &Bytes) -> Result<(), FolderFault>
+    /// Replaces the whole file by the piece, which later appends may follow. A failed write leaves any
+    /// bytes or nothing at its name.
+    fn write(&mut self, by: &Token, name: Name, piece: &[u8]) -> Result<(), FolderFault>
         requires acts { MayAct (moment self.old) by.now }
         requires name { IsName name }
-        ensures { CallsFolder (moment self.old) (moment self.new) by.now (writes name bytes.now)
+        ensures { CallsFolder (moment self.old) (moment self.new) by.now (writes name piece.now)
+            result };
+
+    /// Adds the piece at the end of the file. Where nothing stands there, it fails. A failed append
+    /// leaves any bytes or nothing at its name.
+    fn append(&mut self, by: &Token, name: Name, piece: &[u8]) -> Result<(), FolderFault>
+        requires acts { MayAct (moment self.old) by.now }
+        requires name { IsName name }
+        ensures { CallsFolder (moment self.old) (moment self.new) by.now (appends name piece.now)
             result };
 
     /// Moves what stands at a name over another. Where nothing stands there, it fails.

@@ -17,6 +17,7 @@ mod memory;
 mod memory_calls;
 mod memory_streams;
 mod mishap;
+mod pieces;
 mod store;
 mod streams;
 mod token;
@@ -28,6 +29,7 @@ pub use limits::{GREATEST_LOCK, INTENT_LIMIT, LOCK_LIMIT};
 pub use memory::MemoryFolder;
 pub use memory_streams::{MemoryClock, MemorySink, MemorySource};
 pub use mishap::Mishap;
+pub use pieces::{PIECE_LIMIT, piece_at, piece_count, pieces_join};
 use std::alloc::AllocError;
 pub use streams::{Clock, ClockFault, Sink, SinkFault, Source, SourceFault};
 pub use token::Token;
@@ -91,7 +93,7 @@ pub enum Effect {
     Happened,
     /// Nothing.
     Nothing,
-    /// Of a write alone: these bytes, or nothing, stand at its name.
+    /// Of a write or an append alone: these bytes, or nothing, stand at its name.
     Left(Option<Bytes>),
 }
 
@@ -122,8 +124,10 @@ pub enum Call {
     Verdict(Token),
     /// A create of the lock with a number.
     Create(u64),
-    /// A write of bytes at a name.
+    /// A write of bytes at a name, in the place of what stands there.
     Write(Name, Bytes),
+    /// An append of bytes behind what stands at a name.
+    Append(Name, Bytes),
     /// A rename from a name to another.
     Rename(Name, Name),
     /// A removal of a name.

@@ -1,7 +1,7 @@
 // The calls of a folder in memory. Each is counted, then fails where a mishap is planned for it, and
 // else finds its answer and records its event.
 ghost use Rattle.std.specs.Prelude.{◌≡◌, ◌↔◌, [], All, IfOk, IsOk, Ok, false};
-ghost use Rattle.acct_outside.specs.Calls.{begins, lists, reads, asks, creates, writes, renames, removes, answers};
+ghost use Rattle.acct_outside.specs.Calls.{begins, lists, reads, asks, creates, writes, appends, renames, removes, answers};
 ghost use Rattle.acct_outside.specs.Faults.{CountsFailure};
 ghost use Rattle.acct_outside.specs.Life.{is_running};
 ghost use Rattle.acct_outside.specs.NewTokens.{IsFirstUnused};
@@ -111,16 +111,28 @@ impl Folder for MemoryFolder {
         Ok(created)
     }
 
-    fn write(&mut self, by: &Token, name: Name, bytes: &Bytes) -> Result<(), FolderFault>
+    fn write(&mut self, by: &Token, name: Name, piece: &[u8]) -> Result<(), FolderFault>
         requires { IsName name }
-        ensures told { TellsIn self.old self.new by.now (writes name bytes.now) result }
+        ensures told { TellsIn self.old self.new by.now (writes name piece.now) result }
         ensures faults { CountsFailure FolderFault.Failed (faults_of self.old)
             (faults_of self.new) result }
         ensures counted { IsCounted self.old self.new result }
-        ensures planned { FailsAsPlanned self.old self.new by.now (writes name bytes.now) result }
+        ensures planned { FailsAsPlanned self.old self.new by.now (writes name piece.now) result }
     {
         self.mishaps.count();
-        self.act(by, Call::Write(name, bytes.copy()?))
+        self.act(by, Call::Write(name, Bytes::of(self.alloc, piece)?))
+    }
+
+    fn append(&mut self, by: &Token, name: Name, piece: &[u8]) -> Result<(), FolderFault>
+        requires { IsName name }
+        ensures told { TellsIn self.old self.new by.now (appends name piece.now) result }
+        ensures faults { CountsFailure FolderFault.Failed (faults_of self.old)
+            (faults_of self.new) result }
+        ensures counted { IsCounted self.old self.new result }
+        ensures planned { FailsAsPlanned self.old self.new by.now (appends name piece.now) result }
+    {
+        self.mishaps.count();
+        self.act(by, Call::Append(name, Bytes::of(self.alloc, piece)?))
     }
 
     fn rename(&mut self, by: &Token, from: Name, to: Name) -> Result<(), FolderFault>

@@ -4,7 +4,7 @@ ghost use Rattle.std.specs.Option.{option_copied, is_some};
 ghost use Rattle.acct_outside.specs.declared.Name.{Name};
 ghost use Rattle.acct_outside.specs.declared.Name.TheVariants.{Lock};
 ghost use Rattle.acct_outside.specs.Names.{same_name};
-ghost use Rattle.acct_outside.specs.Folder.{IsFolder, with_number, without_number, locks_with, with_file, moved};
+ghost use Rattle.acct_outside.specs.Folder.{IsFolder, with_number, without_number, locks_with, with_file, appended, moved};
 ghost use Rattle.acct_outside.specs.Calls.{found_within};
 ghost use Rattle.acct_outside.specs.Gives.{GivesCreated};
 ghost use Rattle.acct_outside.specs.Contract.{IsName, IsLockNumber, IsWithinLimit, found_of};
@@ -134,6 +134,21 @@ impl Store {
         put_file(&mut self.files, name, bytes);
         add_lock(&mut self.locks, name);
         Ok(())
+    }
+
+    /// Puts the piece behind what stands at the name. Where nothing does, all stays.
+    pub(crate) fn append(&mut self, name: Name, piece: &Bytes) -> Result<(), AllocError>
+        requires { IsName name }
+        ensures ok { OnOk result
+            (folder_in self.new ≡ appended name piece.now (folder_in self.old)) }
+        ensures err { OnErr result (folder_in self.new ≡ folder_in self.old) }
+    {
+        let Some(bytes) = self.get(name) else {
+            return Ok(());
+        };
+        let mut longer = bytes.copy()?;
+        longer.push(piece.as_slice())?;
+        self.put(name, longer)
     }
 
     /// Takes away what stands at the name.

@@ -110,7 +110,8 @@ module _ (walker : Walker) (next : NewTable)
       Permits deeds stood (stages_backup walker next)
   may-stage-backup deeds stood held = staging_rule BackupStage
       (old_bytes walker.change next.table)
-      (is-keeper walker.change.inputs.keeper (KnowsSoFar walker) stood held.keeps) refl
+      (is-keeper walker.change.inputs.keeper (KnowsSoFar walker) stood held.keeps)
+      (record { staging = refl })
 
   -- What a move of the staged bytes leads to, where the table stood.
   module _ (stands : IsSome (old_files walker.change next.table))
@@ -221,4 +222,5 @@ module _ (walker : Walker)
       Permits deeds stood stages_intent
   may-stage-intent deeds stood held = staging_rule IntentStage
       (intent_text (intended walker.change))
-      (is-keeper walker.change.inputs.keeper (KnowsSoFar walker) stood held.keeps) refl
+      (is-keeper walker.change.inputs.keeper (KnowsSoFar walker) stood held.keeps)
+      (record { staging = refl })

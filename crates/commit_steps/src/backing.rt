@@ -124,7 +124,8 @@ impl Backing {
             (before_commit FolderFault.Failed) result }
     {
         let prepared = self.walking.into_prepared();
-        let written = folder.write(prepared.token(), Name::IntentStage, prepared.text());
+        let text = prepared.text().as_slice();
+        let written = folder.write(prepared.token(), Name::IntentStage, text);
         leads(IntentStaged::of(prepared), written, CommitStage::Before)
     }
 }
@@ -147,6 +148,7 @@ fn back_up<F: Folder>(
     if is_staged {
         folder.rename(prepared.token(), Name::BackupStage, Name::Backup(table))
     } else {
-        folder.write(prepared.token(), Name::BackupStage, prepared.old(table))
+        let old = prepared.old(table).as_slice();
+        folder.write(prepared.token(), Name::BackupStage, old)
     }
 }

@@ -1,118 +1,11 @@
-// What a real folder does on a disk, which no clause can say. The images stand in out/, which is no part
-// of the repository.
-ghost use Rattle.acct_outside.specs.Contract.{IsName};
-
+// What the calls of a real folder do on a disk, which no clause can say.
+use crate::images::{finds, holds, image, is_so, make_shadow, mode_of, tells, token};
 use acct_outside::{Folder, Found, Name, Token};
-use acct_text::{Bytes, Tab};
+use acct_text::Tab;
 use real_folder::RealFolder;
 use std::fs;
-use std::fs::Permissions;
-use std::os::unix::fs::{MetadataExt, PermissionsExt, symlink};
+use std::os::unix::fs::symlink;
 use std::test::Fail;
-
-/// The folder DIR/etc of a new image with no files.
-pub(crate) fn image(rt: &HostRuntime, dir: &str) -> Result<RealFolder<HostRuntime>, Fail> {
-    let alloc = rt.alloc();
-    let etc = format!(in alloc; "{dir}/etc")?;
-    let _ = fs::remove_dir_all(rt, dir);
-    fs::create_dir_all(rt, etc.as_str())?;
-    entered(rt, dir)
-}
-
-/// The folder DIR/etc as it stands, if it does.
-pub(crate) fn entered(rt: &HostRuntime, dir: &str) -> Result<RealFolder<HostRuntime>, Fail> {
-    let mut folder = RealFolder::new(rt.clone()?);
-    folder.enter(&Bytes::of(rt.alloc(), dir.as_bytes())?)?;
-    Ok(folder)
-}
-
-/// A token of no process.
-pub(crate) fn token(rt: &HostRuntime, text: &str) -> Result<Token, Fail> {
-    match Token::read(rt.alloc(), text.as_bytes())? {
-        Some(token) => Ok(token),
-        None => Err(Fail::from("no token")),
-    }
-}
-
-/// Makes a table that its group may read.
-pub(crate) fn make_shadow(rt: &HostRuntime, path: &str) -> Result<(), Fail> {
-    fs::write(rt, path, "old\n")?;
-    fs::set_permissions(rt, path, Permissions::from_mode(0o640))?;
-    Ok(())
-}
-
-/// The mode of a file.
-pub(crate) fn mode_of(rt: &HostRuntime, path: &str) -> Result<u32, Fail> {
-    Ok(fs::metadata(rt, path)?.mode() % 0o1000)
-}
-
-/// Fails where the fact isn't so.
-pub(crate) fn is_so(is_so: bool, fact: &'static str) -> Result<(), Fail> {
-    if is_so { Ok(()) } else { Err(Fail::from(fact)) }
-}
-
-/// Writes a text at a name.
-pub(crate) fn put(
-    rt: &HostRuntime,
-    folder: &mut RealFolder<HostRuntime>,
-    by: &Token,
-    name: Name,
-    text: &[u8],
-) -> Result<(), Fail>
-    requires { IsName name }
-{
-    folder.write(by, name, &Bytes::of(rt.alloc(), text)?)?;
-    Ok(())
-}
-
-/// Whether a write of a text at a name fails.
-pub(crate) fn fails_to_put(
-    rt: &HostRuntime,
-    folder: &mut RealFolder<HostRuntime>,
-    by: &Token,
-    name: Name,
-) -> Result<bool, Fail>
-    requires { IsName name }
-{
-    Ok(
-        folder
-            .write(by, name, &Bytes::of(rt.alloc(), b"new\n")?)
-            .is_err(),
-    )
-}
-
-/// Whether a file holds the text.
-pub(crate) fn holds(rt: &HostRuntime, path: &str, text: &str) -> Result<bool, Fail> {
-    Ok(fs::read_to_string(rt, path)?.as_str() == text)
-}
-
-/// Whether a read finds the text.
-pub(crate) fn finds(
-    folder: &mut RealFolder<HostRuntime>,
-    by: &Token,
-    name: Name,
-    limit: u64,
-    text: &[u8],
-) -> Result<bool, Fail>
-    requires { IsName name }
-{
-    match folder.read(by, name, limit)? {
-        Found::Held(bytes) => Ok(bytes.as_slice() == text),
-        _ => Ok(false),
-    }
-}
-
-/// Whether the last error is told so.
-pub(crate) fn tells(
-    rt: &HostRuntime,
-    folder: &RealFolder<HostRuntime>,
-    text: &str,
-) -> Result<bool, Fail> {
-    match folder.last_error() {
-        Some(error) => Ok(error.text(rt.alloc())?.as_str() == text),
-        None => Ok(false),
-    }
-}
 
 /// What is tried of a folder, each on an image of its own.
 #[derive(Clone, Copy)]
@@ -222,7 +115,7 @@ fn stages_for_the_owner_alone(
         "out/staged/etc/shadow+",
         "left behind, for all to read\n",
     )?;
-    put(rt, folder, by, Name::Staged(Tab::Shadow), b"new\n")?;
+    folder.write(by, Name::Staged(Tab::Shadow), b"new\n")?;
     is_so(
         mode_of(rt, "out/staged/etc/shadow+")? == 0o600,
         "the staged table has mode 600",
@@ -240,7 +133,7 @@ fn keeps_the_mode(
     by: &Token,
 ) -> Result<(), Fail> {
     make_shadow(rt, "out/kept/etc/shadow")?;
-    put(rt, folder, by, Name::Staged(Tab::Shadow), b"new\n")?;
+    folder.write(by, Name::Staged(Tab::Shadow), b"new\n")?;
     is_so(
         mode_of(rt, "out/kept/etc/shadow+")? == 0o640,
         "the staged table has mode 640",
@@ -259,7 +152,7 @@ fn backs_up_with_the_mode(
     by: &Token,
 ) -> Result<(), Fail> {
     make_shadow(rt, "out/backup/etc/shadow")?;
-    put(rt, folder, by, Name::BackupStage, b"old\n")?;
+    folder.write(by, Name::BackupStage, b"old\n")?;
     is_so(
         mode_of(rt, "out/backup/etc/accounts.backup+")? == 0o600,
         "the staged backup has mode 600",
@@ -330,48 +223,6 @@ fn reads_up_to_the_limit(
     Ok(())
 }
 
-#[test]
-fn a_missing_folder_has_no_tables_and_no_listing(rt: HostRuntime) -> Result<(), Fail> {
-    let by = token(&rt, "me")?;
-    let mut folder = entered(&rt, "out/missing")?;
-    finds_nothing(&rt, &mut folder, &by)
-}
-
-fn finds_nothing(
-    rt: &HostRuntime,
-    folder: &mut RealFolder<HostRuntime>,
-    by: &Token,
-) -> Result<(), Fail> {
-    let found = folder.read(by, Name::Table(Tab::Passwd), 16)?;
-    is_so(matches!(found, Found::Absent), "the table is absent")?;
-    is_so(folder.locks(by).is_err(), "the listing fails")?;
-    is_so(folder.faults() == 1, "one fault is counted")?;
-    Ok(())
-}
-
-#[test]
-fn a_folder_whose_name_is_not_utf_8_is_never_touched(rt: HostRuntime) -> Result<(), Fail> {
-    let by = token(&rt, "me")?;
-    let mut folder = RealFolder::new(rt.clone()?);
-    folder.enter(&Bytes::of(rt.alloc(), b"out/caf\xE9")?)?;
-    fails_each_call(&rt, &mut folder, &by)
-}
-
-fn fails_each_call(
-    rt: &HostRuntime,
-    folder: &mut RealFolder<HostRuntime>,
-    by: &Token,
-) -> Result<(), Fail> {
-    is_so(folder.locks(by).is_err(), "the listing fails")?;
-    is_so(folder.create(by, 1).is_err(), "the create fails")?;
-    is_so(
-        fails_to_put(rt, folder, by, Name::IntentStage)?,
-        "the write fails",
-    )?;
-    is_so(folder.faults() == 3, "three faults are counted")?;
-    Ok(())
-}
-
 fn refuses_a_link(
     rt: &HostRuntime,
     folder: &mut RealFolder<HostRuntime>,
@@ -384,7 +235,9 @@ fn refuses_a_link(
         "the read fails",
     )?;
     is_so(
-        fails_to_put(rt, folder, by, Name::Staged(Tab::Passwd))?,
+        folder
+            .write(by, Name::Staged(Tab::Passwd), b"new\n")
+            .is_err(),
         "the write fails",
     )?;
     is_so(

@@ -9,8 +9,16 @@ mod calls;
 #[cfg(test)]
 mod clock;
 #[cfg(test)]
+mod holders;
+#[cfg(test)]
+mod images;
+#[cfg(test)]
 mod linkless;
 #[cfg(test)]
 mod locks;
+#[cfg(test)]
+mod missing;
+#[cfg(test)]
+mod pieces;
 #[cfg(test)]
 mod streams;

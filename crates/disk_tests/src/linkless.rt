@@ -1,9 +1,13 @@
 // A file system without hard links, as FAT is, over that of a runtime.
+use acct_outside::Folder;
+use acct_text::Bytes;
+use real_folder::RealFolder;
 use std::alloc::Allocator;
 use std::fs::{Metadata, OpenOptions, Permissions};
 use std::io;
 use std::path::PathBuf;
 use std::rt::Files;
+use std::test::Fail;
 
 /// The files of a runtime without hard links: the trait's own `hard_link` refuses each.
 #[derive(Clone, Drop)]
@@ -15,6 +19,16 @@ impl<R: Files + Clone + Drop> Linkless<R> {
     pub(crate) fn new(rt: R) -> Self {
         Linkless { rt }
     }
+}
+
+/// The folder DIR/etc on a file system without hard links.
+pub(crate) fn without_links(
+    rt: &HostRuntime,
+    dir: &str,
+) -> Result<RealFolder<Linkless<HostRuntime>>, Fail> {
+    let mut folder = RealFolder::new(Linkless::new(rt.clone()?));
+    folder.enter(&Bytes::of(rt.alloc(), dir.as_bytes())?)?;
+    Ok(folder)
 }
 
 impl<R: Files + Alloc + Clone + Drop> Alloc for Linkless<R> {

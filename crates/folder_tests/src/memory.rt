@@ -41,10 +41,54 @@ fn a_failed_write_leaves_other_bytes(rt: HostRuntime) -> Result<(), Fail> {
     let junk = Effect::Left(Some(Bytes::of(alloc, b"junk")?));
     let mut folder = folder_with(alloc, Vec::new(alloc), 2, junk)?;
     let token = folder.begin(&[], &Bytes::new(alloc), 20000)?;
-    let text = Bytes::of(alloc, b"text")?;
-    assert!(rt; folder.write(&token, Name::Intent, &text).is_err());
+    assert!(rt; folder.write(&token, Name::Intent, b"text").is_err());
     assert_eq!(rt; text_at(&folder, Name::Intent), b"junk".as_slice());
     assert_eq!(rt; folder.faults(), 1);
+    Ok(())
+}
+
+#[test]
+fn an_append_puts_its_piece_behind_what_stands(rt: HostRuntime) -> Result<(), Fail> {
+    let alloc = rt.alloc();
+    let mut folder = folder_with(alloc, Vec::new(alloc), 0, Effect::Nothing)?;
+    let token = folder.begin(&[], &Bytes::new(alloc), 20000)?;
+    assert!(rt; folder.append(&token, Name::IntentStage, b"first").is_err());
+    assert!(rt; folder.file(Name::IntentStage).is_none());
+    assert_eq!(rt; folder.faults(), 1);
+    folder.write(&token, Name::IntentStage, b"first")?;
+    folder.append(&token, Name::IntentStage, b", second")?;
+    assert_eq!(rt;
+        text_at(&folder, Name::IntentStage),
+        b"first, second".as_slice()
+    );
+    Ok(())
+}
+
+/// What an append of `second` behind `first` leaves as it fails with an effect.
+fn left_by_append(alloc: Global, effect: Effect) -> Result<Bytes, Fail> {
+    let mut folder = folder_with(alloc, Vec::new(alloc), 3, effect)?;
+    let token = folder.begin(&[], &Bytes::new(alloc), 20000)?;
+    folder.write(&token, Name::IntentStage, b"first")?;
+    if folder
+        .append(&token, Name::IntentStage, b", second")
+        .is_ok()
+    {
+        return Err(Fail::from("the append was done"));
+    }
+    Ok(Bytes::of(alloc, text_at(&folder, Name::IntentStage))?)
+}
+
+#[test]
+fn a_failed_append_leaves_what_its_effect_says(rt: HostRuntime) -> Result<(), Fail> {
+    let alloc = rt.alloc();
+    let happened = left_by_append(alloc, Effect::Happened)?;
+    assert_eq!(rt; happened.as_slice(), b"first, second".as_slice());
+    let nothing = left_by_append(alloc, Effect::Nothing)?;
+    assert_eq!(rt; nothing.as_slice(), b"first".as_slice());
+    let junk = left_by_append(alloc, Effect::Left(Some(Bytes::of(alloc, b"fir")?)))?;
+    assert_eq!(rt; junk.as_slice(), b"fir".as_slice());
+    let gone = left_by_append(alloc, Effect::Left(None))?;
+    assert_eq!(rt; gone.as_slice(), b"".as_slice());
     Ok(())
 }
 

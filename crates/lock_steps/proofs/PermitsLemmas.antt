@@ -48,7 +48,7 @@ module _ (deeds : SuiteDeeds) (stood : Standing) where
   pub may-stage-free : (keeper : Kept) (Knows : Knowledge → Type 0) → Keeps keeper Knows stood →
       Permits deeds stood (writes FreeStage free_text)
   may-stage-free keeper Knows held = staging_rule FreeStage free_text
-      (record { number = keeper.number; keeps = held.locks.owns }) refl
+      (record { number = keeper.number; keeps = held.locks.owns }) (record { staging = refl })
 
   -- the move of the free text to the own lock
   pub may-move-free : (freeing : Maker) → HasStagedFree freeing stood →

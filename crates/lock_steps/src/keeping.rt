@@ -211,7 +211,8 @@ impl<K: Knowing> Keeper<K> {
         ensures { FreesLock (F.moment folder.old) (F.moment folder.new) self.token
             (writes FreeStage free_text) (freeing_of self) HasStagedFree result }
     {
-        let written = folder.write(&self.holder.token, Name::FreeStage, &self.holder.free);
+        let free = self.holder.free.as_slice();
+        let written = folder.write(&self.holder.token, Name::FreeStage, free);
         self.after_write(written)
     }
 

@@ -11,21 +11,18 @@ ghost use Rattle.real_folder.specs.Paths.{path_at};
 use crate::faults::{Faults, SystemError, about};
 use crate::files;
 use crate::files::Links;
-use crate::lock_file::{LOCK_MODE, LockFile, remove_left_over};
+use crate::lock_file::{LockFile, remove_left_over};
 use crate::names::{lock_number, own_path, path_of};
 use crate::process::{locked_token, own_identity};
+use crate::staged_file::StagedFile;
 use acct_outside::{Created, FolderFault, Found, Name, Token};
 use acct_text::Bytes;
 use std::alloc::{AllocError, Global};
-use std::fs::{File, OpenFile};
-use std::io::Write;
+use std::fs::File;
 use std::rt::Files;
 use std::{fs, io};
 
 mod calls;
-
-/// What is staged holds hashes, and is its owner's until it takes on the mode of a table.
-const STAGE_MODE: u32 = 0o600;
 
 /// DIR/etc on a file system, for one session: its token is that of the process, and its lock is held
 /// until the folder is dropped.
@@ -36,6 +33,8 @@ pub struct RealFolder<R: Files<File = File> + AllocGlobal + Clone + Drop> {
     etc: String,
     /// The file of the session's lock, from its begin on.
     lock_file: Option<LockFile>,
+    /// The staging file that the session wrote last, until it is renamed.
+    staged: Option<StagedFile>,
     /// The path of the lock that was read last, empty where none was: a verdict is on its holder.
     judged: String,
     faults: Faults,
@@ -50,6 +49,7 @@ impl<R: Files<File = File> + AllocGlobal + Clone + Drop> RealFolder<R> {
             rt,
             etc,
             lock_file: None,
+            staged: None,
             judged,
             faults: Faults::new(),
         }
@@ -173,38 +173,77 @@ impl<R: Files<File = File> + AllocGlobal + Clone + Drop> RealFolder<R> {
         placed
     }
 
-    /// Writes a file anew, with the access that goes with its name, and then to the disk. Of what is to
-    /// be a backup only the rename knows the table, so it ends the write.
-    fn write_at(
-        &self,
+    /// Begins a staging file with its first piece, and with the access of the table that it is for. Of
+    /// what is to be a backup only the rename knows the table.
+    fn begin_at(
+        &mut self,
         name: Name,
         path: &str,
         table: &str,
-        bytes: &[u8],
-    ) -> Result<(), SystemError> {
-        let mut file = self.at(path, files::renew(&self.rt, path, mode_of(name)))?;
-        self.at(path, file.write_all(bytes))?;
-        if name == Name::BackupStage {
-            return Ok(());
-        }
+        piece: &[u8],
+    ) -> Result<(), SystemError>
+        ensures { self.new.faults.count ≡ self.old.faults.count }
+    {
+        self.staged = None;
+        let file = self.at(path, StagedFile::begun(&self.rt, name, path, piece))?;
         if let Name::Staged(_) = name {
             files::take_on(&self.rt, path, table)?;
         }
-        self.at(path, file.sync_all())
+        self.staged = Some(file);
+        Ok(())
     }
 
-    /// Renames a file to a name. The rename to the intent is the commit, and is to last once it is
-    /// answered. With the freed lock goes what others left over.
-    fn rename_to(&self, name: Name, old: &str, new: &str, table: &str) -> Result<(), SystemError> {
-        if let Name::Backup(_) = name {
-            files::take_on(&self.rt, old, table)?;
-            self.at(old, files::sync(&self.rt, old))?;
+    /// Puts a piece behind what the session stages at the name. Where a piece fails, the file is let go.
+    fn continue_at(&mut self, name: Name, path: &str, piece: &[u8]) -> Result<(), SystemError>
+        ensures { self.new.faults.count ≡ self.old.faults.count }
+    {
+        let Some(mut file) = self.take_staged(name) else {
+            let absent = io::Error::new(io::ErrorKind::NotFound, "not being staged");
+            return self.at(path, Err(absent));
+        };
+        let pushed = file.push(piece);
+        if pushed.is_err() {
+            remove_part(&self.rt, path);
+        } else {
+            self.staged = Some(file);
         }
-        if let Name::Lock(_) = name {
+        self.at(path, pushed)
+    }
+
+    /// The file that the session stages at the name, which it lets go.
+    fn take_staged(&mut self, name: Name) -> Option<StagedFile>
+        ensures { self.new.faults.count ≡ self.old.faults.count }
+    {
+        match self.staged.take() {
+            Some(file) => if file.is_at(name) { Some(file) } else { None },
+            None => None,
+        }
+    }
+
+    /// Renames a file to a name, once all that the session staged there is on the disk. The rename to
+    /// the intent is the commit, and is to last once it is answered. With the freed lock goes what others
+    /// left over.
+    fn rename_to(
+        &mut self,
+        from: Name,
+        to: Name,
+        old: &str,
+        new: &str,
+        table: &str,
+    ) -> Result<(), SystemError>
+        ensures { self.new.faults.count ≡ self.old.faults.count }
+    {
+        if let Name::Backup(_) = to {
+            files::take_on(&self.rt, old, table)?;
+        }
+        if let Some(file) = self.take_staged(from) {
+            self.at(old, file.sync())?;
+        }
+        if let Name::Lock(_) = to {
             let _ = remove_left_over(&self.rt, self.etc.as_str());
         }
         self.at(new, fs::rename(&self.rt, old, new))?;
-        if name == Name::Intent {
+        if to == Name::Intent {
             self.sync_folder()?;
         }
         Ok(())
@@ -246,12 +285,9 @@ fn model_of(name: Name) -> Name {
     }
 }
 
-/// The mode of what is written at a name. All may read a freed lock.
-fn mode_of(name: Name) -> u32 {
-    match name {
-        Name::FreeStage => LOCK_MODE,
-        _ => STAGE_MODE,
-    }
+/// Removes what a write or an append has left that failed: a part of a file would only fill the disk.
+fn remove_part<R: Files>(rt: &R, path: &str) {
+    let _ = files::remove(rt, path);
 }
 
 /// Whether a link may stand at the name. Only login.defs(5) is never replaced.

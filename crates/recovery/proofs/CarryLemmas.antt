@@ -84,7 +84,7 @@ module _ (intent : Intended) (keeper : Kept) (left : List NewTable) (stood : Sta
 
     -- the rules permit that write
     pub may-stage : (deeds : SuiteDeeds) → Permits deeds stood (stages next)
-    may-stage deeds = staging_rule (Staged next.table) next.bytes kept refl
+    may-stage deeds = staging_rule (Staged next.table) next.bytes kept (record { staging = refl })
 
     -- the tables that were moved are in place, and so is the one that is moved now
     moved-in-place : All (λ new. table_with next.table held.placed new.table ≡ true)

@@ -34,7 +34,7 @@ pub fn stage_table<F: Folder>(by: &Token, new: &NewTable, folder: &mut F) -> Res
     requires { MayAct (F.moment folder.old) by.now }
     ensures { CallsFolder (F.moment folder.old) (F.moment folder.new) by.now (stages new.now) result }
 {
-    folder.write(by, Name::Staged(new.table), &new.bytes)
+    folder.write(by, Name::Staged(new.table), new.bytes.as_slice())
 }
 
 /// Moves the staged bytes of a listed table to its place.

@@ -1,6 +1,6 @@
 // The calls of a staged folder: before each but `enter`, `answered` and `faults`, the next list of steps.
 ghost use Rattle.std.specs.Prelude.{◌≡◌, All, IfOk, IsErrOf, Ok};
-ghost use Rattle.acct_outside.specs.Calls.{answers, asks, creates, removes, renames, writes};
+ghost use Rattle.acct_outside.specs.Calls.{answers, appends, asks, creates, removes, renames, writes};
 ghost use Rattle.acct_outside.specs.Contract.{BeginsSession, CallsFolder, EntersFolder, IsLockNumber, IsName, IsWithinLimit, ListsLocks, MayAct, MayAnswer, NeverAdmits, ReadsFolder};
 ghost use Rattle.side_by_side.specs.Lists.{CallsAtOnce, CallsNext};
 
@@ -80,16 +80,28 @@ impl<T: Tools> Folder for StagedFolder<T> {
         self.folder.create(by, number)
     }
 
-    fn write(&mut self, by: &Token, name: Name, bytes: &Bytes) -> Result<(), FolderFault>
+    fn write(&mut self, by: &Token, name: Name, piece: &[u8]) -> Result<(), FolderFault>
         requires acts { MayAct (staged_moment self.old) by.now }
         requires name { IsName name }
         ensures call { CallsFolder (staged_moment self.old) (staged_moment self.new) by.now
-            (writes name bytes.now) result }
+            (writes name piece.now) result }
         ensures next { CallsNext self.old self.new (λ before now. CallsFolder before now by.now
-            (writes name bytes.now) result) result }
+            (writes name piece.now) result) result }
     {
         self.schedule.play_next(&mut self.others, &mut self.folder)?;
-        self.folder.write(by, name, bytes)
+        self.folder.write(by, name, piece)
+    }
+
+    fn append(&mut self, by: &Token, name: Name, piece: &[u8]) -> Result<(), FolderFault>
+        requires acts { MayAct (staged_moment self.old) by.now }
+        requires name { IsName name }
+        ensures call { CallsFolder (staged_moment self.old) (staged_moment self.new) by.now
+            (appends name piece.now) result }
+        ensures next { CallsNext self.old self.new (λ before now. CallsFolder before now by.now
+            (appends name piece.now) result) result }
+    {
+        self.schedule.play_next(&mut self.others, &mut self.folder)?;
+        self.folder.append(by, name, piece)
     }
 
     fn rename(&mut self, by: &Token, from: Name, to: Name) -> Result<(), FolderFault>

@@ -15,7 +15,7 @@ use Rattle.acct_outside.specs.declared.Name.TheVariants.{Table, Backup, Staged, 
 use Rattle.acct_outside.specs.Names.{is_staging}
 use Rattle.acct_outside.specs.Tokens.{Token}
 use Rattle.acct_outside.specs.Folder.{Folder, settings_file}
-use Rattle.acct_outside.specs.Calls.{Call, Command, Answer, CallResult, Effect, begins, lists, reads, asks, creates, writes, renames, removes, answers, done, failed, died, happened, nothing, left, effect_of, changed_by}
+use Rattle.acct_outside.specs.Calls.{Call, Command, Answer, CallResult, Effect, begins, lists, reads, asks, creates, writes, appends, renames, removes, answers, done, failed, died, happened, nothing, left, effect_of, changed_by}
 use Rattle.acct_outside.specs.History.{Event, History, after, own_events}
 use Rattle.acct_outside.specs.Life.{Life, unbegun, running, life, life_step}
 use Rattle.acct_outside.specs.declared.CommitStage.{CommitStage}
@@ -23,7 +23,7 @@ use Rattle.acct_outside.specs.declared.CommitStage.TheVariants.{Before, Committe
 use Rattle.suite_rules.specs.Deeds.{SuiteDeeds}
 use Rattle.suite_rules.specs.Knowledge.{Seen, knows_none}
 use Rattle.suite_rules.specs.Standing.{Standing, calls_commit, command_step, commit_step, standing}
-use Rattle.suite_rules.specs.Rules.{KeeperRule, HasSeen, CommitRule, MayBackUp, moves_backup, moves_free, Permits, free_begin, free_listing, free_read, free_verdict, create_rule, staging_rule, commit_rule, install_rule, clear_rule, move_rule, unlock_rule, answer_rule}
+use Rattle.suite_rules.specs.Rules.{KeeperRule, HasSeen, CommitRule, MayBackUp, moves_backup, moves_free, Permits, free_begin, free_listing, free_read, free_verdict, create_rule, staging_rule, append_rule, commit_rule, install_rule, clear_rule, move_rule, unlock_rule, answer_rule}
 use Rattle.suite_rules.specs.Lawful.{IsNext, Lawful, goes_on}
 use Rattle.suite_rules.specs.Settled.{settled}
 use Rattle.suite_rules.specs.Committed.{Commitment, commitment_of, commits, committed, after_deed, folded}
@@ -38,7 +38,7 @@ use Rattle.suite_session.specs.Backing.{IsToChange, BacksUpChange, BackedUpChang
 use Rattle.suite_session.specs.Deeds.{AreOfTools}
 use Rattle.suite_course.specs.Top.{IsAlone, IsBackedUp}
 use Rattle.suite_course.proofs.AloneLemmas.{no-events, same-token}
-use Rattle.suite_course.proofs.AloneStays.{created-same, removed-same, written-same, moved-same, event-permitted}
+use Rattle.suite_course.proofs.AloneStays.{created-same, removed-same, written-same, appended-same, moved-same, event-permitted}
 use Rattle.suite_course.proofs.BackupLemmas.{begun-stays, moves-active, begun-asked, Makes, makes-one, IsMoved, IsUncommitted, BackupsAlone, leaves-one, leaves-all}
 
 module _ (deeds : SuiteDeeds) (ours : AreOfTools deeds) (first entry : Folder) (token : Token)
@@ -328,10 +328,14 @@ module _ (deeds : SuiteDeeds) (ours : AreOfTools deeds) (first entry : Folder) (
     backups-step _ result (create_rule number rule) next backs =
         leaves (creates number) result next refl refl (λ table. created-same token folder
         (Backup table) number (effect_of (creates number) result) refl)
-    backups-step _ result (staging_rule name bytes keeper is) next backs =
-        leaves (writes name bytes) result next refl refl (λ table. written-same token folder
-        (Backup table) name bytes (effect_of (writes name bytes) result)
-        (fails-apart is_staging (Backup table) name refl is))
+    backups-step _ result (staging_rule name piece keeper rule) next backs =
+        leaves (writes name piece) result next refl refl (λ table. written-same token folder
+        (Backup table) name piece (effect_of (writes name piece) result)
+        (fails-apart is_staging (Backup table) name refl rule.staging))
+    backups-step _ result (append_rule name piece keeper rule) next backs =
+        leaves (appends name piece) result next refl refl (λ table. appended-same token folder
+        (Backup table) name piece (effect_of (appends name piece) result)
+        (fails-apart is_staging (Backup table) name refl rule.rule.staging))
     backups-step _ result (commit_rule keeper rule) next backs = commit-step keeper rule result next
     backups-step _ result (install_rule table keeper rule) next backs =
         leaves (renames (Staged table) (Table table)) result next refl refl (λ other. moved-same

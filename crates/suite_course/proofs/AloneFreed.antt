@@ -18,7 +18,7 @@ use Rattle.suite_rules.specs.Deeds.{SuiteDeeds}
 use Rattle.suite_rules.specs.OwnLock.{OwnLock, lock_uncalled, lock_made, lock_kept, lock_freed, confirm_step, create_step, free_step, own_step}
 use Rattle.suite_rules.specs.Knowledge.{Stages, Knowledge, knows_step}
 use Rattle.suite_rules.specs.Standing.{Standing, standing_step, keeper_part}
-use Rattle.suite_rules.specs.Rules.{KeeperRule, moves_backup, moves_free, Permits, free_begin, free_listing, free_read, free_verdict, create_rule, staging_rule, commit_rule, install_rule, clear_rule, move_rule, unlock_rule, answer_rule}
+use Rattle.suite_rules.specs.Rules.{KeeperRule, moves_backup, moves_free, Permits, free_begin, free_listing, free_read, free_verdict, create_rule, staging_rule, append_rule, commit_rule, install_rule, clear_rule, move_rule, unlock_rule, answer_rule}
 use Rattle.suite_rules.specs.Lawful.{KeepsRulesOrNone}
 use Rattle.suite_rules.specs.Invariant.{KnownStands, KeeperView}
 use Rattle.suite_rules.proofs.KeeperParts.{knows-next}
@@ -189,7 +189,9 @@ module _ (deeds : SuiteDeeds) (past : History) (token : Token) (folder : Folder)
       stays-freed (asks asked) result later refl (inl refl) later
   freed-step _ result keeps (create_rule lock rule) later = absurd (create-freed number lock result
       (sym (ap (λ (own : OwnLock). create_step lock result own) rule.first) ∙ later))
-  freed-step _ result keeps (staging_rule name bytes keeper is) later =
+  freed-step _ result keeps (staging_rule name piece keeper rule) later =
+      absurd (not-freed keeper later)
+  freed-step _ result keeps (append_rule name piece keeper rule) later =
       absurd (not-freed keeper later)
   freed-step _ result keeps (commit_rule keeper rule) later = absurd (not-freed keeper later)
   freed-step _ result keeps (install_rule table keeper rule) later =

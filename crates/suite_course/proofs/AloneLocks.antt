@@ -16,14 +16,14 @@ use Rattle.acct_outside.specs.declared.Created.TheVariants.{Done, Exists}
 use Rattle.acct_outside.specs.Names.{is_staging}
 use Rattle.acct_outside.specs.Tokens.{Token, held_text, free_text}
 use Rattle.acct_outside.specs.Folder.{Folder, IsFolder, greatest, has_number, moved_content}
-use Rattle.acct_outside.specs.Calls.{Call, Answer, CallResult, Effect, Found, lists, reads, asks, creates, writes, renames, removes, done, failed, died, happened, nothing, left, found_absent, found_bytes, found_too_large, effect_of, changed_by}
+use Rattle.acct_outside.specs.Calls.{Call, Answer, CallResult, Effect, Found, lists, reads, asks, creates, writes, appends, renames, removes, done, failed, died, happened, nothing, left, found_absent, found_bytes, found_too_large, effect_of, changed_by}
 use Rattle.acct_outside.specs.History.{History, after}
 use Rattle.acct_outside.specs.Gives.{GivesResult}
 use Rattle.suite_rules.specs.Deeds.{SuiteDeeds}
 use Rattle.suite_rules.specs.OwnLock.{OwnLock, lock_uncalled, lock_kept, lock_freed, made_number, create_step, free_step}
 use Rattle.suite_rules.specs.Listing.{Listing, with_text, text_step, verdict_step, before_create, with_removed}
 use Rattle.suite_rules.specs.Standing.{Standing, standing, standing_step}
-use Rattle.suite_rules.specs.Rules.{moves_backup, moves_free, Permits, free_begin, free_listing, free_read, free_verdict, create_rule, staging_rule, commit_rule, install_rule, clear_rule, move_rule, unlock_rule, answer_rule}
+use Rattle.suite_rules.specs.Rules.{moves_backup, moves_free, Permits, free_begin, free_listing, free_read, free_verdict, create_rule, staging_rule, append_rule, commit_rule, install_rule, clear_rule, move_rule, unlock_rule, answer_rule}
 use Rattle.suite_rules.specs.Lawful.{Lawful}
 use Rattle.suite_rules.proofs.Keepers.{lock-facts}
 use Rattle.suite_rules.proofs.Names.{fails-apart}
@@ -33,7 +33,7 @@ use Rattle.lock_steps.specs.Stands.{KnowsNone, HasFreed}
 use Rattle.suite_course.specs.Top.{IsAlone, IsOnlyLock}
 use Rattle.suite_course.proofs.AloneFreed.{StaysFreed, freed-step}
 use Rattle.suite_course.proofs.AloneSteps.{noted, there}
-use Rattle.suite_course.proofs.AloneStays.{alone-along, event-permitted, moved-same, removed-same, written-same}
+use Rattle.suite_course.proofs.AloneStays.{alone-along, event-permitted, appended-same, moved-same, removed-same, written-same}
 
 -- ---- Lists of numbers
 
@@ -286,9 +286,14 @@ module _ (deeds : SuiteDeeds) (past : History) (token : Token) (folder : Folder)
   known-step _ result (free_read name) gives = read-known name result
   known-step _ result (free_verdict asked) gives = told-known asked result
   known-step _ result (create_rule lock rule) gives = made-known lock result rule.first
-  known-step _ result (staging_rule name bytes keeper is) gives =
-      same-known (writes name bytes) result (written-same token folder (Lock number) name bytes
-      (effect_of (writes name bytes) result) (fails-apart is_staging (Lock number) name refl is))
+  known-step _ result (staging_rule name piece keeper rule) gives =
+      same-known (writes name piece) result (written-same token folder (Lock number) name piece
+      (effect_of (writes name piece) result)
+      (fails-apart is_staging (Lock number) name refl rule.staging))
+  known-step _ result (append_rule name piece keeper rule) gives =
+      same-known (appends name piece) result (appended-same token folder (Lock number) name piece
+      (effect_of (appends name piece) result)
+      (fails-apart is_staging (Lock number) name refl rule.rule.staging))
   known-step _ result (commit_rule keeper rule) gives =
       same-known (renames IntentStage Intent) result
       (moved-same token folder (Lock number) IntentStage Intent

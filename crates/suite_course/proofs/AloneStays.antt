@@ -11,15 +11,15 @@ use Rattle.acct_outside.specs.declared.Name.{Name}
 use Rattle.acct_outside.specs.declared.Name.TheVariants.{Table, Backup, Staged, Intent, IntentStage, BackupStage, FreeStage, Lock}
 use Rattle.acct_outside.specs.Names.{is_staging, same_name}
 use Rattle.acct_outside.specs.Tokens.{Token, held_text}
-use Rattle.acct_outside.specs.Folder.{Folder, moved_content}
-use Rattle.acct_outside.specs.Calls.{Call, Answer, CallResult, Effect, begins, creates, writes, renames, removes, done, failed, died, happened, nothing, left, effect_of, changed_by}
+use Rattle.acct_outside.specs.Folder.{Folder, moved_content, with_piece}
+use Rattle.acct_outside.specs.Calls.{Call, Answer, CallResult, Effect, begins, creates, writes, appends, renames, removes, done, failed, died, happened, nothing, left, effect_of, changed_by}
 use Rattle.acct_outside.specs.History.{Event, History, after}
 use Rattle.acct_outside.specs.Gives.{GivesResult}
 use Rattle.acct_outside.specs.declared.CommitStage.{CommitStage}
 use Rattle.acct_outside.specs.declared.CommitStage.TheVariants.{Before}
 use Rattle.suite_rules.specs.Deeds.{SuiteDeeds}
 use Rattle.suite_rules.specs.Standing.{Standing, commit_step, no_standing, standing, standing_step}
-use Rattle.suite_rules.specs.Rules.{moves_backup, moves_free, Permits, free_begin, free_listing, free_read, free_verdict, create_rule, staging_rule, commit_rule, install_rule, clear_rule, move_rule, unlock_rule, answer_rule}
+use Rattle.suite_rules.specs.Rules.{moves_backup, moves_free, Permits, free_begin, free_listing, free_read, free_verdict, create_rule, staging_rule, append_rule, commit_rule, install_rule, clear_rule, move_rule, unlock_rule, answer_rule}
 use Rattle.suite_rules.specs.Lawful.{KeepsRulesOrNone, IsNext, Lawful, goes_on}
 use Rattle.suite_rules.proofs.Names.{else-is, fails-apart}
 use Rattle.suite_rules.proofs.Settles.{uncalled-before}
@@ -85,6 +85,16 @@ module _ (token : Token) (folder : Folder) (kept : Name) where
   written-same name bytes (left content) other =
       else-is (same_name kept name) content (folder.file kept) other
 
+  -- an append
+  pub appended-same : (name : Name) (piece : Bytes) (effect : Effect) →
+      same_name kept name ≡ false →
+      (changed_by token (appends name piece) effect folder).file kept ≡ folder.file kept
+  appended-same name piece happened other =
+      else-is (same_name kept name) (with_piece piece (folder.file name)) (folder.file kept) other
+  appended-same name piece nothing other = refl
+  appended-same name piece (left content) other =
+      else-is (same_name kept name) content (folder.file kept) other
+
   -- and a move
   pub moved-same : (from to : Name) (effect : Effect) → same_name kept from ≡ false →
       same_name kept to ≡ false →
@@ -127,10 +137,14 @@ module _ (deeds : SuiteDeeds) (token : Token) (entry folder : Folder) (stood : S
   intent-step _ result (free_verdict asked) = held
   intent-step _ result (create_rule number rule) = leaves-intent (creates number) result
       (created-same token folder Intent number (effect_of (creates number) result) refl)
-  intent-step _ result (staging_rule name bytes keeper is) =
-      leaves-intent (writes name bytes) result
-      (written-same token folder Intent name bytes (effect_of (writes name bytes) result)
-      (fails-apart is_staging Intent name refl is))
+  intent-step _ result (staging_rule name piece keeper rule) =
+      leaves-intent (writes name piece) result
+      (written-same token folder Intent name piece (effect_of (writes name piece) result)
+      (fails-apart is_staging Intent name refl rule.staging))
+  intent-step _ result (append_rule name piece keeper rule) =
+      leaves-intent (appends name piece) result
+      (appended-same token folder Intent name piece (effect_of (appends name piece) result)
+      (fails-apart is_staging Intent name refl rule.rule.staging))
   intent-step _ result (commit_rule keeper rule) =
       λ uncalled. absurd (commit-called result stood.commit uncalled)
   intent-step _ result (install_rule table keeper rule) =

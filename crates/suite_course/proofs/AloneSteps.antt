@@ -23,7 +23,7 @@ use Rattle.suite_rules.specs.Deeds.{SuiteDeeds}
 use Rattle.suite_rules.specs.OwnLock.{OwnLock, lock_uncalled, lock_called, lock_unsure, lock_made, lock_kept, lock_freed, made_number, has_called_create, confirm_step, create_step, free_step}
 use Rattle.suite_rules.specs.Listing.{Listing, new_listing, with_text, text_step, verdict_step, before_create}
 use Rattle.suite_rules.specs.Standing.{Standing, standing_step}
-use Rattle.suite_rules.specs.Rules.{CreateRule, KeeperRule, moves_backup, moves_free, unlocks_below, unlocks_own, Permits, free_begin, free_listing, free_read, free_verdict, create_rule, staging_rule, commit_rule, install_rule, clear_rule, move_rule, unlock_rule, answer_rule}
+use Rattle.suite_rules.specs.Rules.{CreateRule, KeeperRule, moves_backup, moves_free, unlocks_below, unlocks_own, Permits, free_begin, free_listing, free_read, free_verdict, create_rule, staging_rule, append_rule, commit_rule, install_rule, clear_rule, move_rule, unlock_rule, answer_rule}
 use Rattle.suite_rules.proofs.Effects.{bytes-stand}
 use Rattle.suite_rules.proofs.Numbers.{greatest-with}
 
@@ -261,7 +261,9 @@ module _ (deeds : SuiteDeeds) (history : History) (token : Token) (entry folder 
     locks-step _ result (free_read name) gives = read-locks name result gives
     locks-step _ result (free_verdict asked) gives = verdict-locks asked result
     locks-step _ result (create_rule number rule) gives = create-locks number result rule
-    locks-step _ result (staging_rule name bytes keeper is) gives =
+    locks-step _ result (staging_rule name piece keeper rule) gives =
+        kept-alone entry _ stood.listing stood.own keeper.number keeper.keeps
+    locks-step _ result (append_rule name piece keeper rule) gives =
         kept-alone entry _ stood.listing stood.own keeper.number keeper.keeps
     locks-step _ result (commit_rule keeper rule) gives =
         kept-alone entry _ stood.listing stood.own keeper.number keeper.keeps

@@ -7,8 +7,8 @@ use Rattle.acct_outside.specs.declared.Name.TheVariants.{FreeStage, Lock}
 use Rattle.acct_outside.specs.declared.Created.TheVariants.{Done, Exists}
 use Rattle.acct_outside.specs.Names.{is_staging, same_name}
 use Rattle.acct_outside.specs.Tokens.{Token}
-use Rattle.acct_outside.specs.Folder.{Folder, with_number, without_number, with_file, moved, moved_content}
-use Rattle.acct_outside.specs.Calls.{Call, Answer, CallResult, Effect, Found, found_within, creates, writes, renames, removes, done, failed, died, happened, nothing, left, found_absent, found_bytes, found_too_large, effect_of, changed_by}
+use Rattle.acct_outside.specs.Folder.{Folder, with_number, without_number, with_file, with_piece, moved, moved_content}
+use Rattle.acct_outside.specs.Calls.{Call, Answer, CallResult, Effect, Found, found_within, creates, writes, appends, renames, removes, done, failed, died, happened, nothing, left, found_absent, found_bytes, found_too_large, effect_of, changed_by}
 use Rattle.acct_outside.specs.History.{History}
 use Rattle.acct_outside.specs.Gives.{GivesEffect, GivesResult}
 use Rattle.suite_rules.specs.Knowledge.{whole_content}
@@ -22,6 +22,9 @@ gives-effect folder history token (creates number) (done Done) gives = gives
 gives-effect folder history token (creates number) (done Exists) gives = tt
 gives-effect folder history token (creates number) (failed effect) gives = gives
 gives-effect folder history token (creates number) (died effect) gives = gives
+gives-effect folder history token (appends name piece) (done answer) gives = gives
+gives-effect folder history token (appends name piece) (failed effect) gives = gives
+gives-effect folder history token (appends name piece) (died effect) gives = gives
 gives-effect folder history token (renames from to) (done answer) gives = gives
 gives-effect folder history token (renames from to) (failed effect) gives = gives
 gives-effect folder history token (renames from to) (died effect) gives = gives
@@ -108,6 +111,16 @@ module _ (folder : Folder) where
   write-locks token name bytes nothing is = locks-same
   write-locks token name bytes (left content) is = file-locks name content (staging-no-lock name is)
 
+  -- an append at a staging name leaves the locks
+  pub append-locks : (token : Token) (name : Name) (piece : Bytes) (effect : Effect) →
+      is_staging name ≡ true →
+      SameLocks folder (changed_by token (appends name piece) effect folder)
+  append-locks token name piece happened is =
+      file-locks name (with_piece piece (folder.file name)) (staging-no-lock name is)
+  append-locks token name piece nothing is = locks-same
+  append-locks token name piece (left content) is =
+      file-locks name content (staging-no-lock name is)
+
   -- a move between names that are no locks leaves the locks, done or not
   pub rename-locks : (token : Token) (from to : Name) (effect : Effect) → is_lock from ≡ false →
       is_lock to ≡ false → SameLocks folder (changed_by token (renames from to) effect folder)
@@ -140,6 +153,15 @@ module _ (folder : Folder) where
       else-is (same_name other name) (Some bytes) (folder.file other) off
   write-others token name bytes nothing other free off = refl
   write-others token name bytes (left content) other free off =
+      else-is (same_name other name) content (folder.file other) off
+
+  -- an append changes nothing but its name
+  pub append-others : (token : Token) (name : Name) (piece : Bytes) (effect : Effect) →
+      SameBut name folder (changed_by token (appends name piece) effect folder)
+  append-others token name piece happened other free off =
+      else-is (same_name other name) (with_piece piece (folder.file name)) (folder.file other) off
+  append-others token name piece nothing other free off = refl
+  append-others token name piece (left content) other free off =
       else-is (same_name other name) content (folder.file other) off
 
   -- a move that happened moved what stood at its source

@@ -7,10 +7,10 @@ use Rattle.acct_text.specs.Bytes.{Bytes}
 use Rattle.acct_outside.specs.declared.Name.{Name}
 use Rattle.acct_outside.specs.declared.Name.TheVariants.{Table, Backup, Staged, Intent, IntentStage, BackupStage, FreeStage, Lock}
 use Rattle.acct_outside.specs.declared.Created.TheVariants.{Done, Exists}
-use Rattle.acct_outside.specs.Names.{same_name}
+use Rattle.acct_outside.specs.Names.{is_staging, same_name}
 use Rattle.acct_outside.specs.Tokens.{Token, held_text}
 use Rattle.acct_outside.specs.Folder.{Folder}
-use Rattle.acct_outside.specs.Calls.{Call, Answer, Effect, begins, creates, writes, renames, removes, answers, done, happened, nothing, left, effect_of, changed_by}
+use Rattle.acct_outside.specs.Calls.{Call, Answer, Effect, begins, creates, writes, appends, renames, removes, answers, done, happened, nothing, left, effect_of, changed_by}
 use Rattle.acct_outside.specs.History.{History}
 use Rattle.acct_outside.specs.Life.{Life, unbegun, running, faulted, ended, MayCall}
 use Rattle.acct_outside.specs.Gives.{GivesEffect, GivesResult}
@@ -18,20 +18,20 @@ use Rattle.suite_rules.specs.Deeds.{SuiteDeeds}
 use Rattle.suite_rules.specs.OwnLock.{OwnLock, is_keeper, made_number}
 use Rattle.suite_rules.specs.Knowledge.{Knowledge, knows_nothing, knows_step}
 use Rattle.suite_rules.specs.Standing.{Standing, nothing_staged, staged_step, keeper_part}
-use Rattle.suite_rules.specs.Rules.{KeeperRule, StagingRule, CommitRule, InstallRule, ClearRule, MayBackUp, moves_backup, moves_free, Permits, free_begin, free_listing, free_read, free_verdict, create_rule, staging_rule, commit_rule, install_rule, clear_rule, move_rule, unlock_rule, answer_rule, KeepsRules}
+use Rattle.suite_rules.specs.Rules.{KeeperRule, CommitRule, InstallRule, ClearRule, MayBackUp, moves_backup, moves_free, Permits, free_begin, free_listing, free_read, free_verdict, create_rule, staging_rule, append_rule, commit_rule, install_rule, clear_rule, move_rule, unlock_rule, answer_rule, KeepsRules}
 use Rattle.suite_rules.specs.Committed.{Commitment, commits, commitment_of}
 use Rattle.suite_rules.specs.Invariant.{KeeperView}
 use Rattle.suite_rules.proofs.Numbers.{number-same}
 use Rattle.suite_rules.proofs.Names.{is_lock, table-same, else-is, fails-apart}
-use Rattle.suite_rules.proofs.Effects.{SameFiles, SameBut, FileMoved, files-same, lock-files, write-others, file-moved}
-use Rattle.suite_rules.proofs.ViewSteps.{view-same, view-read, view-write, view-commit, view-install, view-backup, view-clear, view-free}
+use Rattle.suite_rules.proofs.Effects.{SameFiles, SameBut, FileMoved, files-same, lock-files, write-others, append-others, file-moved}
+use Rattle.suite_rules.proofs.ViewSteps.{view-same, view-read, view-write, view-append, view-commit, view-install, view-backup, view-clear, view-free}
 
 -- What an event did to the files, and which commands it committed: nothing, or one change of an
 -- active keeper.
 pub data FileEffect (deeds : SuiteDeeds) (token : Token) (before after : Folder) (life : Life)
     (standing : Standing) : List Commitment → Type 0 where
   files_stay : SameFiles before after → FileEffect deeds token before after life standing []
-  file_written : (name : Name) → StagingRule name → KeeperRule standing → life ≡ running →
+  file_written : (name : Name) → is_staging name ≡ true → KeeperRule standing → life ≡ running →
       SameBut name before after → FileEffect deeds token before after life standing []
   intent_committed : (keeper : KeeperRule standing) → CommitRule deeds standing keeper.number →
       life ≡ running → FileMoved before after IntentStage Intent →
@@ -150,9 +150,12 @@ module _ (deeds : SuiteDeeds) (token : Token) (folder : Folder) (life : Life)
       cases _ (free_read name) may gives = files_stay (files-same folder)
       cases _ (free_verdict asked) may gives = files_stay (files-same folder)
       cases _ (create_rule number rule) may gives = files_stay (create-effect number effect)
-      cases _ (staging_rule name bytes keeper is) may gives =
-          file_written name is keeper (active life (writes name bytes) refl may)
-          (write-others folder token name bytes effect)
+      cases _ (staging_rule name piece keeper rule) may gives =
+          file_written name rule.staging keeper (active life (writes name piece) refl may)
+          (write-others folder token name piece effect)
+      cases _ (append_rule name piece keeper rule) may gives =
+          file_written name rule.rule.staging keeper (active life (appends name piece) refl may)
+          (append-others folder token name piece effect)
       cases _ (commit_rule keeper rule) may gives =
           commit-effect keeper effect rule (active life (renames IntentStage Intent) refl may) gives
       cases _ (install_rule table keeper rule) may gives =
@@ -196,8 +199,10 @@ module _ (deeds : SuiteDeeds) (history : History) (token : Token) (folder : Fold
       view-read folder standing.staged name answer standing.knows gives view
   view-step _ answer (free_verdict asked) gives view = view
   view-step _ answer (create_rule number rule) gives view = create-view number answer view
-  view-step _ answer (staging_rule name bytes keeper is) gives view =
-      rw is (view-write deeds folder standing token view name bytes is)
+  view-step _ answer (staging_rule name piece keeper rule) gives view =
+      rw rule.staging (view-write deeds folder standing token view name piece rule.staging)
+  view-step _ answer (append_rule name piece keeper rule) gives view =
+      rw rule.rule.staging (view-append deeds folder standing token view name piece rule)
   view-step _ answer (commit_rule keeper rule) gives view =
       view-commit deeds folder standing token view keeper.number rule gives
   view-step _ answer (install_rule table keeper rule) gives view =

@@ -9,16 +9,16 @@ use Rattle.acct_outside.specs.declared.Created.TheVariants.{Done, Exists}
 use Rattle.acct_outside.specs.Names.{name_limit}
 use Rattle.acct_outside.specs.Tokens.{Token, held_text}
 use Rattle.acct_outside.specs.Folder.{Folder, greatest, top}
-use Rattle.acct_outside.specs.Calls.{Call, Answer, CallResult, Found, lists, reads, asks, creates, writes, renames, removes, done, failed, died, happened, nothing, left, found_absent, found_bytes, found_too_large, effect_of, changed_by}
+use Rattle.acct_outside.specs.Calls.{Call, Answer, CallResult, Found, lists, reads, asks, creates, writes, appends, renames, removes, done, failed, died, happened, nothing, left, found_absent, found_bytes, found_too_large, effect_of, changed_by}
 use Rattle.acct_outside.specs.History.{History}
 use Rattle.acct_outside.specs.Gives.{GivesVerdict, GivesEffect, GivesResult}
 use Rattle.suite_rules.specs.Deeds.{SuiteDeeds}
 use Rattle.suite_rules.specs.OwnLock.{lock_called, lock_unsure, lock_made, lock_kept, lock_freed, held_number, has_called_create, makes, confirm_step, freed_at}
 use Rattle.suite_rules.specs.Listing.{new_listing, text_step, verdict_step, before_create, with_removed}
 use Rattle.suite_rules.specs.Standing.{Standing, standing_step}
-use Rattle.suite_rules.specs.Rules.{CreateRule, UnlockRule, moves_backup, moves_free, Permits, free_begin, free_listing, free_read, free_verdict, create_rule, staging_rule, commit_rule, install_rule, clear_rule, move_rule, unlock_rule, answer_rule}
+use Rattle.suite_rules.specs.Rules.{CreateRule, UnlockRule, moves_backup, moves_free, Permits, free_begin, free_listing, free_read, free_verdict, create_rule, staging_rule, append_rule, commit_rule, install_rule, clear_rule, move_rule, unlock_rule, answer_rule}
 use Rattle.suite_rules.proofs.Numbers.{number-same}
-use Rattle.suite_rules.proofs.Effects.{gives-effect, SameLocks, WithLock, WithoutLock, locks-same, write-locks, rename-locks, remove-locks, free-lock, bytes-stand}
+use Rattle.suite_rules.proofs.Effects.{gives-effect, SameLocks, WithLock, WithoutLock, locks-same, write-locks, append-locks, rename-locks, remove-locks, free-lock, bytes-stand}
 
 -- What an event did: the folder before became the one after, and the lock and the listing of its
 -- session became those of the later standing.
@@ -183,9 +183,12 @@ module _ (deeds : SuiteDeeds) (history : History) (token : Token) (folder : Fold
   lock-step _ result (create_rule number rule) gives =
       create-step number result rule
       (gives-effect folder history token (creates number) result gives)
-  lock-step _ result (staging_rule name bytes keeper is) gives =
-      lock_quiet (write-locks folder token name bytes (effect_of (writes name bytes) result) is)
-      refl refl
+  lock-step _ result (staging_rule name piece keeper rule) gives =
+      lock_quiet (write-locks folder token name piece (effect_of (writes name piece) result)
+      rule.staging) refl refl
+  lock-step _ result (append_rule name piece keeper rule) gives =
+      lock_quiet (append-locks folder token name piece (effect_of (appends name piece) result)
+      rule.rule.staging) refl refl
   lock-step _ result (commit_rule keeper rule) gives =
       lock_quiet (rename-locks folder token IntentStage Intent
       (effect_of (renames IntentStage Intent) result) refl refl) refl refl

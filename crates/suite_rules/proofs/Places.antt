@@ -17,7 +17,7 @@ use Rattle.suite_rules.specs.Deeds.{SuiteDeeds}
 use Rattle.suite_rules.specs.OwnLock.{OwnLock, lock_kept, lock_freed, is_keeper, made_number, kept_number, own_step}
 use Rattle.suite_rules.specs.Knowledge.{Seen, Knowledge, knows_nothing, knows_none, knows_step}
 use Rattle.suite_rules.specs.Standing.{Standing, standing, keeper_part}
-use Rattle.suite_rules.specs.Rules.{moves_backup, moves_free, Permits, free_begin, free_listing, free_read, free_verdict, create_rule, staging_rule, commit_rule, install_rule, clear_rule, move_rule, unlock_rule, answer_rule}
+use Rattle.suite_rules.specs.Rules.{moves_backup, moves_free, Permits, free_begin, free_listing, free_read, free_verdict, create_rule, staging_rule, append_rule, commit_rule, install_rule, clear_rule, move_rule, unlock_rule, answer_rule}
 use Rattle.suite_rules.specs.Lawful.{KeepsRulesOrNone, IsNext, Lawful, goes_on}
 use Rattle.suite_rules.specs.Committed.{Commitment, committed, place, folded}
 use Rattle.suite_rules.specs.Invariant.{KnownStands}
@@ -60,7 +60,8 @@ module _ (deeds : SuiteDeeds) (standing : Standing) where
   idle-knows life _ (died effect) (free_read name) may keeps idle = refl
   idle-knows life _ result (free_verdict asked) may keeps idle = refl
   idle-knows life _ result (create_rule number rule) may keeps idle = refl
-  idle-knows life _ result (staging_rule name bytes keeper is) may keeps idle = refl
+  idle-knows life _ result (staging_rule name piece keeper rule) may keeps idle = refl
+  idle-knows life _ result (append_rule name piece keeper rule) may keeps idle = refl
   idle-knows life _ (done answer) (commit_rule keeper rule) may keeps idle =
       absurd (idle (rw (active life (renames IntentStage Intent) refl may) refl) keeps)
   idle-knows life _ (failed effect) (commit_rule keeper rule) may keeps idle = refl

@@ -9,7 +9,7 @@ use Rattle.acct_outside.specs.declared.Name.TheVariants.{Table, Staged, Intent, 
 use Rattle.acct_outside.specs.declared.Created.TheVariants.{Done}
 use Rattle.acct_outside.specs.declared.Verdict.TheVariants.{Dead}
 use Rattle.acct_outside.specs.Folder.{Folder, greatest}
-use Rattle.acct_outside.specs.Calls.{Call, Answer, lists, reads, asks, creates, writes, renames, removes, answers, done, failed, happened, found_absent, found_bytes}
+use Rattle.acct_outside.specs.Calls.{Call, Answer, lists, reads, asks, creates, writes, appends, renames, removes, answers, done, failed, happened, found_absent, found_bytes}
 use Rattle.acct_outside.specs.History.{Event, History}
 use Rattle.intent_file.specs.Intent.{Intended, ReadsIntent, listed_in}
 use Rattle.suite_rules.proofs.Intents.{one-intent}
@@ -17,7 +17,7 @@ use Rattle.suite_rules.specs.Deeds.{SuiteDeeds}
 use Rattle.suite_rules.specs.Listing.{Listing}
 use Rattle.suite_rules.specs.Knowledge.{Knowledge, knows_bytes, table_with}
 use Rattle.suite_rules.specs.Standing.{Standing, standing}
-use Rattle.suite_rules.specs.Rules.{ClearRule, CommitRule, KeeperRule, unlocks_below, unlocks_own, answers_refusal, answers_changed, answers_same, Permits, create_rule, staging_rule, commit_rule, install_rule, clear_rule, move_rule, unlock_rule, answer_rule}
+use Rattle.suite_rules.specs.Rules.{ClearRule, CommitRule, KeeperRule, unlocks_below, unlocks_own, answers_refusal, answers_changed, answers_same, Permits, create_rule, staging_rule, append_rule, commit_rule, install_rule, clear_rule, move_rule, unlock_rule, answer_rule}
 use Rattle.suite_rules.specs.Lawful.{IsNext}
 use Rattle.suite_rules.proofs.Staff.{m1, staff_line, staff_intent, staff_intended, staff-reads, seen_of}
 use Rattle.suite_rules.proofs.CommitRow.{begun, became_keeper, read_passwd, read_settings}
@@ -204,7 +204,25 @@ in_place : IsRefused (own (writes (Table Group) staff_line) tt) read_settings
 in_place deeds first next = cases next.keeps.permitted
   where
     cases : Permits deeds (standing m1 read_settings) (writes (Table Group) staff_line) → ⊥
-    cases (staging_rule _ _ keeper is) = true≢false (sym is)
+    cases (staging_rule _ _ keeper rule) = true≢false (sym rule.staging)
+
+-- `append_in_place`: a piece is put behind a table in place.
+
+-- the append is refused
+append_in_place : IsRefused (own (appends (Table Group) staff_line) tt) read_settings
+append_in_place deeds first next = cases next.keeps.permitted
+  where
+    cases : Permits deeds (standing m1 read_settings) (appends (Table Group) staff_line) → ⊥
+    cases (append_rule _ _ keeper rule) = true≢false (sym rule.rule.staging)
+
+-- `append_first`: a piece is put behind what another session left at a staging name.
+
+-- the append is refused
+append_first : IsRefused (own (appends (Staged Group) staff_line) tt) read_settings
+append_first deeds first next = cases next.keeps.permitted
+  where
+    cases : Permits deeds (standing m1 read_settings) (appends (Staged Group) staff_line) → ⊥
+    cases (append_rule _ _ keeper rule) = true≢false (sym rule.behind)
 
 -- group was staged, and no intent stands
 abbrev staged_without_intent : History

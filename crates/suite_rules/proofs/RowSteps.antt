@@ -52,7 +52,7 @@ module _ (deeds : SuiteDeeds) (first : Folder) (token : Token) (history : Histor
       Lawful deeds first
       (record { token = token; call = writes name bytes; result = done tt } ∷ history)
   write-lawful name bytes keeper is = goes_on _ _ lawful (record {
-    keeps = record { life_rule = rw runs tt; permitted = staging_rule name bytes keeper is };
+    keeps = record { life_rule = rw runs tt; permitted = staging_rule name bytes keeper (record { staging = is }) };
     gives = tt;
   })
 

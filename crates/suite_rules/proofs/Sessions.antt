@@ -5,7 +5,7 @@ use Rattle.std.proofs.Common.{◌≡◌, ◌≢◌, refl, sym, ap, subst, ◌∙
 use Rattle.std.proofs.lemmas.Slice.Eq.{bytes_eq-Decides}
 use Rattle.acct_outside.specs.Tokens.{Token}
 use Rattle.acct_outside.specs.Folder.{Folder}
-use Rattle.acct_outside.specs.Calls.{Call, Answer, CallResult, begins, lists, reads, asks, creates, writes, renames, removes, answers, done, failed, died}
+use Rattle.acct_outside.specs.Calls.{Call, Answer, CallResult, begins, lists, reads, asks, creates, writes, appends, renames, removes, answers, done, failed, died}
 use Rattle.acct_outside.specs.History.{Event, History}
 use Rattle.acct_outside.specs.Life.{Life, unbegun, running, faulted, ended, life, life_step, life_after_call, runs_in}
 use Rattle.suite_rules.specs.Deeds.{SuiteDeeds}
@@ -132,6 +132,7 @@ begin-first deeds history token (asks asked) result keeps is own = refl
 begin-first deeds history token (creates number) result keeps is own =
     absurd (rw is at keeps.life_rule)
 begin-first deeds history token (writes name bytes) result keeps is own = refl
+begin-first deeds history token (appends name piece) result keeps is own = refl
 begin-first deeds history token (renames from to) result keeps is own =
     absurd (rw is at keeps.life_rule)
 begin-first deeds history token (removes name) result keeps is own = refl

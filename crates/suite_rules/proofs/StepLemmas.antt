@@ -17,7 +17,7 @@ use Rattle.acct_outside.specs.declared.Found.{Found as Reading}
 use Rattle.acct_outside.specs.Names.{name_limit}
 use Rattle.acct_outside.specs.Tokens.{Token}
 use Rattle.acct_outside.specs.Folder.{Folder}
-use Rattle.acct_outside.specs.Calls.{Command, Call, Answer, CallResult, Effect, begins, lists, reads, asks, creates, writes, renames, removes, answers, done, failed, died}
+use Rattle.acct_outside.specs.Calls.{Command, Call, Answer, CallResult, Effect, begins, lists, reads, asks, creates, writes, appends, renames, removes, answers, done, failed, died}
 use Rattle.acct_outside.specs.History.{Event, History, is_of, own_events, after}
 use Rattle.acct_outside.specs.Life.{Life, life, running, faulted, life_step, runs_in, MayCall}
 use Rattle.acct_outside.specs.Gives.{GivesResult}
@@ -145,6 +145,7 @@ done-runs (reads name) answer is = refl
 done-runs (asks token) answer is = refl
 done-runs (creates number) answer is = refl
 done-runs (writes name bytes) answer is = refl
+done-runs (appends name piece) answer is = refl
 done-runs (renames from to) answer is = refl
 done-runs (removes name) answer is = refl
 done-runs (answers status) answer is = absurd is
@@ -158,6 +159,7 @@ failed-faults (reads name) effect is = refl
 failed-faults (asks token) effect is = refl
 failed-faults (creates number) effect is = refl
 failed-faults (writes name bytes) effect is = refl
+failed-faults (appends name piece) effect is = refl
 failed-faults (renames from to) effect is = refl
 failed-faults (removes name) effect is = refl
 failed-faults (answers status) effect is = absurd is

@@ -10,17 +10,17 @@ use Rattle.acct_outside.specs.declared.Name.{Name}
 use Rattle.acct_outside.specs.declared.Name.TheVariants.{Table, Backup, Staged, Intent, IntentStage, BackupStage, FreeStage, Lock, Defs}
 use Rattle.acct_outside.specs.Names.{is_staging, same_name, name_limit}
 use Rattle.acct_outside.specs.Tokens.{Token}
-use Rattle.acct_outside.specs.Folder.{Folder, with_file, moved}
+use Rattle.acct_outside.specs.Folder.{Folder, with_file, with_piece, appended, moved}
 use Rattle.acct_outside.specs.Calls.{Found, found_within, happened, found_absent, found_bytes, found_too_large}
 use Rattle.intent_file.specs.Intent.{Intended, ReadsIntent, listed_in}
 use Rattle.suite_rules.proofs.Intents.{one-intent}
 use Rattle.suite_rules.specs.Deeds.{SuiteDeeds}
 use Rattle.suite_rules.specs.Knowledge.{Knowledge, knows_nothing, knows_none, knows_bytes, knows_new, nothing_seen, is_input, whole_content, seen_with, table_with, input_step, read_step, commits_bytes, is_seen, backup_step, install_step}
 use Rattle.suite_rules.specs.Standing.{Standing, staged_with}
-use Rattle.suite_rules.specs.Rules.{CommitRule, InstallRule, MayBackUp}
+use Rattle.suite_rules.specs.Rules.{AppendRule, CommitRule, InstallRule, MayBackUp}
 use Rattle.suite_rules.specs.Invariant.{NoneStands, BytesStand, KnownStands, KeeperView}
 use Rattle.suite_rules.proofs.Names.{is_lock, table-is, table-same, staging-no-lock, input-no-lock, input-no-staging, name-is, passes-apart, fails-apart, else-is}
-use Rattle.suite_rules.proofs.Effects.{SameFiles, FileMoved, write-others, file-moved, absent-stands, bytes-stand, whole-stands}
+use Rattle.suite_rules.proofs.Effects.{SameFiles, FileMoved, write-others, append-others, file-moved, absent-stands, bytes-stand, whole-stands}
 use Rattle.suite_rules.proofs.LockKept.{or-cases}
 
 -- what is staged stands in the folder
@@ -174,6 +174,32 @@ module _ (deeds : SuiteDeeds) (folder : Folder) (standing : Standing) (token : T
           (if same then Some bytes else standing.staged other) ≡ Some content →
           (if same then Some bytes else folder.file other) ≡ Some content
       cases other content staging true has = has
+      cases other content staging false has = view.stages other content staging has
+
+  -- an append behind staged bytes stages its piece too
+  pub view-append : (name : Name) (piece : Bytes) → AppendRule standing name piece →
+      KeeperView (appended name piece folder) standing.knows
+      (staged_with name (with_piece piece (standing.staged name)) standing.staged)
+  view-append name piece rule = record {
+    known = known-same folder (appended name piece folder)
+        (λ other free plain. append-others folder token name piece happened other free
+        (fails-apart is_staging other name plain rule.rule.staging)) standing.knows view.known;
+    stages = λ other content staging has. cases other content staging (same_name other name) has;
+  }
+    where
+      behind : (staged : Option Bytes) → standing.staged name ≡ staged → (content : Bytes) →
+          with_piece piece staged ≡ Some content →
+          with_piece piece (folder.file name) ≡ Some content
+      behind None is content has = absurd (cc)
+      behind (Some bytes) is content has =
+          ap (with_piece piece) (view.stages name bytes rule.rule.staging is) ∙ has
+
+      cases : (other : Name) (content : Bytes) → is_staging other ≡ true → (same : Bool) →
+          (if same then with_piece piece (standing.staged name) else standing.staged other)
+          ≡ Some content →
+          (if same then with_piece piece (folder.file name) else folder.file other)
+          ≡ Some content
+      cases other content staging true has = behind (standing.staged name) refl content has
       cases other content staging false has = view.stages other content staging has
 
   -- the commit makes the intent that was staged stand

@@ -1,7 +1,7 @@
 -- The rules: which calls a session may make next, by its life and its standing
 -- (docs/ARCHITECTURE.md, "The rules"). Listings, reads and verdicts are free to every running
 -- session. A call that no rule permits is never allowed.
-use Rattle.std.specs.Prelude.{◌≡◌, ◌≢◌, ℕ, ◌+◌, ◌<◌, Bool, true, Option, Some}
+use Rattle.std.specs.Prelude.{◌≡◌, ◌≢◌, ℕ, ◌+◌, ◌<◌, Bool, true, Option, Some, IsSome}
 use Rattle.acct_text.specs.declared.Tab.{Tab}
 use Rattle.acct_text.specs.Bytes.{Bytes}
 use Rattle.acct_text.specs.Contents.{Contents}
@@ -10,7 +10,7 @@ use Rattle.acct_outside.specs.declared.Name.TheVariants.{Table, Backup, Staged, 
 use Rattle.acct_outside.specs.Names.{is_staging, greatest_lock}
 use Rattle.acct_outside.specs.Tokens.{Token, free_text}
 use Rattle.acct_outside.specs.Folder.{greatest}
-use Rattle.acct_outside.specs.Calls.{Command, Call, begins, lists, reads, asks, creates, writes, renames, removes, answers}
+use Rattle.acct_outside.specs.Calls.{Command, Call, begins, lists, reads, asks, creates, writes, appends, renames, removes, answers}
 use Rattle.acct_outside.specs.Life.{Life, MayCall}
 use Rattle.acct_outside.specs.declared.CommitStage.TheVariants.{Before, Committed}
 use Rattle.intent_file.specs.Intent.{Intended, intent_text, ReadsIntent, listed_in}
@@ -31,14 +31,20 @@ pub record CreateRule (standing : Standing) (number : ℕ) : Type 0 where
   pub judged : listing.is_judged ≡ true
   pub not_exhausted : greatest listing.numbers < greatest_lock
 
--- Tables, backups, staging names and the intent are written, moved or removed only by a keeper.
+-- Tables, backups, staging names and the intent are written, appended to, moved or removed only by a
+-- keeper.
 pub record KeeperRule (standing : Standing) : Type 0 where
   pub number : ℕ
   pub keeps : standing.own ≡ lock_kept number
 
--- Write only at staging names.
-abbrev pub StagingRule : Name → Type 0
-StagingRule name = is_staging name ≡ true
+-- Write and append only at staging names.
+pub record StagingRule (name : Name) (piece : Bytes) : Type 0 where
+  pub staging : is_staging name ≡ true
+
+-- Append only at a name at which the session has staged bytes.
+pub record AppendRule (standing : Standing) (name : Name) (piece : Bytes) : Type 0 where
+  pub rule : StagingRule name piece
+  pub behind : IsSome (standing.staged name)
 
 -- the session was asked to do this, and has seen these six files and this login.defs
 pub record HasSeen (asked : Option Command) (seen : Seen) : Type 0 where
@@ -134,8 +140,10 @@ pub data Permits (deeds : SuiteDeeds) (standing : Standing) : Call → Type 0 wh
   free_verdict : (token : Token) → Permits deeds standing (asks token)
   create_rule : (number : ℕ) → CreateRule standing number →
       Permits deeds standing (creates number)
-  staging_rule : (name : Name) (bytes : Bytes) → KeeperRule standing → StagingRule name →
-      Permits deeds standing (writes name bytes)
+  staging_rule : (name : Name) (piece : Bytes) → KeeperRule standing → StagingRule name piece →
+      Permits deeds standing (writes name piece)
+  append_rule : (name : Name) (piece : Bytes) → KeeperRule standing →
+      AppendRule standing name piece → Permits deeds standing (appends name piece)
   commit_rule : (keeper : KeeperRule standing) → CommitRule deeds standing keeper.number →
       Permits deeds standing (renames IntentStage Intent)
   install_rule : (table : Tab) → KeeperRule standing → InstallRule standing table →

@@ -6,7 +6,8 @@ use Rattle.acct_outside.specs.declared.Name.{Name}
 use Rattle.acct_outside.specs.declared.Name.TheVariants.{Intent, IntentStage}
 use Rattle.acct_outside.specs.Names.{same_name, is_staging}
 use Rattle.acct_outside.specs.Tokens.{Token}
-use Rattle.acct_outside.specs.Calls.{Command, Call, Answer, CallResult, begins, writes, renames, done}
+use Rattle.acct_outside.specs.Folder.{with_piece}
+use Rattle.acct_outside.specs.Calls.{Command, Call, Answer, CallResult, begins, writes, appends, renames, done}
 use Rattle.acct_outside.specs.History.{History, is_of}
 use Rattle.acct_outside.specs.declared.CommitStage.{CommitStage}
 use Rattle.acct_outside.specs.declared.CommitStage.TheVariants.{Before, Unsure, Committed}
@@ -24,7 +25,8 @@ pub record Standing : Type 0 where
   pub own : OwnLock
   -- what it knows of the intent, by its events as keeper alone
   pub knows : Knowledge
-  -- the bytes of its last done write as keeper at each staging name that it hasn't moved since
+  -- the bytes of its last done write as keeper at each staging name that it hasn't moved since, with
+  -- those of its done appends there behind them
   pub staged : Stages
   -- how far it is with its commit, the rename of the staged intent to the intent: before its call,
   -- unsure after one that wasn't done, or committed
@@ -58,6 +60,8 @@ staged_with name content staged other = if same_name other name then content els
 abbrev pub staged_step : (call : Call) → CallResult (Answer call) → Stages → Stages
 staged_step (writes name bytes) (done answer) staged =
     if is_staging name then staged_with name (Some bytes) staged else staged
+staged_step (appends name piece) (done answer) staged =
+    if is_staging name then staged_with name (with_piece piece (staged name)) staged else staged
 staged_step (renames from to) result staged = staged_with from None staged
 staged_step _ _ staged = staged
 

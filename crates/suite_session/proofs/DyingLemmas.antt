@@ -9,7 +9,7 @@ use Rattle.std.specs.Prelude.{OnErr, OnOk}
 use Rattle.std.proofs.Common.{◌≡◌, ◌≢◌, refl, sym, ap, subst, ◌∙◌, true, false, Option, Some, None, IfSome, Result, Ok, Err}
 use Rattle.acct_outside.specs.declared.memory.MemoryFolder.{MemoryFolder}
 use Rattle.acct_outside.specs.declared.Call.{Call as FolderCall}
-use Rattle.acct_outside.specs.declared.Call.TheVariants.{Begin, Create, Rename, Remove}
+use Rattle.acct_outside.specs.declared.Call.TheVariants.{Append, Begin, Create, Rename, Remove}
 use Rattle.acct_outside.specs.declared.Effect.{Effect as CallEffect}
 use Rattle.acct_outside.specs.Calls.{Call, Effect, answers, begins, died}
 use Rattle.acct_outside.specs.Events.{IsLaterCall, actual_effect, call_of, effect_in}
@@ -73,6 +73,8 @@ died-given : (folder : Folder) (history : History) (token : Token) (named : Fold
 died-given folder history token Begin effect later = absurd later
 died-given folder history token (Create number) effect later =
     actual-given folder (Create number) effect
+died-given folder history token (Append name piece) effect later =
+    actual-given folder (Append name piece) effect
 died-given folder history token (Rename from to) effect later =
     actual-given folder (Rename from to) effect
 died-given folder history token (Remove name) effect later =

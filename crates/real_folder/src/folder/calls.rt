@@ -1,8 +1,7 @@
 // The calls of the folder DIR/etc on a file system. It tells no history.
 ghost use Rattle.real_folder.specs.Untold.{untold};
 
-use super::{RealFolder, held_text, model_of};
-use crate::files;
+use super::{RealFolder, held_text, model_of, remove_part};
 use crate::names::etc_of;
 use crate::verdict::verdict_of;
 use acct_outside::{Created, Folder, FolderFault, Found, Name, Token, Verdict};
@@ -51,34 +50,42 @@ impl<R: Files<File = File> + AllocGlobal + Clone + Drop> Folder for RealFolder<R
         self.answer_change(created)
     }
 
-    // The file is made anew, so that nobody reads it who could read what stood there.
-    fn write(&mut self, _by: &Token, name: Name, bytes: &Bytes) -> Result<(), FolderFault> {
+    fn write(&mut self, _by: &Token, name: Name, piece: &[u8]) -> Result<(), FolderFault> {
         let path = self.path(name)?;
         let table = self.path(model_of(name))?;
-        let written = self.write_at(name, path.as_str(), table.as_str(), bytes.as_slice());
-        if written.is_err() {
-            // A part of a file would only fill the disk.
-            let _ = files::remove(&self.rt, path.as_str());
+        let begun = self.begin_at(name, path.as_str(), table.as_str(), piece);
+        if begun.is_err() {
+            remove_part(&self.rt, path.as_str());
         }
-        self.answer_change(written)
+        self.answer_change(begun)
+    }
+
+    // The piece goes behind those that this session wrote there. What another left there is no part of
+    // what it stages, so it fails.
+    fn append(&mut self, _by: &Token, name: Name, piece: &[u8]) -> Result<(), FolderFault> {
+        let path = self.path(name)?;
+        let continued = self.continue_at(name, path.as_str(), piece);
+        self.answer_change(continued)
     }
 
     fn rename(&mut self, _by: &Token, from: Name, to: Name) -> Result<(), FolderFault> {
         let old = self.path(from)?;
         let new = self.path(to)?;
         let table = self.path(model_of(to))?;
-        let renamed = self.rename_to(to, old.as_str(), new.as_str(), table.as_str());
+        let renamed = self.rename_to(from, to, old.as_str(), new.as_str(), table.as_str());
         self.answer_change(renamed)
     }
 
     fn remove(&mut self, _by: &Token, name: Name) -> Result<(), FolderFault> {
         let path = self.path(name)?;
+        self.staged = None;
         let removed = self.remove_at(name, path.as_str());
         self.answer_change(removed)
     }
 
     // The session ends with its process, which the verdict of others tells.
     fn answered(&mut self, _by: &Token, _status: u8) {
+        self.staged = None;
         if let Some(file) = &mut self.lock_file {
             file.forget(&self.rt);
         }

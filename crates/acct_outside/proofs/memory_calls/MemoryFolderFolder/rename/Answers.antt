@@ -1,9 +1,5 @@
-use Rattle.std.proofs.Common.{◌≡◌, Option, Some, None, Result, Ok, Err, refl, cond}
-use Rattle.std.specs.Prelude.{IsSome, is_none}
-use Rattle.acct_text.specs.Bytes.{Bytes}
+use Rattle.std.proofs.Common.{Result, Ok, Err}
 use Rattle.acct_outside.specs.declared.Name.{Name}
-use Rattle.acct_outside.specs.declared.Effect.{Effect}
-use Rattle.acct_outside.specs.declared.Effect.TheVariants.{Nothing}
 use Rattle.acct_outside.specs.declared.FolderFault.{FolderFault}
 use Rattle.acct_outside.specs.declared.Call.TheVariants.{Rename}
 use Rattle.acct_outside.specs.declared.memory.MemoryFolder.{MemoryFolder}
@@ -12,15 +8,8 @@ use Rattle.acct_outside.specs.Calls.{renames}
 use Rattle.acct_outside.specs.Plan.{planned_effect}
 use Rattle.acct_outside.specs.Logged.{folder_after}
 use Rattle.acct_outside.specs.Memory.{FailsAsPlanned, TellsAct, TellsIn, calls_of, past_of, plan_of}
-use Rattle.acct_outside.proofs.ToldLemmas.{told_done, gives_after}
+use Rattle.acct_outside.proofs.ToldLemmas.{told_done, gives_after, source-stands}
 use Rattle.acct_outside.proofs.memory_calls.MemoryFolderFolder.rename.Goals as goal
-
--- what isn't to fail by itself stands
-source_stands : (content : Option Bytes) (planned : Option Effect)
-    → cond (is_none content) (Some Nothing) planned ≡ None
-    → IsSome content
-source_stands None planned due = absurd cc
-source_stands (Some bytes) planned due = refl
 
 -- a rename tells its event
 tells_rename : (old new : MemoryFolder) (by : Token) (from to : Name)
@@ -31,7 +20,7 @@ tells_rename : (old new : MemoryFolder) (by : Token) (from to : Name)
 tells_rename old new by from to (Ok unit) planned is =
     told_done (past_of old) (past_of new) by (renames from to) (gives_after by (renames from to))
     tt is
-    (source_stands ((folder_after (past_of old)).file from)
+    (source-stands ((folder_after (past_of old)).file from)
     (planned_effect (calls_of new) (plan_of new)) planned)
 tells_rename old new by from to (Err fault) planned is = is
 

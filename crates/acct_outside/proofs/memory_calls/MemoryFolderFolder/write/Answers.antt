@@ -11,19 +11,19 @@ use Rattle.acct_outside.specs.declared.memory.MemoryFolder.{MemoryFolder}
 use Rattle.acct_outside.proofs.memory_calls.MemoryFolderFolder.write.Goals as goal
 
 -- a write tells its event
-tells_write : (old new : MemoryFolder) (by : Token) (name : Name) (bytes : Bytes)
+tells_write : (old new : MemoryFolder) (by : Token) (name : Name) (piece : Bytes)
     (result : Result (Unit {0}) FolderFault)
-    → TellsAct old new by (Write name bytes) result
-    → TellsIn old new by (writes name bytes) result
-tells_write old new by name bytes (Ok unit) is =
-    told_done (past_of old) (past_of new) by (writes name bytes)
-    (gives_after by (writes name bytes)) tt is tt
-tells_write old new by name bytes (Err fault) is = is
+    → TellsAct old new by (Write name piece) result
+    → TellsIn old new by (writes name piece) result
+tells_write old new by name piece (Ok unit) is =
+    told_done (past_of old) (past_of new) by (writes name piece)
+    (gives_after by (writes name piece)) tt is tt
+tells_write old new by name piece (Err fault) is = is
 
-pub returns-in_err-copy-clause-told : goal.returns-in_err-copy-clause-told
-returns-in_err-copy-clause-told c =
+pub returns-in_err-of-clause-told : goal.returns-in_err-of-clause-told
+returns-in_err-of-clause-told c =
     let past = past_of c.args.self.now in
-    let call = writes c.args.name c.args.bytes.now in
+    let call = writes c.args.name c.args.piece.now in
     told_want past past c.args.by.now call (gives_after c.args.by.now call) (λ r. r) refl
     c.from_residual.result c.from_residual.ensures refl
 
@@ -31,8 +31,8 @@ pub returns-clause-told : goal.returns-clause-told
 returns-clause-told c =
     let old = record c.args.self.now { mishaps = c.count.new.self } in
     subst
-    (λ (bytes : Bytes). TellsIn old c.act.new.self c.args.by.now (writes c.args.name bytes)
+    (λ (piece : Bytes). TellsIn old c.act.new.self c.args.by.now (writes c.args.name piece)
     c.act.result)
-    c.in_ok-copy.ensures
-    (tells_write old c.act.new.self c.args.by.now c.args.name c.in_ok-copy.field-0 c.act.result
+    c.in_ok-of.ensures
+    (tells_write old c.act.new.self c.args.by.now c.args.name c.in_ok-of.field-0 c.act.result
     c.act.ensures.told)

@@ -31,14 +31,14 @@ returns g c =
     let narrows = c.write-written.ensures.narrows in
     let change = c.into_prepared-prepared.ensures
     ∙ ap (λ (walker : Walker). walker.change) c.self.view_is in
-    let text = c.text.ensures.value
+    let text = c.as_slice-text.ensures ∙ c.text.ensures.value
     ∙ ap (λ (change : Change). intent_text (intended change)) change in
     let reads_it = subst (λ (change : Change).
     ReadsIntent (intent_text (intended change)) (intended change)) change c.text.ensures.reads in
     let shown = subst (λ (next : Change). LeadsTo next before_commit written c.leads.result)
     (c.of.ensures ∙ change) c.leads.ensures.shown in
-    let told = writes-same before now (token_of walker) IntentStage c.text.result.now _ written text
-    (told-of before now _ (token_of walker) (writes IntentStage c.text.result.now) written
+    let told = writes-same before now (token_of walker) IntentStage c.as_slice-text.result.now _ written text
+    (told-of before now _ (token_of walker) (writes IntentStage c.as_slice-text.result.now) written
     (c.token.ensures ∙ ap (λ (change : Change). change.inputs.keeper.token) change)
     c.write-written.ensures.told) in
     takes-step (stages_intent walker reads_it) tt (BacksUp walker) HasStagedIntent

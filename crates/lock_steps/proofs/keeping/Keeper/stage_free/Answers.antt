@@ -1,4 +1,4 @@
-use Rattle.std.proofs.Common.{ap}
+use Rattle.std.proofs.Common.{ap, ◌∙◌}
 use Rattle.acct_outside.specs.declared.Name.TheVariants.{FreeStage}
 use Rattle.acct_outside.specs.declared.FolderFault.TheVariants.{Failed}
 use Rattle.acct_outside.specs.Tokens.{free_text}
@@ -21,7 +21,7 @@ returns g c =
     let keeper = c.args.self in
     let knows = g.K.Knowing.knows in
     let written = c.write-written.result in
-    let tells = rw (ap (λ (one : Kept). one.token) c.self.view_is, c.self.inside.holder.is_free)
+    let tells = rw (ap (λ (one : Kept). one.token) c.self.view_is, c.as_slice-free.ensures ∙ c.self.inside.holder.is_free)
     at c.write-written.ensures.told in
     takes-step before now narrows keeper.token (writes FreeStage free_text) tt tt (Keeps keeper knows)
     (λ deeds stood held. may-stage-free deeds stood keeper knows held) work

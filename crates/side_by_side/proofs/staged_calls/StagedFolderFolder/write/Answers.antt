@@ -12,7 +12,7 @@ returns-in_err-play_next-clause-call g c = want-told
     c.args.self.now
     (stage_of c.play_next.new.folder c.play_next.new.sessions.items
     (lists_left c.play_next.new.self))
-    c.self.view_is c.play_next.ensures.advances c.args.by.now (writes c.args.name c.args.bytes.now)
+    c.self.view_is c.play_next.ensures.advances c.args.by.now (writes c.args.name c.args.piece.now)
     c.from_residual.result c.from_residual.ensures
 
 pub invariant_of-self-2 : goal.invariant_of-self-2
@@ -21,7 +21,7 @@ invariant_of-self-2 g c = calls-part
     (lists_left c.self.inside.schedule)) c.args.self.now
     (stage_of c.play_next.new.folder c.play_next.new.sessions.items
     (lists_left c.play_next.new.self)) c.write.new.self c.self.view_is
-    c.play_next.ensures.advances c.args.by.now (writes c.args.name c.args.bytes.now) c.write.result
+    c.play_next.ensures.advances c.args.by.now (writes c.args.name c.args.piece.now) c.write.result
     c.write.ensures.told c.requires.acts c.play_next.ensures.take_part
 
 pub returns-clause-call : goal.returns-clause-call
@@ -30,7 +30,7 @@ returns-clause-call g c = calls-told
     (lists_left c.self.inside.schedule)) c.args.self.now
     (stage_of c.play_next.new.folder c.play_next.new.sessions.items
     (lists_left c.play_next.new.self)) c.write.new.self c.self.view_is
-    c.play_next.ensures.advances c.args.by.now (writes c.args.name c.args.bytes.now) c.write.result
+    c.play_next.ensures.advances c.args.by.now (writes c.args.name c.args.piece.now) c.write.result
     c.write.ensures.told c.write.ensures.faults
 
 pub returns-in_err-play_next-clause-next : goal.returns-in_err-play_next-clause-next
@@ -41,7 +41,7 @@ returns-in_err-play_next-clause-next g c = breaks-off
     (lists_left c.play_next.new.self)) c.self.view_is
     c.play_next.ensures.left c.play_next.ensures.front
     (λ before now. CallsFolder before now c.args.by.now
-    (writes c.args.name c.args.bytes.now) c.from_residual.result)
+    (writes c.args.name c.args.piece.now) c.from_residual.result)
     c.from_residual.result c.from_residual.ensures
 
 pub returns-clause-next : goal.returns-clause-next
@@ -52,6 +52,6 @@ returns-clause-next g c = calls-next
     (lists_left c.play_next.new.self)) c.self.view_is
     c.play_next.ensures.left c.write.new.self c.in_ok-play_next.ensures.whole
     (λ before now. CallsFolder before now c.args.by.now
-    (writes c.args.name c.args.bytes.now) c.write.result) c.write.result
+    (writes c.args.name c.args.piece.now) c.write.result) c.write.result
     (in-memory c.play_next.new.folder c.write.new.self _ c.write.ensures.told c.write.result
     c.write.ensures.faults)
