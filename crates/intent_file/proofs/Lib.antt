@@ -1,3 +1,4 @@
+pub mod PieceLemmas
 mod Rows
 pub mod PartsLemmas
 pub mod CursorLemmas

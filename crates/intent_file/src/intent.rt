@@ -1,15 +1,18 @@
 // The intent of one command: how it is made of a change, its text, and its reading.
-ghost use Rattle.std.specs.Prelude.{◌≡◌, ◌++◌, ℕ, IsTrue, IfOk, IfErr, OnOk, find};
+ghost use Rattle.std.specs.Prelude.{◌≡◌, ◌++◌, ◌+◌, ℕ, Some, IsTrue, IfOk, IfErr, OnOk, find, length, slice_get};
 ghost use Rattle.std.specs.Option.{option_copied};
 ghost use Rattle.acct_text.specs.Contents.{IsChange};
 ghost use Rattle.acct_text.specs.Tables.{same_table};
 ghost use Rattle.acct_text.specs.Files.{table_of};
 ghost use Rattle.intent_file.specs.ChangedTables.{changed_bytes, intent_of};
 ghost use Rattle.intent_file.specs.Intent.{ReadsIntent, header, intent_text, is_lock_number, listed_in, table_part};
+ghost use Rattle.acct_outside.specs.Pieces.{pieces_of};
 ghost use Rattle.intent_file.specs.Parts.{TellsFault};
+ghost use Rattle.intent_file.specs.Pieces.{intent_pieces, lines_around, table_line};
 
 use crate::cursor::Cursor;
 use crate::{IntentFault, NewTable};
+use acct_outside::{piece_at, piece_count};
 use acct_text::{Bytes, Files, Tab, push_decimal};
 use std::alloc::{AllocError, Global};
 use std::marker::Model;
@@ -20,18 +23,22 @@ use std::marker::Model;
 pub struct Intent {
     number: u64,
     tables: Vec<NewTable>,
+    /// The texts around the bytes of the tables.
+    lines: Vec<Bytes>,
 }
 
 impl Model for Intent {
     ghost use Rattle.std.specs.Prelude.{◌≡◌, true};
     ghost use Rattle.intent_file.specs.Intent.{Intended, is_allowed};
+    ghost use Rattle.intent_file.specs.Pieces.{intent_lines};
 
     ghost Value = { Intended };
 
     ghost view = { λ intent. record { number = intent.number; tables = intent.tables.items } };
 
     ghost invariant = { λ intent.
-        is_allowed (record { number = intent.number; tables = intent.tables.items }) ≡ true };
+        let is : Intended = record { number = intent.number; tables = intent.tables.items } in
+        (is_allowed is ≡ true) × (intent.lines.items ≡ intent_lines is) };
 }
 
 impl Intent {
@@ -43,8 +50,9 @@ impl Intent {
     pub fn new(alloc: Global, number: u64, old: &Files, new: &Files) -> Result<Self, AllocError>
         requires number { IsTrue (is_lock_number number) }
         requires change { IsChange (table_of old.now) (table_of new.now) }
-        ensures { IfOk result (λ intent.
+        ensures value { IfOk result (λ intent.
             intent ≡ intent_of number (table_of old.now) (table_of new.now)) }
+        ensures reads { IfOk result (λ intent. ReadsIntent (intent_text intent) intent) }
     {
         let mut tables = Vec::new(alloc);
         'tables: for table in Tab::all() {
@@ -53,7 +61,12 @@ impl Intent {
                 tables.push(NewTable { table, bytes })?;
             }
         }
-        Ok(Intent { number, tables })
+        let lines = lines_of(alloc, number, &tables)?;
+        Ok(Intent {
+            number,
+            tables,
+            lines,
+        })
     }
 
     /// The text of the intent, which reads back. The error says that memory ran out.
@@ -67,6 +80,42 @@ impl Intent {
         }
         text.push(b"end\n")?;
         Ok(text)
+    }
+
+    /// How many pieces the text of the intent has.
+    pub fn piece_count(&self) -> usize
+        ensures { result ≡ length (intent_pieces self.now) }
+    {
+        let mut count = 0;
+        for line in &self.lines {
+            count += piece_count(line.as_slice());
+        }
+        for table in &self.tables {
+            count += piece_count(table.bytes.as_slice());
+        }
+        count
+    }
+
+    /// The piece of the text at the place, counted from 0, and none past the last. It takes no
+    /// memory: a piece is a part of a table, or the text between two.
+    pub fn piece(&self, place: usize) -> Option<&[u8]>
+        ensures { option_copied result ≡ slice_get (intent_pieces self.now) place }
+    {
+        let mut place = place;
+        let mut lines = self.lines.iter();
+        'tables: for table in &self.tables {
+            let line = lines.next()?;
+            match piece_or_rest(line.as_slice(), place) {
+                Ok(piece) => return Some(piece),
+                Err(rest) => place = rest,
+            }
+            match piece_or_rest(table.bytes.as_slice(), place) {
+                Ok(piece) => return Some(piece),
+                Err(rest) => place = rest,
+            }
+        }
+        let end = lines.next()?;
+        piece_or_rest(end.as_slice(), place).ok()
     }
 
     /// The intent that the text reads as. It goes over the text once, and copies each table once.
@@ -83,10 +132,19 @@ impl Intent {
         if !cursor.is_at_end() {
             return Err(IntentFault::Part(header.count + 1));
         }
+        let lines = lines_of(alloc, header.number, &tables)?;
         Ok(Intent {
             number: header.number,
             tables,
+            lines,
         })
+    }
+
+    /// The tables that the intent lists, in the fixed order.
+    pub fn tables(&self) -> &[NewTable]
+        ensures { result.now ≡ self.now.tables }
+    {
+        &self.tables
     }
 
     /// The tables that the intent lists, in the fixed order, without a copy of their bytes.
@@ -136,15 +194,52 @@ fn header_of(alloc: Global, number: u64, count: usize) -> Result<Bytes, AllocErr
     Ok(text)
 }
 
+/// The texts around the bytes of the tables, under the lock of this number.
+fn lines_of(alloc: Global, number: u64, tables: &[NewTable]) -> Result<Vec<Bytes>, AllocError>
+    ensures { IfOk result (λ lines.
+        lines.items ≡ lines_around (header number (length tables.now)) tables.now) }
+{
+    let mut lines = Vec::new(alloc);
+    let mut line = header_of(alloc, number, tables.len())?;
+    'tables: for table in tables {
+        push_table_line(&mut line, table)?;
+        lines.push(line)?;
+        line = Bytes::of(alloc, b"\n")?;
+    }
+    line.push(b"end\n")?;
+    lines.push(line)?;
+    Ok(lines)
+}
+
+/// Adds the line in front of the bytes of a table.
+fn push_table_line(text: &mut Bytes, table: &NewTable) -> Result<(), AllocError>
+    ensures { OnOk result (text.new ≡ text.old ++ table_line table.now) }
+{
+    text.push(table.table.name().as_bytes())?;
+    text.push(b" ")?;
+    push_decimal(text, table.bytes.as_slice().len() as u64)?;
+    text.push(b"\n")
+}
+
 /// Adds the part of a table.
 fn push_table(text: &mut Bytes, table: &NewTable) -> Result<(), AllocError>
     ensures { OnOk result (text.new ≡ text.old ++ table_part table.now) }
 {
-    let bytes = table.bytes.as_slice();
-    text.push(table.table.name().as_bytes())?;
-    text.push(b" ")?;
-    push_decimal(text, bytes.len() as u64)?;
-    text.push(b"\n")?;
-    text.push(bytes)?;
+    push_table_line(text, table)?;
+    text.push(table.bytes.as_slice())?;
     text.push(b"\n")
+}
+
+/// The piece of the text at the place, or the place behind all of its pieces.
+fn piece_or_rest(text: &[u8], place: usize) -> Result<&[u8], usize>
+    ensures piece { IfOk result (λ piece.
+        slice_get (pieces_of text.now) place ≡ Some piece.now) }
+    ensures rest { IfErr result (λ rest. place ≡ length (pieces_of text.now) + rest) }
+{
+    let count = piece_count(text);
+    if place < count {
+        Ok(piece_at(text, place))
+    } else {
+        Err(place - count)
+    }
 }

@@ -2,6 +2,7 @@
 #![tactic(auto)]
 
 ghost use Rattle.intent_file.specs.Laws.{EachTextReadsOrFails, FirstFaultIsOne, ReadingIsUnique};
+ghost use Rattle.intent_file.specs.Pieces.{IntentInPieces};
 
 mod cursor;
 mod intent;
@@ -79,4 +80,9 @@ pub fn first_fault_is_one()
 /// Bytes read as an intent, or have a first part that doesn't stand.
 pub fn each_text_reads_or_fails()
     ensures { EachTextReadsOrFails }
+{}
+
+/// The pieces of an intent are its text, one behind the other.
+pub fn intent_in_pieces()
+    ensures { IntentInPieces }
 {}

@@ -33,5 +33,5 @@ returns c =
     let size = ap length items in
     let text_is = intent_text-front c.args.self.now c.tables.text c.push.new.self
     c.tables.table-index (omega arith) c.tables.invariant c.in_ok-push.ensures.ok in
-    let allowed = ap is_allowed (sym c.self.view_is) ∙ c.self.invariant in
+    let allowed = ap is_allowed (sym c.self.view_is) ∙ c.self.invariant.0 in
     record { text = text_is; reads = record { allowed = allowed; text = text_is } }

@@ -1,8 +1,10 @@
-use Rattle.std.proofs.Common.{◌≡◌, Option, Some, refl, sym, subst, true≢false}
+use Rattle.std.proofs.Common.{◌≡◌, ◌∙◌, ap, List, length, Option, Some, refl, sym, subst, true≢false}
 use Rattle.acct_text.specs.Bytes.{Bytes}
 use Rattle.intent_file.specs.declared.IntentFault.TheVariants.{Part}
 use Rattle.intent_file.specs.declared.cursor.Header.{Header}
 use Rattle.intent_file.specs.Cursor.{Takes}
+use Rattle.intent_file.specs.Intent.{NewTable, header}
+use Rattle.intent_file.specs.Pieces.{lines_around}
 use Rattle.intent_file.specs.Parts.{BeginsWith, BeginsWithNone, IsHeader, header_part, no_header, TellsFault}
 use Rattle.intent_file.proofs.IntentLemmas.{lack-fault, end-fault, read-allowed, reads-intent, told-fault, missing-fault}
 use Rattle.intent_file.proofs.intent.Intent.read.Goals as goal
@@ -50,9 +52,12 @@ returns-then-not-is_at_end-clause-damaged c =
 pub invariant_of-result : goal.invariant_of-result
 invariant_of-result c =
     let begins = header-begins c.args.text.now c.new-cursor.result c.header.new.self c.header.result
-    c.in_ok-header.header c.new-cursor.ensures c.in_ok-header.ensures.ok_part c.header.ensures in
-    read-allowed c.args.text.now c.header.new.self c.in_ok-header.header begins
-    c.in_ok-tables.tables.items c.tables.new.self c.in_ok-tables.ensures.taken
+    c.in_ok-header.header c.new-cursor.ensures c.in_ok-header.ensures.ok_part c.header.ensures in (
+      read-allowed c.args.text.now c.header.new.self c.in_ok-header.header begins
+          c.in_ok-tables.tables.items c.tables.new.self c.in_ok-tables.ensures.taken,
+      c.in_ok-lines.ensures ∙ ap (λ (tables : List NewTable).
+          lines_around (header c.in_ok-header.header.number (length tables)) tables) c.deref.ensures.value,
+    )
 
 pub returns-clause-read : goal.returns-clause-read
 returns-clause-read c =
