@@ -1,11 +1,12 @@
--- Rows of lines and numbers: the places of the lines of a text, numbers that a text writes, up to a
--- greatest one, and how a number is printed.
+-- Rows of lines, fields and numbers: the places of the lines of a text and of the fields of a line, numbers
+-- that a text writes, up to a greatest one, and how a number is printed.
 use Rattle.std.specs.Prelude.{◌≡◌, [], ◌∷◌, Ok, Err, codes, refl}
 use Rattle.std.specs.Fmt.{decimal, digits}
 use Rattle.acct_text.specs.declared.numbers.NumberFault.TheVariants.{Empty, NotDigit, TooLarge}
 use Rattle.acct_text.specs.Bytes.{places_from}
 use Rattle.acct_text.specs.Lines.{lines_of, texts_of}
 use Rattle.acct_text.specs.Numbers.{number_of}
+use Rattle.acct_text.specs.Pieces.{fields_of}
 
 -- ---- the lines of a text
 
@@ -24,6 +25,20 @@ no_last_newline = refl
 empty_lines : places_from 0 (texts_of (lines_of (codes "\n\nann\n")))
     ≡ (0, 0) ∷ (1, 1) ∷ (2, 5) ∷ []
 empty_lines = refl
+
+-- ---- the fields of a line
+
+no_byte : places_from 0 (fields_of []) ≡ (0, 0) ∷ []
+no_byte = refl
+
+one_field : places_from 0 (fields_of (codes "ann")) ≡ (0, 3) ∷ []
+one_field = refl
+
+empty_field : places_from 0 (fields_of (codes "a::10")) ≡ (0, 1) ∷ (2, 2) ∷ (3, 5) ∷ []
+empty_field = refl
+
+colon_alone : places_from 0 (fields_of (codes ":")) ≡ (0, 0) ∷ (1, 1) ∷ []
+colon_alone = refl
 
 -- ---- numbers
 

@@ -3,8 +3,20 @@ use acct_dates::DateFault;
 use acct_lines::{LineFault, ReadFault};
 use acct_tables::TableFault;
 use acct_text::NumberFault;
+use std::alloc::{AllocError, Global};
+use std::fmt::Display;
 use std::test::Fail;
 use subid_ranges::RangeFault;
+
+// Whether each fault has the text beside it.
+fn have_texts<T: Display>(alloc: Global, rows: &[(T, &str)]) -> Result<bool, AllocError> {
+    for (fault, text) in rows {
+        if fault.to_string(alloc)?.as_str() != *text {
+            return Ok(false);
+        }
+    }
+    Ok(true)
+}
 
 #[test]
 fn a_fault_of_a_number_has_its_text(rt: HostRuntime) -> Result<(), Fail> {
@@ -13,9 +25,7 @@ fn a_fault_of_a_number_has_its_text(rt: HostRuntime) -> Result<(), Fail> {
         (NumberFault::NotDigit(7), "byte 7 is no digit"),
         (NumberFault::TooLarge, "the number is too large"),
     ];
-    for (fault, wanted) in rows {
-        assert_eq!(rt; fault.to_string(rt.alloc())?.as_str(), wanted);
-    }
+    assert!(rt; have_texts(rt.alloc(), &rows)?);
     Ok(())
 }
 
@@ -33,9 +43,7 @@ fn a_fault_of_a_line_has_its_text(rt: HostRuntime) -> Result<(), Fail> {
             "the range is empty or passes the greatest ID",
         ),
     ];
-    for (fault, wanted) in rows {
-        assert_eq!(rt; fault.to_string(rt.alloc())?.as_str(), wanted);
-    }
+    assert!(rt; have_texts(rt.alloc(), &rows)?);
     Ok(())
 }
 
@@ -45,9 +53,7 @@ fn a_fault_of_reading_has_its_text(rt: HostRuntime) -> Result<(), Fail> {
         (ReadFault::Line(LineFault::EmptyName), "the name is empty"),
         (ReadFault::Memory, "out of memory"),
     ];
-    for (fault, wanted) in rows {
-        assert_eq!(rt; fault.to_string(rt.alloc())?.as_str(), wanted);
-    }
+    assert!(rt; have_texts(rt.alloc(), &rows)?);
     Ok(())
 }
 
@@ -58,9 +64,7 @@ fn a_fault_of_a_day_has_its_text(rt: HostRuntime) -> Result<(), Fail> {
         (DateFault::NoSuchDay, "no day of the calendar"),
         (DateFault::OutOfRange, "the day is out of range"),
     ];
-    for (fault, wanted) in rows {
-        assert_eq!(rt; fault.to_string(rt.alloc())?.as_str(), wanted);
-    }
+    assert!(rt; have_texts(rt.alloc(), &rows)?);
     Ok(())
 }
 
@@ -72,9 +76,7 @@ fn a_fault_of_a_table_has_its_text(rt: HostRuntime) -> Result<(), Fail> {
         (TableFault::Present, "a record has the new name"),
         (TableFault::Memory, "out of memory"),
     ];
-    for (fault, wanted) in rows {
-        assert_eq!(rt; fault.to_string(rt.alloc())?.as_str(), wanted);
-    }
+    assert!(rt; have_texts(rt.alloc(), &rows)?);
     Ok(())
 }
 
@@ -86,8 +88,6 @@ fn a_fault_of_a_range_has_its_text(rt: HostRuntime) -> Result<(), Fail> {
         (RangeFault::BadRange, "the range is none"),
         (RangeFault::Memory, "out of memory"),
     ];
-    for (fault, wanted) in rows {
-        assert_eq!(rt; fault.to_string(rt.alloc())?.as_str(), wanted);
-    }
+    assert!(rt; have_texts(rt.alloc(), &rows)?);
     Ok(())
 }
