@@ -1,4 +1,5 @@
 pub mod Counted
+pub mod FirstField
 pub mod NamesCut
 pub mod Read
 pub mod Taken

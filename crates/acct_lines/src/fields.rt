@@ -1,6 +1,6 @@
 // A line cut into its fields where they stand, and what each kind of field holds. Fields are counted
 // from 1.
-ghost use Rattle.std.specs.Prelude.{◌≡◌, ◌<◌, ◌+◌, ◌++◌, [], ◌∷◌, IfOk, MatchResult, OnOk, length};
+ghost use Rattle.std.specs.Prelude.{◌≡◌, ◌<◌, ◌+◌, ◌++◌, [], ◌∷◌, IfOk, MatchResult, OnOk, bytes_eq, length};
 ghost use Rattle.std.specs.Option.{ok_or};
 ghost use Rattle.account_model.specs.Records.{read_count, read_days, read_id, read_names};
 ghost use Rattle.account_model.specs.Text.{is_listed, nonempty};
@@ -120,6 +120,17 @@ pub fn first_field(line: &[u8]) -> &[u8]
         Some(cut) => cut.before,
         None => line,
     }
+}
+
+/// Whether the text in front of the first colon of a line is this one. A line that begins otherwise
+/// isn't searched for its colon.
+pub fn has_first_field(line: &[u8], text: &[u8]) -> bool
+    ensures { result ≡ bytes_eq (first_of line.now) text.now }
+{
+    if !line.starts_with(text) {
+        return false;
+    }
+    first_field(line) == text
 }
 
 /// The names between the commas of a text (group(5), gshadow(5)); empty ones are left out.

@@ -21,7 +21,7 @@ mod walks;
 pub use account_model::{
     GroupRecord, GshadowRecord, LineFault, PasswdRecord, ShadowRecord, SubidRecord,
 };
-pub use fields::{cut_names, first_field, lists};
+pub use fields::{cut_names, first_field, has_first_field, lists};
 pub use group::GroupLine;
 pub use gshadow::GshadowLine;
 pub use names::{is_digits, is_valid_name};

@@ -2,6 +2,7 @@ pub mod RecordLines
 pub mod LoadedLines
 pub mod PlacedTexts
 pub mod PlaceLemmas
+pub mod LinesHere
 pub mod EndedLines
 pub mod OnlyPlace
 pub mod ListLines

@@ -8,7 +8,7 @@ ghost use Rattle.acct_tables.specs.Order.{text_at};
 ghost use Rattle.acct_tables.specs.TableLines.{is_named_at, record_at};
 
 use crate::line::{is_record, read_record};
-use acct_lines::{TableRecord, first_field};
+use acct_lines::{TableRecord, first_field, has_first_field};
 use acct_text::lines;
 use std::alloc::{AllocError, Global};
 use std::marker::Model;
@@ -100,7 +100,7 @@ impl<'a> FileLines<'a> {
     pub fn is_named_at<R: TableRecord>(&self, place: usize, name: &[u8]) -> bool
         ensures { result ≡ is_named_at R.format name.now self.now place }
     {
-        first_field(self.text_at(place)) == name && self.is_record_at::<R>(place)
+        has_first_field(self.text_at(place), name) && self.is_record_at::<R>(place)
     }
 
     /// Whether several records have the name. It takes no memory, and a pass over the lines.

@@ -34,7 +34,7 @@ pub use file_lines::FileLines;
 pub use line::{is_named, is_record, name_of, read_record};
 pub use lines::{FileLine, Lines, append_line, find_record, has_record};
 pub use list_record::ListRecord;
-pub use name_index::{NameIndex, NamedLines};
+pub use name_index::{MANY, NameIndex, NamedLines};
 pub use owner::{is_owned, is_owner, last_id};
 pub use refusal::refusal_text;
 pub use status::refusal_status;

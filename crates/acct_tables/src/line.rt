@@ -12,7 +12,7 @@ ghost use Rattle.acct_tables.specs.NameIndex.{line_name};
 ghost use Rattle.acct_tables.specs.TableLines.{text_is_named, with_record};
 
 use crate::ListRecord;
-use acct_lines::{ReadFault, TableRecord, first_field};
+use acct_lines::{ReadFault, TableRecord, first_field, has_first_field};
 use acct_text::Bytes;
 use std::alloc::{AllocError, Global};
 use std::marker::Model;
@@ -51,7 +51,7 @@ pub fn name_of<R: TableRecord>(line: &[u8]) -> Option<&[u8]>
 pub fn is_named<R: TableRecord>(line: &[u8], name: &[u8]) -> bool
     ensures { result ≡ text_is_named R.format name.now line.now }
 {
-    first_field(line) == name && is_record::<R>(line)
+    has_first_field(line, name) && is_record::<R>(line)
 }
 
 /// A line of a table, which keeps its bytes until another record is put into it.

@@ -89,7 +89,8 @@ impl<'a> Lines<'a> {
 
     /// The bytes of the lines that are left.
     pub fn bytes(&self) -> &'a [u8]
-        ensures { result.now ≡ file_bytes self.now }
+        ensures bytes { result.now ≡ file_bytes self.now }
+        ensures lines { lines_of result.now ≡ self.now }
     {
         self.left
     }

@@ -8,6 +8,9 @@ use acct_lines::TableRecord;
 use indexmap::IndexMap;
 use std::alloc::{AllocError, Global};
 
+/// From so many look-ups on an index takes less time than a pass over the lines for each.
+pub const MANY: usize = 8;
+
 /// The records of one name.
 #[derive(Clone, Copy, Drop)]
 pub struct NamedLines {

@@ -12,34 +12,12 @@ use Rattle.account_model.specs.Edits.{becomes, line_becomes}
 use Rattle.account_model.specs.RecordEdits.{TellsSame}
 use Rattle.acct_tables.specs.Order.{text_at}
 use Rattle.acct_tables.specs.TableLines.{record_at, changed_at, with_record}
+use Rattle.acct_tables.proofs.LinesHere.{blank_line, line_here, read-here, record-here}
 use Rattle.table_edits.specs.Naming.{Leaves}
 use Rattle.table_edits.specs.Places.{spliced_at}
-use Rattle.table_edits.proofs.Splices.{blank_line, spliced-same, spliced-one}
-
--- the line at a place
-abbrev pub line_here : List Line → ℕ → Line
-line_here lines place = get_or lines place blank_line
+use Rattle.table_edits.proofs.Splices.{spliced-same, spliced-one}
 
 module _ {R : Type 0} (format : Format R) where
-  -- the record at a place is that of the line there
-  pub record-here :
-      (lines : List Line) (place : ℕ)
-      → place < length lines
-      → record_at format lines place ≡ format.read (line_here lines place).text
-  record-here lines place inside =
-      ap (λ found. elim found [ None ↦ None | Some line ↦ format.read line.text ])
-      (slice_get-get_or lines place blank_line inside)
-
-  -- its text reads as the record there
-  pub read-here :
-      (lines : List Line) (place : ℕ)
-      → place < length lines
-      → format.read (text_at lines place) ≡ record_at format lines place
-  read-here lines place inside =
-      ap (λ found. format.read (elim found [ None ↦ [] | Some line ↦ line.text ]))
-      (slice_get-get_or lines place blank_line inside)
-      ∙ sym (record-here lines place inside)
-
   -- a line of which the record becomes others
   becomes-read :
       (f : R → List R) (line : Line) (kept : Option R) (r : R)
@@ -92,7 +70,7 @@ module _ {R : Type 0} (format : Format R) where
         let line = line_here lines place in
         sym (spliced-same (becomes format f) lines place line from-here
         (ap (λ kept. elim kept [ None ↦ line ∷ [] | Some r ↦ line_becomes format line r (f r) ])
-        (sym (record-here lines place inside) ∙ none)))
+        (sym (record-here format lines place inside) ∙ none)))
 
     -- a line that is left stays
     left-by :
@@ -105,7 +83,7 @@ module _ {R : Type 0} (format : Format R) where
     left-by (Some r) is tells left =
         let line = line_here lines place in
         sym (spliced-same (becomes format f) lines place line from-here
-        (becomes-read f line (format.read line.text) r (sym (record-here lines place inside) ∙ is)
+        (becomes-read f line (format.read line.text) r (sym (record-here format lines place inside) ∙ is)
         ∙ ap (line_becomes format line r) (left r refl)
         ∙ stays line r (format.same r r) ((tells r r).1 refl)))
 
@@ -115,7 +93,7 @@ module _ {R : Type 0} (format : Format R) where
         → lines ≡ spliced_at (becomes format f) place lines
     change-left tells left =
         left-by (record_at format lines place) refl tells
-        (λ r is. left r (read-here lines place inside ∙ is))
+        (λ r is. left r (read-here format lines place inside ∙ is))
 
     module _ (r : R) (found : record_at format lines place ≡ Some r) where
       -- the line becomes what its record becomes
@@ -123,7 +101,7 @@ module _ {R : Type 0} (format : Format R) where
           becomes format f (line_here lines place) ≡ line_becomes format (line_here lines place) r (f r)
       becomes-here =
           becomes-read f (line_here lines place) (format.read (line_here lines place).text) r
-          (sym (record-here lines place inside) ∙ found)
+          (sym (record-here format lines place inside) ∙ found)
 
       -- a record that stays leaves the lines
       pub change-stays :
@@ -144,7 +122,7 @@ module _ {R : Type 0} (format : Format R) where
           spliced-one (becomes format f) lines place line from-here (with_record format s)
           (becomes-here ∙ ap (line_becomes format line r) one ∙ sets line s (format.same r s)
           ∙ ap (λ l. l ∷ []) (sym (with-record line (format.read line.text) r s
-          (sym (record-here lines place inside) ∙ found))))
+          (sym (record-here format lines place inside) ∙ found))))
 
 -- ---- A change that leaves names
 

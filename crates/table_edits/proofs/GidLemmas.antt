@@ -13,11 +13,10 @@ use Rattle.account_model.specs.Format.{records_of}
 use Rattle.account_model.specs.Records.{group_format}
 use Rattle.acct_tables.specs.TableLines.{record_at}
 use Rattle.acct_tables.proofs.FirstRecords.{found-at, record_of}
+use Rattle.acct_tables.proofs.LinesHere.{blank_line, line_here, record-here}
 use Rattle.acct_tables.proofs.NameIndexLemmas.{first-end, or_last}
 use Rattle.table_edits.specs.Accepting.{is_accepted}
 use Rattle.table_edits.specs.IndexedLines.{TellsGids, is_of_gid, line_of_gid}
-use Rattle.table_edits.proofs.ChangedLines.{line_here, record-here}
-use Rattle.table_edits.proofs.Splices.{blank_line}
 
 -- what isn't there is nothing
 pub is-none : (found : Option ℕ) → is_some found ≡ false → found ≡ None

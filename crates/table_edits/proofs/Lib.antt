@@ -1,5 +1,6 @@
 pub mod Splices
 pub mod ChangedLines
+pub mod OpenLemmas
 pub mod PutLines
 pub mod EditLists
 pub mod TouchedRecords
@@ -12,6 +13,8 @@ pub mod AddedNames
 pub mod NamingLemmas
 pub mod KnownLemmas
 pub mod FileLemmas
+pub mod WrittenLines
+pub mod EditedFile
 pub mod GidLemmas
 pub mod NameSets
 pub mod StoppingLemmas

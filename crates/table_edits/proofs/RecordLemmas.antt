@@ -1,69 +1,13 @@
--- Claim: the records of the lines from a place on begin with the record there (`records-from`); a
--- table is searched line by line (`find-accepted`, `find-refused`), and its IDs are gathered so
--- (`ids-found`, `ids-end`); and a name is that of a record (`record-named`).
-use Rattle.std.proofs.Common.{◌≡◌, ℕ, zero, suc, ◌+◌, ◌<◌, Bool, true, false, List, [], ◌∷◌, length, drop, map, refl, sym, ◌∙◌, ap, arith, add-one}
+-- Claim: a table is searched line by line (`find-accepted`, `find-refused`), and its IDs are gathered
+-- so (`ids-found`, `ids-end`).
+use Rattle.std.proofs.Common.{◌≡◌, ℕ, Bool, true, false, List, [], ◌∷◌, map, refl, sym, ◌∙◌, ap}
 use Rattle.std.specs.Prelude.{Option, Some, None, option_map, find, ◌||◌, ◌==◌}
 use Rattle.std.specs.List.{cons_option}
 use Rattle.acct_text.specs.Lines.{Line}
 use Rattle.account_model.specs.Format.{Format, records_of}
 use Rattle.account_model.specs.Ids.{is_used}
-use Rattle.acct_tables.specs.TableLines.{record_at}
 use Rattle.id_choice.specs.Used.{AreThoseOf}
 use Rattle.table_edits.specs.Accepting.{is_accepted}
-
--- what was found is a record of this name
-pub record IsRecordOf {R : Type 0} (format : Format R) (found : Option R) (name : List ℕ)
-    : Type 0 where
-  pub item : R
-  pub is : found ≡ Some item
-  pub named : format.name item ≡ name
-
--- where there is a name, it is that of a record
-pub record-named :
-    {R : Type 0} (format : Format R) (found : Option R) (name : List ℕ)
-    → Some name ≡ option_map format.name found
-    → IsRecordOf format found name
-record-named format None name is = absurd cc
-record-named format (Some r) name is = record { item = r; is = refl; named = cc }
-
--- where there is none, there is no record
-pub none-named :
-    {R : Type 0} (format : Format R) (found : Option R)
-    → None ≡ option_map format.name found
-    → found ≡ None
-none-named format None is = refl
-none-named format (Some r) is = absurd cc
-
--- what lies behind a place is the same behind one more line
-drop-next :
-    {X : Type 0} (x : X) (xs : List X) (place : ℕ)
-    → drop (place + 1) xs ≡ drop (suc place + 1) (x ∷ xs)
-drop-next x xs place = rw (add-one place, add-one (suc place)) refl
-
--- the records from a place on begin with that of the line there
-pub records-from :
-    {R : Type 0} (format : Format R) (lines : List Line) (place : ℕ)
-    → place < length lines
-    → records_of format (drop place lines)
-    ≡ cons_option (record_at format lines place) (records_of format (drop (place + 1) lines))
-records-from format [] place inside = absurd (omega arith)
-records-from format (line ∷ lines) zero inside = refl
-records-from format (line ∷ lines) (suc place) inside =
-    records-from format lines place (omega arith)
-    ∙ ap (λ rest. cons_option (record_at format lines place) (records_of format rest))
-    (drop-next line lines place)
-
-module _ {R : Type 0} (format : Format R) (lines : List Line) (place : ℕ)
-    (inside : place < length lines) where
-  -- the records from a place on, by what stands there
-  pub records-by :
-      (found : Option R)
-      → record_at format lines place ≡ found
-      → records_of format (drop place lines)
-      ≡ cons_option found (records_of format (drop (place + 1) lines))
-  records-by found is =
-      records-from format lines place inside
-      ∙ ap (λ found. cons_option found (records_of format (drop (place + 1) lines))) is
 
 -- a record that is accepted is the first that is found
 pub find-accepted :

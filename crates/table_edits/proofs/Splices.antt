@@ -2,16 +2,11 @@
 -- and behind it (`spliced-is`); so to leave it and to change it are such (`spliced-same`,
 -- `spliced-one`). And what goes from the last place down to the first makes all of them
 -- (`splices-down`).
-use Rattle.std.proofs.Common.{◌≡◌, ℕ, ◌+◌, ◌<◌, ◌≤◌, false, List, [], ◌∷◌, ◌++◌, length, map, take, drop, zero, suc, refl, sym, ◌∙◌, ap, arith, append_assoc, append-nil, add-one}
+use Rattle.std.proofs.Common.{◌≡◌, ℕ, ◌+◌, ◌<◌, ◌≤◌, List, [], ◌∷◌, ◌++◌, length, map, take, drop, zero, suc, refl, sym, ◌∙◌, ap, arith, append_assoc, append-nil, add-one}
 use Rattle.std.specs.Prelude.{flat_map}
 use Rattle.std.proofs.lemmas.List.{take-append-drop}
-use Rattle.acct_text.specs.Lines.{Line}
 use Rattle.acct_tables.specs.TableLines.{changed_at}
 use Rattle.table_edits.specs.Places.{spliced_at}
-
--- a line without bytes, for a place that isn't there
-abbrev pub blank_line : Line
-blank_line = record { text = []; ended = false }
 
 module _ {X : Type 0} (f : X → List X) (xs : List X) (place : ℕ) (x : X)
     (from : drop place xs ≡ x ∷ drop (place + 1) xs) where

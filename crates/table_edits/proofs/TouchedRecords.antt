@@ -1,6 +1,6 @@
 -- Claim: the first record that is met among those from a place on is the one at the place, or else the first behind it
 -- (`met-here`, `passed-here`); one whose name has no other isn't met (`met-single`), nor one that isn't touched (`met-untouched`);
--- without edits none is (`none-met`).
+-- without edits none is (`none-met`); and a name is that of a record (`record-named`).
 -- Way: by the line at the place.
 use Rattle.std.proofs.Common.{◌≡◌, ℕ, ◌+◌, ◌<◌, Bool, true, false, List, [], ◌∷◌, length, drop, refl, sym, ◌∙◌, ap}
 use Rattle.std.specs.Prelude.{◌&&◌, IfSome, Option, Some, None, option_map, find, if◌then◌else◌}
@@ -13,8 +13,22 @@ use Rattle.acct_tables.specs.TableLines.{record_at}
 use Rattle.std.specs.HashSet.{HashSet}
 use denote.Ref.{Bor}
 use Rattle.table_edits.specs.Touching.{LacksName, TouchOnly, is_met, first_touched, met_at}
-use Rattle.table_edits.proofs.Splices.{blank_line}
-use Rattle.table_edits.proofs.ChangedLines.{line_here, record-here}
+use Rattle.acct_tables.proofs.LinesHere.{blank_line, line_here, record-here}
+
+-- what was found is a record of this name
+pub record IsRecordOf {R : Type 0} (format : Format R) (found : Option R) (name : List ℕ)
+    : Type 0 where
+  pub item : R
+  pub is : found ≡ Some item
+  pub named : format.name item ≡ name
+
+-- where there is a name, it is that of a record
+pub record-named :
+    {R : Type 0} (format : Format R) (found : Option R) (name : List ℕ)
+    → Some name ≡ option_map format.name found
+    → IsRecordOf format found name
+record-named format None name is = absurd cc
+record-named format (Some r) name is = record { item = r; is = refl; named = cc }
 
 -- the first, else that of the others
 abbrev pub or_first : Option (List ℕ) → Option (List ℕ) → Option (List ℕ)

@@ -1,5 +1,6 @@
 pub mod SeenEdits
 pub mod Places
+pub mod OpenLines
 pub mod RangeRemovals
 pub mod Touching
 pub mod GroupChanges

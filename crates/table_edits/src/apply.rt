@@ -10,11 +10,10 @@ ghost use Rattle.acct_tables.specs.SeenLines.{AreOfFile};
 ghost use Rattle.table_edits.specs.NamedLines.{IsKnown};
 ghost use Rattle.table_edits.specs.SeenEdits.{seen_edit, seen_edits};
 
-use crate::indexed_lines::MANY;
 use crate::line_changes::{changed_text, push_record};
 use crate::named_edits::{Known, apply_there, known_before, only_name};
 use crate::{Edit, EditedRecord};
-use acct_tables::{EditedLines, Lines, append_line, has_record, is_named};
+use acct_tables::{EditedLines, Lines, MANY, append_line, has_record, is_named};
 use acct_text::Bytes;
 use std::alloc::{AllocError, Global};
 
@@ -33,7 +32,7 @@ pub fn edited_text<R: EditedRecord + Drop>(
         (edited_by R.format (seen_edits R.becomes edits.now) (lines_of text.now))) }
 {
     if edits.len() < MANY {
-        return edited_in_order(alloc, Bytes::of(alloc, text)?, edits);
+        return edited_in_order(alloc, text, edits);
     }
     edited_by_name(alloc, text, edits)
 }
@@ -52,7 +51,7 @@ fn edited_by_name<'a, R: EditedRecord + Drop>(
     let mut lines = EditedLines::of(alloc, text)?;
     let known = known_before::<R>(alloc, text)?;
     let done = apply_by_name(alloc, &mut lines, edits, known)?;
-    edited_in_order(alloc, lines.text()?, &edits[done..])
+    edited_further(alloc, lines.text()?, &edits[done..])
 }
 
 // Carries out the edits where the records of their names stand, up to the first that may touch
@@ -82,8 +81,24 @@ fn apply_by_name<'a, R: EditedRecord + Drop>(
     Ok(edits.len())
 }
 
-/// The text after the edits, one after another.
-pub(crate) fn edited_in_order<R: EditedRecord + Drop>(
+// The text after the edits, one after another.
+fn edited_in_order<R: EditedRecord + Drop>(
+    alloc: Global,
+    text: &[u8],
+    edits: &[Edit<R, R::Change>],
+) -> Result<Bytes, AllocError>
+    requires { AllByRecursion (IsWrittenEdit R.format) (seen_edits R.becomes edits.now) }
+    ensures { IfOk result (λ bytes. bytes ≡ file_bytes
+        (edited_by R.format (seen_edits R.becomes edits.now) (lines_of text.now))) }
+{
+    let Some((first, later)) = edits.split_first() else {
+        return Bytes::of(alloc, text);
+    };
+    edited_further(alloc, edited_once(alloc, text, first)?, later)
+}
+
+// The text after the edits, of which each makes a new one.
+fn edited_further<R: EditedRecord + Drop>(
     alloc: Global,
     mut text: Bytes,
     edits: &[Edit<R, R::Change>],
@@ -93,69 +108,75 @@ pub(crate) fn edited_in_order<R: EditedRecord + Drop>(
         (edited_by R.format (seen_edits R.becomes edits.now) (lines_of text))) }
 {
     'edits: for edit in edits {
-        apply_edit(alloc, &mut text, edit)?;
+        text = edited_once(alloc, text.as_slice(), edit)?;
     }
     Ok(text)
 }
 
-// Carries out one edit.
-fn apply_edit<R: EditedRecord + Drop>(
+// The text after one edit.
+fn edited_once<R: EditedRecord + Drop>(
     alloc: Global,
-    text: &mut Bytes,
+    text: &[u8],
     edit: &Edit<R, R::Change>,
-) -> Result<(), AllocError>
+) -> Result<Bytes, AllocError>
     requires { IsWrittenEdit R.format (seen_edit R.becomes edit.now) }
-    ensures { OnOk result (text.new ≡ file_bytes
-        (edited R.format (lines_of text.old) (seen_edit R.becomes edit.now))) }
+    ensures { IfOk result (λ bytes. bytes ≡ file_bytes
+        (edited R.format (lines_of text.now) (seen_edit R.becomes edit.now))) }
 {
     match edit {
-        Edit::Become(change) => {
-            *text = changed_text::<R>(alloc, text.as_slice(), change)?;
-            Ok(())
-        }
-        Edit::Add(item) => add(alloc, text, item),
-        Edit::AddMissing(item) => add_missing(alloc, text, item),
-        Edit::Put(item) => put(alloc, text, item),
+        Edit::Become(change) => changed_text::<R>(alloc, text, change),
+        Edit::Add(item) => with_added(alloc, text, item),
+        Edit::AddMissing(item) => with_missing(alloc, text, item),
+        Edit::Put(item) => with_put(alloc, text, item),
     }
 }
 
-// Adds the record behind the last line.
-fn add<R: EditedRecord + Drop>(alloc: Global, text: &mut Bytes, item: &R) -> Result<(), AllocError>
+// The text with the record behind the last line.
+fn with_added<R: EditedRecord + Drop>(
+    alloc: Global,
+    text: &[u8],
+    item: &R,
+) -> Result<Bytes, AllocError>
     requires { IsWritten R.format item.now }
-    ensures { OnOk result (text.new ≡ file_bytes
-        (with_line (R.format.print item.now) (lines_of text.old))) }
+    ensures { IfOk result (λ bytes. bytes ≡ file_bytes
+        (with_line (R.format.print item.now) (lines_of text.now))) }
 {
     let line = item.print(alloc)?;
-    append_line(alloc, text, line.as_slice())
+    let mut made = Bytes::of(alloc, text)?;
+    append_line(alloc, &mut made, line.as_slice())?;
+    Ok(made)
 }
 
-// Adds the record where no record has its name.
-fn add_missing<R: EditedRecord + Drop>(
+// The text with the record added where no record has its name.
+fn with_missing<R: EditedRecord + Drop>(
     alloc: Global,
-    text: &mut Bytes,
+    text: &[u8],
     item: &R,
-) -> Result<(), AllocError>
+) -> Result<Bytes, AllocError>
     requires { IsWritten R.format item.now }
-    ensures { OnOk result (text.new ≡ file_bytes
-        (edited R.format (lines_of text.old) (model.AddMissing item.now))) }
+    ensures { IfOk result (λ bytes. bytes ≡ file_bytes
+        (edited R.format (lines_of text.now) (model.AddMissing item.now))) }
 {
-    if has_record::<R>(text.as_slice(), item.name()) {
-        return Ok(());
+    if has_record::<R>(text, item.name()) {
+        return Bytes::of(alloc, text);
     }
-    add(alloc, text, item)
+    with_added(alloc, text, item)
 }
 
-// Puts the record in place of the first of its name, or adds it.
-fn put<R: EditedRecord + Drop>(alloc: Global, text: &mut Bytes, item: &R) -> Result<(), AllocError>
+// The text with the record in place of the first of its name, or added.
+fn with_put<R: EditedRecord + Drop>(
+    alloc: Global,
+    text: &[u8],
+    item: &R,
+) -> Result<Bytes, AllocError>
     requires { IsWritten R.format item.now }
-    ensures { OnOk result (text.new ≡ file_bytes
-        (edited R.format (lines_of text.old) (model.Put item.now))) }
+    ensures { IfOk result (λ bytes. bytes ≡ file_bytes
+        (edited R.format (lines_of text.now) (model.Put item.now))) }
 {
-    if !has_record::<R>(text.as_slice(), item.name()) {
-        return add(alloc, text, item);
+    if !has_record::<R>(text, item.name()) {
+        return with_added(alloc, text, item);
     }
-    *text = text_with(alloc, text.as_slice(), item)?;
-    Ok(())
+    text_with(alloc, text, item)
 }
 
 // The text with the record in place of the first of its name.

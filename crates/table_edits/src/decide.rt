@@ -14,6 +14,7 @@ ghost use Rattle.table_edits.specs.Acting.{acting};
 ghost use Rattle.table_edits.specs.SeenEdits.{seen_edits};
 ghost use Rattle.table_edits.specs.SeenScript.{seen_script};
 
+use crate::files_after::files_after;
 use crate::{Edit, EditedRecord, Report, Script, Tables, file_lines, first_multiple};
 use account_model::{Refusal, Tool};
 use acct_tables::{Decision, Output, refusal_status, refusal_text};
@@ -38,7 +39,7 @@ pub fn decide_by(
         return refuse(alloc, tool, refusal);
     }
     let output = output_of(alloc, tool, report)?;
-    let new = tables.edited(alloc, script)?;
+    let new = files_after(alloc, tables.files(), script)?;
     Ok(decision_between(tables.files(), new, output))
 }
 

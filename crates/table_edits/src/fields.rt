@@ -2,7 +2,7 @@
 ghost use Rattle.std.specs.Prelude.{◌≡◌, not, bytes_eq, IfOk, unwrap_or};
 ghost use Rattle.account_model.specs.Naming.{first_field as first_of};
 
-use acct_lines::first_field;
+use acct_lines::has_first_field;
 use acct_text::Bytes;
 use std::alloc::AllocError;
 
@@ -20,5 +20,5 @@ pub(crate) fn copy_or(new: &Option<Bytes>, old: &Bytes) -> Result<Bytes, AllocEr
 pub(crate) fn has_other_name(line: &[u8], name: &[u8]) -> bool
     ensures { result ≡ not (bytes_eq (first_of line.now) name.now) }
 {
-    first_field(line) != name
+    !has_first_field(line, name)
 }

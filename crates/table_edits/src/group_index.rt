@@ -11,9 +11,9 @@ ghost use Rattle.table_edits.specs.TablesOfLines.{lines_in};
 
 use crate::Tables;
 use crate::ids::IdRecord;
-use crate::indexed_lines::{IndexedLines, MANY};
+use crate::indexed_lines::IndexedLines;
 use acct_lines::GroupRecord;
-use acct_tables::FileLines;
+use acct_tables::{FileLines, MANY};
 use acct_text::{Bytes, Files};
 use indexmap::IndexMap;
 use std::alloc::{AllocError, Global};

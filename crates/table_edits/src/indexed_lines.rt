@@ -6,12 +6,9 @@ ghost use Rattle.table_edits.specs.TablesOfLines.{lines_in};
 
 use crate::file_lines;
 use acct_lines::TableRecord;
-use acct_tables::{FileLines, NameIndex};
+use acct_tables::{FileLines, MANY, NameIndex};
 use acct_text::Bytes;
 use std::alloc::{AllocError, Global};
-
-/// From so many look-ups on an index takes less time than a pass over the lines for each.
-pub(crate) const MANY: usize = 8;
 
 /// The lines of a file, with the index of their names.
 #[derive(Drop)]

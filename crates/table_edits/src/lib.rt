@@ -14,6 +14,7 @@ mod decide;
 mod deciding;
 mod edit;
 mod fields;
+mod files_after;
 mod group_changes;
 mod group_edits;
 mod group_index;

@@ -1,5 +1,6 @@
-// What becomes of the lines of a table's file by a change, one line after another.
-ghost use Rattle.std.specs.Prelude.{◌≡◌, ◌++◌, [], ◌∷◌, Some, map, IfOk, OnOk};
+// What becomes of the lines of a table's file by a change: lines that it leaves are copied together,
+// and each other one is read.
+ghost use Rattle.std.specs.Prelude.{◌≡◌, ◌++◌, ◌≤◌, [], ◌∷◌, Some, length, map, IfOk, OnOk};
 ghost use Rattle.acct_text.specs.Bytes.{newline};
 ghost use Rattle.acct_text.specs.Lines.{file_bytes, line_bytes, lines_of};
 ghost use Rattle.acct_text.specs.Pieces.{Lacks};
@@ -8,6 +9,7 @@ ghost use Rattle.account_model.specs.Edits as model;
 ghost use Rattle.account_model.specs.RecordEdits.{IsWrittenEdit};
 ghost use Rattle.account_model.specs.Written.{IsWritten};
 ghost use Rattle.acct_tables.specs.SeenLines.{seen_line};
+ghost use Rattle.table_edits.specs.OpenLines.{IsOpenFrom};
 
 use crate::multiple::differ;
 use crate::{Becoming, EditedRecord};
@@ -26,11 +28,44 @@ pub fn changed_text<R: EditedRecord + Drop>(
         (edited R.format (lines_of text.now) (model.Become (R.becomes change.now)))) }
 {
     let mut made = Bytes::new(alloc);
-    let mut left = Lines::of(text);
+    let mut left = push_front::<R>(&mut made, text, change)?;
     'lines: while let Some(line) = left.take() {
         push_changed::<R>(alloc, &mut made, &line, change)?;
+        left = push_front::<R>(&mut made, left.bytes(), change)?;
     }
     Ok(made)
+}
+
+// Adds the leading lines that the change leaves, all at once, and gives the others.
+fn push_front<'a, R: EditedRecord>(
+    made: &mut Bytes,
+    text: &'a [u8],
+    change: &R::Change,
+) -> Result<Lines<'a>, AllocError>
+    ensures added { IfOk result (λ left.
+        made.new ++ file_bytes (edited R.format left (model.Become (R.becomes change.now)))
+        ≡ made.old ++ file_bytes
+        (edited R.format (lines_of text.now) (model.Become (R.becomes change.now)))) }
+    ensures no_more { IfOk result (λ left. length left ≤ length (lines_of text.now)) }
+{
+    let open = open_from::<R>(text, change);
+    made.push(&text[..text.len() - open.len()])?;
+    Ok(Lines::of(open))
+}
+
+// The text from the first line on that the change may touch; empty where there is none.
+fn open_from<'a, R: EditedRecord>(text: &'a [u8], change: &R::Change) -> &'a [u8]
+    ensures { IsOpenFrom R.format (R.becomes change.now) text.now result.now }
+{
+    let mut open = text;
+    let mut left = Lines::of(text);
+    'lines: while let Some(line) = left.take() {
+        if !R::leaves(change, line.text) {
+            return open;
+        }
+        open = left.bytes();
+    }
+    open
 }
 
 // Adds what becomes of a line. One that the change leaves isn't read.

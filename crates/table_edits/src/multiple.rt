@@ -12,10 +12,9 @@ ghost use Rattle.table_edits.specs.SeenEdits.{seen_edit, seen_edits};
 ghost use Rattle.table_edits.specs.Touching.{LacksName, LeavesTo, TouchOnly, met_at, touches_alone};
 
 use crate::fields::has_other_name;
-use crate::indexed_lines::MANY;
 use crate::touched::touched_names;
 use crate::{Becoming, Edit, EditedRecord};
-use acct_tables::{FileLines, NameIndex};
+use acct_tables::{FileLines, MANY, NameIndex};
 use acct_text::Bytes;
 use indexmap::IndexSet;
 use std::alloc::{AllocError, Global};

@@ -16,8 +16,7 @@ ghost use Rattle.table_edits.specs.RangeRemovals.{HasNone, IsApart, KeepsApart, 
 ghost use Rattle.table_edits.specs.SeenEdits.{seen_edit, seen_edits};
 ghost use Rattle.table_edits.specs.SubidChanges.{subid_becomes};
 
-use crate::apply::edited_in_order;
-use crate::{Edit, RangeCut, SubidChange};
+use crate::{Edit, RangeCut, SubidChange, edited_text};
 use acct_lines::{SubidLine, SubidRecord};
 use acct_tables::{FileLine, Lines, is_owner};
 use acct_text::Bytes;
@@ -52,8 +51,11 @@ pub fn edited_ranges(
         (edited_by subid_format (seen_edits subid_becomes edits.now) (lines_of text.now))) }
 {
     let first = first_cut(edits);
-    let before = edited_in_order(alloc, Bytes::of(alloc, text)?, &edits[..first])?;
-    edited_from_cut(alloc, before, &edits[first..])
+    if first == 0 {
+        return edited_from_cut(alloc, text, edits);
+    }
+    let before = edited_text(alloc, text, &edits[..first])?;
+    edited_from_cut(alloc, before.as_slice(), &edits[first..])
 }
 
 // The place of the first removal of IDs, or the number of all edits.
@@ -87,16 +89,16 @@ fn leading_cut(edits: &[Edit<SubidRecord, SubidChange>]) -> Option<&RangeCut> {
 // The text after the edits, of which the first may remove IDs.
 fn edited_from_cut(
     alloc: Global,
-    text: Bytes,
+    text: &[u8],
     edits: &[Edit<SubidRecord, SubidChange>],
 ) -> Result<Bytes, AllocError>
     requires { AllByRecursion (IsWrittenEdit subid_format) (seen_edits subid_becomes edits.now) }
     ensures { IfOk result (λ bytes. bytes ≡ file_bytes
-        (edited_by subid_format (seen_edits subid_becomes edits.now) (lines_of text))) }
+        (edited_by subid_format (seen_edits subid_becomes edits.now) (lines_of text.now))) }
 {
     match leading_cut(edits) {
-        Some(cut) => edited_with_cut(alloc, text.as_slice(), cut, edits),
-        None => edited_in_order(alloc, text, edits),
+        Some(cut) => edited_with_cut(alloc, text, cut, edits),
+        None => edited_text(alloc, text, edits),
     }
 }
 
@@ -113,7 +115,7 @@ fn edited_with_cut(
 {
     let removals = removals_of(alloc, cut, edits)?;
     let left = text_without(alloc, text, &edits[..removals.count], &removals)?;
-    edited_in_order(alloc, left, &edits[removals.count..])
+    edited_text(alloc, left.as_slice(), &edits[removals.count..])
 }
 
 // The leading edits that each remove IDs from the owner of these.
@@ -206,7 +208,7 @@ fn push_left(
     }
     let mut alone = Bytes::new(alloc);
     line.push_to(&mut alone)?;
-    let left = edited_in_order(alloc, alone, edits)?;
+    let left = edited_text(alloc, alone.as_slice(), edits)?;
     made.push(left.as_slice())
 }
 

@@ -4,8 +4,6 @@ ghost use Rattle.std.specs.Prelude.{◌≡◌, is_some};
 use acct_text::Files;
 use std::marker::Model;
 
-mod edits;
-
 /// The tables of a folder, of which each call reads what it needs from the files. Contracts see
 /// them as the files.
 #[derive(Drop)]

@@ -4,9 +4,9 @@ ghost use Rattle.account_model.specs.Format.{is_named};
 ghost use Rattle.table_edits.specs.SeenEdits.{seen_edit, seen_edits};
 ghost use Rattle.table_edits.specs.Touching.{LeavesTo, TouchOnly};
 
-use crate::indexed_lines::MANY;
 use crate::named_edits::only_name;
 use crate::{Edit, EditedRecord};
+use acct_tables::MANY;
 use indexmap::IndexSet;
 use std::alloc::{AllocError, Global};
 

@@ -15,8 +15,8 @@ pub apply_by_name-requires-clause-of_file : goal.apply_by_name-requires-clause-o
 apply_by_name-requires-clause-of_file g c =
     subst AreOfFile (sym c.in_ok-lines.ensures) (text-of_file c.args.text.now)
 
-pub edited_in_order-requires : goal.edited_in_order-requires
-edited_in_order-requires g c =
+pub edited_further-requires : goal.edited_further-requires
+edited_further-requires g c =
     let becomes = g.R.EditedRecord.becomes in
     let edits = c.args.edits.now in
     subst (λ left. AllByRecursion (IsWrittenEdit g.R.TableRecord.format) (seen_edits becomes left))
@@ -29,7 +29,7 @@ returns g c =
     let seen = seen_edits g.R.EditedRecord.becomes in
     let edits = c.args.edits.now in
     let made = c.apply_by_name.new.lines in
-    IfOk-weaker c.edited_in_order.result _ _ (λ bytes is.
+    IfOk-weaker c.edited_further.result _ _ (λ bytes is.
     is
     ∙ ap (λ left. file_bytes (edited_by format (seen left) (lines_of c.in_ok-text.field-0)))
     (take_rest edits c.in_ok-done.done)
@@ -37,4 +37,4 @@ returns g c =
     (ap lines_of c.in_ok-text.ensures ∙ c.in_ok-done.ensures.of_file)
     ∙ ap file_bytes (c.in_ok-done.ensures.made
     ∙ ap (edited_by format (seen edits)) c.in_ok-lines.ensures))
-    c.edited_in_order.ensures
+    c.edited_further.ensures

@@ -1,43 +1,41 @@
-use Rattle.std.proofs.Common.{◌≡◌, ◌∙◌, ◌+◌, [], drop, ap, sym, arith}
-use Rattle.std.proofs.Math.ListN.{drop_of_length-le}
+use Rattle.std.proofs.Common.{◌≡◌, ◌∙◌, ◌∷◌, ap, sym, subst}
+use Rattle.std.specs.List.{AllByRecursion}
+use Rattle.std.proofs.lemmas.Result.{IfOk-weaker}
 use Rattle.acct_text.specs.Lines.{file_bytes, lines_of}
 use Rattle.acct_text.proofs.LinesLaws.{lines_of-are}
 use Rattle.account_model.specs.Edits.{edited_by}
 use Rattle.account_model.specs.RecordEdits.{IsWrittenEdit}
 use Rattle.acct_tables.proofs.EditedFiles.{edit-found}
 use Rattle.table_edits.specs.SeenEdits.{seen_edit, seen_edits}
-use Rattle.table_edits.proofs.EditLists.{edit-at, seen-from}
 use Rattle.table_edits.proofs.apply.edited_in_order.Goals as goal
 
-pub apply_edit-requires : goal.apply_edit-requires
-apply_edit-requires g c =
-    edit-at g.R.EditedRecord.becomes (IsWrittenEdit g.R.TableRecord.format) c.args.edits.now
-    c.edits.edit-index c.edit-item.result c.requires (omega arith) c.edit-item.is
+pub edited_once-requires : goal.edited_once-requires
+edited_once-requires g c =
+    let seen = seen_edits g.R.EditedRecord.becomes in
+    (subst (λ edits. AllByRecursion (IsWrittenEdit g.R.TableRecord.format) (seen edits))
+    c.in-Some.ensures.cases.0 c.requires).0
 
-pub edits-preserved : goal.edits-preserved
-edits-preserved g c =
-    let format = g.R.TableRecord.format in
-    let becomes = g.R.EditedRecord.becomes in
-    let edits = c.args.edits.now in
-    let index = c.edits.edit-index in
-    let edit = c.edit-item.result in
-    let rest = seen_edits becomes (drop (index + 1) edits) in
-    let written : IsWrittenEdit format (seen_edit becomes edit) =
-    edit-at becomes (IsWrittenEdit format) edits index edit c.requires (omega arith) c.edit-item.is in
-    ap (λ lines. file_bytes (edited_by format rest lines))
-    (edit-found format g.met.R.EditedRecord.no_blank (seen_edit becomes edit) written
-    c.edits.text c.apply_edit.new.text c.in_ok-apply_edit.ensures)
-    ∙ sym (ap (λ left. file_bytes (edited_by format left (lines_of c.edits.text)))
-    (seen-from becomes edits index edit (omega arith) c.edit-item.is))
-    ∙ c.edits.invariant
+pub edited_further-requires : goal.edited_further-requires
+edited_further-requires g c =
+    let seen = seen_edits g.R.EditedRecord.becomes in
+    (subst (λ edits. AllByRecursion (IsWrittenEdit g.R.TableRecord.format) (seen edits))
+    c.in-Some.ensures.cases.0 c.requires).1
 
 pub returns : goal.returns
 returns g c =
     let format = g.R.TableRecord.format in
     let seen = seen_edits g.R.EditedRecord.becomes in
-    let edits = c.args.edits.now in
-    let text = c.edits.text in
-    let none : drop c.edits.edit-index edits ≡ [] = drop_of_length-le edits (omega arith) in
-    sym (lines_of-are text).joined
-    ∙ ap (λ left. file_bytes (edited_by format (seen left) (lines_of text))) (sym none)
-    ∙ c.edits.invariant
+    let text = c.args.text.now in
+    let first = seen_edit g.R.EditedRecord.becomes c.in-Some.first.now in
+    let later = seen c.in-Some.later.now in
+    let once = c.in_ok-edited_once.field-0 in
+    let written = (subst (λ edits. AllByRecursion (IsWrittenEdit format) (seen edits))
+    c.in-Some.ensures.cases.0 c.requires).0 in
+    IfOk-weaker c.edited_further.result _ _ (λ bytes is.
+    is
+    ∙ ap (λ lines. file_bytes (edited_by format later lines))
+    (edit-found format g.met.R.EditedRecord.no_blank first written text once
+    c.in_ok-edited_once.ensures)
+    ∙ ap (λ edits. file_bytes (edited_by format (seen edits) (lines_of text)))
+    (sym c.in-Some.ensures.cases.0))
+    c.edited_further.ensures

@@ -11,7 +11,7 @@ returns-then-is_named g c =
     let item = c.args.item.now in
     let rest = c.take.new.self in
     c.in_ok-push.ensures.ok
-    ∙ ap (λ bytes. c.push_record.new.made ++ bytes) c.bytes.ensures
+    ∙ ap (λ bytes. c.push_record.new.made ++ bytes) c.bytes.ensures.bytes
     ∙ put-named format item (seen_line c.in-Some.line) c.lines.left rest c.lines.made
     c.push_record.new.made (file_bytes (put_first format item (lines_of c.args.text.now)))
     c.in-Some.ensures.taken c.lines.invariant c.name.result.now c.name.ensures

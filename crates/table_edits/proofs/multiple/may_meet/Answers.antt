@@ -4,8 +4,7 @@ use Rattle.account_model.specs.Format.{count_named, records_of}
 use Rattle.acct_tables.specs.TableLines.{record_at}
 use Rattle.table_edits.specs.SeenEdits.{seen_edits}
 use Rattle.table_edits.specs.Touching.{LacksName}
-use Rattle.table_edits.proofs.TouchedRecords.{met-single, met-untouched, untouched}
-use Rattle.table_edits.proofs.RecordLemmas.{record-named}
+use Rattle.table_edits.proofs.TouchedRecords.{met-single, met-untouched, record-named, untouched}
 use Rattle.table_edits.proofs.multiple.may_meet.Goals as goal
 
 pub returns-then-not-may_touch-clause-passed : goal.returns-then-not-may_touch-clause-passed

@@ -1,6 +1,6 @@
 use Rattle.std.proofs.Common.{subst}
 use Rattle.acct_tables.specs.NameIndex.{Tells, line_names, told}
-use Rattle.table_edits.proofs.FileLemmas.{lines-written}
+use Rattle.table_edits.proofs.WrittenLines.{lines-written}
 use Rattle.table_edits.proofs.named_edits.known_before.Goals as goal
 
 pub returns : goal.returns

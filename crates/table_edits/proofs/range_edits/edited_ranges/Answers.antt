@@ -11,8 +11,8 @@ use Rattle.table_edits.specs.SubidChanges.{subid_becomes}
 use Rattle.table_edits.proofs.EditLists.{edited-apart, edits-from, edits-up_to}
 use Rattle.table_edits.proofs.range_edits.edited_ranges.Goals as goal
 
-pub edited_in_order-requires : goal.edited_in_order-requires
-edited_in_order-requires c =
+pub edited_text-requires : goal.edited_text-requires
+edited_text-requires c =
     edits-up_to subid_becomes (IsWrittenEdit subid_format) c.args.edits.now c.first_cut-first.result
     c.requires
 
@@ -28,7 +28,7 @@ pub returns : goal.returns
 returns c =
     let edits = c.args.edits.now in
     let first = c.first_cut-first.result in
-    let before = c.in_ok-before.before in
+    let before = c.as_slice.result.now in
     IfOk-weaker c.edited_from_cut.result _ _ (λ bytes is.
     is
     ∙ ap (λ left. file_bytes
@@ -36,8 +36,5 @@ returns c =
     (take_rest edits first)
     ∙ ap file_bytes (edited-apart subid_becomes subid_format edits first c.args.text.now before refl
     c.requires
-    (c.in_ok-before.ensures {u = tt}
-    ∙ ap (λ text. file_bytes
-    (edited_by subid_format (seen_edits subid_becomes (take first edits)) (lines_of text)))
-    (c.in_ok-of.ensures {u = tt}))))
+    (c.as_slice.ensures ∙ c.in_ok-before.ensures {u = tt})))
     c.edited_from_cut.ensures

@@ -16,8 +16,8 @@ text_without-requires-clause-written c =
     edits-up_to subid_becomes (IsWrittenEdit subid_format) c.args.edits.now
     c.in_ok-removals.removals.count c.requires
 
-pub edited_in_order-requires : goal.edited_in_order-requires
-edited_in_order-requires c =
+pub edited_text-requires : goal.edited_text-requires
+edited_text-requires c =
     let edits = c.args.edits.now in
     let count = c.in_ok-removals.removals.count in
     subst (λ left. AllByRecursion (IsWrittenEdit subid_format) (seen_edits subid_becomes left))
@@ -28,12 +28,12 @@ pub returns : goal.returns
 returns c =
     let edits = c.args.edits.now in
     let count = c.in_ok-removals.removals.count in
-    let left = c.in_ok-left.left in
-    IfOk-weaker c.edited_in_order.result _ _ (λ bytes is.
+    let left = c.as_slice.result.now in
+    IfOk-weaker c.edited_text.result _ _ (λ bytes is.
     is
     ∙ ap (λ behind. file_bytes
     (edited_by subid_format (seen_edits subid_becomes behind) (lines_of left)))
     (take_rest edits count)
     ∙ ap file_bytes (edited-apart subid_becomes subid_format edits count c.args.text.now left refl
-    c.requires (c.in_ok-left.ensures {u = tt})))
-    c.edited_in_order.ensures
+    c.requires (c.as_slice.ensures ∙ c.in_ok-left.ensures {u = tt})))
+    c.edited_text.ensures

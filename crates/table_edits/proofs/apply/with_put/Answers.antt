@@ -1,10 +1,10 @@
 use Rattle.std.proofs.Common.{◌∙◌, ap, sym}
 use Rattle.std.specs.Prelude.{if◌then◌else◌}
-use Rattle.std.proofs.lemmas.Result.{on_ok_weaker}
+use Rattle.std.proofs.lemmas.Result.{IfOk-weaker}
 use Rattle.acct_text.specs.Lines.{file_bytes, lines_of}
 use Rattle.account_model.specs.Edits.{put_first, with_line}
 use Rattle.account_model.specs.Format.{has_named, records_of}
-use Rattle.table_edits.proofs.apply.put.Goals as goal
+use Rattle.table_edits.proofs.apply.with_put.Goals as goal
 
 pub returns-then-not-has_record : goal.returns-then-not-has_record
 returns-then-not-has_record g c =
@@ -12,14 +12,11 @@ returns-then-not-has_record g c =
     let item = c.args.item.now in
     let lines = lines_of c.args.text.now in
     let has = ap (λ name. has_named format name (records_of format lines)) (sym c.name.ensures)
-    ∙ ap (λ text. has_named format c.name.result.now (records_of format (lines_of text)))
-    (sym c.as_slice.ensures)
     ∙ sym c.has_record.ensures ∙ c.if-not-has_record.true in
-    on_ok_weaker c.add.result
-    (λ added. added
-    ∙ ap (λ has. file_bytes (if has then put_first format item lines
+    IfOk-weaker c.with_added.result _ _ (λ bytes is.
+    is ∙ ap (λ has. file_bytes (if has then put_first format item lines
     else with_line (format.print item) lines)) (sym has))
-    c.add.ensures
+    c.with_added.ensures
 
 pub returns : goal.returns
 returns g c =
@@ -27,10 +24,8 @@ returns g c =
     let item = c.args.item.now in
     let lines = lines_of c.args.text.now in
     let has = ap (λ name. has_named format name (records_of format lines)) (sym c.name.ensures)
-    ∙ ap (λ text. has_named format c.name.result.now (records_of format (lines_of text)))
-    (sym c.as_slice.ensures)
     ∙ sym c.has_record.ensures ∙ c.if-not-has_record.false in
-    c.in_ok-text.ensures
-    ∙ ap (λ text. file_bytes (put_first format item (lines_of text))) c.as_slice-2.ensures
-    ∙ ap (λ has. file_bytes (if has then put_first format item lines
-    else with_line (format.print item) lines)) (sym has)
+    IfOk-weaker c.text_with.result _ _ (λ bytes is.
+    is ∙ ap (λ has. file_bytes (if has then put_first format item lines
+    else with_line (format.print item) lines)) (sym has))
+    c.text_with.ensures

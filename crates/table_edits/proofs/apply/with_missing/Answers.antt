@@ -1,11 +1,11 @@
 use Rattle.std.proofs.Common.{◌∙◌, ap, sym}
 use Rattle.std.specs.Prelude.{if◌then◌else◌}
-use Rattle.std.proofs.lemmas.Result.{on_ok_weaker}
+use Rattle.std.proofs.lemmas.Result.{IfOk-weaker}
 use Rattle.acct_text.specs.Lines.{file_bytes, lines_of}
 use Rattle.acct_text.proofs.LinesLaws.{lines_of-are}
 use Rattle.account_model.specs.Edits.{with_line}
 use Rattle.account_model.specs.Format.{has_named, records_of}
-use Rattle.table_edits.proofs.apply.add_missing.Goals as goal
+use Rattle.table_edits.proofs.apply.with_missing.Goals as goal
 
 pub returns-then-has_record : goal.returns-then-has_record
 returns-then-has_record g c =
@@ -13,23 +13,20 @@ returns-then-has_record g c =
     let text = c.args.text.now in
     let lines = lines_of text in
     let has = ap (λ name. has_named format name (records_of format lines)) (sym c.name.ensures)
-    ∙ ap (λ text. has_named format c.name.result.now (records_of format (lines_of text)))
-    (sym c.as_slice.ensures)
     ∙ sym c.has_record.ensures ∙ c.if-has_record.true in
-    sym (lines_of-are text).joined
+    IfOk-weaker c.of.result _ _ (λ bytes is.
+    is ∙ sym (lines_of-are text).joined
     ∙ ap (λ has. file_bytes
-    (if has then lines else with_line (format.print c.args.item.now) lines)) (sym has)
+    (if has then lines else with_line (format.print c.args.item.now) lines)) (sym has))
+    c.of.ensures
 
 pub returns : goal.returns
 returns g c =
     let format = g.R.TableRecord.format in
     let lines = lines_of c.args.text.now in
     let has = ap (λ name. has_named format name (records_of format lines)) (sym c.name.ensures)
-    ∙ ap (λ text. has_named format c.name.result.now (records_of format (lines_of text)))
-    (sym c.as_slice.ensures)
     ∙ sym c.has_record.ensures ∙ c.if-has_record.false in
-    on_ok_weaker c.add.result
-    (λ added. added
-    ∙ ap (λ has. file_bytes
+    IfOk-weaker c.with_added.result _ _ (λ bytes is.
+    is ∙ ap (λ has. file_bytes
     (if has then lines else with_line (format.print c.args.item.now) lines)) (sym has))
-    c.add.ensures
+    c.with_added.ensures

@@ -1,4 +1,4 @@
-// The files after a command's edits.
+// The files after a command's edits (passwd(5), shadow(5), group(5), gshadow(5), subuid(5), subgid(5)).
 ghost use Rattle.std.specs.Prelude.{◌≡◌, IfOk};
 ghost use Rattle.std.specs.List.{AllByRecursion};
 ghost use Rattle.account_model.specs.RecordEdits.{IsWrittenEdit};
@@ -9,27 +9,27 @@ ghost use Rattle.table_edits.specs.SeenEdits.{seen_edits};
 ghost use Rattle.table_edits.specs.SeenScript.{seen_script};
 ghost use Rattle.table_edits.specs.SubidChanges.{subid_becomes};
 
-use super::Tables;
 use crate::{Edit, EditedRecord, Script, SubidChange, SubidRecord, edited_ranges, edited_text};
 use acct_text::{Bytes, Files};
 use std::alloc::{AllocError, Global};
 
-impl Tables<'_> {
-    /// The files after the edits of the script. An absent one stays absent.
-    pub fn edited(&self, alloc: Global, script: &Script) -> Result<Files, AllocError>
-        requires { IsWrittenScript (seen_script script.now) }
-        ensures { IfOk result (λ files. files ≡ files_after (seen_script script.now) self.now) }
-    {
-        let files = self.files;
-        Ok(Files {
-            passwd: file_after(alloc, &files.passwd, &script.passwd)?,
-            shadow: file_after(alloc, &files.shadow, &script.shadow)?,
-            group: file_after(alloc, &files.group, &script.group)?,
-            gshadow: file_after(alloc, &files.gshadow, &script.gshadow)?,
-            subuid: ranges_after(alloc, &files.subuid, &script.subuid)?,
-            subgid: ranges_after(alloc, &files.subgid, &script.subgid)?,
-        })
-    }
+/// The files after the edits of the script. An absent one stays absent.
+pub(crate) fn files_after(
+    alloc: Global,
+    files: &Files,
+    script: &Script,
+) -> Result<Files, AllocError>
+    requires { IsWrittenScript (seen_script script.now) }
+    ensures { IfOk result (λ new. new ≡ files_after (seen_script script.now) files.now) }
+{
+    Ok(Files {
+        passwd: file_after(alloc, &files.passwd, &script.passwd)?,
+        shadow: file_after(alloc, &files.shadow, &script.shadow)?,
+        group: file_after(alloc, &files.group, &script.group)?,
+        gshadow: file_after(alloc, &files.gshadow, &script.gshadow)?,
+        subuid: ranges_after(alloc, &files.subuid, &script.subuid)?,
+        subgid: ranges_after(alloc, &files.subgid, &script.subgid)?,
+    })
 }
 
 // The bytes of a table after its edits, where there is the table.

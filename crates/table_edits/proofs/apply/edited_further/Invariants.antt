@@ -2,7 +2,7 @@ use Rattle.std.proofs.Common.{◌≡◌, drop}
 use Rattle.acct_text.specs.Lines.{file_bytes, lines_of}
 use Rattle.account_model.specs.Edits.{edited_by}
 use Rattle.table_edits.specs.SeenEdits.{seen_edits}
-use Rattle.table_edits.proofs.apply.edited_in_order.Given as goal
+use Rattle.table_edits.proofs.apply.edited_further.Given as goal
 
 -- the edits left make of the text what all make of the first text
 abbrev pub invariant-edits : goal.invariant-edits
