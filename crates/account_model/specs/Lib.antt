@@ -1,5 +1,4 @@
 pub mod WordMessages
-pub mod Failures
 pub mod Userdel
 pub mod Useradd
 pub mod Usermod

@@ -1,5 +1,5 @@
 -- The texts of refusals, as a tool prints them on the error stream. They are this profile's own.
-use Rattle.std.specs.Prelude.{ℕ, List, [], ◌∷◌, ◌++◌, codes, decimal, flat_map}
+use Rattle.std.specs.Prelude.{ℕ, List, [], ◌∷◌, ◌++◌, codes, decimal, flat_map, Option, None, Some}
 use Rattle.account_model.specs.declared.tool.Tool.{Tool}
 use Rattle.account_model.specs.declared.tool.Tool.TheVariants.{Useradd, Usermod, Userdel, Groupadd, Groupmod, Groupdel, Gpasswd, Chage, Chpasswd, Pwck, Grpck, Getsubids}
 use Rattle.account_model.specs.declared.refusal.Refusal.{Refusal}
@@ -61,9 +61,20 @@ refusal_text (BadLine line problem) =
 refusal_text (NoRanges name) = codes "no ranges for " ++ name
 refusal_text (Multiple tab name) = table_name tab ++ codes " has multiple entries for " ++ name
 
--- one line on the error stream, after the tool's name
+-- ---- Lines
+
+-- who speaks: the tool, or the suite where no tool is known
+abbrev pub speaker : Option Tool → List ℕ
+speaker None = codes "accounts"
+speaker (Some tool) = tool_name tool
+
+-- one line on the error stream, behind who speaks
+abbrev pub line_by : Option Tool → List ℕ → List ℕ
+line_by tool text = speaker tool ++ codes ": " ++ text ++ newline ∷ []
+
+-- one line of the tool
 abbrev pub message : Tool → List ℕ → List ℕ
-message tool text = tool_name tool ++ codes ": " ++ text ++ newline ∷ []
+message tool text = line_by (Some tool) text
 
 -- one such line for each text
 abbrev pub messages : Tool → List (List ℕ) → List ℕ

@@ -1,6 +1,7 @@
--- The statuses of refusals and of files that can't be used, by the "EXIT VALUES" of useradd(8), usermod(8), userdel(8),
--- groupadd(8), groupmod(8), groupdel(8), gpasswd(1), chage(1), pwck(8) and grpck(8). Where the pages of a tool differ
--- between versions or name no number, the number is this profile's own.
+-- The statuses of refusals and of what a command meets outside the tables, by the "EXIT VALUES" of
+-- useradd(8), usermod(8), userdel(8), groupadd(8), groupmod(8), groupdel(8), gpasswd(1), chage(1),
+-- pwck(8) and grpck(8). Where the pages of a tool differ between versions or name no number, the
+-- number is this profile's own.
 use Rattle.std.specs.Prelude.{ℕ}
 use Rattle.account_model.specs.declared.tool.Tool.{Tool}
 use Rattle.account_model.specs.declared.tool.Tool.TheVariants.{Useradd, Usermod, Userdel, Groupadd, Groupmod, Groupdel, Gpasswd, Chage, Pwck, Grpck}
@@ -27,6 +28,14 @@ bad_argument = 3
 abbrev pub unusable_file : ℕ
 unusable_file = 3
 
+-- pwck and grpck don't get the lock
+abbrev pub unlocked_files : ℕ
+unlocked_files = 4
+
+-- pwck and grpck can't change the tables
+abbrev pub unchanged_files : ℕ
+unchanged_files = 5
+
 -- the UID or the GID is in use, or none is free
 abbrev pub used_id : ℕ
 used_id = 4
@@ -51,7 +60,41 @@ group_failure = 10
 abbrev pub absent_shadow : ℕ
 absent_shadow = 15
 
--- ---- The statuses
+-- no memory was found; this one and the next three are this profile's own, and those of every tool
+abbrev pub memory_status : ℕ
+memory_status = 100
+
+-- the input can't be read
+abbrev pub input_fault_status : ℕ
+input_fault_status = 101
+
+-- the output or the message can't be written; no text says so
+abbrev pub output_fault_status : ℕ
+output_fault_status = 102
+
+-- the clock gives no day
+abbrev pub clock_fault_status : ℕ
+clock_fault_status = 103
+
+-- ---- The statuses of each tool
+
+-- a lock that isn't got
+abbrev pub lock_status : Tool → ℕ
+lock_status Groupadd = group_failure
+lock_status Groupmod = group_failure
+lock_status Groupdel = group_failure
+lock_status Pwck = unlocked_files
+lock_status Grpck = unlocked_files
+lock_status tool = general_failure
+
+-- a folder that can't be changed
+abbrev pub update_status : Tool → ℕ
+update_status Groupadd = group_failure
+update_status Groupmod = group_failure
+update_status Groupdel = group_failure
+update_status Pwck = unchanged_files
+update_status Grpck = unchanged_files
+update_status tool = general_failure
 
 -- a table, login.defs or a setting that can't be used
 abbrev pub file_status : Tool → ℕ

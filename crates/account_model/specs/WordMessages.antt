@@ -1,20 +1,19 @@
 -- The statuses and the texts of faults of words. The texts are this profile's own.
-use Rattle.std.specs.Prelude.{ℕ, List, [], ◌∷◌, ◌++◌, codes, decimal, Option, Some, None, unwrap_or, slice_get}
+use Rattle.std.specs.Prelude.{ℕ, List, [], ◌++◌, codes, decimal, Option, Some, None, unwrap_or, slice_get}
 use Rattle.account_model.specs.declared.tool.Tool.{Tool}
 use Rattle.account_model.specs.declared.tool.Tool.TheVariants.{Pwck, Grpck, Getsubids}
 use Rattle.account_model.specs.declared.word_fault.WordFault.{WordFault}
 use Rattle.account_model.specs.declared.word_fault.WordFault.TheVariants.{WordLimit, NoTool, UnknownTool, UnknownOption, MissingValue, UnexpectedValue, TooMany, NoPrefix, TooFew, Clash, Memory}
-use Rattle.acct_text.specs.Bytes.{newline}
 use Rattle.account_model.specs.Options.{Word}
 use Rattle.account_model.specs.Words.{tool_named}
-use Rattle.account_model.specs.Messages.{message}
-use Rattle.account_model.specs.Failures.{before_commit, want_of_memory, failure_text, memory_status}
+use Rattle.account_model.specs.Messages.{line_by}
+use Rattle.account_model.specs.Statuses.{memory_status}
 
 -- the word at a place, from 0
 abbrev pub word_at : List Word → ℕ → Word
 word_at words place = unwrap_or (slice_get words place) []
 
--- what is printed of a fault of these words
+-- what is printed of a fault of these words; want of memory is no fault of theirs, and says nothing here
 abbrev pub word_fault_text : List Word → WordFault → List ℕ
 word_fault_text words (WordLimit place) = codes "word " ++ decimal place ++ codes " passes a limit"
 word_fault_text words NoTool = codes "no command given"
@@ -30,7 +29,7 @@ word_fault_text words (TooMany place) =
 word_fault_text words NoPrefix = codes "option -P is required"
 word_fault_text words TooFew = codes "missing operand"
 word_fault_text words (Clash rule) = codes "options break rule " ++ decimal rule
-word_fault_text words Memory = failure_text (want_of_memory before_commit)
+word_fault_text words Memory = []
 
 -- the status of a usage error (useradd(8), pwck(8), "EXIT VALUES")
 abbrev pub syntax_status : Tool → ℕ
@@ -52,9 +51,6 @@ word_fault_status words Memory = memory_status
 word_fault_status words fault =
     elim (faulty_tool words fault) [ None ↦ 2 | Some tool ↦ syntax_status tool ]
 
--- the line on the error stream: `accounts` stands in place of the tool where there is none
+-- the line on the error stream, of the suite where there is no tool
 abbrev pub word_fault_message : List Word → WordFault → List ℕ
-word_fault_message words fault = elim (faulty_tool words fault) [
-  | None ↦ codes "accounts: " ++ word_fault_text words fault ++ newline ∷ []
-  | Some tool ↦ message tool (word_fault_text words fault)
-]
+word_fault_message words fault = line_by (faulty_tool words fault) (word_fault_text words fault)

@@ -9,7 +9,6 @@ pub mod ListLines
 pub mod RenamingLemmas
 pub mod OrderLemmas
 pub mod RefusalLemmas
-pub mod FirstRefusal
 pub mod LinesAhead
 pub mod EditedFiles
 pub mod LinesCounted

@@ -1,11 +1,9 @@
 pub mod Kept
 pub mod TableLines
 pub mod Refusals
-pub mod Decisions
 pub mod Lists
 pub mod Order
 pub mod Renaming
-pub mod Refusing
 pub mod LinePlaces
 pub mod EditedTexts
 pub mod SeenLines

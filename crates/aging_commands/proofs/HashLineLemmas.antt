@@ -6,8 +6,8 @@ use Rattle.std.specs.Prelude.{IsErrAnd}
 use Rattle.std.proofs.Math.Seq.{take-suc, drop-cons}
 use Rattle.std.proofs.lemmas.List.{map-append}
 use Rattle.acct_text.specs.Bytes.{part_of}
-use Rattle.acct_tables.specs.declared.tool_fault.ToolFault.{ToolFault}
-use Rattle.acct_tables.specs.declared.tool_fault.ToolFault.TheVariants.{Refused, Memory}
+use Rattle.tool_answers.specs.declared.tool_fault.ToolFault.{ToolFault}
+use Rattle.tool_answers.specs.declared.tool_fault.ToolFault.TheVariants.{Refused, Memory}
 use Rattle.table_edits.specs.Stopping.{StopsBy}
 use Rattle.std.specs.Prelude.{Option, Some, None, option_map}
 use Rattle.acct_text.specs.declared.files.Files.{Files}

@@ -1,4 +1,3 @@
 pub mod ChageLemmas
 pub mod ScriptLemmas
 pub mod HashLineLemmas
-pub mod DecisionLemmas

@@ -6,7 +6,7 @@ ghost use Rattle.account_model.specs.Request.{operand, value_of};
 ghost use Rattle.account_model.specs.Text.{first_some};
 ghost use Rattle.account_model.specs.Users.{aging_of};
 ghost use Rattle.account_model.specs.Values.{date_value, days_value};
-ghost use Rattle.acct_tables.specs.Refusing.{RefusesBy};
+ghost use Rattle.tool_answers.specs.Refusing.{RefusesBy};
 ghost use Rattle.table_edits.specs.Acting.{ActsBy, IsReportOf};
 ghost use Rattle.table_edits.specs.SeenScript.{seen_script};
 ghost use Rattle.table_edits.specs.Stopping.{StopsBy};
@@ -23,7 +23,7 @@ use table_edits::{Report, Script, ShadowAct, ShadowFields, Tables, hash_alone};
 ///
 /// `BadValue` refuses the value of an option, `NoShadow` the tables without shadow, and `NoUser` a
 /// user that passwd doesn't have, each with `-l` as well.
-pub(crate) fn chage(alloc: Global, asked: &Asked, tables: &Tables) -> Result<Script, ToolFault>
+pub fn chage(alloc: Global, asked: &Asked, tables: &Tables) -> Result<Script, ToolFault>
     ensures { ActsBy (chage asked.now tables.now) result }
 {
     check_chage(alloc, asked, tables)?;
@@ -34,7 +34,7 @@ pub(crate) fn chage(alloc: Global, asked: &Asked, tables: &Tables) -> Result<Scr
 }
 
 /// What chage prints: with `-l` the aging of the user, and else nothing.
-pub(crate) fn chage_report(
+pub fn chage_report(
     alloc: Global,
     asked: &Asked,
     tables: &Tables,
@@ -51,7 +51,7 @@ pub(crate) fn chage_report(
     })
 }
 
-// Tests the refusals in their order.
+/// Tests the refusals in their order.
 fn check_chage(alloc: Global, asked: &Asked, tables: &Tables) -> Result<(), ToolFault>
     ensures { StopsBy (first_some (chage_refusals asked.now tables.now)) result }
 {
@@ -65,7 +65,7 @@ fn check_chage(alloc: Global, asked: &Asked, tables: &Tables) -> Result<(), Tool
     tables.check_user(alloc, asked.operand())
 }
 
-// Refuses tables without shadow: `NoShadow`.
+/// Refuses tables without shadow: `NoShadow`.
 fn check_shadow(tables: &Tables) -> Result<(), ToolFault>
     ensures { RefusesBy (refuse_if (is_none tables.now.shadow) Refusal.NoShadow) result }
 {
@@ -75,7 +75,7 @@ fn check_shadow(tables: &Tables) -> Result<(), ToolFault>
     Err(ToolFault::Refused(Refusal::NoShadow))
 }
 
-// The edits of a user that can be changed so.
+/// The edits of a user that can be changed so.
 fn changed_aging(alloc: Global, asked: &Asked, tables: &Tables) -> Result<Script, AllocError>
     ensures { IfOk result (λ script. seen_script script ≡ chage_script asked.now tables.now) }
 {
@@ -86,7 +86,7 @@ fn changed_aging(alloc: Global, asked: &Asked, tables: &Tables) -> Result<Script
     Ok(script)
 }
 
-// The fields of shadow that the options set.
+/// The fields of shadow that the options set.
 fn aging_fields(asked: &Asked) -> ShadowFields
     ensures { SetsAging asked.now result }
 {
@@ -101,21 +101,21 @@ fn aging_fields(asked: &Asked) -> ShadowFields
     }
 }
 
-// The day that the option gives; `-1` empties the field.
+/// The day that the option gives; `-1` empties the field.
 fn date(asked: &Asked, letter: u8) -> Option<Option<u32>>
     ensures { result ≡ option_and_then date_value (value_of (letter ∷ []) asked.now) }
 {
     read_date(asked.value(letter)?)
 }
 
-// The number of days that the option gives; `-1` empties the field.
+/// The number of days that the option gives; `-1` empties the field.
 fn days(asked: &Asked, letter: u8) -> Option<Option<u32>>
     ensures { result ≡ option_and_then days_value (value_of (letter ∷ []) asked.now) }
 {
     read_days(asked.value(letter)?)
 }
 
-// What is printed of the user; one that shadow lacks has no aging.
+/// What is printed of the user; one that shadow lacks has no aging.
 fn aging_of(alloc: Global, tables: &Tables, user: &[u8]) -> Result<Bytes, AllocError>
     ensures { IfOk result (λ text. text ≡ report_of (aging_of user.now tables.now)) }
 {

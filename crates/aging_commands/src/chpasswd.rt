@@ -18,7 +18,7 @@ use table_edits::{HashChange, Script, ShadowAct, Tables, UserIndex};
 /// table is passed over once, however many lines there are.
 ///
 /// `BadLine` refuses the whole input where one of its lines is bad: the first, counted from 1.
-pub(crate) fn chpasswd(
+pub fn chpasswd(
     alloc: Global,
     input: &[u8],
     tables: &Tables,
@@ -32,7 +32,7 @@ pub(crate) fn chpasswd(
     Ok(new_hashes(alloc, &hashes, &users, day)?)
 }
 
-// The edits of the lines, in their order.
+/// The edits of the lines, in their order.
 fn new_hashes(
     alloc: Global,
     hashes: &[NewHash],
@@ -49,7 +49,7 @@ fn new_hashes(
     Ok(script)
 }
 
-// The line of shadow on demand, then the hash, then the last change.
+/// The line of shadow on demand, then the hash, then the last change.
 fn set_hash(
     alloc: Global,
     script: &mut Script,

@@ -15,13 +15,12 @@ use Rattle.account_model.specs.Format.{Format, is_named}
 use Rattle.account_model.specs.Grpck.{grpck, grpck_report, grpck_sort, sorted_groups}
 use Rattle.account_model.specs.Pwck.{pwck, pwck_report, pwck_sort, sorted_users}
 use Rattle.account_model.specs.Request.{Request, has_option}
-use Rattle.account_model.specs.Settings.{Setting}
 use Rattle.account_model.specs.Records.{passwd_format, shadow_format, group_format, gshadow_format}
 use Rattle.account_model.specs.Tables.{no_edits, files_after, table_after, table_records, passwd_records, shadow_records, group_records, gshadow_records}
 use Rattle.account_model.specs.Text.{first_some}
-use Rattle.acct_tables.specs.Decisions.{decision_of, made_decision}
-use Rattle.acct_tables.specs.declared.decision.Decision.{Decision}
-use Rattle.acct_tables.specs.declared.decision.Decision.TheVariants.{Same}
+use Rattle.tool_answers.specs.Decisions.{decision_of, made_decision}
+use Rattle.tool_answers.specs.declared.decision.Decision.{Decision}
+use Rattle.tool_answers.specs.declared.decision.Decision.TheVariants.{Same}
 use Rattle.account_model.proofs.NoEdits.{files-stay}
 use Rattle.account_model.proofs.SameLaws.{bytes-self}
 use Rattle.check_reports.specs.Decided.{DecidesBy}

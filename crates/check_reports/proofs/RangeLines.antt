@@ -17,9 +17,9 @@ use Rattle.account_model.specs.SubidOwner.{is_owned}
 use Rattle.account_model.specs.Tables.{table_records}
 use Rattle.account_model.specs.Text.{first_some}
 use Rattle.account_model.specs.Users.{uid_of}
-use Rattle.acct_tables.specs.Decisions.{refusal_output}
-use Rattle.acct_tables.specs.declared.decision.Decision.{Decision}
-use Rattle.acct_tables.specs.declared.decision.Decision.TheVariants.{Refuse}
+use Rattle.tool_answers.specs.Decisions.{refusal_output}
+use Rattle.tool_answers.specs.declared.decision.Decision.{Decision}
+use Rattle.tool_answers.specs.declared.decision.Decision.TheVariants.{Refuse}
 use Rattle.subid_ranges.specs.Owned.{first_and_count}
 use Rattle.check_reports.specs.Decided.{DecidesBy}
 use Rattle.check_reports.specs.Listed.{listed_file, range_for}

@@ -7,7 +7,7 @@ use Rattle.acct_text.specs.Bytes.{is_empty}
 use Rattle.account_model.specs.declared.tool.Tool.{Tool}
 use Rattle.account_model.specs.Action.{reports}
 use Rattle.account_model.specs.Problems.{Located, problem_lines, report_status}
-use Rattle.acct_tables.specs.declared.decision.Decision.{Decision}
+use Rattle.tool_answers.specs.declared.decision.Decision.{Decision}
 use Rattle.check_reports.specs.declared.report.Report.{Report}
 use Rattle.check_reports.specs.Decided.{DecidesBy}
 use Rattle.check_reports.specs.Reported.{shown, status_of, with_problems}

@@ -1,43 +1,17 @@
-// What a command of checks decides: its tool is asked.
-ghost use Rattle.std.specs.Prelude.{◌≡◌, List, [], Option, None, IfOk};
+// What a tool of checks decides: a report, or the tables in another order.
+ghost use Rattle.std.specs.Prelude.{◌≡◌, List, [], Option, None};
 ghost use Rattle.acct_text.specs.declared.files.Files.{Files};
 ghost use Rattle.account_model.specs.declared.refusal.Refusal.{Refusal};
 ghost use Rattle.account_model.specs.declared.tool.Tool.{Tool};
 ghost use Rattle.account_model.specs.Action.{changes, multiple_entries, reports};
 ghost use Rattle.account_model.specs.Tables.{Script, files_after};
 ghost use Rattle.account_model.specs.Text.{first_some};
-ghost use Rattle.check_reports.specs.Decided.{DecidesBy, DecidesOn, IsCheckTool};
+ghost use Rattle.check_reports.specs.Decided.{DecidesBy};
 
-use crate::getsubids::getsubids;
-use crate::grpck::grpck;
-use crate::pwck::pwck;
-use crate::{CheckRequest, Decision, Output};
-use account_model::Tool;
 use acct_text::{Bytes, Files};
-use login_defs::Defs;
-use std::alloc::{AllocError, Global};
+use std::alloc::Global;
 use table_edits::are_same;
-
-/// What the command decides on these files on the day, in days since 1970-01-01. No such tool needs
-/// the settings. An absent passwd or group has no records here; the fault is for the caller to find
-/// before.
-pub fn decide(
-    alloc: Global,
-    request: &CheckRequest<'_>,
-    files: &Files,
-    _defs: &Defs,
-    day: u32,
-) -> Result<Decision, AllocError>
-    requires tool { IsCheckTool request.now.tool }
-    ensures { IfOk result (DecidesOn day request.now files.now) }
-{
-    match request.tool() {
-        Tool::Pwck => pwck(alloc, request, files, day),
-        Tool::Grpck => grpck(alloc, request, files, day),
-        Tool::Getsubids => getsubids(alloc, request, files),
-        _ => unreachable!(),
-    }
-}
+use tool_answers::{Decision, Output};
 
 /// The decision of a tool that changes nothing: its status, and what it prints.
 pub(crate) fn told(alloc: Global, status: u8, out: Bytes) -> Decision
@@ -63,7 +37,7 @@ pub(crate) fn changed(alloc: Global, files: &Files, new: Files) -> Decision
     }
 }
 
-// What is printed with a status, and nothing on the error stream.
+/// What is printed with a status, and nothing on the error stream.
 fn output(alloc: Global, status: u8, out: Bytes) -> Output
     ensures { result ≡ record { status = status; out = out; err = [] } }
 {

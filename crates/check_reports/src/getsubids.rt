@@ -11,17 +11,19 @@ ghost use Rattle.check_reports.specs.Listed.{listed_file, range_for};
 
 use crate::decision::told;
 use account_model::{PasswdRecord, Refusal};
-use acct_tables::{Decision, find_record};
+use acct_tables::find_record;
+use tool_answers::Decision;
 use acct_text::Piece::{Number, Text};
 use acct_text::{Bytes, Files};
 use command_values::Asked;
 use std::alloc::{AllocError, Global};
 use subid_ranges::OwnedRanges;
-use table_edits::{refuse, text_of};
+use table_edits::text_of;
+use tool_answers::refuse;
 
 /// Lists the ranges of the user in subuid(5), or with `-g` in subgid(5). `NoRanges` refuses a user
 /// who has none there.
-pub(crate) fn getsubids(alloc: Global, asked: &Asked, files: &Files) -> Result<Decision, AllocError>
+pub fn getsubids(alloc: Global, asked: &Asked, files: &Files) -> Result<Decision, AllocError>
     ensures { IfOk result (DecidesBy asked.now.tool (getsubids asked.now files.now) files.now) }
 {
     let user = asked.operand();
@@ -38,7 +40,7 @@ pub(crate) fn getsubids(alloc: Global, asked: &Asked, files: &Files) -> Result<D
     Ok(told(alloc, 0, lines))
 }
 
-// The file that is listed.
+/// The file that is listed.
 fn listed_file<'a>(asked: &Asked, files: &'a Files) -> &'a Option<Bytes>
     ensures { result.now ≡ listed_file asked.now files.now }
 {
@@ -49,7 +51,7 @@ fn listed_file<'a>(asked: &Asked, files: &'a Files) -> &'a Option<Bytes>
     }
 }
 
-// The UID of the user, where passwd has one.
+/// The UID of the user, where passwd has one.
 fn uid_of(alloc: Global, files: &Files, name: &[u8]) -> Result<Option<u32>, AllocError>
     ensures { IfOk result (λ uid. uid ≡ uid_of name.now files.now) }
 {
@@ -57,8 +59,8 @@ fn uid_of(alloc: Global, files: &Files, name: &[u8]) -> Result<Option<u32>, Allo
     Ok(user.map(|user| user.uid))
 }
 
-// The ranges of the file that are the user's, by the name or the UID: the first ID and the count of
-// each.
+/// The ranges of the file that are the user's, by the name or the UID: the first ID and the count of
+/// each.
 fn ranges_of(
     alloc: Global,
     file: &Option<Bytes>,
@@ -71,7 +73,7 @@ fn ranges_of(
     OwnedRanges::new(text_of(file), user, uid).collect(alloc)
 }
 
-// A line for each range, numbered from 0.
+/// A line for each range, numbered from 0.
 fn range_lines(alloc: Global, user: &[u8], ranges: &[(u32, u32)]) -> Result<Bytes, AllocError>
     ensures { IfOk result (λ lines. lines ≡ range_lines_from 0 user.now (map (range_for user.now) ranges.now)) }
 {
@@ -82,7 +84,7 @@ fn range_lines(alloc: Global, user: &[u8], ranges: &[(u32, u32)]) -> Result<Byte
     Ok(lines)
 }
 
-// Adds the line of a range.
+/// Adds the line of a range.
 fn push_range(
     lines: &mut Bytes,
     number: usize,

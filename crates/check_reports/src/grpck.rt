@@ -13,13 +13,13 @@ use crate::report::{CheckedRecord, Report};
 use crate::sorting::{ById, sorted_file, sorted_like};
 use account_model::{GroupRecord, GshadowRecord};
 use acct_lines::is_valid_name;
-use acct_tables::Decision;
+use tool_answers::Decision;
 use acct_text::{Files, Names, Tab};
 use command_values::Asked;
 use std::alloc::{AllocError, Global};
 
 /// Sorts group and gshadow with `-s`, and else reports their problems.
-pub(crate) fn grpck(
+pub fn grpck(
     alloc: Global,
     asked: &Asked,
     files: &Files,
@@ -34,8 +34,8 @@ pub(crate) fn grpck(
     report_groups(alloc, asked, &known)
 }
 
-// Sorts group by GID, and gshadow by the place of the name there; names that group lacks come
-// last. The sorted group is read again, as its records are those that count.
+/// Sorts group by GID, and gshadow by the place of the name there; names that group lacks come
+/// last. The sorted group is read again, as its records are those that count.
 fn sort_groups(alloc: Global, asked: &Asked, files: &Files) -> Result<Decision, AllocError>
     ensures { IfOk result
         (DecidesBy asked.now.tool (changes [] (grpck_sort files.now)) files.now) }
@@ -48,7 +48,7 @@ fn sort_groups(alloc: Global, asked: &Asked, files: &Files) -> Result<Decision, 
     Ok(changed(alloc, files, new))
 }
 
-// Reports the problems of group and gshadow, in the order of lines.
+/// Reports the problems of group and gshadow, in the order of lines.
 fn report_groups(alloc: Global, asked: &Asked, known: &Known) -> Result<Decision, AllocError>
     ensures { IfOk result
         (DecidesBy asked.now.tool (grpck_report known.now.files) known.now.files) }
@@ -109,7 +109,7 @@ impl CheckedRecord for GshadowRecord {
     }
 }
 
-// Adds a problem for each user in the group's list who isn't in passwd.
+/// Adds a problem for each user in the group's list who isn't in passwd.
 fn note_unknown<'a>(
     problems: &mut Problems<'a>,
     known: &Known,

@@ -121,7 +121,7 @@ impl<'a> Known<'a> {
     }
 }
 
-// The GIDs of all groups of a file; an absent one has none.
+/// The GIDs of all groups of a file; an absent one has none.
 fn gids_of(alloc: Global, file: &Option<Bytes>) -> Result<HashSet<u32>, AllocError>
     ensures { IfOk result (λ gids. (gid : ℕ) → bag.contains nat_eq gids gid
         ≡ has_gid (table_records group_format file.now) gid) }
@@ -134,7 +134,7 @@ fn gids_of(alloc: Global, file: &Option<Bytes>) -> Result<HashSet<u32>, AllocErr
     Ok(gids)
 }
 
-// Adds the GID of the group that the line is; other text has none.
+/// Adds the GID of the group that the line is; other text has none.
 fn note_gid(gids: &mut HashSet<u32>, line: &[u8]) -> Result<(), AllocError>
     ensures { OnOk result ((gid : ℕ) → bag.contains nat_eq gids.new gid
         ≡ (is_of (group_format.read line.now) gid || bag.contains nat_eq gids.old gid)) }

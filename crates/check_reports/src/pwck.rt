@@ -12,14 +12,14 @@ use crate::report::{CheckedRecord, Report};
 use crate::sorting::{ById, sorted_file, sorted_like};
 use account_model::{PasswdRecord, ShadowRecord};
 use acct_lines::is_valid_name;
-use acct_tables::Decision;
+use tool_answers::Decision;
 use acct_text::{Files, Tab};
 use command_values::Asked;
 use std::alloc::{AllocError, Global};
 
 /// Sorts passwd and shadow with `-s`, and else reports their problems, on the day in days since
 /// 1970-01-01.
-pub(crate) fn pwck(
+pub fn pwck(
     alloc: Global,
     asked: &Asked,
     files: &Files,
@@ -35,8 +35,8 @@ pub(crate) fn pwck(
     report_users(alloc, asked, &known)
 }
 
-// Sorts passwd by UID, and shadow by the place of the name there; names that passwd lacks come
-// last. The sorted passwd is read again, as its records are those that count.
+/// Sorts passwd by UID, and shadow by the place of the name there; names that passwd lacks come
+/// last. The sorted passwd is read again, as its records are those that count.
 fn sort_users(alloc: Global, asked: &Asked, files: &Files) -> Result<Decision, AllocError>
     ensures { IfOk result
         (DecidesBy asked.now.tool (changes [] (pwck_sort files.now)) files.now) }
@@ -49,8 +49,8 @@ fn sort_users(alloc: Global, asked: &Asked, files: &Files) -> Result<Decision, A
     Ok(changed(alloc, files, new))
 }
 
-// Reports the problems of passwd and shadow, in the order of lines. Notices are left out with
-// `-q`, and count for the status all the same.
+/// Reports the problems of passwd and shadow, in the order of lines. Notices are left out with
+/// `-q`, and count for the status all the same.
 fn report_users(alloc: Global, asked: &Asked, known: &Known) -> Result<Decision, AllocError>
     ensures { IfOk result (DecidesBy asked.now.tool
         (pwck_report asked.now known.now.files known.now.today) known.now.files) }
@@ -110,7 +110,7 @@ impl CheckedRecord for ShadowRecord {
     }
 }
 
-// Whether a day lies after today, both in days since 1970-01-01.
+/// Whether a day lies after today, both in days since 1970-01-01.
 fn is_after(today: u32, day: Option<u32>) -> bool
     ensures { result ≡ is_after today day }
 {

@@ -18,7 +18,8 @@ use crate::names::NameSet;
 use crate::problem::Problem;
 use crate::problems::Problems;
 use acct_lines::{TableRecord, first_field};
-use acct_tables::{Decision, read_record};
+use acct_tables::read_record;
+use tool_answers::Decision;
 use acct_text::{Bytes, Tab, push_decimal};
 use std::alloc::{AllocError, Global};
 use table_edits::file_lines;
@@ -87,8 +88,8 @@ impl Report {
         Ok(())
     }
 
-    // Adds the problems of a line with this text, counted from 1, behind records of which the names
-    // are kept, and keeps the name of its record.
+    /// Adds the problems of a line with this text, counted from 1, behind records of which the names
+    /// are kept, and keeps the name of its record.
     fn check_line<'a, R: CheckedRecord + Drop>(
         &mut self,
         alloc: Global,
@@ -110,7 +111,7 @@ impl Report {
         note_record(earlier, text, &item)
     }
 
-    // Adds the problems of a line, counted from 1.
+    /// Adds the problems of a line, counted from 1.
     fn push_line(
         &mut self,
         alloc: Global,
@@ -126,7 +127,7 @@ impl Report {
         Ok(())
     }
 
-    // Adds a problem of a line, counted from 1.
+    /// Adds a problem of a line, counted from 1.
     fn push(
         &mut self,
         alloc: Global,
@@ -154,7 +155,7 @@ impl Report {
         told(alloc, status, self.lines)
     }
 
-    // The status.
+    /// The status.
     fn status(&self) -> u8
         ensures { result ≡ status_of self.now }
     {
@@ -162,7 +163,7 @@ impl Report {
     }
 }
 
-// Adds the line that tells of the problem of a line, counted from 1.
+/// Adds the line that tells of the problem of a line, counted from 1.
 fn push_problem(
     alloc: Global,
     out: &mut Bytes,
@@ -182,8 +183,8 @@ fn push_problem(
     out.push(b"\n")
 }
 
-// The problems of a line with this text, which is the record or other text, behind records of which
-// the names are kept.
+/// The problems of a line with this text, which is the record or other text, behind records of which
+/// the names are kept.
 fn line_problems<'a, R: CheckedRecord + Drop>(
     alloc: Global,
     text: &[u8],
@@ -205,7 +206,7 @@ fn line_problems<'a, R: CheckedRecord + Drop>(
     }
 }
 
-// Whether the line belongs to NIS: it begins with `+` or `-`.
+/// Whether the line belongs to NIS: it begins with `+` or `-`.
 fn is_nis(line: &[u8]) -> bool
     ensures { result ≡ is_nis line.now }
 {
@@ -215,7 +216,7 @@ fn is_nis(line: &[u8]) -> bool
     }
 }
 
-// Notes the name of the record that the text is; other text has none.
+/// Notes the name of the record that the text is; other text has none.
 fn note_record<'a, R: TableRecord + Drop>(
     names: &mut NameSet<'a>,
     text: &'a [u8],

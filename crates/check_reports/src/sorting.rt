@@ -61,7 +61,7 @@ pub(crate) struct ByPlace<'a> {
 }
 
 impl<'a> ByPlace<'a> {
-    // The order of the records of a file; an absent one has none.
+    /// The order of the records of a file; an absent one has none.
     fn of<M: TableRecord + Drop>(alloc: Global, main: &'a Option<Bytes>) -> Result<Self, AllocError>
         ensures { IfOk result (IsOrderOf M.format (table_records M.format main.now)) }
     {
@@ -78,7 +78,7 @@ impl<'a> ByPlace<'a> {
         Ok(order)
     }
 
-    // Adds one more record, of the name.
+    /// Adds one more record, of the name.
     fn add(&mut self, name: &'a [u8]) -> Result<(), AllocError>
         requires { self.old.count + 1 < 2 ^ 64 }
         ensures first { OnOk result ((other : List ℕ) → kept_places self.new other
@@ -90,7 +90,7 @@ impl<'a> ByPlace<'a> {
         Ok(())
     }
 
-    // Gives the name the place of the next record, where it has none.
+    /// Gives the name the place of the next record, where it has none.
     fn note(&mut self, name: &'a [u8]) -> Result<(), AllocError>
         ensures first { OnOk result ((other : List ℕ) → kept_places self.new other
             ≡ with_place (kept_places self.old) name.now self.old.count other) }
@@ -153,7 +153,7 @@ pub(crate) fn sorted_like<M: TableRecord + Drop, R: TableRecord>(
     sorted_file::<R, ByPlace>(alloc, file, &order)
 }
 
-// The text with its records sorted by the key.
+/// The text with its records sorted by the key.
 fn sorted_text<R: TableRecord, K: SortKey<R>>(
     alloc: Global,
     text: &[u8],
@@ -167,7 +167,7 @@ fn sorted_text<R: TableRecord, K: SortKey<R>>(
     in_places::<R>(alloc, text, keyed.as_slice())
 }
 
-// The texts of all records with their keys, in the order of lines.
+/// The texts of all records with their keys, in the order of lines.
 fn keyed_texts<'t, R: TableRecord, K: SortKey<R>>(
     alloc: Global,
     text: &'t [u8],
@@ -184,7 +184,7 @@ fn keyed_texts<'t, R: TableRecord, K: SortKey<R>>(
     Ok(keyed)
 }
 
-// Adds the text of a line with the key of its record; other text has none.
+/// Adds the text of a line with the key of its record; other text has none.
 fn push_keyed<'t, R: TableRecord, K: SortKey<R>>(
     keyed: &mut Vec<Keyed<'t>>,
     text: &'t [u8],
@@ -201,7 +201,7 @@ fn push_keyed<'t, R: TableRecord, K: SortKey<R>>(
     Ok(())
 }
 
-// Sorts the texts by their keys; of equal keys the earlier stays the earlier.
+/// Sorts the texts by their keys; of equal keys the earlier stays the earlier.
 fn sort_keyed(keyed: &mut Vec<Keyed<'_>>) -> Result<(), AllocError>
     ensures { OnOk result (map seen_keyed keyed.new.items
         ≡ sorted_by_key (map seen_keyed keyed.old.items)) }
@@ -209,7 +209,7 @@ fn sort_keyed(keyed: &mut Vec<Keyed<'_>>) -> Result<(), AllocError>
     keyed.sort_by_key(|record| record.key)
 }
 
-// The file's bytes with these texts, one after another, in the places of records.
+/// The file's bytes with these texts, one after another, in the places of records.
 fn in_places<R: TableRecord>(
     alloc: Global,
     text: &[u8],
@@ -227,8 +227,8 @@ fn in_places<R: TableRecord>(
     Ok(made)
 }
 
-// Adds a line; a record's gets the text that is next. Gives the place of the text that is next then,
-// counted from 0.
+/// Adds a line; a record's gets the text that is next. Gives the place of the text that is next then,
+/// counted from 0.
 fn push_next<R: TableRecord>(
     made: &mut Bytes,
     line: &FileLine<'_>,
@@ -254,7 +254,7 @@ fn push_next<R: TableRecord>(
     Ok(next + 1)
 }
 
-// Adds the text in the place of a line, which keeps its end.
+/// Adds the text in the place of a line, which keeps its end.
 fn push_in_place(made: &mut Bytes, keyed: &Keyed<'_>, line: &FileLine<'_>) -> Result<(), AllocError>
     ensures { OnOk result (made.new ≡ made.old
         ++ line_bytes (record { text = keyed.now.text.now; ended = line.now.ended })) }

@@ -3,7 +3,7 @@ ghost use Rattle.std.specs.Prelude.{◌≡◌, ◌∷◌, [], option_and_then};
 ghost use Rattle.std.specs.Option.{option_copied};
 ghost use Rattle.account_model.specs.Refusals.{bad_value, bad_values, bad_name, bad_list_name};
 ghost use Rattle.command_values.specs.Forms.{form_refusal, test_of};
-ghost use Rattle.acct_tables.specs.Refusing.{RefusesBy};
+ghost use Rattle.tool_answers.specs.Refusing.{RefusesBy};
 
 use crate::asked::value_at;
 use crate::form::has_byte;

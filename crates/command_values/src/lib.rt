@@ -14,7 +14,7 @@ mod ranges;
 mod row_law;
 mod settings;
 
-pub use acct_tables::ToolFault;
+pub use tool_answers::ToolFault;
 pub use asked::Asked;
 pub use checks::{check_list_name, check_name};
 pub use days::{read_date, read_days, read_expiration};

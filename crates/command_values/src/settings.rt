@@ -5,7 +5,7 @@ ghost use Rattle.std.specs.Bool.{OnTrue};
 ghost use Rattle.account_model.specs.Settings.{is_setting_word, word_setting};
 ghost use Rattle.account_model.specs.NewAccount.{settings_for};
 ghost use Rattle.account_model.specs.Refusals.{refuse_if, bad_key};
-ghost use Rattle.acct_tables.specs.Refusing.{RefusesBy};
+ghost use Rattle.tool_answers.specs.Refusing.{RefusesBy};
 ghost use Rattle.command_values.specs.Chosen.{AddsSettings, GivesId};
 ghost use Rattle.login_defs.specs.Held.{Adds};
 

@@ -11,9 +11,9 @@ use Rattle.account_model.specs.Request.{Request}
 use Rattle.account_model.specs.Settings.{Setting}
 use Rattle.account_model.specs.Tables.{no_edits}
 use Rattle.account_model.specs.Text.{first_some}
-use Rattle.acct_tables.specs.declared.tool_fault.ToolFault.{ToolFault}
-use Rattle.acct_tables.specs.declared.tool_fault.ToolFault.TheVariants.{Refused, Memory}
-use Rattle.acct_tables.specs.Refusing.{IsFaultOf}
+use Rattle.tool_answers.specs.declared.tool_fault.ToolFault.{ToolFault}
+use Rattle.tool_answers.specs.declared.tool_fault.ToolFault.TheVariants.{Refused, Memory}
+use Rattle.tool_answers.specs.Refusing.{IsFaultOf}
 use Rattle.table_edits.specs.declared.script.Script.{Script}
 use Rattle.table_edits.specs.SeenScript.{seen_script}
 use Rattle.table_edits.specs.Acting.{ActsBy, IsScriptOf}

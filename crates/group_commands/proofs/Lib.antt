@@ -1,2 +1,1 @@
 pub mod GroupaddLemmas
-pub mod DecisionLemmas

@@ -6,7 +6,7 @@ use Rattle.account_model.specs.NewAccount.{settings_for}
 use Rattle.account_model.specs.Request.{Request, operand}
 use Rattle.account_model.specs.Settings.{Setting}
 use Rattle.account_model.specs.Text.{first_some}
-use Rattle.acct_tables.specs.declared.tool_fault.ToolFault.{ToolFault}
+use Rattle.tool_answers.specs.declared.tool_fault.ToolFault.{ToolFault}
 use Rattle.login_defs.specs.declared.defs.Defs.{Defs}
 use Rattle.login_defs.specs.Held.{HasSettings}
 use Rattle.table_edits.specs.Stopping.{StopsBy}

@@ -1,3 +1,1 @@
-pub mod GroupTools
-pub mod Decided
 pub mod GroupaddGid

@@ -6,7 +6,7 @@ ghost use Rattle.account_model.specs.NewAccount.{settings_for};
 ghost use Rattle.account_model.specs.Request.{operand};
 ghost use Rattle.account_model.specs.Settings.{Setting};
 ghost use Rattle.account_model.specs.Text.{first_some};
-ghost use Rattle.acct_tables.specs.Refusing.{RefusesBy};
+ghost use Rattle.tool_answers.specs.Refusing.{RefusesBy};
 ghost use Rattle.command_values.specs.Chosen.{AddsSettings};
 ghost use Rattle.id_choice.specs.Used.{AreThoseOf};
 ghost use Rattle.login_defs.specs.Held.{HasSettings};
@@ -26,7 +26,7 @@ use table_edits::{Script, Tables};
 /// `BadName`, `BadKey` and `BadValue` refuse the words, `GroupExists` a name that is taken,
 /// `GidInUse` a GID that is taken without `-o` and `-f`, and `NoFreeGid` where there is none left.
 /// With `-f` a group that exists stays as it is.
-pub(crate) fn groupadd(
+pub fn groupadd(
     alloc: Global,
     asked: &Asked,
     tables: &Tables,
@@ -46,7 +46,7 @@ pub(crate) fn groupadd(
     Ok(script)
 }
 
-// Refuses a bad name and bad values, and gives the settings with those of the `-K` words.
+/// Refuses a bad name and bad values, and gives the settings with those of the `-K` words.
 fn check_words(alloc: Global, asked: &Asked, defs: &Defs) -> Result<Defs, ToolFault>
     ensures refused { RefusesBy
         (first_some (groupadd_checks (operand asked.now) asked.now)) result }
@@ -59,7 +59,7 @@ fn check_words(alloc: Global, asked: &Asked, defs: &Defs) -> Result<Defs, ToolFa
     Ok(settings)
 }
 
-// Whether `-f` is given and the group exists.
+/// Whether `-f` is given and the group exists.
 fn is_content(alloc: Global, asked: &Asked, tables: &Tables) -> Result<bool, AllocError>
     ensures { IfOk result (λ content.
         content ≡ is_content (operand asked.now) asked.now tables.now) }
@@ -67,7 +67,7 @@ fn is_content(alloc: Global, asked: &Asked, tables: &Tables) -> Result<bool, All
     Ok(asked.has(b'f') && tables.group_named(alloc, asked.operand())?.is_some())
 }
 
-// The GID of the new group, where neither its name nor its GID is taken.
+/// The GID of the new group, where neither its name nor its GID is taken.
 fn gid_without_conflict(
     alloc: Global,
     asked: &Asked,
@@ -85,7 +85,7 @@ fn gid_without_conflict(
     new_gid(asked, tables, settings, &used).ok_or(ToolFault::Refused(Refusal::NoFreeGid))
 }
 
-// Refuses the GID of `-g` where it is taken: `GidInUse`. With `-f` another one is chosen.
+/// Refuses the GID of `-g` where it is taken: `GidInUse`. With `-f` another one is chosen.
 fn check_given_gid(asked: &Asked, tables: &Tables, used: &UsedIds) -> Result<(), ToolFault>
     requires { AreThoseOf used.now (gids_of tables.now) }
     ensures { RefusesBy (groupadd_used_gid asked.now tables.now) result }
@@ -98,7 +98,7 @@ fn check_given_gid(asked: &Asked, tables: &Tables, used: &UsedIds) -> Result<(),
     }
 }
 
-// Whether a group has the GID, and `-o` isn't given.
+/// Whether a group has the GID, and `-o` isn't given.
 fn is_gid_taken(asked: &Asked, tables: &Tables, used: &UsedIds, gid: u32) -> bool
     requires { AreThoseOf used.now (gids_of tables.now) }
     ensures { result ≡ is_gid_taken asked.now tables.now gid }
@@ -106,7 +106,7 @@ fn is_gid_taken(asked: &Asked, tables: &Tables, used: &UsedIds, gid: u32) -> boo
     used.holds(gid) && !asked.has(b'o')
 }
 
-// The GID of `-g`, and a chosen one where `-g` isn't given, or where with `-f` its GID is taken.
+/// The GID of `-g`, and a chosen one where `-g` isn't given, or where with `-f` its GID is taken.
 fn new_gid(asked: &Asked, tables: &Tables, settings: &Defs, used: &UsedIds) -> Option<u32>
     requires { AreThoseOf used.now (gids_of tables.now) }
     ensures { (old : List Setting) → HasSettings settings.now (settings_for asked.now old)

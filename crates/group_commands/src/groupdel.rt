@@ -16,7 +16,7 @@ use table_edits::{Script, Tables};
 ///
 /// `NoGroup` refuses where there is no such group, and then without `-f` `PrimaryGroup` where it is
 /// a user's primary group.
-pub(crate) fn groupdel(alloc: Global, asked: &Asked, tables: &Tables) -> Result<Script, ToolFault>
+pub fn groupdel(alloc: Global, asked: &Asked, tables: &Tables) -> Result<Script, ToolFault>
     ensures { ActsBy (groupdel asked.now tables.now) result }
 {
     let group = asked.operand();
@@ -29,7 +29,7 @@ pub(crate) fn groupdel(alloc: Global, asked: &Asked, tables: &Tables) -> Result<
     Ok(script)
 }
 
-// Refuses a group that is the primary group of a user: `PrimaryGroup`, with the first such one.
+/// Refuses a group that is the primary group of a user: `PrimaryGroup`, with the first such one.
 fn check_unused(alloc: Global, tables: &Tables, name: &[u8]) -> Result<(), ToolFault>
     ensures { StopsBy (still_primary name.now tables.now) result }
 {
@@ -39,8 +39,8 @@ fn check_unused(alloc: Global, tables: &Tables, name: &[u8]) -> Result<(), ToolF
     }
 }
 
-// Refuses a group whose GID is that of a user's primary group: `PrimaryGroup`, with the first such
-// user.
+/// Refuses a group whose GID is that of a user's primary group: `PrimaryGroup`, with the first such
+/// user.
 fn check_gid_unused(alloc: Global, tables: &Tables, group: &[u8], gid: u32) -> Result<(), ToolFault>
     ensures { StopsBy (option_map (λ user. PrimaryGroup group.now user.name)
         (find (λ user. user.gid == gid) (passwd_records tables.now))) result }
@@ -51,7 +51,7 @@ fn check_gid_unused(alloc: Global, tables: &Tables, group: &[u8], gid: u32) -> R
     }
 }
 
-// Refuses the primary group of the user: `PrimaryGroup`.
+/// Refuses the primary group of the user: `PrimaryGroup`.
 fn refuse_primary(alloc: Global, group: &[u8], user: &[u8]) -> Result<(), ToolFault>
     ensures { StopsBy (Some (PrimaryGroup group.now user.now)) result }
 {

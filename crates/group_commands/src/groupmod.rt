@@ -21,7 +21,7 @@ use table_edits::{Edit, GroupAct, GshadowAct, PasswdAct, PasswdChange, Script, T
 ///
 /// `BadValue` refuses a value of `-g`, `-n` or `-p`, `NoGroup` a group that isn't there,
 /// `GroupExists` another name that is taken, and without `-o` `GidInUse` another group's GID.
-pub(crate) fn groupmod(alloc: Global, asked: &Asked, tables: &Tables) -> Result<Script, ToolFault>
+pub fn groupmod(alloc: Global, asked: &Asked, tables: &Tables) -> Result<Script, ToolFault>
     ensures { ActsBy (groupmod asked.now tables.now) result }
 {
     let group = asked.operand();
@@ -34,7 +34,7 @@ pub(crate) fn groupmod(alloc: Global, asked: &Asked, tables: &Tables) -> Result<
     Ok(changed_group(alloc, asked, tables, group, &old)?)
 }
 
-// The group of the name, by its first record; `NoGroup` refuses one that isn't there.
+/// The group of the name, by its first record; `NoGroup` refuses one that isn't there.
 fn group_to_change(alloc: Global, tables: &Tables, group: &[u8]) -> Result<GroupRecord, ToolFault>
     ensures refused { StopsBy (missing_group group.now tables.now) result }
     ensures found { IfOk result (λ old. group_of_name group.now tables.now ≡ Some old) }
@@ -45,7 +45,7 @@ fn group_to_change(alloc: Global, tables: &Tables, group: &[u8]) -> Result<Group
     }
 }
 
-// Refuses a name of `-n` that differs from the group's and is taken: `GroupExists`.
+/// Refuses a name of `-n` that differs from the group's and is taken: `GroupExists`.
 fn check_new_name(
     alloc: Global,
     asked: &Asked,
@@ -61,7 +61,7 @@ fn check_new_name(
     }
 }
 
-// Refuses a name that differs from the group's and is taken in group or gshadow: `GroupExists`.
+/// Refuses a name that differs from the group's and is taken in group or gshadow: `GroupExists`.
 fn check_name_free(
     alloc: Global,
     tables: &Tables,
@@ -76,7 +76,7 @@ fn check_name_free(
     Err(ToolFault::Refused(Refusal::GroupExists(Bytes::of(alloc, name)?)))
 }
 
-// Whether a record of group or gshadow has the name.
+/// Whether a record of group or gshadow has the name.
 fn is_taken(alloc: Global, tables: &Tables, name: &[u8]) -> Result<bool, AllocError>
     ensures { IfOk result (λ taken.
         taken ≡ (has_group name.now tables.now || has_gshadow name.now tables.now)) }
@@ -84,7 +84,7 @@ fn is_taken(alloc: Global, tables: &Tables, name: &[u8]) -> Result<bool, AllocEr
     Ok(tables.group_named(alloc, name)?.is_some() || tables.gshadow_named(alloc, name)?.is_some())
 }
 
-// Refuses a GID of `-g` that is another group's where `-o` isn't given: `GidInUse`.
+/// Refuses a GID of `-g` that is another group's where `-o` isn't given: `GidInUse`.
 fn check_new_gid(
     alloc: Global,
     asked: &Asked,
@@ -104,7 +104,7 @@ fn check_new_gid(
     }
 }
 
-// Refuses a GID that differs from the group's and is in use: `GidInUse`.
+/// Refuses a GID that differs from the group's and is in use: `GidInUse`.
 fn check_gid_free(
     alloc: Global,
     tables: &Tables,
@@ -119,7 +119,7 @@ fn check_gid_free(
     Err(ToolFault::Refused(Refusal::GidInUse(gid)))
 }
 
-// The edits of a group that can be changed so.
+/// The edits of a group that can be changed so.
 fn changed_group(
     alloc: Global,
     asked: &Asked,
@@ -138,7 +138,7 @@ fn changed_group(
     Ok(script)
 }
 
-// Sets the hash of `-p`.
+/// Sets the hash of `-p`.
 fn write_hash(
     alloc: Global,
     script: &mut Script,
@@ -156,7 +156,7 @@ fn write_hash(
     }
 }
 
-// Sets the GID of `-g`.
+/// Sets the GID of `-g`.
 fn write_gid(
     alloc: Global,
     script: &mut Script,
@@ -175,7 +175,7 @@ fn write_gid(
     }
 }
 
-// Sets the name of `-n`.
+/// Sets the name of `-n`.
 fn write_name(
     alloc: Global,
     script: &mut Script,
@@ -191,7 +191,7 @@ fn write_name(
     }
 }
 
-// Gives the group the GID, and so every user whose primary group had the old one.
+/// Gives the group the GID, and so every user whose primary group had the old one.
 fn set_gid(
     alloc: Global,
     script: &mut Script,
@@ -207,7 +207,7 @@ fn set_gid(
     Ok(())
 }
 
-// Gives the group the name, in group and gshadow.
+/// Gives the group the name, in group and gshadow.
 fn rename_group(
     alloc: Global,
     script: &mut Script,

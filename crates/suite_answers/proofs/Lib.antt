@@ -1,3 +1,4 @@
 pub mod FrontLemmas
 pub mod PushLemmas
+mod ReasonRows
 pub mod ChangeLemmas

@@ -6,12 +6,12 @@ use Rattle.account_model.specs.declared.word_fault.WordFault.{WordFault}
 use Rattle.account_model.specs.declared.word_fault.WordFault.TheVariants.{Memory as NoMemory}
 use Rattle.account_model.specs.Messages.{message}
 use Rattle.account_model.specs.Options.{Word}
-use Rattle.account_model.specs.WordMessages.{word_fault_status, word_fault_message}
+use Rattle.account_model.specs.WordMessages.{faulty_tool, word_fault_status, word_fault_message}
 use Rattle.acct_outside.specs.declared.CommitStage.TheVariants.{Before}
 use Rattle.suite_answers.specs.declared.answer.Answer.{Answer}
 use Rattle.suite_answers.specs.declared.cause.Cause.{Cause}
 use Rattle.suite_answers.specs.declared.cause.Cause.TheVariants.{Changed, Same, Refused, Syntax, OutputFault, Memory}
-use Rattle.suite_answers.specs.Reasons.{status_of, reason_text}
+use Rattle.suite_answers.specs.Reasons.{memory_message, status_of, reason_text}
 
 -- an answer that says why, and has no output
 abbrev pub says : Cause → ℕ → List ℕ → Answer
@@ -44,10 +44,15 @@ abbrev pub cause_of_words : WordFault → Cause
 cause_of_words NoMemory = Memory Before
 cause_of_words fault = Syntax fault
 
+-- the line to words with this first fault
+abbrev pub message_to_words : List Word → WordFault → List ℕ
+message_to_words words NoMemory = memory_message (faulty_tool words NoMemory) Before
+message_to_words words fault = word_fault_message words fault
+
 -- the answer to words with this first fault
 abbrev pub told_words : List Word → WordFault → Answer
 told_words words fault =
-    says (cause_of_words fault) (word_fault_status words fault) (word_fault_message words fault)
+    says (cause_of_words fault) (word_fault_status words fault) (message_to_words words fault)
 
 -- ---- Any answer
 

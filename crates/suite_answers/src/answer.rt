@@ -1,12 +1,14 @@
 // What a command answers: its outcome, with the texts for the two streams.
 ghost use Rattle.std.specs.Prelude.{◌≡◌, IfOk};
-ghost use Rattle.suite_answers.specs.Answers.{told, told_words};
+ghost use Rattle.account_model.specs.WordMessages.{faulty_tool};
+ghost use Rattle.suite_answers.specs.Answers.{says, told, told_words};
 
-use crate::{Cause, Outcome, message, word_message};
+use crate::{Cause, Outcome, message};
 use account_model::{Tool, WordFault};
 use acct_outside::CommitStage;
 use acct_text::{Bytes, Word};
 use std::alloc::{AllocError, Global};
+use tool_answers::{faulty_tool, word_fault_message, word_fault_status};
 
 /// What a command answers.
 #[derive(Drop)]
@@ -30,11 +32,7 @@ impl Answer {
     {
         let err = message::of_cause(alloc, tool, &cause)?;
         let status = cause.status(tool);
-        Ok(Answer {
-            outcome: Outcome { status, cause },
-            out: Bytes::new(alloc),
-            err,
-        })
+        Ok(Answer::saying(alloc, status, cause, err))
     }
 
     /// The answer to a list of words with this first fault: no output, and one line on the error
@@ -44,16 +42,24 @@ impl Answer {
     pub fn of_words(alloc: Global, words: &[Word], fault: WordFault) -> Result<Self, AllocError>
         ensures { IfOk result (λ answer. answer ≡ told_words words.now fault) }
     {
-        let err = word_message::of_fault(alloc, words, fault)?;
-        let status = word_message::status(words, fault);
-        let cause = match fault {
-            WordFault::Memory => Cause::Memory(CommitStage::Before),
-            _ => Cause::Syntax(fault),
-        };
-        Ok(Answer {
+        let status = word_fault_status(words, fault);
+        if fault == WordFault::Memory {
+            let cause = Cause::Memory(CommitStage::Before);
+            let err = message::line_of(alloc, faulty_tool(words, fault), &cause)?;
+            return Ok(Answer::saying(alloc, status, cause, err));
+        }
+        let err = word_fault_message(alloc, words, fault)?;
+        Ok(Answer::saying(alloc, status, Cause::Syntax(fault), err))
+    }
+
+    /// An answer with this cause and this line, and no output.
+    fn saying(alloc: Global, status: u8, cause: Cause, err: Bytes) -> Self
+        ensures { result ≡ says cause status err }
+    {
+        Answer {
             outcome: Outcome { status, cause },
             out: Bytes::new(alloc),
             err,
-        })
+        }
     }
 }

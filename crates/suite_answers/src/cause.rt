@@ -1,12 +1,20 @@
 // Why a command answers as it does, with the status and the stage of its commit.
 ghost use Rattle.std.specs.Prelude.{◌≡◌};
-ghost use Rattle.account_model.specs.Failures.{lock_status, update_status};
-ghost use Rattle.account_model.specs.Statuses.{file_status};
 ghost use Rattle.suite_answers.specs.Reasons.{stage_of, status_of};
 
 use account_model::{Refusal, Tool, WordFault};
 use acct_outside::{CommitStage, Name, Token};
 use acct_text::Tab;
+use tool_answers::{MEMORY_STATUS, file_status, lock_status, update_status};
+
+// The input can't be read.
+const INPUT_FAULT_STATUS: u8 = 101;
+
+// The output or the message can't be written.
+const OUTPUT_FAULT_STATUS: u8 = 102;
+
+// The clock gives no day.
+const CLOCK_FAULT_STATUS: u8 = 103;
 
 /// What has more bytes than it may have.
 #[derive(Clone, Copy, Debug, PartialEq, Eq, Drop)]
@@ -96,43 +104,10 @@ impl Cause {
             Cause::Outrun(..) | Cause::LockDamaged(_) | Cause::Exhausted => lock_status(tool),
             Cause::IntentDamaged(_) | Cause::DiskFault(_) => update_status(tool),
             Cause::TooLarge(_) | Cause::NoTable(_) | Cause::BadSetting(_) => file_status(tool),
-            Cause::Memory(_) => 100,
-            Cause::InputFault => 101,
-            Cause::OutputFault(_) => 102,
-            Cause::ClockFault => 103,
+            Cause::Memory(_) => MEMORY_STATUS,
+            Cause::InputFault => INPUT_FAULT_STATUS,
+            Cause::OutputFault(_) => OUTPUT_FAULT_STATUS,
+            Cause::ClockFault => CLOCK_FAULT_STATUS,
         }
-    }
-}
-
-// The status of a lock that isn't got.
-fn lock_status(tool: Tool) -> u8
-    ensures { result ≡ lock_status tool }
-{
-    match tool {
-        Tool::Groupadd | Tool::Groupmod | Tool::Groupdel => 10,
-        Tool::Pwck | Tool::Grpck => 4,
-        _ => 1,
-    }
-}
-
-// The status of a folder that can't be changed.
-fn update_status(tool: Tool) -> u8
-    ensures { result ≡ update_status tool }
-{
-    match tool {
-        Tool::Groupadd | Tool::Groupmod | Tool::Groupdel => 10,
-        Tool::Pwck | Tool::Grpck => 5,
-        _ => 1,
-    }
-}
-
-// The status of a file that can't be used.
-fn file_status(tool: Tool) -> u8
-    ensures { result ≡ file_status tool }
-{
-    match tool {
-        Tool::Groupadd | Tool::Groupmod | Tool::Groupdel => 10,
-        Tool::Pwck | Tool::Grpck => 3,
-        _ => 1,
     }
 }

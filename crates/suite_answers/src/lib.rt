@@ -1,6 +1,6 @@
 //! What a command of the account suite answers: why, with which status, and what it says on the
-//! error stream. What a tool decides on the tables brings its own texts; all other answers are made
-//! here, for each of the twelve tools.
+//! error stream. What a tool decides on the tables brings its own texts (`tool_answers`); all other
+//! answers are made here, for each of the twelve tools.
 #![tactic(auto)]
 
 mod answer;
@@ -9,7 +9,6 @@ mod laws;
 mod memory;
 mod message;
 mod reason;
-mod word_message;
 
 pub use account_model::{LineProblem, Refusal, Tool, WordFault};
 pub use acct_outside::{CommitStage, Name, Token};

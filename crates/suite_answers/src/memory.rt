@@ -4,9 +4,10 @@ ghost use Rattle.acct_outside.specs.Streams.{WhereBytesTold};
 ghost use Rattle.suite_answers.specs.Reasons.{memory_message};
 ghost use Rattle.suite_answers.specs.Fronts.{PutsFront};
 
-use crate::{message, reason};
+use crate::reason::stage_text;
 use account_model::Tool;
 use acct_outside::{CommitStage, Sink, SinkFault};
+use tool_answers::speaker;
 
 /// Puts the line of want of memory at a stage: of the tool, or of `accounts` where none is known.
 ///
@@ -21,8 +22,8 @@ pub fn put_memory_text<E: Sink>(
     ensures faults { CountsFailure SinkFault.Failed (E.moment err.old).faults
         (E.moment err.new).faults result }
 {
-    err.put(message::name(tool))?;
+    err.put(speaker(tool))?;
     err.put(b": want of memory ")?;
-    err.put(reason::stage_text(stage))?;
+    err.put(stage_text(stage))?;
     err.put(b"\n")
 }

@@ -1,68 +1,87 @@
 // What a line says of a cause, behind the tool's name. The texts are this suite's own.
-ghost use Rattle.std.specs.Prelude.{◌≡◌, ◌++◌, codes, OnOk};
-ghost use Rattle.account_model.specs.Failures.{stage_text};
-ghost use Rattle.suite_answers.specs.Reasons.{model_stage, reason_text, too_large_text};
+ghost use Rattle.std.specs.Prelude.{◌≡◌, ◌++◌, codes, decimal, IfOk};
+ghost use Rattle.suite_answers.specs.Reasons.{reason_text, stage_text, too_large_text};
 
 use crate::{Cause, Which};
 use acct_outside::{CommitStage, Name};
-use acct_text::Bytes;
 use acct_text::Piece::{Number, Text};
-use std::alloc::AllocError;
+use acct_text::{Bytes, pair};
+use std::alloc::{AllocError, Global};
 
-/// Adds what is said of the cause, and nothing for one that says nothing or has no tool.
-pub(crate) fn push(line: &mut Bytes, cause: &Cause) -> Result<(), AllocError>
-    ensures { OnOk result (line.new ≡ line.old ++ reason_text cause.now) }
+/// What is said of the cause; empty for one that says nothing or has no tool.
+pub(crate) fn reason_text(alloc: Global, cause: &Cause) -> Result<Bytes, AllocError>
+    ensures { IfOk result (λ text. text ≡ reason_text cause.now) }
 {
     match cause {
-        Cause::Held(token) => {
-            line.push_pieces(&[Text(b"accounts are locked by "), Text(token.as_slice())])
-        }
-        Cause::Gone(number) => {
-            line.push_pieces(&[Text(b"lock "), Number(*number), Text(b" vanished")])
-        }
-        Cause::Raced(number) => {
-            line.push_pieces(&[Text(b"lock "), Number(*number), Text(b" was taken first")])
-        }
-        Cause::Outrun(number, greater) => line.push_pieces(&[
-            Text(b"lock "),
-            Number(*number),
-            Text(b" was outrun by "),
-            Number(*greater),
-        ]),
-        Cause::LockDamaged(number) => {
-            line.push_pieces(&[Text(b"lock "), Number(*number), Text(b" is damaged")])
-        }
-        Cause::Exhausted => line.push(b"lock numbers are used up"),
-        Cause::IntentDamaged(part) => line.push_pieces(&[
-            Text(b"intent is damaged in part "),
-            Number(u64::from(*part)),
-        ]),
-        Cause::TooLarge(which) => {
-            line.push_pieces(&[Text(which.name().as_bytes()), Text(b" is too large")])
-        }
-        Cause::NoTable(tab) => {
-            line.push_pieces(&[Text(tab.name().as_bytes()), Text(b" does not exist")])
-        }
-        Cause::BadSetting(number) => line.push_pieces(&[
-            Text(b"login.defs line "),
-            Number(u64::from(*number)),
-            Text(b": bad number"),
-        ]),
-        Cause::DiskFault(stage) => {
-            line.push_pieces(&[Text(b"folder fault "), Text(stage_text(*stage))])
-        }
-        Cause::InputFault => line.push(b"input fault"),
-        Cause::ClockFault => line.push(b"clock fault"),
-        Cause::Memory(stage) => {
-            line.push_pieces(&[Text(b"want of memory "), Text(stage_text(*stage))])
-        }
-        _ => Ok(()),
+        Cause::Held(token) => pair(alloc, b"accounts are locked by ", token.as_slice()),
+        Cause::Gone(number) => lock(alloc, *number, b" vanished"),
+        Cause::Raced(number) => lock(alloc, *number, b" was taken first"),
+        Cause::Outrun(number, greater) => outrun(alloc, *number, *greater),
+        Cause::LockDamaged(number) => lock(alloc, *number, b" is damaged"),
+        Cause::Exhausted => Bytes::of(alloc, b"lock numbers are used up"),
+        Cause::IntentDamaged(part) => intent_damaged(alloc, *part),
+        Cause::TooLarge(which) => pair(alloc, which.name().as_bytes(), b" is too large"),
+        Cause::NoTable(tab) => pair(alloc, tab.name().as_bytes(), b" does not exist"),
+        Cause::BadSetting(line) => bad_setting(alloc, *line),
+        Cause::DiskFault(stage) => pair(alloc, b"folder fault ", stage_text(*stage)),
+        Cause::InputFault => Bytes::of(alloc, b"input fault"),
+        Cause::ClockFault => Bytes::of(alloc, b"clock fault"),
+        Cause::Memory(stage) => pair(alloc, b"want of memory ", stage_text(*stage)),
+        _ => Ok(Bytes::new(alloc)),
     }
+}
+
+/// The lock of this number came to this.
+fn lock(alloc: Global, number: u64, came: &[u8]) -> Result<Bytes, AllocError>
+    ensures { IfOk result (λ text. text ≡ codes "lock " ++ decimal number ++ came.now) }
+{
+    Bytes::made_of(alloc, &[Text(b"lock "), Number(number), Text(came)])
+}
+
+/// The lock of the first number was taken while one of the second stood.
+fn outrun(alloc: Global, number: u64, greater: u64) -> Result<Bytes, AllocError>
+    ensures { IfOk result (λ text. text ≡
+        codes "lock " ++ decimal number ++ codes " was outrun by " ++ decimal greater) }
+{
+    Bytes::made_of(
+        alloc,
+        &[
+            Text(b"lock "),
+            Number(number),
+            Text(b" was outrun by "),
+            Number(greater),
+        ],
+    )
+}
+
+/// This part of the intent is the first that doesn't stand.
+fn intent_damaged(alloc: Global, part: u32) -> Result<Bytes, AllocError>
+    ensures { IfOk result (λ text. text ≡ codes "intent is damaged in part " ++ decimal part) }
+{
+    Bytes::made_of(
+        alloc,
+        &[Text(b"intent is damaged in part "), Number(u64::from(part))],
+    )
+}
+
+/// This line of login.defs has a number that its key doesn't allow.
+fn bad_setting(alloc: Global, line: u32) -> Result<Bytes, AllocError>
+    ensures { IfOk result (λ text. text ≡
+        codes "login.defs line " ++ decimal line ++ codes ": bad number") }
+{
+    Bytes::made_of(
+        alloc,
+        &[
+            Text(b"login.defs line "),
+            Number(u64::from(line)),
+            Text(b": bad number"),
+        ],
+    )
 }
 
 /// How the texts name the stage.
 pub(crate) fn stage_text(stage: CommitStage) -> &'static [u8]
-    ensures { result.now ≡ stage_text (model_stage stage) }
+    ensures { result.now ≡ stage_text stage }
 {
     match stage {
         CommitStage::Before => b"before the commit",
@@ -72,7 +91,7 @@ pub(crate) fn stage_text(stage: CommitStage) -> &'static [u8]
 }
 
 impl Which {
-    // The name of what is too large, as a line has it.
+    /// The name of what is too large, as a line has it.
     fn name(self) -> &'static str
         ensures { too_large_text self ≡ result.now ++ codes " is too large" }
     {

@@ -25,9 +25,9 @@ use Rattle.login_defs.specs.declared.defs.Defs.{Defs}
 use Rattle.login_defs.specs.declared.defs.DefsFault.{DefsFault}
 use Rattle.login_defs.specs.declared.defs.DefsFault.TheVariants.{BadNumber}
 use Rattle.login_defs.specs.Faults.{file_fault}
-use Rattle.acct_tables.specs.declared.decision.Decision.{Decision}
-use Rattle.acct_tables.specs.declared.decision.Decision.TheVariants.{Change as DecidesChange, Same as DecidesSame, Refuse}
-use Rattle.acct_tables.specs.Decisions.{Decides, decision_of, made_output, refusal_output}
+use Rattle.tool_answers.specs.declared.decision.Decision.{Decision}
+use Rattle.tool_answers.specs.declared.decision.Decision.TheVariants.{Change as DecidesChange, Same as DecidesSame, Refuse}
+use Rattle.tool_answers.specs.Decisions.{Decides, decision_of, made_output, refusal_output}
 use Rattle.suite_answers.specs.declared.cause.Cause.TheVariants.{BadSetting}
 use Rattle.suite_answers.specs.declared.answer.Answer.{Answer}
 use Rattle.suite_session.specs.declared.tools.Decided.{Decided}

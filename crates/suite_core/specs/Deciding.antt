@@ -14,10 +14,10 @@ use Rattle.login_defs.specs.declared.defs.Defs.{Defs}
 use Rattle.login_defs.specs.declared.defs.DefsFault.{DefsFault}
 use Rattle.login_defs.specs.declared.defs.DefsFault.TheVariants.{BadNumber}
 use Rattle.login_defs.specs.Held.{HasSettings}
-use Rattle.acct_tables.specs.declared.decision.Output.{Output}
-use Rattle.acct_tables.specs.declared.decision.Decision.{Decision}
-use Rattle.acct_tables.specs.declared.decision.Decision.TheVariants.{Change, Same, Refuse}
-use Rattle.acct_tables.specs.Decisions.{Decides}
+use Rattle.tool_answers.specs.declared.decision.Output.{Output}
+use Rattle.tool_answers.specs.declared.decision.Decision.{Decision}
+use Rattle.tool_answers.specs.declared.decision.Decision.TheVariants.{Change, Same, Refuse}
+use Rattle.tool_answers.specs.Decisions.{Decides}
 use Rattle.suite_answers.specs.declared.cause.Which.TheVariants.{File}
 use Rattle.suite_answers.specs.declared.cause.Cause.{Cause}
 use Rattle.suite_answers.specs.declared.cause.Cause.TheVariants.{Changed, Same as IsSame, Refused, TooLarge}

@@ -1,28 +1,22 @@
-// What the tools of the suite answer on the files that were loaded. `decide_tool` alone knows of the
-// tools: one that is added is one arm there.
+// What the tools of the suite answer on the files that were loaded. Which tool that is, `suite_tools`
+// tells.
 ghost use Rattle.std.specs.Prelude.{◌≡◌, ◌≤◌, IfOk, IfSome, length};
 ghost use Rattle.std.specs.Result.{result_err};
 ghost use Rattle.std.specs.Option.{option_copied};
 ghost use Rattle.acct_text.specs.Limits.{table_limit};
 ghost use Rattle.account_model.specs.Settings.{settings_of};
-ghost use Rattle.aging_commands.specs.Asking.{IsAgingTool};
 ghost use Rattle.login_defs.specs.Faults.{file_fault};
 ghost use Rattle.login_defs.specs.Held.{HasSettings, IsHeld};
 ghost use Rattle.suite_session.specs.Answers.{given_for};
 ghost use Rattle.suite_core.specs.Deciding.{AnswersDecision, ToolDecides, bad_line, is_large, large_table, settings_text, with_output};
 
 use acct_outside::Name;
-use acct_tables::{Decision, Output};
 use acct_text::{Bytes, Files, TABLE_LIMIT, Tab};
-use aging_commands::AgingRequest;
-use check_reports::CheckRequest;
-use group_commands::GroupRequest;
 use login_defs::{Defs, DefsFault};
-use option_words::Tool;
 use std::alloc::{AllocError, Global};
 use suite_answers::{Answer, Cause, Outcome, Which};
 use suite_session::{Asked, Decided, Tools};
-use user_commands::UserRequest;
+use suite_tools::{Decision, Output, ToolRequest};
 
 /// The twelve tools of the suite, as one.
 #[derive(Drop)]
@@ -77,35 +71,8 @@ fn decide_tool(
     requires { IsHeld settings.now }
     ensures { IfOk result (ToolDecides asked.now settings.now files.now) }
 {
-    match asked.tool() {
-        Tool::Groupadd | Tool::Groupmod | Tool::Groupdel | Tool::Gpasswd => {
-            let request = GroupRequest::from_words(alloc, asked.parsed(), asked.input())?;
-            group_commands::decide(alloc, &request, files, settings, asked.day())
-        }
-        Tool::Useradd | Tool::Usermod | Tool::Userdel => {
-            let request = UserRequest::from_words(alloc, asked.parsed(), asked.input())?;
-            user_commands::decide(alloc, &request, files, settings, asked.day())
-        }
-        Tool::Pwck | Tool::Grpck | Tool::Getsubids => {
-            let request = CheckRequest::from_words(alloc, asked.parsed(), asked.input())?;
-            check_reports::decide(alloc, &request, files, settings, asked.day())
-        }
-        Tool::Chage | Tool::Chpasswd => decide_aging(alloc, asked, files, settings),
-    }
-}
-
-/// What a tool of aging decides on the files. It takes the input too, and no settings.
-fn decide_aging(
-    alloc: Global,
-    asked: &Asked,
-    files: &Files,
-    settings: &Defs,
-) -> Result<Decision, AllocError>
-    requires { IsAgingTool asked.now.request.tool }
-    ensures { IfOk result (ToolDecides asked.now settings.now files.now) }
-{
-    let request = AgingRequest::from_words(alloc, asked.parsed(), asked.input())?;
-    aging_commands::decide(alloc, &request, files, settings, asked.day())
+    let request = ToolRequest::of(asked.parsed(), asked.input());
+    suite_tools::decide(alloc, &request, files, settings, asked.day())
 }
 
 /// The answer to what the tool decides.

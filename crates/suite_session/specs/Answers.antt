@@ -14,7 +14,7 @@ use Rattle.suite_answers.specs.Reasons.{stage_of}
 use Rattle.suite_answers.specs.Answers.{told, says}
 use Rattle.acct_outside.specs.declared.CommitStage.{CommitStage}
 use Rattle.account_model.specs.declared.tool.Tool.{Tool}
-use Rattle.account_model.specs.Failures.{memory_status, output_fault_status}
+use Rattle.account_model.specs.Statuses.{memory_status, output_fault_status}
 use Rattle.suite_session.specs.Runner.{Question}
 
 -- the cause of an answer where the files can't be used

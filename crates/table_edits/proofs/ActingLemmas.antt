@@ -5,7 +5,7 @@ use Rattle.std.proofs.Common.{◌≡◌, List, [], ◌∷◌, ◌++◌, refl, sy
 use Rattle.std.specs.Prelude.{Option, Some, None, Result, Ok, Err, IsErrAnd}
 use Rattle.account_model.specs.Action.{Action}
 use Rattle.account_model.specs.Text.{first_some}
-use Rattle.acct_tables.specs.declared.tool_fault.ToolFault.{ToolFault}
+use Rattle.tool_answers.specs.declared.tool_fault.ToolFault.{ToolFault}
 use Rattle.table_edits.specs.Acting.{ActsBy}
 use Rattle.table_edits.specs.declared.script.Script.{Script}
 

@@ -4,8 +4,8 @@ use Rattle.std.proofs.Common.{◌≡◌, [], refl, ◌∙◌, ap, subst}
 use Rattle.acct_text.specs.declared.files.Files.{Files}
 use Rattle.account_model.specs.declared.tool.Tool.{Tool}
 use Rattle.account_model.specs.Action.{Action, outcome_of}
-use Rattle.acct_tables.specs.Decisions.{Decides}
-use Rattle.acct_tables.specs.declared.decision.Decision.{Decision}
+use Rattle.tool_answers.specs.Decisions.{Decides}
+use Rattle.tool_answers.specs.declared.decision.Decision.{Decision}
 use Rattle.table_edits.specs.Acting.{acting, IsScriptOf, IsReportOf}
 use Rattle.table_edits.specs.SeenScript.{seen_script}
 use Rattle.table_edits.specs.declared.report.Report.{Report}

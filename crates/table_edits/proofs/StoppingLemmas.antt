@@ -5,9 +5,9 @@ use Rattle.std.proofs.Common.{◌≡◌, Bool, List, ◌∷◌, sym, subst}
 use Rattle.std.specs.Prelude.{Option, Result, Ok, Err, IsErrAnd, find, option_map}
 use Rattle.account_model.specs.declared.refusal.Refusal.{Refusal}
 use Rattle.account_model.specs.Refusals.{refuse_if}
-use Rattle.acct_tables.proofs.FirstRefusal.{refused-first}
-use Rattle.acct_tables.specs.declared.tool_fault.ToolFault.{ToolFault}
-use Rattle.acct_tables.specs.declared.tool_fault.ToolFault.TheVariants.{Refused, Memory}
+use Rattle.tool_answers.proofs.FirstRefusal.{refused-first}
+use Rattle.tool_answers.specs.declared.tool_fault.ToolFault.{ToolFault}
+use Rattle.tool_answers.specs.declared.tool_fault.ToolFault.TheVariants.{Refused, Memory}
 use Rattle.table_edits.specs.Stopping.{StopsBy}
 
 -- a fault that is handed on is the answer

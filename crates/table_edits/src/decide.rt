@@ -1,15 +1,15 @@
 // What a command decides once none of its refusals is there, by its script.
-ghost use Rattle.std.specs.Prelude.{◌≡◌, ◌++◌, if◌then◌else◌, IfOk, OnOk};
+ghost use Rattle.std.specs.Prelude.{◌≡◌, if◌then◌else◌, IfOk};
 ghost use Rattle.std.specs.List.{AllByRecursion};
 ghost use Rattle.acct_text.specs.Contents.{same_content};
 ghost use Rattle.account_model.specs.Action.{multiple_entries, multiple_in, outcome_of};
 ghost use Rattle.account_model.specs.Answer.{files_eq};
 ghost use Rattle.account_model.specs.Edits.{first_multiple};
-ghost use Rattle.account_model.specs.Messages.{message, messages};
+ghost use Rattle.account_model.specs.Messages.{messages};
 ghost use Rattle.account_model.specs.RecordEdits.{IsWrittenEdit};
 ghost use Rattle.account_model.specs.Tables.{table_records};
 ghost use Rattle.account_model.specs.WrittenScript.{IsWrittenScript};
-ghost use Rattle.acct_tables.specs.Decisions.{Decides, refusal_output};
+ghost use Rattle.tool_answers.specs.Decisions.{Decides};
 ghost use Rattle.table_edits.specs.Acting.{acting};
 ghost use Rattle.table_edits.specs.SeenEdits.{seen_edits};
 ghost use Rattle.table_edits.specs.SeenScript.{seen_script};
@@ -17,9 +17,9 @@ ghost use Rattle.table_edits.specs.SeenScript.{seen_script};
 use crate::files_after::files_after;
 use crate::{Edit, EditedRecord, Report, Script, Tables, file_lines, first_multiple};
 use account_model::{Refusal, Tool};
-use acct_tables::{Decision, Output, refusal_status, refusal_text};
-use acct_text::{Bytes, Files, Names, Tab};
+use acct_text::{Bytes, Files, Tab};
 use std::alloc::{AllocError, Global};
+use tool_answers::{Decision, Output, messages, refuse};
 
 /// What a command decides that has no refusal of its own: it refuses at the first record that it
 /// would touch and whose name has several records in its table, in the order passwd, shadow,
@@ -70,22 +70,6 @@ fn decision_between(old: &Files, new: Files, output: Output) -> Decision
     } else {
         Decision::Change(new, output)
     }
-}
-
-/// The decision of a tool that refuses: all tables stay, and one line tells why.
-pub fn refuse(alloc: Global, tool: Tool, refusal: Refusal) -> Result<Decision, AllocError>
-    ensures { IfOk result (λ decision. decision ≡
-        Decision.Refuse refusal (refusal_output tool refusal)) }
-{
-    let text = refusal_text(alloc, &refusal)?;
-    let mut err = Bytes::new(alloc);
-    push_message(&mut err, tool, text.as_slice())?;
-    let output = Output {
-        status: refusal_status(tool, &refusal),
-        out: Bytes::new(alloc),
-        err,
-    };
-    Ok(Decision::Refuse(refusal, output))
 }
 
 // The refusal of the first touched record whose name has several records in its table.
@@ -151,25 +135,4 @@ fn same_content(old: &Option<Bytes>, new: &Option<Bytes>) -> bool
         (None, None) => true,
         _ => false,
     }
-}
-
-// The notices on the error stream.
-fn messages(alloc: Global, tool: Tool, notices: &Names) -> Result<Bytes, AllocError>
-    ensures { IfOk result (λ err. err ≡ messages tool notices.now) }
-{
-    let mut err = Bytes::new(alloc);
-    for notice in notices.as_slice() {
-        push_message(&mut err, tool, notice.as_slice())?;
-    }
-    Ok(err)
-}
-
-// One line on the error stream, behind the tool's name.
-fn push_message(err: &mut Bytes, tool: Tool, text: &[u8]) -> Result<(), AllocError>
-    ensures { OnOk result (err.new ≡ err.old ++ message tool text.now) }
-{
-    err.push(tool.name().as_bytes())?;
-    err.push(b": ")?;
-    err.push(text)?;
-    err.push(b"\n")
 }

@@ -1,13 +1,13 @@
 // What a command decides by the answer of its tool.
 ghost use Rattle.std.specs.Prelude.{◌≡◌, IfOk};
 ghost use Rattle.account_model.specs.Action.{Action, outcome_of};
-ghost use Rattle.acct_tables.specs.Decisions.{Decides};
+ghost use Rattle.tool_answers.specs.Decisions.{Decides};
 ghost use Rattle.table_edits.specs.Acting.{ActsBy, IsOfTool, IsReportOf};
 
-use crate::{Report, Script, Tables, decide_by, refuse};
+use crate::{Report, Script, Tables, decide_by};
 use account_model::{Tool, tools_are_written};
-use acct_tables::{Decision, ToolFault};
 use std::alloc::{AllocError, Global};
+use tool_answers::{Decision, ToolFault, refuse};
 
 /// What a command decides whose tool has answered with a script or a refusal, and which reports
 /// this where it doesn't refuse.

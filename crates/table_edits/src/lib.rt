@@ -49,9 +49,9 @@ pub use account_model::{Refusal, Tool};
 pub use acct_lines::{
     GroupRecord, GshadowRecord, PasswdRecord, ShadowRecord, SubidRecord, TableRecord,
 };
-pub use acct_tables::{Decision, FileLines, Output, ToolFault};
+pub use acct_tables::FileLines;
 pub use apply::edited_text;
-pub use decide::{are_same, decide_by, refuse};
+pub use decide::{are_same, decide_by};
 pub use deciding::decide_as;
 pub use edit::{Becoming, Edit, EditedRecord};
 pub use group_changes::{GroupAct, GroupChange};

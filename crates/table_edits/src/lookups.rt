@@ -8,7 +8,8 @@ ghost use Rattle.table_edits.specs.Stopping.{StopsBy};
 use crate::{Tables, text_of};
 use account_model::Refusal;
 use acct_lines::{GroupRecord, GshadowRecord, PasswdRecord, ShadowRecord};
-use acct_tables::{ToolFault, find_record};
+use acct_tables::find_record;
+use tool_answers::ToolFault;
 use acct_text::Bytes;
 use std::alloc::{AllocError, Global};
 

@@ -16,7 +16,7 @@ use crate::search::OfGid;
 use crate::{Tables, first_passing};
 use account_model::Refusal;
 use acct_lines::PasswdRecord;
-use acct_tables::ToolFault;
+use tool_answers::ToolFault;
 use acct_text::Bytes;
 use id_choice::UsedIds;
 use std::alloc::{AllocError, Global};

@@ -15,9 +15,9 @@ use Rattle.account_model.specs.Written.{IsNameField}
 use Rattle.account_model.proofs.DeedLaws.{first-none}
 use Rattle.account_model.proofs.FieldFacts.{valid-name}
 use Rattle.account_model.proofs.RefusalFacts.{text-kept, user-named}
-use Rattle.acct_tables.specs.Refusing.{IsFaultOf}
-use Rattle.acct_tables.specs.declared.tool_fault.ToolFault.{ToolFault}
-use Rattle.acct_tables.specs.declared.tool_fault.ToolFault.TheVariants.{Refused, Memory}
+use Rattle.tool_answers.specs.Refusing.{IsFaultOf}
+use Rattle.tool_answers.specs.declared.tool_fault.ToolFault.{ToolFault}
+use Rattle.tool_answers.specs.declared.tool_fault.ToolFault.TheVariants.{Refused, Memory}
 use Rattle.table_edits.specs.Acting.{ActsBy, IsScriptOf}
 use Rattle.table_edits.specs.SeenScript.{seen_script}
 use Rattle.table_edits.specs.Stopping.{StopsBy}

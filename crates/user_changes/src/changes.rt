@@ -4,7 +4,7 @@ ghost use Rattle.account_model.specs.Refusals.{bad_values};
 ghost use Rattle.account_model.specs.Text.{first_some};
 ghost use Rattle.account_model.specs.Usermod.{new_name, usermod, usermod_checks, usermod_script};
 ghost use Rattle.account_model.specs.UsermodRanges.{is_range};
-ghost use Rattle.acct_tables.specs.Refusing.{RefusesBy};
+ghost use Rattle.tool_answers.specs.Refusing.{RefusesBy};
 ghost use Rattle.table_edits.specs.Acting.{ActsBy};
 ghost use Rattle.table_edits.specs.SeenScript.{seen_script};
 

@@ -6,7 +6,7 @@ ghost use Rattle.account_model.specs.Refusals.{bad_value};
 ghost use Rattle.account_model.specs.Text.{first_some};
 ghost use Rattle.account_model.specs.Usermod.{empty_hash, is_own_uid, is_uid_taken, no_shadow, taken_name, taken_uid, unlistable_name, usermod_conflicts};
 ghost use Rattle.account_model.specs.Users.{has_user, has_shadow};
-ghost use Rattle.acct_tables.specs.Refusing.{RefusesBy};
+ghost use Rattle.tool_answers.specs.Refusing.{RefusesBy};
 ghost use Rattle.id_choice.specs.Used.{AreThoseOf};
 ghost use Rattle.table_edits.specs.Stopping.{StopsBy};
 

@@ -12,9 +12,9 @@ use Rattle.account_model.specs.Request.{Request}
 use Rattle.account_model.specs.Settings.{Setting}
 use Rattle.account_model.specs.Text.{first_some}
 use Rattle.account_model.specs.Useradd.{add_user, default_gid, gid_beside, makes_group, new_shadow, new_uid, own_gid, primary_gid, useradd_checks, useradd_conflicts, useradd_script, useradd_under}
-use Rattle.acct_tables.specs.Refusing.{IsFaultOf}
-use Rattle.acct_tables.specs.declared.tool_fault.ToolFault.{ToolFault}
-use Rattle.acct_tables.specs.declared.tool_fault.ToolFault.TheVariants.{Refused, Memory}
+use Rattle.tool_answers.specs.Refusing.{IsFaultOf}
+use Rattle.tool_answers.specs.declared.tool_fault.ToolFault.{ToolFault}
+use Rattle.tool_answers.specs.declared.tool_fault.ToolFault.TheVariants.{Refused, Memory}
 use Rattle.table_edits.proofs.ActingLemmas.{first_some-before, first_some-behind}
 use Rattle.table_edits.specs.Acting.{ActsBy, IsScriptOf}
 use Rattle.table_edits.specs.SeenScript.{seen_script}

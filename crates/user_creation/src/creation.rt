@@ -7,7 +7,7 @@ ghost use Rattle.account_model.specs.Settings.{Setting};
 ghost use Rattle.account_model.specs.Text.{first_some};
 ghost use Rattle.account_model.specs.Useradd.{useradd, useradd_checks, used_uid};
 ghost use Rattle.account_model.specs.Users.{has_group, has_user};
-ghost use Rattle.acct_tables.specs.Refusing.{RefusesBy};
+ghost use Rattle.tool_answers.specs.Refusing.{RefusesBy};
 ghost use Rattle.command_values.specs.Chosen.{AddsSettings};
 ghost use Rattle.login_defs.specs.Held.{HasSettings, IsHeld};
 ghost use Rattle.table_edits.specs.Acting.{ActsBy};

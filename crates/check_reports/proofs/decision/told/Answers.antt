@@ -1,5 +1,5 @@
 use Rattle.std.proofs.Common.{ap}
-use Rattle.acct_tables.specs.declared.decision.Decision.TheVariants.{Same}
+use Rattle.tool_answers.specs.declared.decision.Decision.TheVariants.{Same}
 use Rattle.check_reports.proofs.DecisionLemmas.{told-decides}
 use Rattle.check_reports.proofs.decision.told.Goals as goal
 

@@ -5,8 +5,8 @@ use Rattle.account_model.specs.declared.refusal.Refusal.TheVariants.{NoRanges}
 use Rattle.account_model.specs.Action.{reports}
 use Rattle.account_model.specs.Getsubids.{getsubids, range_lines_from, ranges_of}
 use Rattle.account_model.specs.Request.{operand}
-use Rattle.acct_tables.specs.Decisions.{refusal_output}
-use Rattle.acct_tables.specs.declared.decision.Decision.TheVariants.{Refuse}
+use Rattle.tool_answers.specs.Decisions.{refusal_output}
+use Rattle.tool_answers.specs.declared.decision.Decision.TheVariants.{Refuse}
 use Rattle.subid_ranges.specs.Owned.{first_and_count}
 use Rattle.check_reports.specs.Decided.{DecidesBy}
 use Rattle.check_reports.specs.Listed.{range_for}

@@ -3,8 +3,8 @@ use Rattle.std.specs.Prelude.{codes}
 use Rattle.account_model.specs.Refusals.{bad_name, bad_key, bad_value}
 use Rattle.account_model.specs.Text.{first_some}
 use Rattle.account_model.specs.Values.{is_field, is_id}
-use Rattle.acct_tables.specs.Refusing.{IsFaultOf}
-use Rattle.acct_tables.proofs.FirstRefusal.{handed-on, refuses-first}
+use Rattle.tool_answers.specs.Refusing.{IsFaultOf}
+use Rattle.tool_answers.proofs.FirstRefusal.{handed-on, refuses-first}
 use Rattle.group_commands.proofs.groupadd.check_words.Goals as goal
 
 pub returns-in_err-check_name-clause-refused : goal.returns-in_err-check_name-clause-refused

@@ -1,4 +1,4 @@
-use Rattle.acct_tables.proofs.FirstRefusal.{handed-on, refuses-first}
+use Rattle.tool_answers.proofs.FirstRefusal.{handed-on, refuses-first}
 use Rattle.user_changes.proofs.changes.check_values.Goals as goal
 
 pub returns-in_err-check_value-7 : goal.returns-in_err-check_value-7

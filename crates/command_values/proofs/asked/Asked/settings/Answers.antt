@@ -7,9 +7,9 @@ use Rattle.account_model.specs.declared.given.Given.{Given}
 use Rattle.account_model.specs.declared.refusal.Refusal.TheVariants.{BadKey}
 use Rattle.account_model.specs.Settings.{bad_word, is_setting_word, word_setting}
 use Rattle.login_defs.specs.Held.{HasSettings}
-use Rattle.acct_tables.specs.Refusing.{IsFaultOf}
+use Rattle.tool_answers.specs.Refusing.{IsFaultOf}
 use Rattle.command_values.proofs.OptionLemmas.{values_in, values-from}
-use Rattle.acct_tables.proofs.FirstRefusal.{handed-on, refused-first, passed-first}
+use Rattle.tool_answers.proofs.FirstRefusal.{handed-on, refused-first, passed-first}
 use Rattle.command_values.proofs.asked.Asked.settings.Goals as goal
 use Rattle.command_values.proofs.asked.Asked.settings.Goals.{in-Some+in_ok-put_word, in_default}
 

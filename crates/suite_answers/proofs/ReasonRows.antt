@@ -1,0 +1,69 @@
+-- What is said of what a session met, and with which status: rows of `status_of` and `reason_text`.
+use Prim.Native.String.{String}
+use Rattle.std.specs.Prelude.{◌≡◌, ℕ, List, [], ◌∷◌, ◌++◌, codes, refl}
+use Rattle.std.specs.Fmt.{digits}
+use Rattle.acct_text.specs.Bytes.{newline}
+use Rattle.acct_outside.specs.declared.Name.TheVariants.{Intent}
+use Rattle.acct_outside.specs.declared.CommitStage.TheVariants.{Before, Unsure, Committed}
+use Rattle.account_model.specs.declared.tool.Tool.TheVariants.{Useradd, Groupadd, Groupdel, Pwck, Getsubids}
+use Rattle.suite_answers.specs.declared.cause.Which.TheVariants.{File}
+use Rattle.suite_answers.specs.declared.cause.Cause.TheVariants.{Held, Gone, Raced, Outrun, LockDamaged, Exhausted, IntentDamaged, TooLarge, DiskFault, Memory}
+use Rattle.suite_answers.specs.Answers.{message_of}
+use Rattle.suite_answers.specs.Reasons.{status_of}
+
+-- the text as a line
+abbrev line : String → List ℕ
+line text = codes text ++ newline ∷ []
+
+-- ---- The lock
+
+-- its holder may still run
+held : message_of Groupdel (Held (codes "z")) ≡ line "groupdel: accounts are locked by z"
+held = refl
+
+held_status : status_of Groupdel (Held (codes "z")) ≡ 10
+held_status = refl
+
+gone : message_of Useradd (Gone 7) ≡ line "useradd: lock 7 vanished"
+unfolding digits
+gone = refl
+
+raced : message_of Useradd (Raced 7) ≡ line "useradd: lock 7 was taken first"
+unfolding digits
+raced = refl
+
+outrun : message_of Groupadd (Outrun 5 6) ≡ line "groupadd: lock 5 was outrun by 6"
+unfolding digits
+outrun = refl
+
+lock_damaged : message_of Groupdel (LockDamaged 3) ≡ line "groupdel: lock 3 is damaged"
+unfolding digits
+lock_damaged = refl
+
+exhausted : message_of Groupdel Exhausted ≡ line "groupdel: lock numbers are used up"
+exhausted = refl
+
+exhausted_for_report : status_of Pwck Exhausted ≡ 4
+exhausted_for_report = refl
+
+-- ---- The intent, the disk and the memory
+
+intent_damaged : message_of Groupadd (IntentDamaged 2) ≡ line "groupadd: intent is damaged in part 2"
+unfolding digits
+intent_damaged = refl
+
+intent_large : message_of Pwck (TooLarge (File Intent)) ≡ line "pwck: intent is too large"
+intent_large = refl
+
+intent_large_status : status_of Pwck (TooLarge (File Intent)) ≡ 3
+intent_large_status = refl
+
+disk_fault : message_of Groupadd (DiskFault Unsure) ≡ line "groupadd: folder fault in the commit"
+disk_fault = refl
+
+disk_fault_status : status_of Pwck (DiskFault Before) ≡ 5
+disk_fault_status = refl
+
+memory : message_of Getsubids (Memory Committed)
+    ≡ line "getsubids: want of memory after the commit"
+memory = refl

@@ -1,0 +1,27 @@
+//! The twelve tools behind one call: what a command decides on the tables, by its request, the
+//! settings of login.defs(5) and the day.
+//!
+//! `ToolRequest` is what was asked for, and `decide` answers it: its match over `Tool` is the one place
+//! where a tool is picked. A tool is a function of a crate below, from request, tables, settings and
+//! day to the script of its edits, with a report where it has one; or to a decision, where it looks
+//! through whole tables.
+#![tactic(auto)]
+
+mod dispatch;
+mod request;
+
+pub use dispatch::decide;
+pub use request::ToolRequest;
+pub use tool_answers::{Decision, Output};
+
+/// What a command asks groupadd(8), groupmod(8), groupdel(8) or gpasswd(1) for.
+pub type GroupRequest<'a> = ToolRequest<'a>;
+
+/// What a command asks useradd(8), usermod(8) or userdel(8) for.
+pub type UserRequest<'a> = ToolRequest<'a>;
+
+/// What a command asks chage(1) or chpasswd(8) for.
+pub type AgingRequest<'a> = ToolRequest<'a>;
+
+/// What a command asks pwck(8), grpck(8) or getsubids(1) for.
+pub type CheckRequest<'a> = ToolRequest<'a>;

@@ -1,0 +1,47 @@
+// What a command decides on given files.
+ghost use Rattle.std.specs.Prelude.{◌≡◌, IfOk};
+ghost use Rattle.tool_answers.specs.Decisions.{refusal_output};
+
+use crate::{push_line, refusal_status, refusal_text};
+use account_model::{Refusal, Tool};
+use acct_text::{Bytes, Files};
+use std::alloc::{AllocError, Global};
+
+/// What a command prints, and the status with which it ends.
+#[derive(Debug, Drop)]
+pub struct Output {
+    /// The status, 0 to 255.
+    pub status: u8,
+    /// The bytes for the output stream.
+    pub out: Bytes,
+    /// The bytes for the error stream.
+    pub err: Bytes,
+}
+
+/// What a command decides on the files of the tables.
+#[derive(Drop)]
+pub enum Decision {
+    /// The tables become these, of which at least one differs.
+    Change(Files, Output),
+    /// All tables stay as they are.
+    Same(Output),
+    /// The command can't be done, for this cause. All tables stay as they are.
+    Refuse(Refusal, Output),
+}
+
+/// The decision of a tool that refuses: all tables stay, and one line on the error stream tells why,
+/// with the status that the tool's page has for it.
+pub fn refuse(alloc: Global, tool: Tool, refusal: Refusal) -> Result<Decision, AllocError>
+    ensures { IfOk result (λ decision. decision ≡
+        Decision.Refuse refusal (refusal_output tool refusal)) }
+{
+    let text = refusal_text(alloc, &refusal)?;
+    let mut err = Bytes::new(alloc);
+    push_line(&mut err, Some(tool), text.as_slice())?;
+    let output = Output {
+        status: refusal_status(tool, &refusal),
+        out: Bytes::new(alloc),
+        err,
+    };
+    Ok(Decision::Refuse(refusal, output))
+}

@@ -1,0 +1,21 @@
+//! What a tool answers: its decision on the tables, or why it refuses; with the text of each refusal
+//! and of each fault of words, the line that says it, and the statuses of each tool.
+//!
+//! A tool goes no further by a `ToolFault`. What it decides is a `Decision`, with what it prints.
+//! What a command meets outside the tables has its texts in `suite_answers`, beside `Cause`.
+#![tactic(auto)]
+
+mod decision;
+mod message;
+mod refusal;
+mod status;
+mod tool_fault;
+mod word_fault;
+
+pub use account_model::{LineProblem, Refusal, Tool, WordFault};
+pub use decision::{Decision, Output, refuse};
+pub use message::{messages, push_line, speaker};
+pub use refusal::refusal_text;
+pub use status::{MEMORY_STATUS, file_status, lock_status, refusal_status, update_status};
+pub use tool_fault::ToolFault;
+pub use word_fault::{faulty_tool, word_fault_message, word_fault_status};

@@ -1,2 +1,0 @@
-pub mod UserTools
-pub mod Decided
