@@ -3,8 +3,8 @@ use Rattle.std.specs.Prelude.{◌≡◌}
 use Rattle.account_model.specs.declared.records.ShadowRecord.{ShadowRecord}
 use Rattle.account_model.specs.Chage.{with_aging}
 use Rattle.account_model.specs.Request.{Request}
-use Rattle.table_edits.specs.ShadowChanges.{with_shadow_fields}
-use Rattle.table_edits.specs.declared.shadow_changes.ShadowFields.{ShadowFields}
+use Rattle.line_edits.specs.ShadowChanges.{with_shadow_fields}
+use Rattle.line_edits.specs.declared.shadow_changes.ShadowFields.{ShadowFields}
 
 -- the fields make of each record what the options do
 abbrev pub SetsAging : Request → ShadowFields → Type 0

@@ -9,7 +9,7 @@ ghost use Rattle.account_model.specs.Values.{date_value, days_value};
 ghost use Rattle.tool_answers.specs.Refusing.{RefusesBy};
 ghost use Rattle.table_edits.specs.Acting.{ActsBy, IsReportOf};
 ghost use Rattle.table_edits.specs.SeenScript.{seen_script};
-ghost use Rattle.table_edits.specs.Stopping.{StopsBy};
+ghost use Rattle.table_lookups.specs.Stopping.{StopsBy};
 ghost use Rattle.aging_commands.specs.AgingFields.{SetsAging};
 
 use crate::listing::aging_report;
@@ -17,7 +17,9 @@ use account_model::Refusal;
 use acct_text::{Bytes, Names};
 use command_values::{Asked, Form, ToolFault, read_date, read_days};
 use std::alloc::{AllocError, Global};
-use table_edits::{Report, Script, ShadowAct, ShadowFields, Tables, hash_alone};
+use line_edits::{ShadowAct, ShadowFields};
+use table_edits::{Report, Script, hash_alone};
+use table_lookups::Tables;
 
 /// The script that sets the fields of the user's record in shadow; `-l` changes nothing.
 ///

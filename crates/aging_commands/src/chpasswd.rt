@@ -12,7 +12,9 @@ use crate::hash_lines::{NewHash, read_hashes};
 use acct_text::Bytes;
 use command_values::ToolFault;
 use std::alloc::{AllocError, Global};
-use table_edits::{HashChange, Script, ShadowAct, Tables, UserIndex};
+use line_edits::{HashChange, ShadowAct};
+use table_edits::Script;
+use table_lookups::{Tables, UserIndex};
 
 /// The script that sets the hashes of the users, and with shadow their last change to the day. Each
 /// table is passed over once, however many lines there are.

@@ -14,7 +14,7 @@ use Rattle.account_model.specs.Problems.{Located, RecordProblems, at_line, is_no
 use Rattle.account_model.specs.Problems as model
 use Rattle.acct_tables.specs.Order.{text_at}
 use Rattle.acct_tables.specs.TableLines.{record_at}
-use Rattle.table_edits.specs.TablesOfLines.{lines_in}
+use Rattle.table_lookups.specs.TablesOfLines.{lines_in}
 use Rattle.check_reports.specs.declared.report.Report.{Report}
 use Rattle.check_reports.specs.Reported.{shown, with_problems}
 use Rattle.check_reports.proofs.RecordWalk.{drop-end}

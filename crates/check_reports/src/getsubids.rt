@@ -18,7 +18,7 @@ use acct_text::{Bytes, Files};
 use command_values::Asked;
 use std::alloc::{AllocError, Global};
 use subid_ranges::OwnedRanges;
-use table_edits::text_of;
+use table_lookups::text_of;
 use tool_answers::refuse;
 
 /// Lists the ranges of the user in subuid(5), or with `-g` in subgid(5). `NoRanges` refuses a user

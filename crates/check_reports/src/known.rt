@@ -13,7 +13,7 @@ use acct_text::{Bytes, Files};
 use std::alloc::{AllocError, Global};
 use std::collections::HashSet;
 use std::marker::Model;
-use table_edits::{IdRecord, text_of};
+use table_lookups::{IdRecord, text_of};
 
 /// The files of the tables and the day, with the names and GIDs that the tables have. Contracts see
 /// the files and the day.

@@ -7,7 +7,7 @@ use acct_lines::TableRecord;
 use acct_text::Bytes;
 use std::alloc::{AllocError, Global};
 use std::collections::HashSet;
-use table_edits::file_lines;
+use table_lookups::file_lines;
 
 /// Names of records, which stand in the bytes of their file.
 #[derive(Drop)]

@@ -22,7 +22,7 @@ use acct_tables::read_record;
 use tool_answers::Decision;
 use acct_text::{Bytes, Tab, push_decimal};
 use std::alloc::{AllocError, Global};
-use table_edits::file_lines;
+use table_lookups::file_lines;
 
 // The status of a report with a problem.
 const BAD_ENTRIES: u8 = 2;

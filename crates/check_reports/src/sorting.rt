@@ -14,7 +14,7 @@ use acct_tables::{FileLine, Lines, is_record, name_of};
 use acct_text::Bytes;
 use std::alloc::{AllocError, Global};
 use std::collections::HashMap;
-use table_edits::file_lines;
+use table_lookups::file_lines;
 
 /// What the records of a table are sorted by.
 pub(crate) trait SortKey<R: TableRecord> {

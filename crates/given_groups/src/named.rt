@@ -8,7 +8,7 @@ use acct_lines::is_digits;
 use acct_text::Names;
 use command_values::{Asked, list_value, read_id};
 use std::alloc::{AllocError, Global};
-use table_edits::{GroupIndex, Tables};
+use table_lookups::{GroupIndex, Tables};
 
 /// The first group that a word names: by its GID where the word is all digits, and else by its name.
 pub fn find_group(

@@ -19,7 +19,8 @@ use command_values::{Asked, Form, ToolFault, check_name, free_id};
 use id_choice::UsedIds;
 use login_defs::Defs;
 use std::alloc::{AllocError, Global};
-use table_edits::{Script, Tables};
+use table_edits::Script;
+use table_lookups::Tables;
 
 /// The edits that make the group of the name, with the GID of `-g` or a chosen one.
 ///

@@ -22,7 +22,7 @@ use acct_tables::{FileLine, Lines, append_line};
 use acct_text::Bytes;
 use std::alloc::{AllocError, Global};
 use std::marker::Model;
-use table_edits::{RangeCut, SubidChange, changed_text};
+use line_edits::{RangeCut, SubidChange, changed_text};
 
 /// The lines of a file of subordinate IDs, each a range of an owner or other text.
 #[derive(Drop)]

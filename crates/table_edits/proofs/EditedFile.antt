@@ -3,8 +3,8 @@ use Rattle.std.proofs.Common.{◌≡◌, ◌∙◌, ℕ, List, ap}
 use Rattle.std.specs.Prelude.{Option}
 use Rattle.account_model.specs.Format.{Format}
 use Rattle.account_model.specs.Tables.{table_after}
-use Rattle.table_edits.specs.declared.edit.Edit.{Edit}
-use Rattle.table_edits.specs.SeenEdits.{seen_edits}
+use Rattle.line_edits.specs.declared.edit.Edit.{Edit}
+use Rattle.line_edits.specs.SeenEdits.{seen_edits}
 
 -- the file after edits that were read from a slice of them
 pub edited-file :

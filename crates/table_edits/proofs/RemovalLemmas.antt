@@ -23,7 +23,7 @@ use Rattle.account_model.proofs.SameLaws.{subid-tells}
 use Rattle.account_model.proofs.SubidLaws.{left_whole}
 use Rattle.id_choice.specs.Runs.{AddsAll}
 use Rattle.table_edits.specs.RangeRemovals.{HasNone, IsApart, KeepsApart, Removes}
-use Rattle.table_edits.proofs.ChangedLines.{left-line}
+use Rattle.line_edits.proofs.ChangedLines.{left-line}
 
 -- ---- Ranges without the IDs
 

@@ -1,12 +1,12 @@
 -- The edits of a command as account_model has them: a script as data stands for one of these.
 use Rattle.account_model.specs.Tables as model
 use Rattle.table_edits.specs.declared.script.Script.{Script}
-use Rattle.table_edits.specs.SeenEdits.{seen_edits}
-use Rattle.table_edits.specs.GroupChanges.{group_becomes}
-use Rattle.table_edits.specs.GshadowChanges.{gshadow_becomes}
-use Rattle.table_edits.specs.PasswdChanges.{passwd_becomes}
-use Rattle.table_edits.specs.ShadowChanges.{shadow_becomes}
-use Rattle.table_edits.specs.SubidChanges.{subid_becomes}
+use Rattle.line_edits.specs.SeenEdits.{seen_edits}
+use Rattle.line_edits.specs.GroupChanges.{group_becomes}
+use Rattle.line_edits.specs.GshadowChanges.{gshadow_becomes}
+use Rattle.line_edits.specs.PasswdChanges.{passwd_becomes}
+use Rattle.line_edits.specs.ShadowChanges.{shadow_becomes}
+use Rattle.line_edits.specs.SubidChanges.{subid_becomes}
 
 -- the script, table by table
 abbrev pub seen_script : Script → model.Script

@@ -11,14 +11,16 @@ ghost use Rattle.account_model.specs.Tables.{table_records};
 ghost use Rattle.account_model.specs.WrittenScript.{IsWrittenScript};
 ghost use Rattle.tool_answers.specs.Decisions.{Decides};
 ghost use Rattle.table_edits.specs.Acting.{acting};
-ghost use Rattle.table_edits.specs.SeenEdits.{seen_edits};
+ghost use Rattle.line_edits.specs.SeenEdits.{seen_edits};
 ghost use Rattle.table_edits.specs.SeenScript.{seen_script};
 
 use crate::files_after::files_after;
-use crate::{Edit, EditedRecord, Report, Script, Tables, file_lines, first_multiple};
+use crate::{Report, Script};
 use account_model::{Refusal, Tool};
 use acct_text::{Bytes, Files, Tab};
+use line_edits::{Edit, EditedRecord, first_multiple};
 use std::alloc::{AllocError, Global};
+use table_lookups::{Tables, file_lines};
 use tool_answers::{Decision, Output, messages, refuse};
 
 /// What a command decides that has no refusal of its own: it refuses at the first record that it

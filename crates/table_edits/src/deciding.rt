@@ -4,9 +4,10 @@ ghost use Rattle.account_model.specs.Action.{Action, outcome_of};
 ghost use Rattle.tool_answers.specs.Decisions.{Decides};
 ghost use Rattle.table_edits.specs.Acting.{ActsBy, IsOfTool, IsReportOf};
 
-use crate::{Report, Script, Tables, decide_by};
+use crate::{Report, Script, decide_by};
 use account_model::{Tool, tools_are_written};
 use std::alloc::{AllocError, Global};
+use table_lookups::Tables;
 use tool_answers::{Decision, ToolFault, refuse};
 
 /// What a command decides whose tool has answered with a script or a refusal, and which reports

@@ -5,12 +5,13 @@ ghost use Rattle.account_model.specs.RecordEdits.{IsWrittenEdit};
 ghost use Rattle.account_model.specs.Records.{subid_format};
 ghost use Rattle.account_model.specs.Tables.{files_after, table_after};
 ghost use Rattle.account_model.specs.WrittenScript.{IsWrittenScript};
-ghost use Rattle.table_edits.specs.SeenEdits.{seen_edits};
+ghost use Rattle.line_edits.specs.SeenEdits.{seen_edits};
 ghost use Rattle.table_edits.specs.SeenScript.{seen_script};
-ghost use Rattle.table_edits.specs.SubidChanges.{subid_becomes};
+ghost use Rattle.line_edits.specs.SubidChanges.{subid_becomes};
 
-use crate::{Edit, EditedRecord, Script, SubidChange, SubidRecord, edited_ranges, edited_text};
+use crate::{Script, SubidRecord, edited_ranges};
 use acct_text::{Bytes, Files};
+use line_edits::{Edit, EditedRecord, SubidChange, edited_text};
 use std::alloc::{AllocError, Global};
 
 /// The files after the edits of the script. An absent one stays absent.

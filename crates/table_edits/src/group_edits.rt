@@ -7,15 +7,17 @@ ghost use Rattle.account_model.specs.Hashes.{set_group_hash as group_hash, deman
 ghost use Rattle.account_model.specs.Members.{add_to_group as addition_to_group};
 ghost use Rattle.account_model.specs.Tables.{no_edits};
 ghost use Rattle.table_edits.specs.Additions.{HasAlso};
-ghost use Rattle.table_edits.specs.GroupChanges.{group_becomes};
-ghost use Rattle.table_edits.specs.GshadowChanges.{gshadow_becomes};
-ghost use Rattle.table_edits.specs.declared.group_changes.GroupChange.TheVariants.{Named};
-ghost use Rattle.table_edits.specs.declared.gshadow_changes.GshadowChange.TheVariants.{Named as NamedThere};
+ghost use Rattle.line_edits.specs.GroupChanges.{group_becomes};
+ghost use Rattle.line_edits.specs.GshadowChanges.{gshadow_becomes};
+ghost use Rattle.line_edits.specs.declared.group_changes.GroupChange.TheVariants.{Named};
+ghost use Rattle.line_edits.specs.declared.gshadow_changes.GshadowChange.TheVariants.{Named as NamedThere};
 
-use crate::{Edit, GroupAct, GroupChange, GshadowAct, GshadowChange, Script, Tables};
+use crate::Script;
 use acct_lines::{GroupRecord, GshadowRecord};
 use acct_text::{Bytes, Names};
+use line_edits::{Edit, GroupAct, GroupChange, GshadowAct, GshadowChange};
 use std::alloc::{AllocError, Global};
+use table_lookups::Tables;
 
 impl Script {
     /// Does the act with the records of the group in group(5).

@@ -3,10 +3,12 @@ ghost use Rattle.std.specs.Prelude.{◌≡◌, IfOk, OnOk};
 ghost use Rattle.account_model.specs.NewAccount.{add_group as addition_of_group, new_group, new_gshadow};
 ghost use Rattle.table_edits.specs.Additions.{HasAlso};
 
-use crate::{Edit, Script, Tables};
+use crate::Script;
 use acct_lines::{GroupRecord, GshadowRecord};
 use acct_text::{Bytes, Names};
+use line_edits::Edit;
 use std::alloc::{AllocError, Global};
+use table_lookups::Tables;
 
 impl Script {
     /// Makes the group, behind the other lines. The hash stands in gshadow, and without gshadow in

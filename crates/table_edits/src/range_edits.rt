@@ -13,14 +13,14 @@ ghost use Rattle.account_model.specs.declared.records.SubidRecord.{SubidRecord};
 ghost use Rattle.acct_lines.specs.Shown.{subid_shown};
 ghost use Rattle.acct_tables.specs.SeenLines.{seen_line};
 ghost use Rattle.table_edits.specs.RangeRemovals.{HasNone, IsApart, KeepsApart, Removes};
-ghost use Rattle.table_edits.specs.SeenEdits.{seen_edit, seen_edits};
-ghost use Rattle.table_edits.specs.SubidChanges.{subid_becomes};
+ghost use Rattle.line_edits.specs.SeenEdits.{seen_edit, seen_edits};
+ghost use Rattle.line_edits.specs.SubidChanges.{subid_becomes};
 
-use crate::{Edit, RangeCut, SubidChange, edited_text};
 use acct_lines::{SubidLine, SubidRecord};
 use acct_tables::{FileLine, Lines, is_owner};
 use acct_text::Bytes;
 use id_choice::{Run, Runs};
+use line_edits::{Edit, RangeCut, SubidChange, edited_text};
 use std::alloc::{AllocError, Global};
 
 /// IDs that go out of the ranges of one owner, by edits that follow one another.

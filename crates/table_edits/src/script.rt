@@ -2,8 +2,8 @@
 ghost use Rattle.std.specs.Prelude.{◌≡◌};
 ghost use Rattle.account_model.specs.Tables.{no_edits};
 
-use crate::{Edit, GroupChange, GshadowChange, PasswdChange, ShadowChange, SubidChange};
 use acct_lines::{GroupRecord, GshadowRecord, PasswdRecord, ShadowRecord, SubidRecord};
+use line_edits::{Edit, GroupChange, GshadowChange, PasswdChange, ShadowChange, SubidChange};
 use std::alloc::Global;
 
 /// The edits of a command. Those of an absent table do nothing.

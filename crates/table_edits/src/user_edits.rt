@@ -6,18 +6,18 @@ ghost use Rattle.account_model.specs.Hashes.{demand_shadow as shadow_on_demand, 
 ghost use Rattle.account_model.specs.Records.{hash_alone as record_of_hash};
 ghost use Rattle.account_model.specs.Tables.{no_edits};
 ghost use Rattle.table_edits.specs.Additions.{HasAlso};
-ghost use Rattle.table_edits.specs.HashChanges.{hash_by};
-ghost use Rattle.table_edits.specs.PasswdChanges.{passwd_becomes};
-ghost use Rattle.table_edits.specs.ShadowChanges.{shadow_becomes};
-ghost use Rattle.table_edits.specs.declared.passwd_changes.PasswdChange.TheVariants.{Named};
-ghost use Rattle.table_edits.specs.declared.shadow_changes.ShadowChange.TheVariants.{Named as NamedThere};
+ghost use Rattle.line_edits.specs.HashChanges.{hash_by};
+ghost use Rattle.line_edits.specs.PasswdChanges.{passwd_becomes};
+ghost use Rattle.line_edits.specs.ShadowChanges.{shadow_becomes};
+ghost use Rattle.line_edits.specs.declared.passwd_changes.PasswdChange.TheVariants.{Named};
+ghost use Rattle.line_edits.specs.declared.shadow_changes.ShadowChange.TheVariants.{Named as NamedThere};
 
-use crate::{
-    Edit, HashChange, PasswdAct, PasswdChange, Script, ShadowAct, ShadowChange, Tables, UserIndex,
-};
+use crate::Script;
 use acct_lines::{PasswdRecord, ShadowRecord};
 use acct_text::Bytes;
+use line_edits::{Edit, HashChange, PasswdAct, PasswdChange, ShadowAct, ShadowChange};
 use std::alloc::{AllocError, Global};
+use table_lookups::{Tables, UserIndex};
 
 impl Script {
     /// Does the act with the records of the user in passwd(5).

@@ -9,14 +9,14 @@ use Rattle.account_model.specs.Members.{renamed_in, with_name, without_name}
 use Rattle.account_model.specs.Request.{Request, has_option, operand}
 use Rattle.account_model.specs.Text.{is_listed}
 use Rattle.account_model.specs.Usermod.{changed_group, changed_gshadow, members_after, new_name}
-use Rattle.table_edits.specs.GroupChanges.{group_becomes}
-use Rattle.table_edits.specs.GshadowChanges.{gshadow_becomes}
-use Rattle.table_edits.specs.Memberships.{members_by, members_with}
-use Rattle.table_edits.specs.declared.group_changes.GroupAct.TheVariants.{SetMembership}
-use Rattle.table_edits.specs.declared.group_changes.GroupChange.TheVariants.{All}
-use Rattle.table_edits.specs.declared.gshadow_changes.GshadowAct.TheVariants as gshadow_act
-use Rattle.table_edits.specs.declared.gshadow_changes.GshadowChange.TheVariants as gshadow_change
-use Rattle.table_edits.specs.declared.memberships.UserGroups.TheVariants.{Kept, Also, Only}
+use Rattle.line_edits.specs.GroupChanges.{group_becomes}
+use Rattle.line_edits.specs.GshadowChanges.{gshadow_becomes}
+use Rattle.line_edits.specs.Memberships.{members_by, members_with}
+use Rattle.line_edits.specs.declared.group_changes.GroupAct.TheVariants.{SetMembership}
+use Rattle.line_edits.specs.declared.group_changes.GroupChange.TheVariants.{All}
+use Rattle.line_edits.specs.declared.gshadow_changes.GshadowAct.TheVariants as gshadow_act
+use Rattle.line_edits.specs.declared.gshadow_changes.GshadowChange.TheVariants as gshadow_change
+use Rattle.line_edits.specs.declared.memberships.UserGroups.TheVariants.{Kept, Also, Only}
 use Rattle.user_changes.specs.Memberships.{group_names, membership}
 
 -- the members of a group, by whether `-G` and `-a` are given

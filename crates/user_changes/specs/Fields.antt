@@ -6,8 +6,8 @@ use Rattle.account_model.specs.GivenGroups.{given_group}
 use Rattle.account_model.specs.Request.{Request, has_option, value_of}
 use Rattle.account_model.specs.Usermod.{new_name}
 use Rattle.account_model.specs.Values.{days_value, expiration_value, given_uid}
-use Rattle.table_edits.specs.declared.passwd_changes.UserFields.{UserFields}
-use Rattle.table_edits.specs.declared.shadow_changes.ShadowFields.{ShadowFields}
+use Rattle.line_edits.specs.declared.passwd_changes.UserFields.{UserFields}
+use Rattle.line_edits.specs.declared.shadow_changes.ShadowFields.{ShadowFields}
 
 -- the fields of passwd that the options give; the name is always set
 abbrev pub user_fields : Request → Files → UserFields

@@ -4,9 +4,9 @@ use Rattle.acct_text.specs.declared.files.Files.{Files}
 use Rattle.account_model.specs.GivenGroups.{given_groups}
 use Rattle.account_model.specs.Request.{Request, has_option, operand}
 use Rattle.account_model.specs.Usermod.{new_name}
-use Rattle.table_edits.specs.declared.memberships.Membership.{Membership}
-use Rattle.table_edits.specs.declared.memberships.UserGroups.{UserGroups}
-use Rattle.table_edits.specs.declared.memberships.UserGroups.TheVariants.{Kept, Also, Only}
+use Rattle.line_edits.specs.declared.memberships.Membership.{Membership}
+use Rattle.line_edits.specs.declared.memberships.UserGroups.{UserGroups}
+use Rattle.line_edits.specs.declared.memberships.UserGroups.TheVariants.{Kept, Also, Only}
 
 -- the names of the groups of `-G`, in their order
 abbrev pub group_names : Request → Files → List (List ℕ)

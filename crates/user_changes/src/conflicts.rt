@@ -8,7 +8,7 @@ ghost use Rattle.account_model.specs.Usermod.{empty_hash, is_own_uid, is_uid_tak
 ghost use Rattle.account_model.specs.Users.{has_user, has_shadow};
 ghost use Rattle.tool_answers.specs.Refusing.{RefusesBy};
 ghost use Rattle.id_choice.specs.Used.{AreThoseOf};
-ghost use Rattle.table_edits.specs.Stopping.{StopsBy};
+ghost use Rattle.table_lookups.specs.Stopping.{StopsBy};
 
 use crate::changes::new_name;
 use crate::hash::{hash_of, sets_aging};
@@ -20,7 +20,7 @@ use command_values::{Asked, ToolFault, check_list_name};
 use given_groups::{check_given_group, check_given_groups};
 use id_choice::UsedIds;
 use std::alloc::{AllocError, Global};
-use table_edits::Tables;
+use table_lookups::Tables;
 
 /// Refuses what is missing or taken, in this order. `Memory` may come at each step.
 pub(crate) fn check_conflicts(

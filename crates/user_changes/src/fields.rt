@@ -16,7 +16,9 @@ use acct_text::Bytes;
 use command_values::{Asked, read_days, read_expiration};
 use given_groups::given_group;
 use std::alloc::{AllocError, Global};
-use table_edits::{PasswdAct, Script, ShadowAct, ShadowFields, Tables, UserFields};
+use line_edits::{PasswdAct, ShadowAct, ShadowFields, UserFields};
+use table_edits::Script;
+use table_lookups::Tables;
 
 /// Sets the fields of passwd.
 pub(crate) fn write_passwd(

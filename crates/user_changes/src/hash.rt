@@ -6,12 +6,14 @@ ghost use Rattle.account_model.specs.Tables.{no_edits};
 ghost use Rattle.account_model.specs.UsermodHash.{hash_after, hash_script, relocked_hash, sets_aging, sets_hash};
 ghost use Rattle.account_model.specs.Users.{hash_of, passwd_field};
 ghost use Rattle.table_edits.specs.Additions.{HasAlso};
-ghost use Rattle.table_edits.specs.HashChanges.{hash_by};
+ghost use Rattle.line_edits.specs.HashChanges.{hash_by};
 
 use acct_text::Bytes;
 use command_values::Asked;
 use std::alloc::{AllocError, Global};
-use table_edits::{HashChange, Script, Tables};
+use line_edits::HashChange;
+use table_edits::Script;
+use table_lookups::Tables;
 
 /// Makes the line of shadow on demand, and then changes the hash.
 pub(crate) fn write_hash(

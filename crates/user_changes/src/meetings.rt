@@ -10,7 +10,7 @@ ghost use Rattle.account_model.specs.Usermod.{new_name, range_owner, subgid_chan
 ghost use Rattle.account_model.specs.UsermodRanges.{edits_before_adding, meeting_in};
 ghost use Rattle.account_model.specs.Written.{IsNameField};
 ghost use Rattle.subid_ranges.specs.RangeLines.{meeting_line, with_range};
-ghost use Rattle.table_edits.specs.Stopping.{StopsBy};
+ghost use Rattle.table_lookups.specs.Stopping.{StopsBy};
 ghost use Rattle.user_changes.specs.Ranges.{change_of, first_meeting_in, owner_of};
 
 use crate::ranges::{UserRanges, subgid_ranges, subuid_ranges};
@@ -19,7 +19,8 @@ use acct_text::{Bytes, Tab};
 use command_values::{Asked, IdRange, ToolFault};
 use std::alloc::{AllocError, Global};
 use subid_ranges::{RangeFault, Ranges};
-use table_edits::{Tables, edited_ranges};
+use table_edits::edited_ranges;
+use table_lookups::Tables;
 
 /// Refuses the first range of `-v` that meets a line of subuid as it stands then: `Meets`. An
 /// absent subuid is met by none.

@@ -5,10 +5,10 @@ ghost use Rattle.account_model.specs.Edits.Edit.{Become};
 ghost use Rattle.account_model.specs.Tables.{no_edits};
 ghost use Rattle.account_model.specs.Usermod.{changed_group, changed_gshadow};
 ghost use Rattle.table_edits.specs.Additions.{HasAlso};
-ghost use Rattle.table_edits.specs.GroupChanges.{group_becomes};
-ghost use Rattle.table_edits.specs.GshadowChanges.{gshadow_becomes};
-ghost use Rattle.table_edits.specs.declared.group_changes.GroupChange.TheVariants.{All};
-ghost use Rattle.table_edits.specs.declared.gshadow_changes.GshadowChange.TheVariants.{All as AllThere};
+ghost use Rattle.line_edits.specs.GroupChanges.{group_becomes};
+ghost use Rattle.line_edits.specs.GshadowChanges.{gshadow_becomes};
+ghost use Rattle.line_edits.specs.declared.group_changes.GroupChange.TheVariants.{All};
+ghost use Rattle.line_edits.specs.declared.gshadow_changes.GshadowChange.TheVariants.{All as AllThere};
 ghost use Rattle.user_changes.specs.Memberships.{group_names, membership, user_groups};
 
 use crate::changes::new_name;
@@ -16,10 +16,9 @@ use acct_text::{Bytes, Names};
 use command_values::Asked;
 use given_groups::{find_group, group_words};
 use std::alloc::{AllocError, Global};
-use table_edits::{
-    Edit, GroupAct, GroupChange, GroupIndex, GshadowAct, GshadowChange, Membership, NameSet,
-    Script, Tables, UserGroups,
-};
+use line_edits::{Edit, GroupAct, GroupChange, GshadowAct, GshadowChange, Membership, NameSet, UserGroups};
+use table_edits::Script;
+use table_lookups::{GroupIndex, Tables};
 
 /// Changes the lists of all groups, in group and in gshadow.
 pub(crate) fn write_memberships(

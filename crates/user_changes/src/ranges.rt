@@ -8,8 +8,8 @@ ghost use Rattle.account_model.specs.UsermodRanges.{add_range, cut_range, edits_
 ghost use Rattle.account_model.specs.Users.{uid_of};
 ghost use Rattle.command_values.specs.Ranges.{ids_named};
 ghost use Rattle.table_edits.specs.Additions.{HasAlso};
-ghost use Rattle.table_edits.specs.SeenEdits.{seen_edits};
-ghost use Rattle.table_edits.specs.SubidChanges.{subid_becomes};
+ghost use Rattle.line_edits.specs.SeenEdits.{seen_edits};
+ghost use Rattle.line_edits.specs.SubidChanges.{subid_becomes};
 ghost use Rattle.user_changes.specs.Ranges.{change_of, owner_of};
 
 use crate::changes::new_name;
@@ -17,7 +17,9 @@ use acct_lines::SubidRecord;
 use acct_text::Bytes;
 use command_values::{Asked, IdRange};
 use std::alloc::{AllocError, Global};
-use table_edits::{Edit, RangeCut, Script, SubidChange, Tables};
+use line_edits::{Edit, RangeCut, SubidChange};
+use table_edits::Script;
+use table_lookups::Tables;
 
 /// The IDs of subuid or of subgid that a user loses and gets.
 #[derive(Drop)]

@@ -18,7 +18,7 @@ use Rattle.tool_answers.specs.declared.tool_fault.ToolFault.TheVariants.{Refused
 use Rattle.table_edits.proofs.ActingLemmas.{first_some-before, first_some-behind}
 use Rattle.table_edits.specs.Acting.{ActsBy, IsScriptOf}
 use Rattle.table_edits.specs.SeenScript.{seen_script}
-use Rattle.table_edits.specs.Stopping.{StopsBy}
+use Rattle.table_lookups.specs.Stopping.{StopsBy}
 use Rattle.table_edits.specs.declared.script.Script.{Script}
 use Rattle.user_creation.specs.Allotments.{IsAllotment, added_range, gap_refusal}
 use Rattle.user_creation.specs.Plans.{IsPlan, HasPlanned, planned_conflicts, planned_script}

@@ -12,7 +12,7 @@ use command_values::{Asked, free_id};
 use given_groups::given_group;
 use login_defs::Defs;
 use std::alloc::{AllocError, Global};
-use table_edits::Tables;
+use table_lookups::Tables;
 
 // The primary GID without `-g` and without a group of the user's own.
 const DEFAULT_GID: u32 = 100;

@@ -17,7 +17,7 @@ use command_values::Asked;
 use login_defs::Defs;
 use std::alloc::{AllocError, Global};
 use subid_ranges::Ranges;
-use table_edits::Tables;
+use table_lookups::Tables;
 
 /// What a new user gets of a table of subordinate IDs.
 #[derive(Clone, Copy)]

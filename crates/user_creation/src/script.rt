@@ -7,9 +7,9 @@ ghost use Rattle.account_model.specs.Request.{operand};
 ghost use Rattle.account_model.specs.Tables.{no_edits};
 ghost use Rattle.account_model.specs.Useradd.{join_groups as joined_groups, new_user};
 ghost use Rattle.table_edits.specs.Additions.{HasAlso};
-ghost use Rattle.table_edits.specs.SeenEdits.{seen_edits};
+ghost use Rattle.line_edits.specs.SeenEdits.{seen_edits};
 ghost use Rattle.table_edits.specs.SeenScript.{seen_script};
-ghost use Rattle.table_edits.specs.SubidChanges.{subid_becomes};
+ghost use Rattle.line_edits.specs.SubidChanges.{subid_becomes};
 ghost use Rattle.user_creation.specs.Allotments.{added_range};
 ghost use Rattle.user_creation.specs.Joining.{joining, joining_all};
 ghost use Rattle.user_creation.specs.Plans.{planned_script};
@@ -22,7 +22,9 @@ use acct_text::Bytes;
 use command_values::Asked;
 use given_groups::{find_group, group_words};
 use std::alloc::{AllocError, Global};
-use table_edits::{Edit, GroupIndex, Script, SubidChange, Tables};
+use line_edits::{Edit, SubidChange};
+use table_edits::Script;
+use table_lookups::{GroupIndex, Tables};
 
 /// The edits that make a user of these IDs with this line of shadow, by the plan: the lines of the
 /// user, a group of its own, the groups of `-G` and the subordinate ranges.

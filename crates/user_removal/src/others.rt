@@ -7,7 +7,7 @@ ghost use Rattle.user_removal.specs.Others.{has_id};
 use account_model::PasswdRecord;
 use acct_lines::PasswdLine;
 use std::alloc::{AllocError, Global};
-use table_edits::{RecordTest, Tables, first_passing};
+use table_lookups::{RecordTest, Tables, first_passing};
 
 /// An ID of a user.
 #[derive(Clone, Copy)]

@@ -18,10 +18,9 @@ use acct_text::Bytes;
 use command_values::{Asked, ToolFault};
 use login_defs::Defs;
 use std::alloc::{AllocError, Global};
-use table_edits::{
-    Edit, GroupAct, GroupChange, GshadowAct, GshadowChange, PasswdChange, Report, Script,
-    ShadowChange, SubidChange, Tables,
-};
+use line_edits::{Edit, GroupAct, GroupChange, GshadowAct, GshadowChange, PasswdChange, ShadowChange, SubidChange};
+use table_edits::{Report, Script};
+use table_lookups::Tables;
 
 /// The edits that remove the user, with its ranges and the group of its name.
 ///

@@ -12,7 +12,9 @@ ghost use Rattle.table_edits.specs.Additions.{HasAlso};
 use acct_text::{Bytes, Names};
 use command_values::{Asked, list_value};
 use std::alloc::{AllocError, Global};
-use table_edits::{GroupAct, GshadowAct, Script, Tables};
+use line_edits::{GroupAct, GshadowAct};
+use table_edits::Script;
+use table_lookups::Tables;
 
 /// The edits that the options ask for, in their order.
 pub(super) fn script_of(alloc: Global, asked: &Asked, tables: &Tables) -> Result<Script, AllocError>

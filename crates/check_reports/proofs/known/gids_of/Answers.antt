@@ -7,7 +7,7 @@ use Rattle.account_model.specs.Format.{records_of}
 use Rattle.account_model.specs.Records.{group_format}
 use Rattle.acct_tables.specs.SeenLines.{seen_line}
 use Rattle.check_reports.specs.Known.{has_gid, is_of}
-use Rattle.table_edits.proofs.FileLemmas.{records-in}
+use Rattle.table_lookups.proofs.FileLemmas.{records-in}
 use Rattle.check_reports.proofs.known.gids_of.Goals as goal
 
 -- three tests, of which the second comes first

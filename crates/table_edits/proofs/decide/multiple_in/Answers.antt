@@ -1,9 +1,9 @@
 use Rattle.std.proofs.Common.{◌≡◌, ◌∙◌, [], sym, ap}
 use Rattle.account_model.specs.Edits.{first_multiple}
 use Rattle.account_model.specs.Tables.{table_records}
-use Rattle.table_edits.specs.SeenEdits.{seen_edits}
-use Rattle.table_edits.proofs.EditLists.{no-edits}
-use Rattle.table_edits.proofs.TouchedRecords.{none-met}
+use Rattle.line_edits.specs.SeenEdits.{seen_edits}
+use Rattle.line_edits.proofs.EditLists.{no-edits}
+use Rattle.line_edits.proofs.TouchedRecords.{none-met}
 use Rattle.table_edits.proofs.decide.multiple_in.Goals as goal
 
 pub returns-then-is_empty : goal.returns-then-is_empty

@@ -1,9 +1,9 @@
 use Rattle.account_model.specs.Records.{passwd_format, shadow_format, group_format, gshadow_format, subid_format}
-use Rattle.table_edits.specs.GroupChanges.{group_becomes}
-use Rattle.table_edits.specs.GshadowChanges.{gshadow_becomes}
-use Rattle.table_edits.specs.PasswdChanges.{passwd_becomes}
-use Rattle.table_edits.specs.ShadowChanges.{shadow_becomes}
-use Rattle.table_edits.specs.SubidChanges.{subid_becomes}
+use Rattle.line_edits.specs.GroupChanges.{group_becomes}
+use Rattle.line_edits.specs.GshadowChanges.{gshadow_becomes}
+use Rattle.line_edits.specs.PasswdChanges.{passwd_becomes}
+use Rattle.line_edits.specs.ShadowChanges.{shadow_becomes}
+use Rattle.line_edits.specs.SubidChanges.{subid_becomes}
 use Rattle.table_edits.proofs.EditedFile.{edited-file}
 use Rattle.table_edits.proofs.files_after.files_after.Goals as goal
 

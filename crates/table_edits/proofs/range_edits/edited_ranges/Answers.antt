@@ -6,9 +6,9 @@ use Rattle.acct_text.specs.Lines.{file_bytes, lines_of}
 use Rattle.account_model.specs.Edits.{edited_by}
 use Rattle.account_model.specs.RecordEdits.{IsWrittenEdit}
 use Rattle.account_model.specs.Records.{subid_format}
-use Rattle.table_edits.specs.SeenEdits.{seen_edits}
-use Rattle.table_edits.specs.SubidChanges.{subid_becomes}
-use Rattle.table_edits.proofs.EditLists.{edited-apart, edits-from, edits-up_to}
+use Rattle.line_edits.specs.SeenEdits.{seen_edits}
+use Rattle.line_edits.specs.SubidChanges.{subid_becomes}
+use Rattle.line_edits.proofs.EditLists.{edited-apart, edits-from, edits-up_to}
 use Rattle.table_edits.proofs.range_edits.edited_ranges.Goals as goal
 
 pub edited_text-requires : goal.edited_text-requires
@@ -16,8 +16,8 @@ edited_text-requires c =
     edits-up_to subid_becomes (IsWrittenEdit subid_format) c.args.edits.now c.first_cut-first.result
     c.requires
 
-pub edited_from_cut-requires : goal.edited_from_cut-requires
-edited_from_cut-requires c =
+pub edited_from_cut-2-requires : goal.edited_from_cut-2-requires
+edited_from_cut-2-requires c =
     let edits = c.args.edits.now in
     let first = c.first_cut-first.result in
     subst (λ left. AllByRecursion (IsWrittenEdit subid_format) (seen_edits subid_becomes left))
@@ -29,7 +29,7 @@ returns c =
     let edits = c.args.edits.now in
     let first = c.first_cut-first.result in
     let before = c.as_slice.result.now in
-    IfOk-weaker c.edited_from_cut.result _ _ (λ bytes is.
+    IfOk-weaker c.edited_from_cut-2.result _ _ (λ bytes is.
     is
     ∙ ap (λ left. file_bytes
     (edited_by subid_format (seen_edits subid_becomes left) (lines_of before)))
@@ -37,4 +37,4 @@ returns c =
     ∙ ap file_bytes (edited-apart subid_becomes subid_format edits first c.args.text.now before refl
     c.requires
     (c.as_slice.ensures ∙ c.in_ok-before.ensures {u = tt})))
-    c.edited_from_cut.ensures
+    c.edited_from_cut-2.ensures

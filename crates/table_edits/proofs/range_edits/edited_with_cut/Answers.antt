@@ -6,9 +6,9 @@ use Rattle.acct_text.specs.Lines.{file_bytes, lines_of}
 use Rattle.account_model.specs.Edits.{edited_by}
 use Rattle.account_model.specs.RecordEdits.{IsWrittenEdit}
 use Rattle.account_model.specs.Records.{subid_format}
-use Rattle.table_edits.specs.SeenEdits.{seen_edits}
-use Rattle.table_edits.specs.SubidChanges.{subid_becomes}
-use Rattle.table_edits.proofs.EditLists.{edited-apart, edits-from, edits-up_to}
+use Rattle.line_edits.specs.SeenEdits.{seen_edits}
+use Rattle.line_edits.specs.SubidChanges.{subid_becomes}
+use Rattle.line_edits.proofs.EditLists.{edited-apart, edits-from, edits-up_to}
 use Rattle.table_edits.proofs.range_edits.edited_with_cut.Goals as goal
 
 pub text_without-requires-clause-written : goal.text_without-requires-clause-written

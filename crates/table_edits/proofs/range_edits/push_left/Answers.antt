@@ -4,9 +4,9 @@ use Rattle.acct_text.specs.Lines.{file_bytes, line_bytes, lines_of}
 use Rattle.account_model.specs.Edits.{edited_by}
 use Rattle.account_model.specs.Records.{subid_format}
 use Rattle.acct_tables.specs.SeenLines.{seen_line}
-use Rattle.table_edits.specs.SeenEdits.{seen_edits}
-use Rattle.table_edits.specs.SubidChanges.{subid_becomes}
-use Rattle.table_edits.proofs.ChangedLines.{stays-bytes}
+use Rattle.line_edits.specs.SeenEdits.{seen_edits}
+use Rattle.line_edits.specs.SubidChanges.{subid_becomes}
+use Rattle.line_edits.proofs.ChangedLines.{stays-bytes}
 use Rattle.table_edits.proofs.RemovalLemmas.{alone-found, apart-stays}
 use Rattle.table_edits.proofs.range_edits.push_left.Goals as goal
 

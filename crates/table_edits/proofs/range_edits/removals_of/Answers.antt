@@ -1,9 +1,9 @@
 use Rattle.std.proofs.Common.{◌≡◌, ℕ, length, take, sym, subst, arith}
 use Rattle.std.specs.List.{AllByRecursion}
 use Rattle.table_edits.specs.RangeRemovals.{KeepsApart}
-use Rattle.table_edits.specs.SeenEdits.{seen_edit, seen_edits}
-use Rattle.table_edits.specs.SubidChanges.{subid_becomes}
-use Rattle.table_edits.proofs.EditLists.{seen-up_to}
+use Rattle.line_edits.specs.SeenEdits.{seen_edit, seen_edits}
+use Rattle.line_edits.specs.SubidChanges.{subid_becomes}
+use Rattle.line_edits.proofs.EditLists.{seen-up_to}
 use Rattle.table_edits.proofs.RemovalLemmas.{keep-all}
 use Rattle.table_edits.proofs.range_edits.removals_of.Goals as goal
 

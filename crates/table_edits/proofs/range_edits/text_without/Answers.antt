@@ -4,8 +4,8 @@ use Rattle.account_model.specs.Edits.{edited_by}
 use Rattle.account_model.specs.Records.{subid_format}
 use Rattle.acct_tables.specs.SeenLines.{seen_line}
 use Rattle.acct_tables.proofs.LinesAhead.{walked, walked-all}
-use Rattle.table_edits.specs.SeenEdits.{seen_edits}
-use Rattle.table_edits.specs.SubidChanges.{subid_becomes}
+use Rattle.line_edits.specs.SeenEdits.{seen_edits}
+use Rattle.line_edits.specs.SubidChanges.{subid_becomes}
 use Rattle.table_edits.proofs.RemovalLemmas.{each-line}
 use Rattle.table_edits.proofs.range_edits.text_without.Goals as goal
 

@@ -6,8 +6,8 @@ use Rattle.account_model.specs.Edits.{edited_by}
 use Rattle.account_model.specs.RecordEdits.{IsWrittenEdit}
 use Rattle.account_model.specs.Records.{subid_format}
 use Rattle.account_model.specs.UsermodRanges.{edits_before_adding}
-use Rattle.table_edits.specs.SeenEdits.{seen_edits}
-use Rattle.table_edits.specs.SubidChanges.{subid_becomes}
+use Rattle.line_edits.specs.SeenEdits.{seen_edits}
+use Rattle.line_edits.specs.SubidChanges.{subid_becomes}
 use Rattle.user_changes.specs.Ranges.{change_of, owner_of}
 use Rattle.user_changes.proofs.MeetingLemmas.{lines-before, removals-written}
 use Rattle.user_changes.proofs.meetings.lines_before.Goals as goal

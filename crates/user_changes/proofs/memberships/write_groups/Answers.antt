@@ -3,9 +3,9 @@ use Rattle.std.specs.Prelude.{OnOk}
 use Rattle.account_model.specs.Edits.Edit.{Become}
 use Rattle.account_model.specs.Tables.{no_edits}
 use Rattle.table_edits.specs.Additions.{HasAlso}
-use Rattle.table_edits.specs.GroupChanges.{group_becomes}
-use Rattle.table_edits.specs.declared.group_changes.GroupAct.TheVariants.{SetMembership}
-use Rattle.table_edits.specs.declared.group_changes.GroupChange.TheVariants.{All}
+use Rattle.line_edits.specs.GroupChanges.{group_becomes}
+use Rattle.line_edits.specs.declared.group_changes.GroupAct.TheVariants.{SetMembership}
+use Rattle.line_edits.specs.declared.group_changes.GroupChange.TheVariants.{All}
 use Rattle.user_changes.proofs.MembershipLemmas.{group-edit}
 use Rattle.user_changes.proofs.memberships.write_groups.Goals as goal
 

@@ -3,9 +3,9 @@ use Rattle.std.specs.Prelude.{OnOk}
 use Rattle.account_model.specs.Edits.Edit.{Become}
 use Rattle.account_model.specs.Tables.{no_edits}
 use Rattle.table_edits.specs.Additions.{HasAlso}
-use Rattle.table_edits.specs.GshadowChanges.{gshadow_becomes}
-use Rattle.table_edits.specs.declared.gshadow_changes.GshadowAct.TheVariants.{SetMembership}
-use Rattle.table_edits.specs.declared.gshadow_changes.GshadowChange.TheVariants.{All}
+use Rattle.line_edits.specs.GshadowChanges.{gshadow_becomes}
+use Rattle.line_edits.specs.declared.gshadow_changes.GshadowAct.TheVariants.{SetMembership}
+use Rattle.line_edits.specs.declared.gshadow_changes.GshadowChange.TheVariants.{All}
 use Rattle.user_changes.proofs.MembershipLemmas.{gshadow-edit}
 use Rattle.user_changes.proofs.memberships.write_gshadow.Goals as goal
 

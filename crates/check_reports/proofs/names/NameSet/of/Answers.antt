@@ -3,7 +3,7 @@ use Rattle.std.specs.Prelude.{None, Some}
 use Rattle.account_model.specs.Format.{has_named}
 use Rattle.check_reports.specs.Names.{has_name}
 use Rattle.acct_tables.specs.TableLines.{record_at}
-use Rattle.table_edits.proofs.FileLemmas.{records-in}
+use Rattle.table_lookups.proofs.FileLemmas.{records-in}
 use Rattle.check_reports.proofs.NameWalk.{names-more}
 use Rattle.check_reports.proofs.RecordWalk.{records-all}
 use Rattle.check_reports.proofs.names.NameSet.of.Goals as goal

@@ -1,8 +1,8 @@
 use Rattle.std.proofs.Common.{◌≡◌, ◌∷◌, ◌++◌, map, take}
 use Rattle.account_model.specs.UsermodRanges.{cut_range, rename_owner}
 use Rattle.command_values.specs.Ranges.{ids_named}
-use Rattle.table_edits.specs.SeenEdits.{seen_edits}
-use Rattle.table_edits.specs.SubidChanges.{subid_becomes}
+use Rattle.line_edits.specs.SeenEdits.{seen_edits}
+use Rattle.line_edits.specs.SubidChanges.{subid_becomes}
 use Rattle.user_changes.specs.Ranges.{owner_of}
 use Rattle.user_changes.proofs.ranges.UserRanges.push_removals.Given as goal
 

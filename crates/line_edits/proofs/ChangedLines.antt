@@ -1,0 +1,187 @@
+-- Claim: what is done with the line at a place is what the record there becomes (`change-other`,
+-- `change-left`, `change-stays`, `change-sets`), and what is done with a line alone too (`left-line`,
+-- `other-line`, `record-line`, `same-line`). Way: the line at the place reads as the record that was
+-- found there (`record-here`), so it becomes what `line_becomes` says of it (`becomes-read`).
+use Rattle.std.proofs.Common.{◌≡◌, ℕ, ◌+◌, ◌<◌, Bool, true, false, List, [], ◌∷◌, ◌++◌, length, map, take, drop, get_or, refl, sym, ◌∙◌, ap, append-nil}
+use Rattle.std.specs.Prelude.{Option, Some, None, if◌then◌else◌}
+use Rattle.std.proofs.lemmas.List.{drop_more}
+use Rattle.std.proofs.lemmas.Option.{slice_get-get_or}
+use Rattle.acct_text.specs.Lines.{Line, file_bytes, line_bytes}
+use Rattle.account_model.specs.Format.{Format}
+use Rattle.account_model.specs.Edits.{becomes, line_becomes}
+use Rattle.account_model.specs.RecordEdits.{TellsSame}
+use Rattle.acct_tables.specs.Order.{text_at}
+use Rattle.acct_tables.specs.TableLines.{record_at, changed_at, with_record}
+use Rattle.acct_tables.proofs.LinesHere.{blank_line, line_here, read-here, record-here}
+use Rattle.line_edits.specs.Naming.{Leaves}
+use Rattle.line_edits.specs.Places.{spliced_at}
+use Rattle.line_edits.proofs.Splices.{spliced-same, spliced-one}
+
+module _ {R : Type 0} (format : Format R) where
+  -- a line of which the record becomes others
+  becomes-read :
+      (f : R → List R) (line : Line) (kept : Option R) (r : R)
+      → kept ≡ Some r
+      → (elim kept [ None ↦ line ∷ [] | Some s ↦ line_becomes format line s (f s) ])
+      ≡ line_becomes format line r (f r)
+  becomes-read f line None r is = absurd cc
+  becomes-read f line (Some s) r is =
+      let same : s ≡ r = cc in ap (λ t. line_becomes format line t (f t)) same
+
+  -- a record that stays leaves its line
+  pub stays :
+      (line : Line) (r : R) (same : Bool)
+      → same ≡ true
+      → (if same then line ∷ [] else record line { text = format.print r } ∷ []) ≡ line ∷ []
+  stays line r true is = refl
+  stays line r false is = absurd cc
+
+  -- one line is put, or stays where it is the same record
+  sets :
+      (line : Line) (s : R) (same : Bool)
+      → (if same then line ∷ [] else record line { text = format.print s } ∷ [])
+      ≡ (if same then line else record line { text = format.print s }) ∷ []
+  sets line s true = refl
+  sets line s false = refl
+
+  -- the line with the record, by the record that it has
+  with-record :
+      (line : Line) (kept : Option R) (r s : R)
+      → kept ≡ Some r
+      → (elim kept [
+        | None ↦ record line { text = format.print s }
+        | Some old ↦ if format.same old s then line else record line { text = format.print s }
+      ])
+      ≡ (if format.same r s then line else record line { text = format.print s })
+  with-record line None r s is = absurd cc
+  with-record line (Some old) r s is =
+      let same : old ≡ r = cc in
+      ap (λ t. if format.same t s then line else record line { text = format.print s }) same
+
+  module _ (f : R → List R) (lines : List Line) (place : ℕ) (inside : place < length lines) where
+    -- the lines from the place on
+    from-here : drop place lines ≡ line_here lines place ∷ drop (place + 1) lines
+    from-here = drop_more lines place blank_line inside
+
+    -- other text stays
+    pub change-other :
+        record_at format lines place ≡ None → lines ≡ spliced_at (becomes format f) place lines
+    change-other none =
+        let line = line_here lines place in
+        sym (spliced-same (becomes format f) lines place line from-here
+        (ap (λ kept. elim kept [ None ↦ line ∷ [] | Some r ↦ line_becomes format line r (f r) ])
+        (sym (record-here format lines place inside) ∙ none)))
+
+    -- a line that is left stays
+    left-by :
+        (found : Option R)
+        → record_at format lines place ≡ found
+        → TellsSame format
+        → ((r : R) → found ≡ Some r → f r ≡ r ∷ [])
+        → lines ≡ spliced_at (becomes format f) place lines
+    left-by None is tells left = change-other is
+    left-by (Some r) is tells left =
+        let line = line_here lines place in
+        sym (spliced-same (becomes format f) lines place line from-here
+        (becomes-read f line (format.read line.text) r (sym (record-here format lines place inside) ∙ is)
+        ∙ ap (line_becomes format line r) (left r refl)
+        ∙ stays line r (format.same r r) ((tells r r).1 refl)))
+
+    pub change-left :
+        TellsSame format
+        → Leaves format f (text_at lines place)
+        → lines ≡ spliced_at (becomes format f) place lines
+    change-left tells left =
+        left-by (record_at format lines place) refl tells
+        (λ r is. left r (read-here format lines place inside ∙ is))
+
+    module _ (r : R) (found : record_at format lines place ≡ Some r) where
+      -- the line becomes what its record becomes
+      becomes-here :
+          becomes format f (line_here lines place) ≡ line_becomes format (line_here lines place) r (f r)
+      becomes-here =
+          becomes-read f (line_here lines place) (format.read (line_here lines place).text) r
+          (sym (record-here format lines place inside) ∙ found)
+
+      -- a record that stays leaves the lines
+      pub change-stays :
+          TellsSame format → f r ≡ r ∷ [] → lines ≡ spliced_at (becomes format f) place lines
+      change-stays tells same =
+          let line = line_here lines place in
+          sym (spliced-same (becomes format f) lines place line from-here
+          (becomes-here ∙ ap (line_becomes format line r) same
+          ∙ stays line r (format.same r r) ((tells r r).1 refl)))
+
+      -- a record is put into the line
+      pub change-sets :
+          (s : R)
+          → f r ≡ s ∷ []
+          → changed_at (with_record format s) place lines ≡ spliced_at (becomes format f) place lines
+      change-sets s one =
+          let line = line_here lines place in
+          spliced-one (becomes format f) lines place line from-here (with_record format s)
+          (becomes-here ∙ ap (line_becomes format line r) one ∙ sets line s (format.same r s)
+          ∙ ap (λ l. l ∷ []) (sym (with-record line (format.read line.text) r s
+          (sym (record-here format lines place inside) ∙ found))))
+
+-- ---- A change that leaves names
+
+-- doesn't take a record away
+pub none-named :
+    {R : Type 0} (format : Format R) (f : R → List R) (r : R)
+    → map format.name (f r) ≡ format.name r ∷ []
+    → f r ≡ []
+    → ⊥
+none-named format f r named none =
+    let one : [] ≡ format.name r ∷ [] = sym (ap (map format.name) none) ∙ named in absurd cc
+
+-- nor puts two in its place
+pub two-named :
+    {R : Type 0} (format : Format R) (f : R → List R) (r s t : R)
+    → map format.name (f r) ≡ format.name r ∷ []
+    → f r ≡ s ∷ t ∷ []
+    → ⊥
+two-named format f r s t named two =
+    let one : format.name s ∷ format.name t ∷ [] ≡ format.name r ∷ [] =
+    sym (ap (map format.name) two) ∙ named in absurd cc
+
+-- ---- The bytes of a line
+
+module _ {R : Type 0} (format : Format R) (f : R → List R) (line : Line) where
+  -- a line that stays, as bytes
+  pub stays-bytes :
+      (lines : List Line) → lines ≡ line ∷ [] → line_bytes line ≡ file_bytes lines
+  stays-bytes lines is = sym (append-nil (line_bytes line)) ∙ ap file_bytes (sym is)
+
+  -- a line whose record is left, if it is one
+  left-line-by :
+      (found : Option R)
+      → format.read line.text ≡ found
+      → TellsSame format
+      → ((r : R) → found ≡ Some r → f r ≡ r ∷ [])
+      → becomes format f line ≡ line ∷ []
+  left-line-by None is tells left =
+      ap (λ kept. elim kept [ None ↦ line ∷ [] | Some r ↦ line_becomes format line r (f r) ]) is
+  left-line-by (Some r) is tells left =
+      becomes-read format f line (format.read line.text) r is
+      ∙ ap (line_becomes format line r) (left r refl)
+      ∙ stays format line r (format.same r r) ((tells r r).1 refl)
+
+  -- a line that the change leaves
+  pub left-line : TellsSame format → Leaves format f line.text → becomes format f line ≡ line ∷ []
+  left-line tells left = left-line-by (format.read line.text) refl tells left
+
+  -- other text stays
+  pub other-line : format.read line.text ≡ None → becomes format f line ≡ line ∷ []
+  other-line none =
+      ap (λ kept. elim kept [ None ↦ line ∷ [] | Some r ↦ line_becomes format line r (f r) ]) none
+
+  -- the line of a record becomes what the record does
+  pub record-line :
+      (r : R) → format.read line.text ≡ Some r → becomes format f line ≡ line_becomes format line r (f r)
+  record-line r is = becomes-read format f line (format.read line.text) r is
+
+  -- a record that stays leaves its line
+  pub same-line : (r : R) → TellsSame format → f r ≡ r ∷ [] → line_becomes format line r (f r) ≡ line ∷ []
+  same-line r tells same =
+      ap (line_becomes format line r) same ∙ stays format line r (format.same r r) ((tells r r).1 refl)

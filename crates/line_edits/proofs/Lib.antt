@@ -1,0 +1,13 @@
+pub mod Splices
+pub mod ChangedLines
+pub mod OpenLemmas
+pub mod PutLines
+pub mod EditLists
+pub mod TouchedRecords
+pub mod LeftLemmas
+pub mod NamedLemmas
+pub mod AddedNames
+pub mod NamingLemmas
+pub mod KnownLemmas
+pub mod WrittenLines
+pub mod NameSets

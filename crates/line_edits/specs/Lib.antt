@@ -1,0 +1,14 @@
+pub mod SeenEdits
+pub mod Places
+pub mod OpenLines
+pub mod Touching
+pub mod GroupChanges
+pub mod GshadowChanges
+pub mod PasswdChanges
+pub mod ShadowChanges
+pub mod SubidChanges
+pub mod HashChanges
+pub mod Memberships
+pub mod Naming
+pub mod NamedLines
+pub mod NameSets

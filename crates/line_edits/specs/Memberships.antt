@@ -1,0 +1,39 @@
+-- What becomes of a user in the lists of all groups (usermod(8), `-G`, `-a` and `-l`).
+use Rattle.std.specs.Prelude.{ℕ, Bool, true, false, List, if◌then◌else◌}
+use Rattle.account_model.specs.declared.records.GroupRecord.{GroupRecord}
+use Rattle.account_model.specs.declared.records.GshadowRecord.{GshadowRecord}
+use Rattle.account_model.specs.Members.{with_name, without_name, renamed_in}
+use Rattle.account_model.specs.Text.{is_listed}
+use Rattle.line_edits.specs.declared.memberships.Membership.{Membership}
+use Rattle.line_edits.specs.declared.memberships.UserGroups.{UserGroups}
+use Rattle.line_edits.specs.declared.memberships.UserGroups.TheVariants.{Kept, Also, Only}
+
+-- the members of a group once the user has joined or left it (usermod(8), `-G` and `-a`)
+abbrev pub members_with : UserGroups → List ℕ → List ℕ → List (List ℕ) → List (List ℕ)
+members_with Kept user group members = members
+members_with (Also groups) user group members =
+    if is_listed group groups then with_name user members else members
+members_with (Only groups) user group members =
+    if is_listed group groups then with_name user members else without_name user members
+
+-- whether the user joins no group and leaves none
+abbrev pub keeps_groups : UserGroups → Bool
+keeps_groups Kept = true
+keeps_groups (Also groups) = false
+keeps_groups (Only groups) = false
+
+-- the members of a group in which the user then has the new name (usermod(8), `-l`)
+abbrev pub members_by : Membership → List ℕ → List (List ℕ) → List (List ℕ)
+members_by membership group members = renamed_in membership.user membership.new_name
+    (members_with membership.groups membership.user group members)
+
+-- a record of group
+abbrev pub group_by : Membership → GroupRecord → GroupRecord
+group_by membership r = record r { members = members_by membership r.name r.members }
+
+-- a record of gshadow, of which the administrators get the new name alone
+abbrev pub gshadow_by : Membership → GshadowRecord → GshadowRecord
+gshadow_by membership r = record r {
+  administrators = renamed_in membership.user membership.new_name r.administrators;
+  members = members_by membership r.name r.members;
+}

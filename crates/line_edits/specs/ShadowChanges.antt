@@ -1,0 +1,41 @@
+-- What the changes of users make of a record of shadow (shadow(5)).
+use Rattle.std.specs.Prelude.{Bool, true, List, [], ◌∷◌, Some, is_none, unwrap_or, if◌then◌else◌}
+use Rattle.account_model.specs.declared.records.ShadowRecord.{ShadowRecord}
+use Rattle.account_model.specs.Format.{is_named}
+use Rattle.account_model.specs.Records.{shadow_format}
+use Rattle.line_edits.specs.HashChanges.{hash_by}
+use Rattle.line_edits.specs.declared.shadow_changes.ShadowFields.{ShadowFields}
+use Rattle.line_edits.specs.declared.shadow_changes.ShadowAct.{ShadowAct}
+use Rattle.line_edits.specs.declared.shadow_changes.ShadowAct.TheVariants.{SetHash, SetLastChange, ChangeHash, SetFields}
+use Rattle.line_edits.specs.declared.shadow_changes.ShadowChange.{ShadowChange}
+use Rattle.line_edits.specs.declared.shadow_changes.ShadowChange.TheVariants.{Named, Remove}
+
+-- the record with the fields that are given (usermod(8), `-e`, `-f` and `-l`; chage(1))
+abbrev pub with_shadow_fields : ShadowFields → ShadowRecord → ShadowRecord
+with_shadow_fields fields r = record r {
+  name = unwrap_or fields.name r.name;
+  last_change = unwrap_or fields.last_change r.last_change;
+  minimum = unwrap_or fields.minimum r.minimum;
+  maximum = unwrap_or fields.maximum r.maximum;
+  warning = unwrap_or fields.warning r.warning;
+  inactive = unwrap_or fields.inactive r.inactive;
+  expiration = unwrap_or fields.expiration r.expiration;
+}
+
+-- the record after an act
+abbrev pub shadow_after : ShadowAct → ShadowRecord → ShadowRecord
+shadow_after (SetHash hash) r = record r { hash = hash }
+shadow_after (SetLastChange day) r = record r { last_change = Some day }
+shadow_after (ChangeHash change) r = record r { hash = hash_by change r.hash }
+shadow_after (SetFields fields) r = with_shadow_fields fields r
+
+-- whether the act leaves the name
+abbrev pub keeps_shadow_name : ShadowAct → Bool
+keeps_shadow_name (SetFields fields) = is_none fields.name
+keeps_shadow_name _ = true
+
+-- the records that a record becomes by a change
+abbrev pub shadow_becomes : ShadowChange → ShadowRecord → List ShadowRecord
+shadow_becomes (Named name act) r =
+    (if is_named shadow_format name r then shadow_after act r else r) ∷ []
+shadow_becomes (Remove name) r = if is_named shadow_format name r then [] else r ∷ []

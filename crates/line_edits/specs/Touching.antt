@@ -1,0 +1,45 @@
+-- Which edit touches a record, and the first record that is touched among several of its name (passwd(5), shadow(5),
+-- group(5), gshadow(5)).
+use Rattle.std.specs.Prelude.{◌≡◌, ℕ, Bool, false, ◌&&◌, List, [], ◌∷◌, Option, Some, None, option_map, find, if◌then◌else◌}
+use Rattle.acct_text.specs.Lines.{Line}
+use Rattle.account_model.specs.Format.{Format, records_of}
+use Rattle.account_model.specs.Edits.{Edit, touches, is_multiple}
+use Rattle.acct_tables.specs.TableLines.{record_at}
+use Rattle.std.specs.HashSet.{HashSet}
+use Rattle.line_edits.specs.NameSets.{has_text}
+use denote.Ref.{Bor}
+
+-- whether the edit touches a record of the old table, were it the only one
+abbrev pub touches_alone : {R : Type 0} → Format R → Edit R → R → Bool
+touches_alone format edit r = touches format (edit ∷ []) r
+
+-- the edit leaves the record to those behind it
+abbrev pub LeavesTo : {R : Type 0} → Format R → Edit R → R → Type 0
+LeavesTo {R = R} format edit r =
+    (edits : List (Edit R)) → touches format (edit ∷ edits) r ≡ touches format edits r
+
+-- the edits touch no record of a name that the set lacks
+abbrev pub TouchOnly : {R S : Type 0} → Format R → List (Edit R) → HashSet (Bor (List ℕ)) S → Type 0
+TouchOnly {R = R} format edits names = (r : R)
+    → has_text names (λ key. key.now) (format.name r) ≡ false → touches format edits r ≡ false
+
+-- the names are told, and this one isn't among them
+abbrev pub LacksName : {S : Type 0} → Option (HashSet (Bor (List ℕ)) S) → List ℕ → Type 0
+LacksName None name = ⊥
+LacksName (Some names) name = has_text names (λ key. key.now) name ≡ false
+
+-- whether the edits touch the record, and its name is multiple in the whole table
+abbrev pub is_met : {R : Type 0} → Format R → List (Edit R) → List R → R → Bool
+is_met format edits whole r = touches format edits r && is_multiple format whole r
+
+-- the name of the first of these records that is met so
+abbrev pub first_touched :
+    {R : Type 0} → Format R → List (Edit R) → List R → List R → Option (List ℕ)
+first_touched format edits whole records = option_map format.name (find (is_met format edits whole) records)
+
+-- the name of the record at a place, where it is met so
+abbrev pub met_at : {R : Type 0} → Format R → List (Edit R) → List Line → ℕ → Option (List ℕ)
+met_at format edits lines place = elim (record_at format lines place) [
+  | None ↦ None
+  | Some r ↦ if is_met format edits (records_of format lines) r then Some (format.name r) else None
+]

@@ -1,0 +1,67 @@
+// The edits of a table as data, and what a record has so that edits can be made of it.
+ghost use Rattle.std.specs.Prelude.{◌≡◌, true, List, [], None, IfOk, IfSome};
+ghost use Rattle.account_model.specs.Written.{IsWritten};
+ghost use Rattle.line_edits.specs.Naming.{ChangesOnly, Leaves};
+ghost use Rattle.line_edits.specs.SeenEdits.{records_in};
+
+use acct_lines::TableRecord;
+use std::alloc::{AllocError, Global};
+
+/// What becomes of a record, in its place.
+#[derive(Drop)]
+pub enum Becoming<R> {
+    /// The record stays, and its line keeps its bytes.
+    Stays,
+    /// The record becomes this one.
+    Changes(R),
+    /// The record goes, with its line.
+    Goes,
+    /// The record becomes these two.
+    Splits(R, R),
+}
+
+/// One edit of a table of the records R, of which C tells what becomes.
+#[derive(Drop)]
+pub enum Edit<R, C> {
+    /// Each record becomes what the change gives of it.
+    Become(C),
+    /// The record goes behind the last line.
+    Add(R),
+    /// The same where no record has its name.
+    AddMissing(R),
+    /// The first record of its name becomes this one; where there is none, it is added.
+    Put(R),
+}
+
+/// A record of a table that edits change.
+pub trait EditedRecord: TableRecord {
+    /// What a command does with such records.
+    type Change: Drop;
+
+    // the records that a record becomes by a change
+    ghost becomes: { Self.Change → Self → List Self };
+
+    /// A second record with the same fields.
+    fn copy(&self, alloc: Global) -> Result<Self, AllocError>
+        ensures { IfOk result (λ copy. copy ≡ self.now) };
+
+    /// What becomes of the record by the change.
+    fn becoming(&self, alloc: Global, change: &Self::Change) -> Result<Becoming<Self>, AllocError>
+        requires { IsWritten Self.format self.now }
+        ensures { IfOk result (λ becoming.
+            records_in self.now becoming ≡ becomes change.now self.now) };
+
+    /// Whether the change surely leaves the record that the line is, if it is one, by what can be seen
+    /// without memory.
+    fn leaves(change: &Self::Change, line: &[u8]) -> bool
+        ensures { result ≡ true → Leaves Self.format (becomes change.now) line.now };
+
+    /// The name of all records that the change may touch, where it leaves their names; none where
+    /// it may touch others.
+    fn only_name(change: &Self::Change) -> Option<&[u8]>
+        ensures { IfSome result (λ name.
+            ChangesOnly Self.format (becomes change.now) name.now) };
+
+    // an empty line is no record
+    ghost no_blank: { Self.TableRecord.format.read [] ≡ None };
+}

@@ -1,0 +1,166 @@
+// What the tools do with records of group (group(5)).
+ghost use Rattle.std.specs.Prelude.{◌≡◌, true, Some, IfOk, OnOk};
+ghost use Rattle.account_model.specs.Records.{group_format};
+ghost use Rattle.account_model.specs.Text.{is_listed};
+ghost use Rattle.account_model.specs.declared.records.GroupRecord.{GroupRecord};
+ghost use Rattle.line_edits.specs.GroupChanges.{group_after, keeps_group_name};
+ghost use Rattle.line_edits.specs.Memberships.{group_by};
+
+use crate::fields::has_other_name;
+use crate::lists::{with_name, without_name};
+use crate::{Becoming, EditedRecord, Membership};
+use acct_lines::{GroupLine, GroupRecord, TableRecord, lists};
+use acct_text::{Bytes, Names};
+use std::alloc::{AllocError, Global};
+
+/// What is done with a record of group.
+#[derive(Drop)]
+pub enum GroupAct {
+    /// The group gets the GID.
+    SetGid(u32),
+    /// The group gets the name.
+    Rename(Bytes),
+    /// The password field becomes this one.
+    SetPassword(Bytes),
+    /// The user goes behind the last member, where it is none.
+    AddMember(Bytes),
+    /// The user is no member any more.
+    RemoveMember(Bytes),
+    /// The members become these.
+    SetMembers(Names),
+    /// The user joins or leaves the group, and has the new name in it.
+    SetMembership(Membership),
+}
+
+/// What becomes of the records of group.
+#[derive(Drop)]
+pub enum GroupChange {
+    /// The act is done with the records of the name. Others stay.
+    Named(Bytes, GroupAct),
+    /// The act is done with all records.
+    All(GroupAct),
+    /// The records of the name go.
+    Remove(Bytes),
+}
+
+impl EditedRecord for GroupRecord {
+    ghost use Rattle.std.specs.Prelude.{refl};
+    ghost use Rattle.line_edits.specs.GroupChanges.{group_becomes};
+
+    type Change = GroupChange;
+
+    ghost becomes = { group_becomes };
+
+    fn copy(&self, _alloc: Global) -> Result<Self, AllocError> {
+        Ok(GroupRecord {
+            name: self.name.copy()?,
+            password: self.password.copy()?,
+            gid: self.gid,
+            members: self.members.copy()?,
+        })
+    }
+
+    fn becoming(&self, alloc: Global, change: &GroupChange) -> Result<Becoming<Self>, AllocError> {
+        match change {
+            GroupChange::Named(name, act) if self.name() == name.as_slice() => {
+                Ok(Becoming::Changes(acted(alloc, self, act)?))
+            }
+            GroupChange::All(act) => Ok(Becoming::Changes(acted(alloc, self, act)?)),
+            GroupChange::Remove(name) if self.name() == name.as_slice() => Ok(Becoming::Goes),
+            _ => Ok(Becoming::Stays),
+        }
+    }
+
+    fn leaves(change: &GroupChange, line: &[u8]) -> bool {
+        match change {
+            GroupChange::Named(name, _) => has_other_name(line, name.as_slice()),
+            GroupChange::All(act) => act_leaves(act, line),
+            GroupChange::Remove(name) => has_other_name(line, name.as_slice()),
+        }
+    }
+
+    fn only_name(change: &GroupChange) -> Option<&[u8]> {
+        match change {
+            GroupChange::Named(name, act) if keeps_name(act) => Some(name.as_slice()),
+            _ => None,
+        }
+    }
+
+    ghost no_blank = { refl };
+}
+
+// Whether the act leaves the name of the group.
+fn keeps_name(act: &GroupAct) -> bool
+    ensures { result ≡ keeps_group_name act.now }
+{
+    match act {
+        GroupAct::Rename(_) => false,
+        _ => true,
+    }
+}
+
+// Whether the act surely leaves the group that the line is, if it is one.
+fn act_leaves(act: &GroupAct, line: &[u8]) -> bool
+    ensures { result ≡ true → (group : GroupRecord)
+        → group_format.read line.now ≡ Some group → group_after act.now group ≡ group }
+{
+    match act {
+        GroupAct::RemoveMember(user) => !has_member(line, user.as_slice()),
+        GroupAct::SetMembership(membership) => {
+            membership.keeps_groups() && !has_member(line, membership.user.as_slice())
+        }
+        _ => false,
+    }
+}
+
+// Whether the line is a group that has the member.
+fn has_member(line: &[u8], user: &[u8]) -> bool
+    ensures { (group : GroupRecord) → group_format.read line.now ≡ Some group
+        → result ≡ is_listed user.now group.members }
+{
+    match GroupLine::read(line) {
+        Ok(group) => lists(group.members, user),
+        Err(_) => false,
+    }
+}
+
+// The record after the act.
+fn acted(alloc: Global, old: &GroupRecord, act: &GroupAct) -> Result<GroupRecord, AllocError>
+    ensures { IfOk result (λ new. new ≡ group_after act.now old.now) }
+{
+    let mut new = old.copy(alloc)?;
+    act_on(alloc, &mut new, act)?;
+    Ok(new)
+}
+
+// Does the act with the record. At `AllocError` a user who joins may have the old name in it.
+fn act_on(alloc: Global, group: &mut GroupRecord, act: &GroupAct) -> Result<(), AllocError>
+    ensures { OnOk result (group.new ≡ group_after act.now group.old) }
+{
+    match act {
+        GroupAct::SetGid(gid) => group.gid = *gid,
+        GroupAct::Rename(name) => group.name = name.copy()?,
+        GroupAct::SetPassword(password) => group.password = password.copy()?,
+        GroupAct::AddMember(user) => group.members = with_name(&group.members, user.as_slice())?,
+        GroupAct::RemoveMember(user) => {
+            group.members = without_name(alloc, &group.members, user.as_slice())?
+        }
+        GroupAct::SetMembers(members) => group.members = members.copy()?,
+        GroupAct::SetMembership(membership) => return set_membership(alloc, group, membership),
+    }
+    Ok(())
+}
+
+// The user joins or leaves the group, and has the new name in it. At `AllocError` the members may
+// have the old name still.
+fn set_membership(
+    alloc: Global,
+    group: &mut GroupRecord,
+    membership: &Membership,
+) -> Result<(), AllocError>
+    ensures { OnOk result (group.new ≡ group_by membership.now group.old) }
+{
+    group.members = membership.members(alloc, group.name.as_slice(), &group.members)?;
+    *group = membership.renamed(alloc, group)?;
+    Ok(())
+}

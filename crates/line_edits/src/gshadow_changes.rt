@@ -1,0 +1,182 @@
+// What the tools do with records of gshadow (gshadow(5)).
+ghost use Rattle.std.specs.Prelude.{◌≡◌, ◌||◌, true, Some, IfOk, OnOk};
+ghost use Rattle.account_model.specs.declared.records.GshadowRecord.{GshadowRecord};
+ghost use Rattle.account_model.specs.Records.{gshadow_format};
+ghost use Rattle.account_model.specs.Text.{is_listed};
+ghost use Rattle.line_edits.specs.GshadowChanges.{gshadow_after, keeps_gshadow_name, without_user};
+ghost use Rattle.line_edits.specs.Memberships.{gshadow_by};
+
+use crate::fields::has_other_name;
+use crate::lists::{with_name, without_name};
+use crate::{Becoming, EditedRecord, Membership};
+use acct_lines::{GshadowLine, GshadowRecord, TableRecord, lists};
+use acct_text::{Bytes, Names};
+use std::alloc::{AllocError, Global};
+
+/// What is done with a record of gshadow.
+#[derive(Drop)]
+pub enum GshadowAct {
+    /// The group gets the name.
+    Rename(Bytes),
+    /// The password field becomes this one.
+    SetPassword(Bytes),
+    /// The administrators become these.
+    SetAdministrators(Names),
+    /// The user goes behind the last member, where it is none.
+    AddMember(Bytes),
+    /// The user is no member any more.
+    RemoveMember(Bytes),
+    /// The members become these.
+    SetMembers(Names),
+    /// The user is neither administrator nor member any more.
+    RemoveUser(Bytes),
+    /// The user joins or leaves the group, and has the new name in it.
+    SetMembership(Membership),
+}
+
+/// What becomes of the records of gshadow.
+#[derive(Drop)]
+pub enum GshadowChange {
+    /// The act is done with the records of the name. Others stay.
+    Named(Bytes, GshadowAct),
+    /// The act is done with all records.
+    All(GshadowAct),
+    /// The records of the name go.
+    Remove(Bytes),
+}
+
+impl EditedRecord for GshadowRecord {
+    ghost use Rattle.std.specs.Prelude.{refl};
+    ghost use Rattle.line_edits.specs.GshadowChanges.{gshadow_becomes};
+
+    type Change = GshadowChange;
+
+    ghost becomes = { gshadow_becomes };
+
+    fn copy(&self, _alloc: Global) -> Result<Self, AllocError> {
+        Ok(GshadowRecord {
+            name: self.name.copy()?,
+            password: self.password.copy()?,
+            administrators: self.administrators.copy()?,
+            members: self.members.copy()?,
+        })
+    }
+
+    fn becoming(
+        &self,
+        alloc: Global,
+        change: &GshadowChange,
+    ) -> Result<Becoming<Self>, AllocError> {
+        match change {
+            GshadowChange::Named(name, act) if self.name() == name.as_slice() => {
+                Ok(Becoming::Changes(acted(alloc, self, act)?))
+            }
+            GshadowChange::All(act) => Ok(Becoming::Changes(acted(alloc, self, act)?)),
+            GshadowChange::Remove(name) if self.name() == name.as_slice() => Ok(Becoming::Goes),
+            _ => Ok(Becoming::Stays),
+        }
+    }
+
+    fn leaves(change: &GshadowChange, line: &[u8]) -> bool {
+        match change {
+            GshadowChange::Named(name, _) => has_other_name(line, name.as_slice()),
+            GshadowChange::All(act) => act_leaves(act, line),
+            GshadowChange::Remove(name) => has_other_name(line, name.as_slice()),
+        }
+    }
+
+    fn only_name(change: &GshadowChange) -> Option<&[u8]> {
+        match change {
+            GshadowChange::Named(name, act) if keeps_name(act) => Some(name.as_slice()),
+            _ => None,
+        }
+    }
+
+    ghost no_blank = { refl };
+}
+
+// Whether the act leaves the name of the group.
+fn keeps_name(act: &GshadowAct) -> bool
+    ensures { result ≡ keeps_gshadow_name act.now }
+{
+    match act {
+        GshadowAct::Rename(_) => false,
+        _ => true,
+    }
+}
+
+// Whether the act surely leaves the group that the line is, if it is one.
+fn act_leaves(act: &GshadowAct, line: &[u8]) -> bool
+    ensures { result ≡ true → (group : GshadowRecord)
+        → gshadow_format.read line.now ≡ Some group → gshadow_after act.now group ≡ group }
+{
+    match act {
+        GshadowAct::RemoveUser(user) => !has_user(line, user.as_slice()),
+        GshadowAct::SetMembership(membership) => {
+            membership.keeps_groups() && !has_user(line, membership.user.as_slice())
+        }
+        _ => false,
+    }
+}
+
+// Whether the line is a group that has the administrator or member.
+fn has_user(line: &[u8], user: &[u8]) -> bool
+    ensures { (group : GshadowRecord) → gshadow_format.read line.now ≡ Some group
+        → result ≡ (is_listed user.now group.administrators || is_listed user.now group.members) }
+{
+    match GshadowLine::read(line) {
+        Ok(group) => lists(group.administrators, user) || lists(group.members, user),
+        Err(_) => false,
+    }
+}
+
+// The record after the act.
+fn acted(alloc: Global, old: &GshadowRecord, act: &GshadowAct) -> Result<GshadowRecord, AllocError>
+    ensures { IfOk result (λ new. new ≡ gshadow_after act.now old.now) }
+{
+    let mut new = old.copy(alloc)?;
+    act_on(alloc, &mut new, act)?;
+    Ok(new)
+}
+
+// Does the act with the record. At `AllocError` the user may have left one list alone.
+fn act_on(alloc: Global, group: &mut GshadowRecord, act: &GshadowAct) -> Result<(), AllocError>
+    ensures { OnOk result (group.new ≡ gshadow_after act.now group.old) }
+{
+    match act {
+        GshadowAct::Rename(name) => group.name = name.copy()?,
+        GshadowAct::SetPassword(password) => group.password = password.copy()?,
+        GshadowAct::SetAdministrators(names) => group.administrators = names.copy()?,
+        GshadowAct::AddMember(user) => group.members = with_name(&group.members, user.as_slice())?,
+        GshadowAct::RemoveMember(user) => {
+            group.members = without_name(alloc, &group.members, user.as_slice())?
+        }
+        GshadowAct::SetMembers(members) => group.members = members.copy()?,
+        GshadowAct::RemoveUser(user) => return remove_user(alloc, group, user.as_slice()),
+        GshadowAct::SetMembership(membership) => return set_membership(alloc, group, membership),
+    }
+    Ok(())
+}
+
+// Removes the user from either list. At `AllocError` it may have left one of them.
+fn remove_user(alloc: Global, group: &mut GshadowRecord, user: &[u8]) -> Result<(), AllocError>
+    ensures { OnOk result (group.new ≡ without_user user.now group.old) }
+{
+    group.administrators = without_name(alloc, &group.administrators, user)?;
+    group.members = without_name(alloc, &group.members, user)?;
+    Ok(())
+}
+
+// The user joins or leaves the group, and has the new name in it. At `AllocError` the members may
+// have the old name still.
+fn set_membership(
+    alloc: Global,
+    group: &mut GshadowRecord,
+    membership: &Membership,
+) -> Result<(), AllocError>
+    ensures { OnOk result (group.new ≡ gshadow_by membership.now group.old) }
+{
+    group.members = membership.members(alloc, group.name.as_slice(), &group.members)?;
+    *group = membership.renamed(alloc, group)?;
+    Ok(())
+}

@@ -1,0 +1,40 @@
+//! What an edit makes of the lines of one table's file (passwd(5), shadow(5), group(5), gshadow(5),
+//! subuid(5), subgid(5)).
+//!
+//! `edit` has the edits of a table as data, and what a record has so that they can be made of it;
+//! `group_changes` and its like what becomes of a record. `apply` carries edits out in the text of a
+//! file: few of them one after another (`line_changes`), many by the names of the records that they
+//! touch (`named_edits`), at the places of these (`placed_edits`). `multiple` finds the first record
+//! that they touch and whose name has several.
+#![tactic(auto)]
+
+mod apply;
+mod edit;
+mod fields;
+mod group_changes;
+mod gshadow_changes;
+mod hash_change;
+mod line_changes;
+mod lists;
+mod memberships;
+mod multiple;
+mod name_set;
+mod named_edits;
+mod passwd_changes;
+mod placed_edits;
+mod shadow_changes;
+mod subid_changes;
+mod touched;
+
+pub use apply::edited_text;
+pub use edit::{Becoming, Edit, EditedRecord};
+pub use group_changes::{GroupAct, GroupChange};
+pub use gshadow_changes::{GshadowAct, GshadowChange};
+pub use hash_change::HashChange;
+pub use line_changes::changed_text;
+pub use memberships::{Membership, UserGroups};
+pub use multiple::first_multiple;
+pub use name_set::NameSet;
+pub use passwd_changes::{PasswdAct, PasswdChange, UserFields};
+pub use shadow_changes::{ShadowAct, ShadowChange, ShadowFields};
+pub use subid_changes::{RangeCut, SubidChange};

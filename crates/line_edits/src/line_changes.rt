@@ -1,0 +1,186 @@
+// What becomes of the lines of a table's file by a change: lines that it leaves are copied together,
+// and each other one is read.
+ghost use Rattle.std.specs.Prelude.{◌≡◌, ◌++◌, ◌≤◌, [], ◌∷◌, Some, length, map, IfOk, OnOk};
+ghost use Rattle.acct_text.specs.Bytes.{newline};
+ghost use Rattle.acct_text.specs.Lines.{file_bytes, line_bytes, lines_of};
+ghost use Rattle.acct_text.specs.Pieces.{Lacks};
+ghost use Rattle.account_model.specs.Edits.{becomes, edited, line_becomes, printed_line};
+ghost use Rattle.account_model.specs.Edits as model;
+ghost use Rattle.account_model.specs.RecordEdits.{IsWrittenEdit};
+ghost use Rattle.account_model.specs.Written.{IsWritten};
+ghost use Rattle.acct_tables.specs.SeenLines.{seen_line};
+ghost use Rattle.line_edits.specs.OpenLines.{IsOpenFrom};
+
+use crate::multiple::differ;
+use crate::{Becoming, EditedRecord};
+use acct_tables::{FileLine, Lines, read_record};
+use acct_text::Bytes;
+use std::alloc::{AllocError, Global};
+
+/// The text in which each record became what the change gives of it.
+pub fn changed_text<R: EditedRecord + Drop>(
+    alloc: Global,
+    text: &[u8],
+    change: &R::Change,
+) -> Result<Bytes, AllocError>
+    requires { IsWrittenEdit R.format (model.Become (R.becomes change.now)) }
+    ensures { IfOk result (λ bytes. bytes ≡ file_bytes
+        (edited R.format (lines_of text.now) (model.Become (R.becomes change.now)))) }
+{
+    let mut made = Bytes::new(alloc);
+    let mut left = push_front::<R>(&mut made, text, change)?;
+    'lines: while let Some(line) = left.take() {
+        push_changed::<R>(alloc, &mut made, &line, change)?;
+        left = push_front::<R>(&mut made, left.bytes(), change)?;
+    }
+    Ok(made)
+}
+
+// Adds the leading lines that the change leaves, all at once, and gives the others.
+fn push_front<'a, R: EditedRecord>(
+    made: &mut Bytes,
+    text: &'a [u8],
+    change: &R::Change,
+) -> Result<Lines<'a>, AllocError>
+    ensures added { IfOk result (λ left.
+        made.new ++ file_bytes (edited R.format left (model.Become (R.becomes change.now)))
+        ≡ made.old ++ file_bytes
+        (edited R.format (lines_of text.now) (model.Become (R.becomes change.now)))) }
+    ensures no_more { IfOk result (λ left. length left ≤ length (lines_of text.now)) }
+{
+    let behind = open_from::<R>(text, change);
+    made.push(&text[..text.len() - behind.len()])?;
+    Ok(Lines::of(behind))
+}
+
+// The text from the first line on that the change may touch; empty where there is none.
+fn open_from<'a, R: EditedRecord>(text: &'a [u8], change: &R::Change) -> &'a [u8]
+    ensures { IsOpenFrom R.format (R.becomes change.now) text.now result.now }
+{
+    let mut behind = text;
+    let mut left = Lines::of(text);
+    'lines: while let Some(line) = left.take() {
+        if !R::leaves(change, line.text) {
+            return behind;
+        }
+        behind = left.bytes();
+    }
+    behind
+}
+
+// Adds what becomes of a line. One that the change leaves isn't read.
+fn push_changed<R: EditedRecord + Drop>(
+    alloc: Global,
+    made: &mut Bytes,
+    line: &FileLine<'_>,
+    change: &R::Change,
+) -> Result<(), AllocError>
+    requires one_line { Lacks newline line.now.text.now }
+    requires written { IsWrittenEdit R.format (model.Become (R.becomes change.now)) }
+    ensures { OnOk result (made.new ≡ made.old
+        ++ file_bytes (becomes R.format (R.becomes change.now) (seen_line line.now))) }
+{
+    if R::leaves(change, line.text) {
+        return line.push_to(made);
+    }
+    match read_record::<R>(alloc, line.text)? {
+        Some(item) => push_becoming(alloc, made, line, &item, change),
+        None => line.push_to(made),
+    }
+}
+
+// Adds what becomes of the line of a record.
+fn push_becoming<R: EditedRecord + Drop>(
+    alloc: Global,
+    made: &mut Bytes,
+    line: &FileLine<'_>,
+    item: &R,
+    change: &R::Change,
+) -> Result<(), AllocError>
+    requires item { IsWritten R.format item.now }
+    requires written { IsWrittenEdit R.format (model.Become (R.becomes change.now)) }
+    ensures { OnOk result (made.new ≡ made.old ++ file_bytes
+        (line_becomes R.format (seen_line line.now) item.now (R.becomes change.now item.now))) }
+{
+    match item.becoming(alloc, change)? {
+        Becoming::Stays => line.push_to(made),
+        Becoming::Changes(new) => push_instead(alloc, made, line, item, &new),
+        Becoming::Goes => Ok(()),
+        Becoming::Splits(first, second) => push_two(alloc, made, &first, &second),
+    }
+}
+
+// Adds the line of a record, or that of another in its place, which keeps the line's end. The same
+// record keeps its bytes.
+fn push_instead<R: EditedRecord + Drop>(
+    alloc: Global,
+    made: &mut Bytes,
+    line: &FileLine<'_>,
+    old: &R,
+    new: &R,
+) -> Result<(), AllocError>
+    requires old { IsWritten R.format old.now }
+    requires new { IsWritten R.format new.now }
+    ensures { OnOk result (made.new ≡ made.old ++ file_bytes
+        (line_becomes R.format (seen_line line.now) old.now (new.now ∷ []))) }
+{
+    let differs = differ(alloc, old, new)?;
+    if !differs {
+        return line.push_to(made);
+    }
+    let text = new.print(alloc)?;
+    let changed = FileLine {
+        text: text.as_slice(),
+        ended: line.ended,
+    };
+    changed.push_to(made)
+}
+
+// Adds the lines of two new records, each with an end.
+fn push_two<R: EditedRecord + Drop>(
+    alloc: Global,
+    made: &mut Bytes,
+    first: &R,
+    second: &R,
+) -> Result<(), AllocError>
+    requires first { IsWritten R.format first.now }
+    requires second { IsWritten R.format second.now }
+    ensures { OnOk result (made.new ≡ made.old ++ file_bytes
+        (map (printed_line R.format) (first.now ∷ second.now ∷ []))) }
+{
+    push_new(alloc, made, first)?;
+    push_new(alloc, made, second)
+}
+
+// Adds the line of a new record, with an end.
+fn push_new<R: EditedRecord + Drop>(
+    alloc: Global,
+    made: &mut Bytes,
+    item: &R,
+) -> Result<(), AllocError>
+    requires { IsWritten R.format item.now }
+    ensures { OnOk result (made.new ≡ made.old ++ line_bytes (printed_line R.format item.now)) }
+{
+    let text = item.print(alloc)?;
+    made.push(text.as_slice())?;
+    made.push(b"\n")
+}
+
+/// Adds the line with the record in place of its own.
+pub(crate) fn push_record<R: EditedRecord + Drop>(
+    alloc: Global,
+    made: &mut Bytes,
+    line: &FileLine<'_>,
+    item: &R,
+) -> Result<(), AllocError>
+    requires one_line { Lacks newline line.now.text.now }
+    requires written { IsWritten R.format item.now }
+    ensures { OnOk result ((old : R) → R.format.read line.now.text.now ≡ Some old
+        → made.new ≡ made.old ++ file_bytes
+        (line_becomes R.format (seen_line line.now) old (item.now ∷ []))) }
+{
+    match read_record::<R>(alloc, line.text)? {
+        Some(old) => push_instead(alloc, made, line, &old, item),
+        None => Ok(()),
+    }
+}

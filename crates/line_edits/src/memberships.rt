@@ -1,0 +1,71 @@
+// What becomes of a user in the lists of all groups (usermod(8), `-G`, `-a` and `-l`).
+ghost use Rattle.std.specs.Prelude.{◌≡◌, IfOk};
+ghost use Rattle.line_edits.specs.Memberships.{keeps_groups, members_with};
+
+use crate::NameSet;
+use crate::lists::{with_name, without_name};
+use acct_tables::ListRecord;
+use acct_text::{Bytes, Names};
+use std::alloc::{AllocError, Global};
+
+/// What becomes of a user in the lists of groups.
+#[derive(Drop)]
+pub struct Membership {
+    /// The user, by the name so far.
+    pub user: Bytes,
+    /// The name of the user from now on, which goes into each list in place of the old one.
+    pub new_name: Bytes,
+    /// The groups that the user joins and leaves.
+    pub groups: UserGroups,
+}
+
+/// Of which groups a user is a member, by their names.
+#[derive(Drop)]
+pub enum UserGroups {
+    /// Of those as before.
+    Kept,
+    /// Of these, and of others as before (usermod(8), `-a -G`).
+    Also(NameSet),
+    /// Of these alone (usermod(8), `-G`).
+    Only(NameSet),
+}
+
+impl Membership {
+    /// Whether the user joins no group and leaves none.
+    pub(crate) fn keeps_groups(&self) -> bool
+        ensures { result ≡ keeps_groups self.now.groups }
+    {
+        match &self.groups {
+            UserGroups::Kept => true,
+            UserGroups::Also(_) | UserGroups::Only(_) => false,
+        }
+    }
+
+    /// The members of a group once the user has joined or left it, by the name so far.
+    pub(crate) fn members(
+        &self,
+        alloc: Global,
+        group: &[u8],
+        members: &Names,
+    ) -> Result<Names, AllocError>
+        ensures { IfOk result (λ new. new ≡
+            members_with self.now.groups self.now.user group.now members.now) }
+    {
+        let user = self.user.as_slice();
+        match &self.groups {
+            UserGroups::Also(groups) | UserGroups::Only(groups) if groups.has(group) => {
+                with_name(members, user)
+            }
+            UserGroups::Only(_) => without_name(alloc, members, user),
+            UserGroups::Kept | UserGroups::Also(_) => members.copy(),
+        }
+    }
+
+    /// The record with the user's new name in each of its lists.
+    pub(crate) fn renamed<R: ListRecord>(&self, alloc: Global, item: &R) -> Result<R, AllocError>
+        ensures { IfOk result (λ new. new ≡
+            R.renamed self.now.user self.now.new_name item.now) }
+    {
+        item.renamed(alloc, self.user.as_slice(), self.new_name.as_slice())
+    }
+}

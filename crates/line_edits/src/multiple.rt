@@ -1,0 +1,245 @@
+// Which records the edits of a table touch, and the first of them whose name has several records.
+ghost use Rattle.std.specs.Prelude.{◌≡◌, ◌≤◌, true, false, Some, None, not, nat_le, length, IfOk, IfSome};
+ghost use Rattle.std.specs.List.{AllByRecursion};
+ghost use Rattle.account_model.specs.Edits.{first_multiple, is_multiple, touches};
+ghost use Rattle.account_model.specs.Edits as model;
+ghost use Rattle.account_model.specs.Format.{count_named, records_of};
+ghost use Rattle.account_model.specs.RecordEdits.{IsWrittenEdit};
+ghost use Rattle.account_model.specs.Written.{IsWritten};
+ghost use Rattle.acct_tables.specs.NameIndex.{Tells, line_names, told};
+ghost use Rattle.acct_tables.specs.TableLines.{record_at};
+ghost use Rattle.line_edits.specs.SeenEdits.{seen_edit, seen_edits};
+ghost use Rattle.line_edits.specs.Touching.{LacksName, LeavesTo, TouchOnly, met_at, touches_alone};
+
+use crate::fields::has_other_name;
+use crate::touched::touched_names;
+use crate::{Becoming, Edit, EditedRecord};
+use acct_tables::{FileLines, MANY, NameIndex};
+use acct_text::Bytes;
+use indexmap::IndexSet;
+use std::alloc::{AllocError, Global};
+
+/// The name of the first record that the edits touch and whose name has two or more records; none
+/// where there is no such record.
+pub fn first_multiple<R: EditedRecord + Drop>(
+    alloc: Global,
+    lines: &FileLines<'_>,
+    edits: &[Edit<R, R::Change>],
+) -> Result<Option<Bytes>, AllocError>
+    requires { AllByRecursion (IsWrittenEdit R.format) (seen_edits R.becomes edits.now) }
+    ensures { IfOk result (λ name. name ≡
+        first_multiple R.format (seen_edits R.becomes edits.now) (records_of R.format lines.now)) }
+{
+    let names = &names_for(alloc, lines, edits)?;
+    let touched = &touched_names(alloc, edits)?;
+    'places: for place in 0..lines.len() {
+        if let Some(name) = met_at(alloc, lines, edits, names, touched, place)? {
+            return Ok(Some(name));
+        }
+    }
+    Ok(None)
+}
+
+// Where the records of each name stand; none where the edits ask for few names, of which each is
+// counted then.
+fn names_for<'a, R: EditedRecord>(
+    alloc: Global,
+    lines: &FileLines<'a>,
+    edits: &[Edit<R, R::Change>],
+) -> Result<Option<NameIndex<'a>>, AllocError>
+    ensures { IfOk result (λ names. IfSome names (λ names.
+        Tells (line_names R.format lines.now) (told names))) }
+{
+    if edits.len() < MANY && open_lines(lines, edits) < MANY {
+        return Ok(None);
+    }
+    Ok(Some(NameIndex::of::<R>(alloc, lines)?))
+}
+
+// The number of lines that the edits may touch.
+fn open_lines<R: EditedRecord>(lines: &FileLines<'_>, edits: &[Edit<R, R::Change>]) -> usize
+    ensures { result ≤ length lines.now }
+{
+    let mut open = 0usize;
+    for place in 0..lines.len() {
+        if !leave(edits, lines.text_at(place)) {
+            open += 1;
+        }
+    }
+    open
+}
+
+// The name of the record at a place, where its name has several records and the edits touch it.
+fn met_at<R: EditedRecord + Drop>(
+    alloc: Global,
+    lines: &FileLines<'_>,
+    edits: &[Edit<R, R::Change>],
+    names: &Option<NameIndex<'_>>,
+    touched: &Option<IndexSet<&[u8]>>,
+    place: usize,
+) -> Result<Option<Bytes>, AllocError>
+    requires edits { AllByRecursion (IsWrittenEdit R.format) (seen_edits R.becomes edits.now) }
+    requires told { IfSome names.now (λ names.
+        Tells (line_names R.format lines.now) (told names)) }
+    requires only { IfSome touched.now (TouchOnly R.format (seen_edits R.becomes edits.now)) }
+    ensures { IfOk result (λ name. name ≡
+        met_at R.format (seen_edits R.becomes edits.now) lines.now place) }
+{
+    if !may_meet(lines, edits, names, touched, place) {
+        return Ok(None);
+    }
+    let Some(item) = lines.record_at::<R>(alloc, place)? else {
+        return Ok(None);
+    };
+    if !is_touched(alloc, edits, &item)? {
+        return Ok(None);
+    }
+    Ok(Some(Bytes::of(alloc, item.name())?))
+}
+
+// Whether a record stands at the place that the edits may touch, and whose name has several records.
+fn may_meet<R: EditedRecord>(
+    lines: &FileLines<'_>,
+    edits: &[Edit<R, R::Change>],
+    names: &Option<NameIndex<'_>>,
+    touched: &Option<IndexSet<&[u8]>>,
+    place: usize,
+) -> bool
+    requires told { IfSome names.now (λ names.
+        Tells (line_names R.format lines.now) (told names)) }
+    requires only { IfSome touched.now (TouchOnly R.format (seen_edits R.becomes edits.now)) }
+    ensures passed { result ≡ false →
+        met_at R.format (seen_edits R.becomes edits.now) lines.now place ≡ None }
+    ensures several { result ≡ true → (r : R) → record_at R.format lines.now place ≡ Some r
+        → is_multiple R.format (records_of R.format lines.now) r ≡ true }
+{
+    if names.is_none() && leave(edits, lines.text_at(place)) {
+        return false;
+    }
+    let Some(name) = lines.name_at::<R>(place) else {
+        return false;
+    };
+    if !may_touch(touched, name) {
+        return false;
+    }
+    has_several::<R>(lines, names, name)
+}
+
+// Whether the edits may touch a record of the name.
+fn may_touch(touched: &Option<IndexSet<&[u8]>>, name: &[u8]) -> bool
+    ensures { result ≡ false → LacksName touched.now name.now }
+{
+    match touched {
+        Some(names) => names.contains(name),
+        None => true,
+    }
+}
+
+// Whether several records have the name, by the index or else by counting them.
+fn has_several<R: EditedRecord>(
+    lines: &FileLines<'_>,
+    names: &Option<NameIndex<'_>>,
+    name: &[u8],
+) -> bool
+    requires { IfSome names.now (λ names.
+        Tells (line_names R.format lines.now) (told names)) }
+    ensures { result ≡ nat_le 2 (count_named R.format name.now (records_of R.format lines.now)) }
+{
+    match names {
+        Some(names) => names.has_several(name),
+        None => lines.has_several::<R>(name),
+    }
+}
+
+// Whether the edits surely leave the record that the line is, if it is one.
+fn leave<R: EditedRecord>(edits: &[Edit<R, R::Change>], line: &[u8]) -> bool
+    ensures { result ≡ true → (r : R) → R.format.read line.now ≡ Some r
+        → touches R.format (seen_edits R.becomes edits.now) r ≡ false }
+{
+    'edits: for edit in edits {
+        if !leaves(edit, line) {
+            return false;
+        }
+    }
+    true
+}
+
+// Whether the edit surely leaves the record that the line is, if it is one.
+fn leaves<R: EditedRecord>(edit: &Edit<R, R::Change>, line: &[u8]) -> bool
+    ensures { result ≡ true → (r : R) → R.format.read line.now ≡ Some r
+        → LeavesTo R.format (seen_edit R.becomes edit.now) r }
+{
+    match edit {
+        Edit::Become(change) => R::leaves(change, line),
+        Edit::Put(item) => has_other_name(line, item.name()),
+        Edit::Add(_) | Edit::AddMissing(_) => true,
+    }
+}
+
+// Whether one of the edits touches the record.
+fn is_touched<R: EditedRecord + Drop>(
+    alloc: Global,
+    edits: &[Edit<R, R::Change>],
+    item: &R,
+) -> Result<bool, AllocError>
+    requires edits { AllByRecursion (IsWrittenEdit R.format) (seen_edits R.becomes edits.now) }
+    requires written { IsWritten R.format item.now }
+    ensures { IfOk result (λ touched. touched ≡
+        touches R.format (seen_edits R.becomes edits.now) item.now) }
+{
+    'edits: for edit in edits {
+        if touches(alloc, edit, item)? {
+            return Ok(true);
+        }
+    }
+    Ok(false)
+}
+
+// Whether the edit touches the record.
+fn touches<R: EditedRecord + Drop>(
+    alloc: Global,
+    edit: &Edit<R, R::Change>,
+    item: &R,
+) -> Result<bool, AllocError>
+    requires edit { IsWrittenEdit R.format (seen_edit R.becomes edit.now) }
+    requires written { IsWritten R.format item.now }
+    ensures { IfOk result (λ touched. touched ≡
+        touches_alone R.format (seen_edit R.becomes edit.now) item.now) }
+{
+    match edit {
+        Edit::Become(change) => changes(alloc, change, item),
+        Edit::Put(new) => Ok(item.name() == new.name()),
+        Edit::Add(_) | Edit::AddMissing(_) => Ok(false),
+    }
+}
+
+// Whether the record becomes others, or goes.
+fn changes<R: EditedRecord + Drop>(
+    alloc: Global,
+    change: &R::Change,
+    item: &R,
+) -> Result<bool, AllocError>
+    requires edit { IsWrittenEdit R.format (model.Become (R.becomes change.now)) }
+    requires written { IsWritten R.format item.now }
+    ensures { IfOk result (λ changes. changes ≡
+        touches_alone R.format (model.Become (R.becomes change.now)) item.now) }
+{
+    match item.becoming(alloc, change)? {
+        Becoming::Stays => Ok(false),
+        Becoming::Changes(new) => differ(alloc, item, &new),
+        Becoming::Goes | Becoming::Splits(..) => Ok(true),
+    }
+}
+
+/// Whether the records differ: their lines do.
+pub(crate) fn differ<R: EditedRecord + Drop>(
+    alloc: Global,
+    old: &R,
+    new: &R,
+) -> Result<bool, AllocError>
+    requires old_written { IsWritten R.format old.now }
+    requires new_written { IsWritten R.format new.now }
+    ensures { IfOk result (λ differ. differ ≡ not (R.format.same old.now new.now)) }
+{
+    Ok(old.print(alloc)?.as_slice() != new.print(alloc)?.as_slice())
+}

@@ -1,0 +1,4 @@
+pub mod RecordLemmas
+pub mod FileLemmas
+pub mod GidLemmas
+pub mod StoppingLemmas

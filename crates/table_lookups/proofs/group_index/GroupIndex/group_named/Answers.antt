@@ -1,0 +1,26 @@
+use Rattle.std.proofs.Common.{◌∙◌, ap, subst}
+use Rattle.std.specs.Prelude.{IfSome}
+use Rattle.std.proofs.lemmas.Result.{IfOk-weaker}
+use Rattle.account_model.specs.Format.{find_named}
+use Rattle.account_model.specs.Records.{group_format}
+use Rattle.account_model.specs.Tables.{group_records}
+use Rattle.table_lookups.specs.IndexedLines.{AreGroups}
+use Rattle.table_lookups.specs.TablesOfLines.{lines_in}
+use Rattle.table_lookups.proofs.FileLemmas.{records-in}
+use Rattle.table_lookups.proofs.group_index.GroupIndex.group_named.Goals as goal
+
+pub find-requires : goal.find-requires
+find-requires c =
+    let file = c.self.inside.files.now.group in
+    (subst (λ groups. IfSome groups (AreGroups (lines_in file))) c.in-Some.is c.self.invariant).named.tells
+
+pub returns-in-Some : goal.returns-in-Some
+returns-in-Some c =
+    let file = c.self.inside.files.now.group in
+    let groups = subst (λ groups. IfSome groups (AreGroups (lines_in file))) c.in-Some.is
+    c.self.invariant in
+    IfOk-weaker c.find.result _ _ (λ found is.
+    is
+    ∙ ap (find_named group_format c.args.name.now) (records-in group_format _ file groups.named.are)
+    ∙ ap (λ files. find_named group_format c.args.name.now (group_records files)) c.self.view_is)
+    c.find.ensures

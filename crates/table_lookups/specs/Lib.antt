@@ -1,0 +1,4 @@
+pub mod TablesOfLines
+pub mod Stopping
+pub mod Accepting
+pub mod IndexedLines

@@ -1,0 +1,91 @@
+// The lines of a table, and the first record among them that passes a test.
+ghost use Rattle.std.specs.Prelude.{◌≡◌, Bool, find, IfOk};
+ghost use Rattle.acct_text.specs.Lines.{lines_of};
+ghost use Rattle.account_model.specs.Tables.{table_records};
+ghost use Rattle.table_lookups.specs.Accepting.{is_accepted};
+ghost use Rattle.table_lookups.specs.TablesOfLines.{lines_in};
+
+use acct_lines::{GroupLine, GroupRecord, PasswdLine, PasswdRecord, TableRecord};
+use acct_tables::{FileLines, Lines, read_record};
+use acct_text::Bytes;
+use std::alloc::{AllocError, Global};
+
+/// A test of the records R, made on a line where it stands.
+pub trait RecordTest<R: TableRecord> {
+    // whether a record passes
+    ghost accepts: { Self → R → Bool };
+
+    /// Whether the line is a record that passes. It takes no memory.
+    fn passes(&self, line: &[u8]) -> bool
+        ensures { result ≡ is_accepted (accepts self.now) (R.format.read line.now) };
+}
+
+/// That a user or a group has the GID.
+#[derive(Clone, Copy)]
+pub(crate) struct OfGid {
+    pub gid: u32,
+}
+
+impl RecordTest<PasswdRecord> for OfGid {
+    ghost use Rattle.std.specs.Prelude.{◌==◌};
+
+    ghost accepts = { λ test user. user.gid == test.gid };
+
+    fn passes(&self, line: &[u8]) -> bool {
+        match PasswdLine::read(line) {
+            Ok(user) => user.gid == self.gid,
+            Err(_) => false,
+        }
+    }
+}
+
+impl RecordTest<GroupRecord> for OfGid {
+    ghost use Rattle.std.specs.Prelude.{◌==◌};
+
+    ghost accepts = { λ test group. group.gid == test.gid };
+
+    fn passes(&self, line: &[u8]) -> bool {
+        match GroupLine::read(line) {
+            Ok(group) => group.gid == self.gid,
+            Err(_) => false,
+        }
+    }
+}
+
+/// The lines of a table's file; an absent one has none.
+pub fn file_lines(alloc: Global, file: &Option<Bytes>) -> Result<FileLines<'_>, AllocError>
+    ensures { IfOk result (λ lines. lines ≡ lines_in file.now) }
+{
+    match file {
+        Some(text) => FileLines::of(alloc, text.as_slice()),
+        None => FileLines::of(alloc, b""),
+    }
+}
+
+/// The bytes of a table's file; an absent one has none.
+pub fn text_of(file: &Option<Bytes>) -> &[u8]
+    ensures { lines_of result.now ≡ lines_in file.now }
+{
+    match file {
+        Some(text) => text.as_slice(),
+        None => b"",
+    }
+}
+
+/// The first record of the file that passes the test.
+pub fn first_passing<R: TableRecord + Drop, T: RecordTest<R>>(
+    alloc: Global,
+    file: &Option<Bytes>,
+    test: &T,
+) -> Result<Option<R>, AllocError>
+    ensures { IfOk result (λ found.
+        found ≡ find (T.accepts test.now) (table_records R.format file.now)) }
+{
+    let mut left = Lines::of(text_of(file));
+    'lines: while let Some(line) = left.take() {
+        if test.passes(line.text) {
+            return read_record(alloc, line.text);
+        }
+    }
+    Ok(None)
+}

@@ -1,0 +1,90 @@
+// Users that a command looks for in passwd(5). An absent table has none.
+ghost use Rattle.std.specs.Prelude.{◌≡◌, ◌==◌, find, IfOk, IfSome};
+ghost use Rattle.account_model.specs.Ids.{used_uids as uids_of};
+ghost use Rattle.account_model.specs.Records.{passwd_format};
+ghost use Rattle.account_model.specs.Refusals.{missing_user, missing_users};
+ghost use Rattle.account_model.specs.Tables.{passwd_records};
+ghost use Rattle.account_model.specs.Users.{has_user};
+ghost use Rattle.id_choice.specs.Used.{AreThoseOf};
+ghost use Rattle.table_lookups.specs.IndexedLines.{AreIndexed};
+ghost use Rattle.table_lookups.specs.Stopping.{StopsBy};
+ghost use Rattle.table_lookups.specs.TablesOfLines.{lines_in};
+
+use crate::ids::used_ids;
+use crate::indexed_lines::IndexedLines;
+use crate::search::OfGid;
+use crate::{Tables, first_passing};
+use account_model::Refusal;
+use acct_lines::PasswdRecord;
+use acct_text::Bytes;
+use id_choice::UsedIds;
+use std::alloc::{AllocError, Global};
+use tool_answers::ToolFault;
+
+impl Tables<'_> {
+    /// The first user whose primary group has the GID.
+    pub fn user_of_gid(&self, alloc: Global, gid: u32) -> Result<Option<PasswdRecord>, AllocError>
+        ensures { IfOk result (λ found.
+            found ≡ find (λ user. user.gid == gid) (passwd_records self.now)) }
+    {
+        first_passing(alloc, &self.files().passwd, &OfGid { gid })
+    }
+
+    /// The UIDs of all users.
+    pub fn used_uids(&self, alloc: Global) -> Result<UsedIds, AllocError>
+        ensures { IfOk result (λ used. AreThoseOf used (uids_of self.now)) }
+    {
+        used_ids::<PasswdRecord>(alloc, &self.files().passwd)
+    }
+
+    /// Refuses a name that no user has: `NoUser`.
+    pub fn check_user(&self, alloc: Global, name: &[u8]) -> Result<(), ToolFault>
+        ensures { StopsBy (missing_user name.now self.now) result }
+    {
+        check_in(alloc, self, &None, name)
+    }
+
+    /// Refuses the first of the names that no user has: `NoUser`.
+    pub fn check_users(&self, alloc: Global, names: &[Bytes]) -> Result<(), ToolFault>
+        ensures { StopsBy (missing_users names.now self.now) result }
+    {
+        let file = &self.files().passwd;
+        let users = &IndexedLines::for_many::<PasswdRecord>(alloc, file, names.len())?;
+        for name in names {
+            check_in(alloc, self, users, name.as_slice())?;
+        }
+        Ok(())
+    }
+}
+
+// Refuses a name that no user has, by the index where there is one: `NoUser`.
+fn check_in(
+    alloc: Global,
+    tables: &Tables,
+    users: &Option<IndexedLines<'_>>,
+    name: &[u8],
+) -> Result<(), ToolFault>
+    requires { IfSome users.now (AreIndexed passwd_format (lines_in tables.now.passwd)) }
+    ensures { StopsBy (missing_user name.now tables.now) result }
+{
+    if has_user(alloc, tables, users, name)? {
+        return Ok(());
+    }
+    Err(ToolFault::Refused(Refusal::NoUser(Bytes::of(alloc, name)?)))
+}
+
+// Whether a user has the name, by the index where there is one.
+fn has_user(
+    alloc: Global,
+    tables: &Tables,
+    users: &Option<IndexedLines<'_>>,
+    name: &[u8],
+) -> Result<bool, AllocError>
+    requires { IfSome users.now (AreIndexed passwd_format (lines_in tables.now.passwd)) }
+    ensures { IfOk result (λ has. has ≡ has_user name.now tables.now) }
+{
+    match users {
+        Some(users) => Ok(users.names.has(name)),
+        None => Ok(tables.user_named(alloc, name)?.is_some()),
+    }
+}
