@@ -50,82 +50,70 @@ module _ (low high : ℕ) (used ids : List ℕ) (same : AreThoseOf used ids) whe
     free = λ contains. is.free (there ids used (back used ids same) id contains);
   }
 
+-- ---- Sets with the same numbers
+
+module _ {P Q : ℕ → Type 0} (onward : (id : ℕ) → P id → Q id)
+    (backward : (id : ℕ) → Q id → P id) where
+  -- have no number together
+  none-there : ((id : ℕ) → P id → ⊥) → (id : ℕ) → Q id → ⊥
+  none-there none id is = none id (backward id is)
+
+  -- have one greatest number
+  greatest-there : (id : ℕ) → IsGreatest P id → IsGreatest Q id
+  greatest-there id is = record {
+    member = onward id is.member;
+    greatest = λ other member. is.greatest other (backward other member);
+  }
+
+  -- have one least number
+  least-there : (id : ℕ) → IsLeast P id → IsLeast Q id
+  least-there id is = record {
+    member = onward id is.member;
+    least = λ other member. is.least other (backward other member);
+  }
+
 module _ (low high : ℕ) (used ids : List ℕ) (same : AreThoseOf used ids) where
-  -- no ID of the range is used
-  unused-there : ((id : ℕ) → UsedIn low high used id → ⊥) → (id : ℕ) → UsedIn low high ids id → ⊥
-  unused-there unused id is = unused id (used-there low high ids used (back used ids same) id is)
+  -- the used IDs of the range
+  used-onward : (id : ℕ) → UsedIn low high used id → UsedIn low high ids id
+  used-onward = used-there low high used ids same
 
-  -- no ID of the range is free
-  full-there : ((id : ℕ) → FreeIn low high used id → ⊥) → (id : ℕ) → FreeIn low high ids id → ⊥
-  full-there full id is = full id (free-there low high ids used (back used ids same) id is)
+  -- and back
+  used-backward : (id : ℕ) → UsedIn low high ids id → UsedIn low high used id
+  used-backward = used-there low high ids used (back used ids same)
 
-  -- the greatest used ID
-  greatest-used-there :
-      (id : ℕ)
-      → IsGreatest (UsedIn low high used) id
-      → IsGreatest (UsedIn low high ids) id
-  greatest-used-there id is = record {
-    member = used-there low high used ids same id is.member;
-    greatest = λ other taken.
-        is.greatest other (used-there low high ids used (back used ids same) other taken);
-  }
+  -- its free IDs
+  free-onward : (id : ℕ) → FreeIn low high used id → FreeIn low high ids id
+  free-onward = free-there low high used ids same
 
-  -- the least used ID
-  least-used-there :
-      (id : ℕ)
-      → IsLeast (UsedIn low high used) id
-      → IsLeast (UsedIn low high ids) id
-  least-used-there id is = record {
-    member = used-there low high used ids same id is.member;
-    least = λ other taken.
-        is.least other (used-there low high ids used (back used ids same) other taken);
-  }
-
-  -- the greatest free ID
-  greatest-free-there :
-      (id : ℕ)
-      → IsGreatest (FreeIn low high used) id
-      → IsGreatest (FreeIn low high ids) id
-  greatest-free-there id is = record {
-    member = free-there low high used ids same id is.member;
-    greatest = λ other free.
-        is.greatest other (free-there low high ids used (back used ids same) other free);
-  }
-
-  -- the least free ID
-  least-free-there :
-      (id : ℕ)
-      → IsLeast (FreeIn low high used) id
-      → IsLeast (FreeIn low high ids) id
-  least-free-there id is = record {
-    member = free-there low high used ids same id is.member;
-    least = λ other free.
-        is.least other (free-there low high ids used (back used ids same) other free);
-  }
+  -- and back
+  free-backward : (id : ℕ) → FreeIn low high ids id → FreeIn low high used id
+  free-backward = free-there low high ids used (back used ids same)
 
   -- the choice from a regular range
   regular-there :
       (choice : Option ℕ)
       → RegularChoice low high used choice
       → RegularChoice low high ids choice
-  regular-there choice (FirstOfUnused within unused) = FirstOfUnused within (unused-there unused)
+  regular-there choice (FirstOfUnused within unused) =
+      FirstOfUnused within (none-there used-onward used-backward unused)
   regular-there choice (AfterGreatest {id = id} is fits) =
-      AfterGreatest (greatest-used-there id is) fits
+      AfterGreatest (greatest-there used-onward used-backward id is) fits
   regular-there choice (LeastFree {id = id} taken is) =
-      LeastFree (used-there low high used ids same high taken) (least-free-there id is)
-  regular-there choice (NoneFree full) = NoneFree (full-there full)
+      LeastFree (used-onward high taken) (least-there free-onward free-backward id is)
+  regular-there choice (NoneFree full) = NoneFree (none-there free-onward free-backward full)
 
   -- the choice from a system range
   system-there :
       (choice : Option ℕ)
       → SystemChoice low high used choice
       → SystemChoice low high ids choice
-  system-there choice (LastOfUnused within unused) = LastOfUnused within (unused-there unused)
+  system-there choice (LastOfUnused within unused) =
+      LastOfUnused within (none-there used-onward used-backward unused)
   system-there choice (BeforeLeast {id = id} is fits) =
-      BeforeLeast (least-used-there (id + 1) is) fits
+      BeforeLeast (least-there used-onward used-backward (id + 1) is) fits
   system-there choice (GreatestFree {id = id} taken is) =
-      GreatestFree (used-there low high used ids same low taken) (greatest-free-there id is)
-  system-there choice (NoneLeft full) = NoneLeft (full-there full)
+      GreatestFree (used-onward low taken) (greatest-there free-onward free-backward id is)
+  system-there choice (NoneLeft full) = NoneLeft (none-there free-onward free-backward full)
 
 -- the choice from any range
 chosen-there :
