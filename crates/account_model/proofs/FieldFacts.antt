@@ -13,6 +13,7 @@ use Rattle.account_model.specs.Text.{comma, slash, hyphen, dollar, has_byte, beg
 use Rattle.account_model.specs.Names.{is_valid_name, is_name_byte, is_reserved_name}
 use Rattle.account_model.specs.Values.{is_field, is_folder, is_shell, list_value}
 use Rattle.account_model.specs.Written.{IsField, IsNameField, IsListed}
+use Rattle.account_model.proofs.ListLaws.{all-filter}
 
 -- ---- Bytes that a text lacks
 
@@ -152,24 +153,6 @@ valid-listed name is = record {
 }
 
 -- ---- Lists of names
-
--- what holds of all holds of those that are kept
-filter-by :
-    {X : Type 0} (P : X → Type 0) (x : X) (xs : List X) (b : Bool)
-    → P x
-    → AllByRecursion P xs
-    → AllByRecursion P (cond b (x ∷ xs) xs)
-filter-by P x xs true is all = (is, all)
-filter-by P x xs false is all = all
-
--- what holds of all names holds of those that pass a test
-pub all-filter :
-    {X : Type 0} (P : X → Type 0) (test : X → Bool) (xs : List X)
-    → AllByRecursion P xs
-    → AllByRecursion P (filter test xs)
-all-filter P test [] all = tt
-all-filter P test (x ∷ xs) all =
-    filter-by P x (filter test xs) (test x) all.0 (all-filter P test xs all.1)
 
 -- and of those of which each stands once
 all-distinct :

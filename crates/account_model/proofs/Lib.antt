@@ -16,6 +16,8 @@ pub mod WrittenLaws
 pub mod Sets
 pub mod IdsLaws
 pub mod FreeRangeLaws
+pub mod ListLaws
+pub mod ScriptLaws
 pub mod DeedLaws
 pub mod EditLaws
 pub mod SameLaws
@@ -28,6 +30,7 @@ pub mod NoEdits
 pub mod FieldFacts
 pub mod RefusalFacts
 pub mod WrittenScripts
+pub mod MemberLaws
 pub mod SettingBounds
 pub mod GroupToolScripts
 pub mod AgingToolScripts

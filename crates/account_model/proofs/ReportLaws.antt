@@ -8,7 +8,7 @@ use Rattle.std.proofs.lemmas.Bool.{eq-eqb, ne_eqb}
 use Rattle.acct_text.specs.Lines.{Line, lines_of}
 use Rattle.account_model.specs.Format.{Format, records_of}
 use Rattle.account_model.specs.Problems.{Problem, RecordProblems, Located, problems_of_line, at_line, is_at, AreAscending, IsReport, problems_behind, table_problems}
-use Rattle.account_model.proofs.WrittenScripts.{all-append}
+use Rattle.account_model.proofs.ListLaws.{all-append}
 
 -- ---- The numbers
 

@@ -9,7 +9,7 @@ use Rattle.account_model.specs.Format.{Format, is_named, has_named, count_named}
 use Rattle.account_model.specs.Edits.{Edit, Become, Add, AddMissing, Put, Arrange, becoming_touches, touches, is_multiple, first_multiple}
 use Rattle.account_model.specs.RecordEdits.{TellsSame}
 use Rattle.account_model.specs.TouchedLines.{touches_behind, first_met}
-use Rattle.account_model.proofs.WrittenScripts.{all-append}
+use Rattle.account_model.proofs.ListLaws.{all-append}
 
 -- ---- Tests
 

@@ -17,7 +17,8 @@ use Rattle.account_model.specs.Request.{Request, operand}
 use Rattle.account_model.specs.Groupdel.{remove_group}
 use Rattle.account_model.specs.Userdel.{Kept, group_without, gshadow_without, remove_user, own_group, reason_to_keep, own_group_script, userdel}
 use Rattle.account_model.proofs.HeldLaws.{passwd-holds, shadow-holds, group-holds, gshadow-holds, subid-holds, each-written, drop_where-written}
-use Rattle.account_model.proofs.WrittenScripts.{none-written, order-written, some-written, without-listed}
+use Rattle.account_model.proofs.WrittenScripts.{none-written, order-written, some-written}
+use Rattle.account_model.proofs.MemberLaws.{without-listed}
 use Rattle.account_model.proofs.GroupToolScripts.{remove-group-written}
 
 -- ranges that go

@@ -15,7 +15,7 @@ use Rattle.account_model.specs.Written.{IsWritten, IsNameField, IsSubid}
 use Rattle.account_model.specs.SubidOwner.{is_owned, left_below, left_above, left_without}
 use Rattle.account_model.specs.UsermodRanges.{IdRange, range_of_ids, range_of_pieces, range_value, RangeOwner, RangeChange, rename_owner, cut_range, add_range, edits_before_adding, range_edits}
 use Rattle.account_model.proofs.HeldLaws.{subid-holds, each_where-written}
-use Rattle.account_model.proofs.WrittenScripts.{all-append}
+use Rattle.account_model.proofs.ListLaws.{all-append}
 
 -- two IDs in their order
 pub record IsOrdered (ids : IdRange) : Type 0 where

@@ -23,7 +23,7 @@ use Rattle.account_model.specs.WrittenScript.{IsWrittenScript}
 use Rattle.account_model.specs.Values.{is_field, is_folder, is_shell, is_days_value, is_expiration_value, days_value, expiration_value}
 use Rattle.account_model.specs.GivenGroups.{given_groups, unknown_group, unknown_groups}
 use Rattle.account_model.specs.Hashes.{locked, demand_shadow, each_user_hash}
-use Rattle.account_model.specs.Members.{with_name, without_name, name_once, in_place_of, renamed_in}
+use Rattle.account_model.specs.Members.{with_name, without_name, renamed_in}
 use Rattle.account_model.specs.Request.{Request, has_option, value_of, values_of, operand}
 use Rattle.account_model.specs.Refusals.{bad_value, missing_user, bad_list_name}
 use Rattle.account_model.specs.UsermodHash.{sets_hash, sets_aging, locked_hash, unlocked_hash, relocked_hash, hash_after, hash_script}
@@ -33,7 +33,8 @@ use Rattle.account_model.proofs.DeedLaws.{first-none}
 use Rattle.account_model.proofs.HeldLaws.{passwd-holds, shadow-holds, group-holds, gshadow-holds, each-written, each_where-written}
 use Rattle.account_model.proofs.FieldFacts.{is_field-is, is_folder-is, is_shell-is, valid-name, valid-listed}
 use Rattle.account_model.proofs.RefusalFacts.{text-kept, field-kept, good-value, user-named, user-listed}
-use Rattle.account_model.proofs.WrittenScripts.{none-written, order-written, either-written, with-listed, without-listed, locked-field, demand-shadow-written, user-hash-written}
+use Rattle.account_model.proofs.WrittenScripts.{none-written, order-written, either-written, locked-field, demand-shadow-written, user-hash-written}
+use Rattle.account_model.proofs.MemberLaws.{with-listed, without-listed, renamed-listed}
 use Rattle.account_model.proofs.UsermodRangeScripts.{values-ordered, range-edits-written}
 use Rattle.account_model.proofs.GivenFacts.{given-group-gid, expiration-held}
 use Rattle.account_model.proofs.AgingToolScripts.{days-held, lacks-drop}
@@ -215,58 +216,6 @@ hash-script-written request files passes = order-written
     )
 
 -- ---- Lists
-
--- one of two lists
-either-listed :
-    (test : Bool) (a b : List (List ℕ))
-    → AllByRecursion IsListed a
-    → AllByRecursion IsListed b
-    → AllByRecursion IsListed (if test then a else b)
-either-listed true a b all_a all_b = all_a
-either-listed false a b all_a all_b = all_b
-
--- the new name in a place
-place-listed :
-    (test : Bool) (new name : List ℕ)
-    → IsListed new
-    → IsListed name
-    → IsListed (if test then new else name)
-place-listed true new name is_new is_name = is_new
-place-listed false new name is_new is_name = is_name
-
--- a list with the new name at each place of the old one
-places-listed :
-    (old new : List ℕ) (names : List (List ℕ))
-    → IsListed new
-    → AllByRecursion IsListed names
-    → AllByRecursion IsListed (in_place_of old new names)
-places-listed old new [] is all = tt
-places-listed old new (name ∷ names) is all =
-    (place-listed (bytes_eq name old) new name is all.0, places-listed old new names is all.1)
-
--- a list with a name once
-once-listed :
-    (name : List ℕ) (names : List (List ℕ))
-    → AllByRecursion IsListed names
-    → AllByRecursion IsListed (name_once name names)
-once-listed name [] all = tt
-once-listed name (other ∷ names) all =
-    either-listed (bytes_eq other name) (other ∷ without_name name names) (other ∷ name_once name names)
-    (all.0, without-listed name names all.1) (all.0, once-listed name names all.1)
-
--- the new name can stand in a list where there is an old one to rename
-renamed-listed :
-    (old new : List ℕ) (names : List (List ℕ))
-    → (bytes_eq old new ≡ false → IsListed new)
-    → AllByRecursion IsListed names
-    → AllByRecursion IsListed (renamed_in old new names)
-renamed-listed old new names is all = one (is_listed old names) (bytes_eq old new) refl
-  where
-    one : (there same : Bool) → bytes_eq old new ≡ same
-        → AllByRecursion IsListed (if there && not same then name_once new (in_place_of old new names) else names)
-    one true true e = all
-    one true false e = once-listed new (in_place_of old new names) (places-listed old new names (is e) all)
-    one false same e = all
 
 -- a name that differs from the one it takes the place of
 name-by :

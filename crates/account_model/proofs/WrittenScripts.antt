@@ -22,19 +22,11 @@ use Rattle.account_model.specs.Users.{find_user, group_named}
 use Rattle.account_model.specs.Request.{Request, has_option, value_of}
 use Rattle.account_model.specs.Action.{with_option, with_flag}
 use Rattle.account_model.proofs.HeldLaws.{passwd-holds, shadow-holds, group-holds, gshadow-holds, each_where-written}
-use Rattle.account_model.proofs.FieldFacts.{all-filter}
+use Rattle.account_model.proofs.ListLaws.{all-append}
+use Rattle.account_model.proofs.MemberLaws.{with-listed, without-listed}
 use Rattle.account_model.proofs.RefusalFacts.{user-held, group-held}
 
 -- ---- Scripts together
-
--- what holds of two lists holds of both together
-pub all-append :
-    {X : Type 0} (P : X → Type 0) (a b : List X)
-    → AllByRecursion P a
-    → AllByRecursion P b
-    → AllByRecursion P (a ++ b)
-all-append P [] b all_a all_b = all_b
-all-append P (x ∷ a) b all_a all_b = (all_a.0, all-append P a b all_a.1 all_b)
 
 -- no edits
 pub none-written : IsWrittenScript no_edits
@@ -115,30 +107,6 @@ flag-written letter request script is =
     either-written (has_option letter request) script no_edits is none-written
 
 -- ---- Members
-
--- a list with a name more
-with-by :
-    (name : List ℕ) (names : List (List ℕ)) (there : Bool)
-    → IsListed name
-    → AllByRecursion IsListed names
-    → AllByRecursion IsListed (if there then names else names ++ name ∷ [])
-with-by name names true is all = all
-with-by name names false is all = all-append IsListed names (name ∷ []) all (is, tt)
-
--- the names with one more can stand in a list
-pub with-listed :
-    (name : List ℕ) (names : List (List ℕ))
-    → IsListed name
-    → AllByRecursion IsListed names
-    → AllByRecursion IsListed (with_name name names)
-with-listed name names is all = with-by name names (is_listed name names) is all
-
--- and so can those without one
-pub without-listed :
-    (name : List ℕ) (names : List (List ℕ))
-    → AllByRecursion IsListed names
-    → AllByRecursion IsListed (without_name name names)
-without-listed name names all = all-filter IsListed _ names all
 
 -- members that become others which can stand in a list
 pub members-written :

@@ -9,4 +9,3 @@ pub mod EditedTexts
 pub mod SeenLines
 pub mod NameIndex
 pub mod TableNames
-pub mod RenamedRecords

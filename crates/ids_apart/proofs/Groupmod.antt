@@ -22,7 +22,7 @@ use Rattle.account_model.specs.Request.{Request, has_option, value_of, operand}
 use Rattle.account_model.specs.Action.{with_option, multiple_in, multiple_entries}
 use Rattle.account_model.specs.Groupmod.{taken_gid, groupmod_refusals, set_gid, rename_group, groupmod_script, groupmod}
 use Rattle.account_model.proofs.SameLaws.{group-tells}
-use Rattle.account_model.proofs.WrittenScripts.{all-append}
+use Rattle.account_model.proofs.ListLaws.{all-append}
 use Rattle.ids_apart.specs.Apart.{AreApart}
 use Rattle.ids_apart.proofs.PairEdits.{KeepsPairs, StayApart, edits-keep}
 use Rattle.ids_apart.proofs.Keys.{OwnKeys, KeepsKeys, where-keys, where-keep, all-keys-keep}

@@ -12,7 +12,7 @@ use Rattle.account_model.specs.Records.{passwd_format, group_format, subid_forma
 use Rattle.account_model.specs.RecordEdits.{records_edited, IsWrittenEdit}
 use Rattle.account_model.specs.Tables.{Script, no_edits, followed_by, table_records, table_after}
 use Rattle.account_model.specs.Laws.{EditsAreOfRecords}
-use Rattle.account_model.proofs.WrittenScripts.{all-append}
+use Rattle.account_model.proofs.ListLaws.{all-append}
 use Rattle.ids_apart.specs.Apart.{AreApart}
 use Rattle.ids_apart.proofs.Pairs.{EachTwo}
 use Rattle.ids_apart.proofs.PairEdits.{KeepsPairs, StayApart, edits-keep}

@@ -16,7 +16,7 @@ use Rattle.account_model.specs.Hashes.{elsewhere, lacks_shadow, make_shadow, dem
 use Rattle.account_model.specs.Users.{find_user, group_named}
 use Rattle.account_model.specs.Request.{Request, has_option, value_of}
 use Rattle.account_model.specs.Action.{with_option, with_flag}
-use Rattle.account_model.proofs.WrittenScripts.{all-append}
+use Rattle.account_model.proofs.ListLaws.{all-append}
 use Rattle.ids_apart.specs.Apart.{AreApart}
 use Rattle.ids_apart.proofs.PairEdits.{KeepsPairs}
 use Rattle.ids_apart.proofs.Keys.{KeepsKeys, where-keys, all-keys-keep}

@@ -28,7 +28,7 @@ use Rattle.account_model.specs.NewRanges.{Subordinate, subordinate_uids, subordi
 use Rattle.account_model.specs.SubidOwner.{is_owned}
 use Rattle.account_model.specs.Useradd.{makes_group, new_uid, gid_beside, own_gid, primary_gid, used_uid, useradd_checks, useradd_conflicts, new_user, add_own_group, join_groups, useradd_script, useradd_under, useradd}
 use Rattle.account_model.proofs.FreeRangeLaws.{free_range-is}
-use Rattle.account_model.proofs.WrittenScripts.{all-append}
+use Rattle.account_model.proofs.ListLaws.{all-append}
 use Rattle.ids_apart.specs.Apart.{AreApart}
 use Rattle.ids_apart.proofs.Pairs.{all-then, each-push}
 use Rattle.ids_apart.proofs.PairEdits.{KeepsPairs, StayApart, edits-keep}

@@ -27,7 +27,7 @@ use Rattle.account_model.specs.UsermodRanges.{range_edits}
 use Rattle.account_model.specs.Usermod.{changed_user, changed_group, range_owner, subuid_change, subgid_change, is_own_uid, is_uid_taken, usermod_checks, usermod_conflicts, usermod_script, usermod}
 use Rattle.account_model.proofs.SameLaws.{passwd-tells}
 use Rattle.account_model.proofs.UsermodRangeScripts.{values-ordered}
-use Rattle.account_model.proofs.WrittenScripts.{all-append}
+use Rattle.account_model.proofs.ListLaws.{all-append}
 use Rattle.ids_apart.specs.Apart.{AreApart}
 use Rattle.ids_apart.proofs.PairEdits.{KeepsPairs, StayApart, edits-keep}
 use Rattle.ids_apart.proofs.Keys.{OwnKeys, each-keep, where-keep, all-keys-keep}

@@ -22,7 +22,7 @@ use Rattle.account_model.proofs.FreeRangeLaws.{apart-is}
 use Rattle.account_model.proofs.SameLaws.{subid-tells}
 use Rattle.account_model.proofs.EditLines.{edited-lines, table-edited}
 use Rattle.account_model.proofs.UsermodRangeScripts.{IsOrdered}
-use Rattle.account_model.proofs.WrittenScripts.{all-append}
+use Rattle.account_model.proofs.ListLaws.{all-append}
 use Rattle.ids_apart.specs.Apart.{AreApart}
 use Rattle.ids_apart.proofs.Pairs.{EachTwo, all-then, each-push, each-flat_map}
 use Rattle.ids_apart.proofs.PairEdits.{KeepsPairs, StayApart, edits-keep, each-keeps}

@@ -1,7 +1,7 @@
 -- Claim: the edits of the words from a place on are those of the word there, and those of the words
 -- behind it (`joins-on`). Way: by whether the word names a group; edits behind one another are in
 -- one order (`followed-assoc`).
-use Rattle.std.proofs.Common.{◌≡◌, ℕ, ◌+◌, ◌<◌, List, ◌∷◌, length, drop, get_or, refl, sym, ap, ◌∙◌, append_assoc}
+use Rattle.std.proofs.Common.{◌≡◌, ℕ, ◌+◌, ◌<◌, List, ◌∷◌, length, drop, get_or, refl, sym, ap, ◌∙◌}
 use Rattle.std.specs.Prelude.{Option, Some, None, map, filter_map}
 use Rattle.std.specs.List.{cons_option}
 use Rattle.std.proofs.lemmas.List.{drop_more}
@@ -10,23 +10,11 @@ use Rattle.account_model.specs.declared.records.GroupRecord.{GroupRecord}
 use Rattle.account_model.specs.GivenGroups.{find_group}
 use Rattle.account_model.specs.Members.{add_to_group}
 use Rattle.account_model.specs.Tables.{Script, no_edits, followed_by, in_order, group_records}
+use Rattle.account_model.proofs.ScriptLaws.{followed-assoc}
 use Rattle.table_edits.specs.Additions.{HasAlso}
 use Rattle.table_edits.specs.SeenScript.{seen_script}
 use Rattle.table_edits.specs.declared.script.Script as data_script
 use Rattle.user_creation.specs.Joining.{joining, joining_all}
-
--- three scripts, table by table
-followed-assoc :
-    (first second third : Script)
-    → followed_by (followed_by first second) third ≡ followed_by first (followed_by second third)
-followed-assoc first second third = λ i. record {
-  passwd = append_assoc first.passwd second.passwd third.passwd i;
-  shadow = append_assoc first.shadow second.shadow third.shadow i;
-  group = append_assoc first.group second.group third.group i;
-  gshadow = append_assoc first.gshadow second.gshadow third.gshadow i;
-  subuid = append_assoc first.subuid second.subuid third.subuid i;
-  subgid = append_assoc first.subgid second.subgid third.subgid i;
-}
 
 module _ (files : Files) (user : List ℕ) where
   -- by whether the first word names a group
