@@ -8,6 +8,7 @@ use Rattle.std.proofs.Math.Nat.{le_trans}
 use Rattle.acct_text.specs.declared.files.Files.{Files}
 use Rattle.acct_text.proofs.NumberLaws.{some-inj}
 use Rattle.account_model.specs.declared.records.GroupRecord.{GroupRecord}
+use Rattle.account_model.specs.declared.new_user.Allotment.TheVariants.{Unwanted, Full, Range}
 use Rattle.account_model.specs.declared.settings.Key.TheVariants.{PassMinDays, PassMaxDays, PassWarnAge}
 use Rattle.account_model.specs.declared.refusal.Refusal.{Refusal}
 use Rattle.account_model.specs.declared.refusal.Refusal.TheVariants.{BadName}
@@ -31,8 +32,8 @@ use Rattle.account_model.specs.NewAccount.{kind_of, settings_for, free_uid, free
 use Rattle.account_model.specs.FreeRange.{IsFreeRange}
 use Rattle.account_model.specs.Ids.{is_used, used_gids}
 use Rattle.account_model.specs.SubidOwner.{is_owned}
-use Rattle.account_model.specs.NewRanges.{Subordinate, subordinate_uids, subordinate_gids, may_have_ranges, is_allotted, free_start, new_range, allotted}
-use Rattle.account_model.specs.Useradd.{makes_group, new_uid, gid_beside, own_gid, default_gid, primary_gid, useradd_checks, useradd_conflicts, new_home, new_user, new_shadow, add_own_group, join_groups, add_user, useradd_script, useradd_under, useradd}
+use Rattle.account_model.specs.NewRanges.{Subordinate, subordinate_uids, subordinate_gids, may_have_ranges, is_allotted, free_start, new_range, allotment, allotted}
+use Rattle.account_model.specs.Useradd.{makes_group, new_uid, gid_beside, own_gid, default_gid, primary_gid, useradd_checks, useradd_conflicts, new_home, new_user, new_shadow, plan_of, add_own_group, join_groups, add_user, useradd_script, useradd_under, useradd}
 use Rattle.account_model.proofs.DeedLaws.{first-none}
 use Rattle.account_model.proofs.HeldLaws.{passwd-holds, shadow-holds, subid-holds}
 use Rattle.account_model.proofs.FieldFacts.{is_field-is, is_folder-is, is_shell-is, field-append, empty-field, valid-name, valid-listed, lacks-byte}
@@ -230,7 +231,7 @@ start-written :
     → 0 < ids.count
     → free_start ids ≡ start
     → AllByRecursion (IsWrittenEdit subid_format)
-    (elim start [ None ↦ [] | Some first ↦ Add (new_range request first ids.count) ∷ [] ])
+    (allotted request (elim start [ None ↦ Full | Some first ↦ Range first ids.count ]))
 start-written request ids None passes small some found = tt
 start-written request ids (Some start) passes small some found =
     (subid-holds.written (new_range request start ids.count) (range-held request ids start passes small some found), tt)
@@ -246,9 +247,9 @@ allotted-by :
     → is_allotted request uid ids ≡ test
     → UseraddPasses request
     → ids.maximum ≤ greatest_id
-    → AllByRecursion (IsWrittenEdit subid_format) (if test
-    then elim (free_start ids) [ None ↦ [] | Some start ↦ Add (new_range request start ids.count) ∷ [] ]
-    else [])
+    → AllByRecursion (IsWrittenEdit subid_format) (allotted request (if test
+    then elim (free_start ids) [ None ↦ Full | Some start ↦ Range start ids.count ]
+    else Unwanted))
 allotted-by request uid ids false is passes small = tt
 allotted-by request uid ids true is passes small =
     start-written request ids (free_start ids) passes small
@@ -261,7 +262,7 @@ allotted-written :
     (request : Request) (uid : Option ℕ) (ids : Subordinate)
     → UseraddPasses request
     → ids.maximum ≤ greatest_id
-    → AllByRecursion (IsWrittenEdit subid_format) (allotted request uid ids)
+    → AllByRecursion (IsWrittenEdit subid_format) (allotted request (allotment request uid ids))
 allotted-written request uid ids passes small =
     allotted-by request uid ids (is_allotted request uid ids) refl passes small
 
@@ -283,17 +284,18 @@ add-user-written :
     → day ≤ greatest_days
     → uid ≤ greatest_id
     → gid ≤ greatest_id
-    → IsWrittenScript (add_user request files settings day uid gid)
+    → IsWrittenScript
+    (add_user request files (plan_of request files settings) (new_shadow request settings day) uid gid)
 add-user-written request files settings day uid gid passes small small_uid small_gid = order-written
     (record no_edits {
       passwd = Add (new_user request files uid gid) ∷ [];
       shadow = Put (new_shadow request settings day) ∷ [];
     }
-    ∷ add_own_group request files settings gid
+    ∷ add_own_group request files (plan_of request files settings) gid
     ∷ join_groups request files
     ∷ record no_edits {
-      subuid = allotted request (Some uid) (subordinate_uids files settings);
-      subgid = allotted request (Some uid) (subordinate_gids files settings);
+      subuid = allotted request (plan_of request files settings).subuid;
+      subgid = allotted request (plan_of request files settings).subgid;
     }
     ∷ []) (
       users-written _ _ (
@@ -315,8 +317,10 @@ add-user-written request files settings day uid gid passes small small_uid small
               shadow = tt;
               group = tt;
               gshadow = tt;
-              subuid = allotted-written request (Some uid) (subordinate_uids files settings) passes (subuid-maximum settings);
-              subgid = allotted-written request (Some uid) (subordinate_gids files settings) passes (subgid-maximum settings);
+              subuid = allotted-written request (new_uid request files settings)
+                  (subordinate_uids files settings) passes (subuid-maximum settings);
+              subgid = allotted-written request (new_uid request files settings)
+                  (subordinate_gids files settings) passes (subgid-maximum settings);
             },
             tt,
           ),
@@ -331,7 +335,8 @@ useradd-script-written :
     → day ≤ greatest_days
     → ((n : ℕ) → uid ≡ Some n → n ≤ greatest_id)
     → ((n : ℕ) → gid ≡ Some n → n ≤ greatest_id)
-    → IsWrittenScript (useradd_script request files settings day uid gid)
+    → IsWrittenScript (useradd_script request files (plan_of request files settings)
+    (new_shadow request settings day) uid gid)
 useradd-script-written request files settings day None gid passes small small_uid small_gid = none-written
 useradd-script-written request files settings day (Some uid) None passes small small_uid small_gid = none-written
 useradd-script-written request files settings day (Some uid) (Some gid) passes small small_uid small_gid =
@@ -345,7 +350,8 @@ useradd-under-written :
     → IsWrittenScript (useradd_under settings request files day).script
 useradd-under-written settings request files day small none =
     useradd-script-written request files settings day (new_uid request files settings) (primary_gid request files settings)
-    (useradd-passes request (useradd_conflicts request files settings) none) small
+    (useradd-passes request (useradd_conflicts request files (plan_of request files settings)) none)
+    small
     (new-uid-small request files settings) (primary-gid-small request files settings)
 
 -- useradd adds a valid name with tested values and IDs

@@ -1,11 +1,12 @@
 -- The subordinate IDs that a new user gets (useradd(8), subuid(5), subgid(5); SUB_UID_MIN, SUB_UID_MAX and SUB_UID_COUNT
 -- of login.defs(5), and the same of GIDs).
-use Rattle.std.specs.Prelude.{ℕ, Bool, not, ◌&&◌, ◌||◌, ◌==◌, List, [], ◌∷◌, codes, Option, Some, None, is_some, is_none, unwrap_or, if◌then◌else◌}
+use Rattle.std.specs.Prelude.{ℕ, Bool, not, ◌&&◌, ◌||◌, ◌==◌, List, [], ◌∷◌, codes, Option, Some, None, is_some, unwrap_or, if◌then◌else◌}
 use Rattle.std.specs.List.{list_any}
 use Rattle.acct_text.specs.declared.files.Files.{Files}
 use Rattle.acct_text.specs.declared.Tab.{Tab}
-use Rattle.acct_text.specs.declared.Tab.TheVariants.{Subuid, Subgid}
 use Rattle.account_model.specs.declared.records.SubidRecord.{SubidRecord}
+use Rattle.account_model.specs.declared.new_user.Allotment.{Allotment}
+use Rattle.account_model.specs.declared.new_user.Allotment.TheVariants.{Unwanted, Full, Range}
 use Rattle.account_model.specs.declared.settings.Key.{Key}
 use Rattle.account_model.specs.declared.settings.Key.TheVariants.{SubUidMin, SubGidMin, SubUidMax, SubGidMax, SubUidCount, SubGidCount}
 use Rattle.account_model.specs.declared.refusal.Refusal.{Refusal}
@@ -16,12 +17,10 @@ use Rattle.account_model.specs.Tables.{subuid_records, subgid_records}
 use Rattle.account_model.specs.Settings.{Setting, number}
 use Rattle.account_model.specs.FreeRange.{free_range}
 use Rattle.account_model.specs.Request.{Request, has_option, operand}
-use Rattle.account_model.specs.Refusals.{refuse_if}
 use Rattle.account_model.specs.SubidOwner.{is_owned}
 
 -- a table of subordinate IDs, with the bounds and the count of a new range
 pub record Subordinate : Type 0 where
-  pub table : Tab
   pub bytes : Option (List ℕ)
   pub records : List SubidRecord
   pub minimum : ℕ
@@ -35,7 +34,6 @@ id_number key settings = unwrap_or (number key settings) 0
 -- subuid
 abbrev pub subordinate_uids : Files → List Setting → Subordinate
 subordinate_uids files settings = record {
-  table = Subuid;
   bytes = files.subuid;
   records = subuid_records files;
   minimum = id_number SubUidMin settings;
@@ -46,7 +44,6 @@ subordinate_uids files settings = record {
 -- subgid
 abbrev pub subordinate_gids : Files → List Setting → Subordinate
 subordinate_gids files settings = record {
-  table = Subgid;
   bytes = files.subgid;
   records = subgid_records files;
   minimum = id_number SubGidMin settings;
@@ -69,20 +66,27 @@ is_allotted request uid ids =
 abbrev pub free_start : Subordinate → Option ℕ
 free_start ids = free_range ids.minimum ids.maximum ids.count ids.records
 
+-- what a new user gets of the table
+abbrev pub allotment : Request → Option ℕ → Subordinate → Allotment
+allotment request uid ids = if is_allotted request uid ids
+    then elim (free_start ids) [
+      | None ↦ Full
+      | Some start ↦ Range start ids.count
+    ]
+    else Unwanted
+
 -- a range is to be allotted, and there is no gap for it
-abbrev pub no_gap : Request → Option ℕ → Subordinate → Option Refusal
-no_gap request uid ids =
-    refuse_if (is_allotted request uid ids && is_none (free_start ids)) (NoGap ids.table)
+abbrev pub no_gap : Tab → Allotment → Option Refusal
+no_gap tab Unwanted = None
+no_gap tab Full = Some (NoGap tab)
+no_gap tab (Range first count) = None
 
 -- `LOGIN:START:COUNT`
 abbrev pub new_range : Request → ℕ → ℕ → SubidRecord
 new_range request start count = record { owner = operand request; first = start; count = count }
 
--- the new line of the table, where a range is allotted
-abbrev pub allotted : Request → Option ℕ → Subordinate → List (Edit SubidRecord)
-allotted request uid ids = if is_allotted request uid ids
-    then elim (free_start ids) [
-      | None ↦ []
-      | Some start ↦ Add (new_range request start ids.count) ∷ []
-    ]
-    else []
+-- the new line of the table, where there is a range
+abbrev pub allotted : Request → Allotment → List (Edit SubidRecord)
+allotted request Unwanted = []
+allotted request Full = []
+allotted request (Range first count) = Add (new_range request first count) ∷ []

@@ -1,8 +1,10 @@
 -- useradd LOGIN (useradd(8)): makes a user.
 use Rattle.std.specs.Prelude.{ℕ, Bool, not, ◌&&◌, ◌||◌, if◌then◌else◌, List, [], ◌∷◌, ◌++◌, map, codes, Option, Some, None, is_some, is_none, option_map, option_and_then, unwrap_or}
 use Rattle.acct_text.specs.declared.files.Files.{Files}
+use Rattle.acct_text.specs.declared.Tab.TheVariants.{Subuid, Subgid}
 use Rattle.account_model.specs.declared.records.PasswdRecord.{PasswdRecord}
 use Rattle.account_model.specs.declared.records.ShadowRecord.{ShadowRecord}
+use Rattle.account_model.specs.declared.new_user.Plan.{Plan}
 use Rattle.account_model.specs.declared.settings.Key.{Key}
 use Rattle.account_model.specs.declared.settings.Key.TheVariants.{PassMinDays, PassMaxDays, PassWarnAge}
 use Rattle.account_model.specs.declared.refusal.Refusal.{Refusal}
@@ -19,7 +21,7 @@ use Rattle.account_model.specs.Request.{Request, has_option, operand}
 use Rattle.account_model.specs.Refusals.{refuse_if, bad_value, bad_key, bad_name}
 use Rattle.account_model.specs.Action.{Action, changes}
 use Rattle.account_model.specs.NewAccount.{kind_of, settings_for, free_uid, free_gid, add_group, new_hash}
-use Rattle.account_model.specs.NewRanges.{subordinate_uids, subordinate_gids, no_gap, allotted}
+use Rattle.account_model.specs.NewRanges.{subordinate_uids, subordinate_gids, allotment, no_gap, allotted}
 use Rattle.account_model.specs.Users.{has_user, has_group}
 
 -- ---- The IDs
@@ -58,12 +60,22 @@ primary_gid request files settings = if makes_group request settings
     then own_gid request files settings
     else Some (unwrap_or (option_map (λ group. group.gid) (given_group request files)) default_gid)
 
+-- what a new user is to get, whether or not anything refuses it
+abbrev pub plan_of : Request → Files → List Setting → Plan
+plan_of request files settings = record {
+  own_group = makes_group request settings;
+  uid = new_uid request files settings;
+  gid = primary_gid request files settings;
+  subuid = allotment request (new_uid request files settings) (subordinate_uids files settings);
+  subgid = allotment request (new_uid request files settings) (subordinate_gids files settings);
+}
+
 -- ---- The refusals
 
 -- a group of the user's own is to be made, and there is one of the name
-abbrev pub own_group_exists : Request → Files → List Setting → Option Refusal
-own_group_exists request files settings =
-    refuse_if (makes_group request settings && has_group (operand request) files)
+abbrev pub own_group_exists : Request → Files → Plan → Option Refusal
+own_group_exists request files plan =
+    refuse_if (plan.own_group && has_group (operand request) files)
     (GroupExists (operand request))
 
 -- the UID of `-u` is in use, and `-o` isn't given
@@ -88,23 +100,28 @@ useradd_checks request =
     ∷ bad_value (codes "u") is_id request
     ∷ []
 
+-- where no ID or no range is left
+abbrev pub used_up : Plan → List (Option Refusal)
+used_up plan =
+    refuse_if (is_none plan.uid) NoFreeUid
+    ∷ refuse_if (is_none plan.gid) NoFreeGid
+    ∷ no_gap Subuid plan.subuid
+    ∷ no_gap Subgid plan.subgid
+    ∷ []
+
 -- and then what is taken, missing or used up
-abbrev pub useradd_conflicts : Request → Files → List Setting → List (Option Refusal)
-useradd_conflicts request files settings =
+abbrev pub useradd_conflicts : Request → Files → Plan → List (Option Refusal)
+useradd_conflicts request files plan =
     refuse_if (has_user (operand request) files) (UserExists (operand request))
     ∷ unknown_group request files
     ∷ unknown_groups request files
-    ∷ own_group_exists request files settings
+    ∷ own_group_exists request files plan
     ∷ used_uid request files
-    ∷ refuse_if (is_none (new_uid request files settings)) NoFreeUid
-    ∷ refuse_if (is_none (primary_gid request files settings)) NoFreeGid
-    ∷ no_gap request (new_uid request files settings) (subordinate_uids files settings)
-    ∷ no_gap request (new_uid request files settings) (subordinate_gids files settings)
-    ∷ []
+    ∷ used_up plan
 
 -- all refusals, in the order in which they are tested
-abbrev pub useradd_refusals : Request → Files → List Setting → List (Option Refusal)
-useradd_refusals request files settings = useradd_checks request ++ useradd_conflicts request files settings
+abbrev pub useradd_refusals : Request → Files → Plan → List (Option Refusal)
+useradd_refusals request files plan = useradd_checks request ++ useradd_conflicts request files plan
 
 -- ---- The records
 
@@ -147,42 +164,48 @@ new_shadow request settings day = record {
 -- ---- The edits
 
 -- the user's own group, where one is made
-abbrev pub add_own_group : Request → Files → List Setting → ℕ → Script
-add_own_group request files settings gid =
-    if makes_group request settings then add_group (operand request) locked gid files else no_edits
+abbrev pub add_own_group : Request → Files → Plan → ℕ → Script
+add_own_group request files plan gid =
+    if plan.own_group then add_group (operand request) locked gid files else no_edits
 
 -- the user joins the groups of `-G`
 abbrev pub join_groups : Request → Files → Script
 join_groups request files =
     in_order (map (λ group. add_to_group group.name (operand request)) (given_groups request files))
 
--- the edits that make a user of this UID and this primary GID
-abbrev pub add_user : Request → Files → List Setting → ℕ → ℕ → ℕ → Script
-add_user request files settings day uid gid = in_order
+-- the edits that make a user of this UID and this primary GID, with this line of shadow
+abbrev pub add_user : Request → Files → Plan → ShadowRecord → ℕ → ℕ → Script
+add_user request files plan shadow uid gid = in_order
     (record no_edits {
       passwd = Add (new_user request files uid gid) ∷ [];
-      shadow = Put (new_shadow request settings day) ∷ [];
+      shadow = Put shadow ∷ [];
     }
-    ∷ add_own_group request files settings gid
+    ∷ add_own_group request files plan gid
     ∷ join_groups request files
     ∷ record no_edits {
-      subuid = allotted request (Some uid) (subordinate_uids files settings);
-      subgid = allotted request (Some uid) (subordinate_gids files settings);
+      subuid = allotted request plan.subuid;
+      subgid = allotted request plan.subgid;
     }
     ∷ [])
 
 -- the edits, where there is a UID and a GID
-abbrev pub useradd_script : Request → Files → List Setting → ℕ → Option ℕ → Option ℕ → Script
-useradd_script request files settings day (Some uid) (Some gid) = add_user request files settings day uid gid
-useradd_script request files settings day uid gid = no_edits
+abbrev pub useradd_script :
+    Request → Files → Plan → ShadowRecord → Option ℕ → Option ℕ → Script
+useradd_script request files plan shadow (Some uid) (Some gid) =
+    add_user request files plan shadow uid gid
+useradd_script request files plan shadow uid gid = no_edits
 
 -- ---- The whole
 
+-- what useradd does by a plan, with this line of shadow
+abbrev pub useradd_by : Plan → ShadowRecord → Request → Files → Action
+useradd_by plan shadow request files = changes (useradd_refusals request files plan)
+    (useradd_script request files plan shadow plan.uid plan.gid)
+
 -- what useradd does under the settings that `-K` has changed
 abbrev pub useradd_under : List Setting → Request → Files → ℕ → Action
-useradd_under settings request files day = changes (useradd_refusals request files settings)
-    (useradd_script request files settings day (new_uid request files settings)
-    (primary_gid request files settings))
+useradd_under settings request files day =
+    useradd_by (plan_of request files settings) (new_shadow request settings day) request files
 
 -- what useradd does, by the tables, the settings of login.defs(5) and the day
 abbrev pub useradd : Request → Files → List Setting → ℕ → Action

@@ -1,5 +1,5 @@
 //! What the twelve commands of the account suite mean. `src/` has the data that code and meaning
-//! share: records, settings, tools, refusals and faults. `specs/` has the meaning: the formats, then
+//! share: records, settings, tools, plans, refusals and faults. `specs/` has the meaning: the formats, then
 //! one file for each tool beside its manual page, then the answer of a command on given files
 //! (`specs/Answer`). Each law is a function that does nothing, and whose contract is the law.
 #![tactic(auto)]
@@ -8,6 +8,7 @@ mod date_laws;
 mod fault;
 mod given;
 mod laws;
+mod new_user;
 mod records;
 mod refusal;
 mod renaming_laws;
@@ -25,6 +26,7 @@ pub use laws::{
     ranges_are_found, records_are_found, records_read_back, reports_are_whole, tables_are_edited,
     tools_are_written, touched_lines_are_met, untouched_lines_stay,
 };
+pub use new_user::{Allotment, Plan};
 pub use records::{
     GREATEST_DAYS, GREATEST_ID, GroupRecord, GshadowRecord, PasswdRecord, ShadowRecord, SubidRecord,
 };

@@ -15,7 +15,7 @@ use Rattle.account_model.specs.Action.{changes}
 use Rattle.account_model.specs.Change.{action_by, action_of}
 use Rattle.account_model.specs.WrittenScript.{IsWrittenScript}
 use Rattle.account_model.specs.NewAccount.{settings_for}
-use Rattle.account_model.specs.Useradd.{new_uid, primary_gid, useradd_script}
+use Rattle.account_model.specs.Useradd.{new_uid, primary_gid, new_shadow, plan_of, useradd_script}
 use Rattle.account_model.specs.Chpasswd.{line_script}
 use Rattle.account_model.specs.Pwck.{pwck_sort, pwck_report}
 use Rattle.account_model.proofs.ToolScripts.{tools-written}
@@ -38,8 +38,10 @@ fewer-written script written = record {
 -- a user, by the IDs that there are
 useradd-alike :
     (request : Request) (files : Files) (settings : List Setting) (day : ℕ) (uid gid : Option ℕ)
-    → without_hashes (useradd_script request files settings day uid gid)
-    ≡ without_hashes (useradd_script request files settings 0 uid gid)
+    → without_hashes (useradd_script request files (plan_of request files settings)
+    (new_shadow request settings day) uid gid)
+    ≡ without_hashes (useradd_script request files (plan_of request files settings)
+    (new_shadow request settings 0) uid gid)
 useradd-alike request files settings day None gid = refl
 useradd-alike request files settings day (Some uid) None = refl
 useradd-alike request files settings day (Some uid) (Some gid) = refl

@@ -8,6 +8,8 @@ use Rattle.std.proofs.lemmas.Bool.{and_parts}
 use Rattle.acct_text.specs.declared.files.Files.{Files}
 use Rattle.acct_text.proofs.NumberLaws.{some-inj}
 use Rattle.account_model.specs.declared.settings.IdSort.TheVariants.{Uid, Gid}
+use Rattle.account_model.specs.declared.new_user.Allotment.TheVariants.{Unwanted, Full, Range}
+use Rattle.account_model.specs.declared.new_user.Plan.{Plan}
 use Rattle.account_model.specs.declared.records.GroupRecord.{GroupRecord}
 use Rattle.account_model.specs.declared.refusal.Refusal.TheVariants.{UidInUse}
 use Rattle.account_model.specs.Text.{first_some}
@@ -24,9 +26,9 @@ use Rattle.account_model.specs.Values.{given_uid}
 use Rattle.account_model.specs.Request.{Request, has_option, operand}
 use Rattle.account_model.specs.Refusals.{refuse_if}
 use Rattle.account_model.specs.NewAccount.{kind_of, settings_for, free_uid, free_gid, new_group, add_group}
-use Rattle.account_model.specs.NewRanges.{Subordinate, subordinate_uids, subordinate_gids, may_have_ranges, is_allotted, free_start, new_range, allotted}
+use Rattle.account_model.specs.NewRanges.{Subordinate, subordinate_uids, subordinate_gids, may_have_ranges, is_allotted, free_start, new_range, allotment, allotted}
 use Rattle.account_model.specs.SubidOwner.{is_owned}
-use Rattle.account_model.specs.Useradd.{makes_group, new_uid, gid_beside, own_gid, primary_gid, used_uid, useradd_checks, useradd_conflicts, new_user, add_own_group, join_groups, useradd_script, useradd_under, useradd}
+use Rattle.account_model.specs.Useradd.{makes_group, new_uid, gid_beside, own_gid, primary_gid, used_uid, useradd_checks, useradd_conflicts, new_user, new_shadow, plan_of, add_own_group, join_groups, useradd_script, useradd_under, useradd}
 use Rattle.account_model.proofs.FreeRangeLaws.{free_range-is}
 use Rattle.account_model.proofs.ListLaws.{all-append}
 use Rattle.ids_apart.specs.Apart.{AreApart}
@@ -46,7 +48,7 @@ start-stays :
     → 0 < ids.count
     → free_start ids ≡ start
     → StayApart subid_format AreApart ids.records
-    (elim start [ None ↦ [] | Some first ↦ Add (new_range request first ids.count) ∷ [] ])
+    (allotted request (elim start [ None ↦ Full | Some first ↦ Range first ids.count ]))
 start-stays request ids None some found each = each
 start-stays request ids (Some start) some found each =
     let free = subst
@@ -69,10 +71,9 @@ some-count (suc n) e = omega arith
 allotted-by :
     (request : Request) (uid : Option ℕ) (ids : Subordinate) (test : Bool)
     → is_allotted request uid ids ≡ test
-    → StayApart subid_format AreApart ids.records (if test
-    then elim (free_start ids)
-    [ None ↦ [] | Some start ↦ Add (new_range request start ids.count) ∷ [] ]
-    else [])
+    → StayApart subid_format AreApart ids.records (allotted request (if test
+    then elim (free_start ids) [ None ↦ Full | Some start ↦ Range start ids.count ]
+    else Unwanted))
 allotted-by request uid ids false is each = each
 allotted-by request uid ids true is each =
     start-stays request ids (free_start ids)
@@ -84,7 +85,7 @@ allotted-by request uid ids true is each =
 -- the new range of a table keeps all apart
 allotted-stays :
     (request : Request) (uid : Option ℕ) (ids : Subordinate)
-    → StayApart subid_format AreApart ids.records (allotted request uid ids)
+    → StayApart subid_format AreApart ids.records (allotted request (allotment request uid ids))
 allotted-stays request uid ids = allotted-by request uid ids (is_allotted request uid ids) refl
 
 -- ---- The other edits
@@ -193,39 +194,43 @@ primary-by request files settings gid other true is e =
 primary-by request files settings gid other false is e = cc
 
 module _ (request : Request) (files : Files) (settings : List Setting) (day uid gid : ℕ) where
+  -- what the user is to get
+  abbrev plan : Plan
+  plan = plan_of request files settings
+
   -- the user's own group, where one is made
   abbrev own : Script
-  own = add_own_group request files settings gid
+  own = add_own_group request files plan gid
 
   -- the groups that the user joins
   abbrev join : Script
   join = join_groups request files
 
-  -- it leaves ranges
+  -- all edits
+  abbrev edits : Script
+  edits = useradd_script request files plan (new_shadow request settings day) (Some uid) (Some gid)
+
+  -- the own group leaves ranges
   own-ranges : LeavesRanges own
   own-ranges = own-leaves (add_group (operand request) locked gid files)
       (makes_group request settings)
       (record { subuid = refl; subgid = refl })
 
   -- a user of this UID and this GID keeps ranges apart
-  add-ranges : KeepsRanges files (useradd_script request files settings day (Some uid) (Some gid))
+  add-ranges : KeepsRanges files edits
   add-ranges = record {
     subuids = stays-table subid_format AreApart files.subuid
-        (own.subuid ++ (join.subuid
-        ++ (allotted request (Some uid) (subordinate_uids files settings) ++ [])))
+        (own.subuid ++ (join.subuid ++ (allotted request plan.subuid ++ [])))
         (subst (StayApart subid_format AreApart (subordinate_uids files settings).records)
-        (sym (ranges-behind own.subuid join.subuid
-        (allotted request (Some uid) (subordinate_uids files settings))
+        (sym (ranges-behind own.subuid join.subuid (allotted request plan.subuid)
         own-ranges.subuid (join-quiet request files).ranges.subuid))
-        (allotted-stays request (Some uid) (subordinate_uids files settings)));
+        (allotted-stays request plan.uid (subordinate_uids files settings)));
     subgids = stays-table subid_format AreApart files.subgid
-        (own.subgid ++ (join.subgid
-        ++ (allotted request (Some uid) (subordinate_gids files settings) ++ [])))
+        (own.subgid ++ (join.subgid ++ (allotted request plan.subgid ++ [])))
         (subst (StayApart subid_format AreApart (subordinate_gids files settings).records)
-        (sym (ranges-behind own.subgid join.subgid
-        (allotted request (Some uid) (subordinate_gids files settings))
+        (sym (ranges-behind own.subgid join.subgid (allotted request plan.subgid)
         own-ranges.subgid (join-quiet request files).ranges.subgid))
-        (allotted-stays request (Some uid) (subordinate_gids files settings)));
+        (allotted-stays request plan.uid (subordinate_gids files settings)));
   }
 
   -- the users, with one more
@@ -270,7 +275,7 @@ module _ (request : Request) (files : Files) (settings : List Setting) (day uid 
   add-ids :
       is_used (used_uids files) uid ≡ false
       → (makes_group request settings ≡ true → is_used (used_gids files) gid ≡ false)
-      → KeepsOwnIds files (useradd_script request files settings day (Some uid) (Some gid))
+      → KeepsOwnIds files edits
   add-ids unused_uid unused_gid = record {
     uids = stays-table passwd_format (OwnKeys uid_key) files.passwd
         (Add (new_user request files uid gid) ∷ (own.passwd ++ (join.passwd ++ [])))
@@ -284,7 +289,8 @@ module _ (request : Request) (files : Files) (settings : List Setting) (day uid 
 -- ranges, by the IDs that there are
 script-ranges :
     (request : Request) (files : Files) (settings : List Setting) (day : ℕ) (uid gid : Option ℕ)
-    → KeepsRanges files (useradd_script request files settings day uid gid)
+    → KeepsRanges files (useradd_script request files (plan_of request files settings)
+    (new_shadow request settings day) uid gid)
 script-ranges request files settings day None gid = gentle-ranges files no_edits none-gentle
 script-ranges request files settings day (Some uid) None = gentle-ranges files no_edits none-gentle
 script-ranges request files settings day (Some uid) (Some gid) =
@@ -305,7 +311,8 @@ script-ids :
     → ((id : ℕ) → uid ≡ Some id → is_used (used_uids files) id ≡ false)
     → ((id : ℕ) → gid ≡ Some id → makes_group request settings ≡ true
     → is_used (used_gids files) id ≡ false)
-    → KeepsOwnIds files (useradd_script request files settings day uid gid)
+    → KeepsOwnIds files (useradd_script request files (plan_of request files settings)
+    (new_shadow request settings day) uid gid)
 script-ids request files settings day None gid unused_uid unused_gid =
     gentle-ids files no_edits none-gentle
 script-ids request files settings day (Some uid) None unused_uid unused_gid =
@@ -321,7 +328,7 @@ under-ids :
     → KeepsOwnIds files (useradd_under settings request files day).script
 under-ids settings request files day shares none =
     let passed = behind-none (useradd_checks request)
-    (useradd_conflicts request files settings) none
+    (useradd_conflicts request files (plan_of request files settings)) none
     in script-ids request files settings day (new_uid request files settings)
     (primary_gid request files settings)
     (λ id e. uid-unused request files settings shares id passed.1.1.1.1.0 e)

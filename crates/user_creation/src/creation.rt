@@ -1,25 +1,24 @@
 // useradd LOGIN (useradd(8)): makes a user.
 ghost use Rattle.std.specs.Prelude.{◌≡◌, ◌&&◌, List, IfOk};
 ghost use Rattle.account_model.specs.NewAccount.{settings_for};
+ghost use Rattle.account_model.specs.NewRanges.{no_gap};
 ghost use Rattle.account_model.specs.Refusals.{refuse_if};
 ghost use Rattle.account_model.specs.Request.{operand};
 ghost use Rattle.account_model.specs.Settings.{Setting};
 ghost use Rattle.account_model.specs.Text.{first_some};
-ghost use Rattle.account_model.specs.Useradd.{useradd, useradd_checks, used_uid};
+ghost use Rattle.account_model.specs.Useradd.{useradd, useradd_checks, useradd_conflicts, used_uid, used_up};
 ghost use Rattle.account_model.specs.Users.{has_group, has_user};
 ghost use Rattle.tool_answers.specs.Refusing.{RefusesBy};
 ghost use Rattle.command_values.specs.Chosen.{AddsSettings};
 ghost use Rattle.login_defs.specs.Held.{HasSettings, IsHeld};
 ghost use Rattle.table_edits.specs.Acting.{ActsBy};
 ghost use Rattle.table_lookups.specs.Stopping.{StopsBy};
-ghost use Rattle.user_creation.specs.Allotments.{gap_refusal};
-ghost use Rattle.user_creation.specs.Plans.{HasPlanned, planned_conflicts, used_up};
+ghost use Rattle.user_creation.specs.Plans.{HasPlanned};
 
-use crate::plan::{NewIds, Plan};
-use crate::ranges::Allotment;
+use crate::plan::{NewIds, plan_of};
 use crate::records::new_shadow;
-use crate::script::planned_script;
-use account_model::Refusal;
+use crate::script::user_script;
+use account_model::{Allotment, Plan, Refusal};
 use acct_text::{Bytes, Tab};
 use command_values::{Asked, Form, ToolFault, check_name};
 use given_groups::{check_given_group, check_given_groups};
@@ -45,10 +44,10 @@ pub fn useradd(
         → ActsBy (useradd asked.now tables.now settings day) result }
 {
     let settings = check_words(alloc, asked, defs)?;
-    let plan = Plan::of(alloc, asked, tables, &settings)?;
+    let plan = plan_of(alloc, asked, tables, &settings)?;
     let ids = check_conflicts(alloc, asked, tables, plan)?;
     let shadow = new_shadow(alloc, asked, &settings, day)?;
-    Ok(planned_script(alloc, asked, tables, plan, ids, shadow)?)
+    Ok(user_script(alloc, asked, tables, plan, ids, shadow)?)
 }
 
 // Refuses a bad name and bad values, and gives the settings with those of the `-K` words.
@@ -76,7 +75,7 @@ fn check_conflicts(
     tables: &Tables,
     plan: Plan,
 ) -> Result<NewIds, ToolFault>
-    ensures refused { StopsBy (first_some (planned_conflicts asked.now tables.now plan)) result }
+    ensures refused { StopsBy (first_some (useradd_conflicts asked.now tables.now plan)) result }
     ensures ids { IfOk result (HasPlanned plan) }
 {
     check_login(alloc, asked, tables)?;
@@ -161,7 +160,7 @@ fn planned_ids(plan: Plan) -> Result<NewIds, ToolFault>
 
 // Refuses where a range is wanted and there is no gap for it: `NoGap`.
 fn check_gap(tab: Tab, allotment: Allotment) -> Result<(), ToolFault>
-    ensures { RefusesBy (gap_refusal tab allotment) result }
+    ensures { RefusesBy (no_gap tab allotment) result }
 {
     match allotment {
         Allotment::Full => Err(ToolFault::Refused(Refusal::NoGap(tab))),

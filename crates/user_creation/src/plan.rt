@@ -2,12 +2,12 @@
 // and `-r`).
 ghost use Rattle.std.specs.Prelude.{◌≡◌, IfOk, option_map, unwrap_or};
 ghost use Rattle.account_model.specs.GivenGroups.{given_group};
-ghost use Rattle.account_model.specs.Useradd.{default_gid, gid_beside, makes_group, new_uid};
+ghost use Rattle.account_model.specs.Useradd.{default_gid, gid_beside, makes_group, new_uid, plan_of};
 ghost use Rattle.login_defs.specs.Held.{Gives, IsHeld};
-ghost use Rattle.user_creation.specs.Plans.{GivesPlan, GivesGid};
+ghost use Rattle.user_creation.specs.Plans.{GivesGid};
 
-use crate::ranges::{Allotment, subgid_for, subuid_for};
-use account_model::IdSort;
+use crate::ranges::{allotment_of, gid_bounds, uid_bounds};
+use account_model::{IdSort, Plan};
 use command_values::{Asked, free_id};
 use given_groups::given_group;
 use login_defs::Defs;
@@ -17,21 +17,6 @@ use table_lookups::Tables;
 // The primary GID without `-g` and without a group of the user's own.
 const DEFAULT_GID: u32 = 100;
 
-/// What a new user is to get.
-#[derive(Clone, Copy)]
-pub(crate) struct Plan {
-    /// Whether a group of the user's own is made.
-    pub own_group: bool,
-    /// The UID; none where there is no free one.
-    pub uid: Option<u32>,
-    /// The primary GID; none where there is no free one for the user's own group.
-    pub gid: Option<u32>,
-    /// The range of subordinate UIDs.
-    pub subuid: Allotment,
-    /// The range of subordinate GIDs.
-    pub subgid: Allotment,
-}
-
 /// The IDs of a new user that nothing refuses.
 #[derive(Clone, Copy)]
 pub(crate) struct NewIds {
@@ -39,26 +24,25 @@ pub(crate) struct NewIds {
     pub gid: u32,
 }
 
-impl Plan {
-    /// The plan for what is asked, by the tables and the settings.
-    pub(crate) fn of(
-        alloc: Global,
-        asked: &Asked,
-        tables: &Tables,
-        settings: &Defs,
-    ) -> Result<Self, AllocError>
-        requires held { IsHeld settings.now }
-        ensures { IfOk result (GivesPlan settings.now asked.now tables.now) }
-    {
-        let uid = new_uid(alloc, asked, tables, settings)?;
-        Ok(Plan {
-            own_group: makes_group(asked, settings),
-            uid,
-            gid: primary_gid(alloc, asked, tables, settings, uid)?,
-            subuid: subuid_for(alloc, asked, tables, settings, uid)?,
-            subgid: subgid_for(alloc, asked, tables, settings, uid)?,
-        })
-    }
+/// What a new user is to get, by what is asked, the tables and the settings.
+pub(crate) fn plan_of(
+    alloc: Global,
+    asked: &Asked,
+    tables: &Tables,
+    settings: &Defs,
+) -> Result<Plan, AllocError>
+    requires held { IsHeld settings.now }
+    ensures { IfOk result (Gives settings.now (plan_of asked.now tables.now)) }
+{
+    let files = tables.files();
+    let uid = new_uid(alloc, asked, tables, settings)?;
+    Ok(Plan {
+        own_group: makes_group(asked, settings),
+        uid,
+        gid: primary_gid(alloc, asked, tables, settings, uid)?,
+        subuid: allotment_of(alloc, asked, &files.subuid, uid, uid_bounds(settings))?,
+        subgid: allotment_of(alloc, asked, &files.subgid, uid, gid_bounds(settings))?,
+    })
 }
 
 // Whether a group of the user's own is made: with `-U`, or where the settings say so and neither

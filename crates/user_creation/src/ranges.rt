@@ -1,17 +1,15 @@
 // The subordinate IDs that a new user gets (useradd(8), subuid(5), subgid(5); SUB_UID_MIN, SUB_UID_MAX
 // and SUB_UID_COUNT of login.defs(5), and the same of GIDs).
-ghost use Rattle.std.specs.Prelude.{◌≡◌, ◌<◌, ◌≤◌, true, List, Some, IfOk};
+ghost use Rattle.std.specs.Prelude.{◌≡◌, ◌<◌, ◌≤◌, true, Some, IfOk};
 ghost use Rattle.std.specs.List.{list_any};
-ghost use Rattle.acct_text.specs.declared.Tab.{Tab};
-ghost use Rattle.account_model.specs.NewRanges.{id_number, may_have_ranges, subordinate_gids, subordinate_uids};
+ghost use Rattle.account_model.specs.NewRanges.{allotment, id_number, may_have_ranges};
 ghost use Rattle.account_model.specs.Records.{greatest_id};
-ghost use Rattle.account_model.specs.Settings.{Setting};
 ghost use Rattle.account_model.specs.SubidOwner.{is_owned};
-ghost use Rattle.login_defs.specs.Held.{Gives, HasSettings, IsHeld};
+ghost use Rattle.login_defs.specs.Held.{Gives, IsHeld};
 ghost use Rattle.subid_ranges.specs.RangeLines.{ranges_of};
-ghost use Rattle.user_creation.specs.Allotments.{IsAllotment, gid_bounds_under, subordinate_of, uid_bounds_under};
+ghost use Rattle.user_creation.specs.Allotments.{gid_bounds_under, subordinate_of, uid_bounds_under};
 
-use account_model::Key;
+use account_model::{Allotment, Key};
 use acct_text::Bytes;
 use command_values::Asked;
 use login_defs::Defs;
@@ -19,69 +17,17 @@ use std::alloc::{AllocError, Global};
 use subid_ranges::Ranges;
 use table_lookups::Tables;
 
-/// What a new user gets of a table of subordinate IDs.
+/// The bounds of a new range, and its count.
 #[derive(Clone, Copy)]
-pub(crate) enum Allotment {
-    /// No range is wanted.
-    Unwanted,
-    /// A range is wanted, and there is no gap for it.
-    Full,
-    /// The range of this first ID and this count.
-    Range(u32, u32),
-}
-
-// The bounds of a new range, and its count.
-#[derive(Clone, Copy)]
-struct Bounds {
+pub(crate) struct Bounds {
     minimum: u32,
     maximum: u32,
     count: u32,
 }
 
-/// What a new user of the UID gets of subuid.
-pub(crate) fn subuid_for(
-    alloc: Global,
-    asked: &Asked,
-    tables: &Tables,
-    settings: &Defs,
-    uid: Option<u32>,
-) -> Result<Allotment, AllocError>
-    requires held { IsHeld settings.now }
-    ensures { IfOk result (λ allotment. (under : List Setting) → HasSettings settings.now under
-        → IsAllotment asked.now uid (subordinate_uids tables.now under) allotment) }
-{
-    allotment_of(
-        alloc,
-        asked,
-        &tables.files().subuid,
-        uid,
-        uid_bounds(settings),
-    )
-}
-
-/// What a new user of the UID gets of subgid.
-pub(crate) fn subgid_for(
-    alloc: Global,
-    asked: &Asked,
-    tables: &Tables,
-    settings: &Defs,
-    uid: Option<u32>,
-) -> Result<Allotment, AllocError>
-    requires held { IsHeld settings.now }
-    ensures { IfOk result (λ allotment. (under : List Setting) → HasSettings settings.now under
-        → IsAllotment asked.now uid (subordinate_gids tables.now under) allotment) }
-{
-    allotment_of(
-        alloc,
-        asked,
-        &tables.files().subgid,
-        uid,
-        gid_bounds(settings),
-    )
-}
-
-// What a new user gets of a table, where there is one.
-fn allotment_of(
+/// What a new user of the UID gets of a table of subordinate IDs, of which the file is given where there
+/// is one.
+pub(crate) fn allotment_of(
     alloc: Global,
     asked: &Asked,
     file: &Option<Bytes>,
@@ -89,8 +35,8 @@ fn allotment_of(
     bounds: Bounds,
 ) -> Result<Allotment, AllocError>
     requires { bounds.maximum ≤ greatest_id }
-    ensures { IfOk result (λ allotment. (tab : Tab) → IsAllotment asked.now uid
-        (subordinate_of tab file.now bounds) allotment) }
+    ensures { IfOk result (λ given. given
+        ≡ allotment asked.now uid (subordinate_of file.now bounds)) }
 {
     match file {
         Some(text) if bounds.count > 0 && may_have_ranges(asked) => {
@@ -118,8 +64,8 @@ fn allotment_in(
     requires small { bounds.maximum ≤ greatest_id }
     requires some { 0 < bounds.count }
     requires may { may_have_ranges asked.now ≡ true }
-    ensures { IfOk result (λ allotment. (tab : Tab) → IsAllotment asked.now uid
-        (subordinate_of tab (Some text.now) bounds) allotment) }
+    ensures { IfOk result (λ given. given
+        ≡ allotment asked.now uid (subordinate_of (Some text.now) bounds)) }
 {
     let ranges = Ranges::load(alloc, text)?;
     if has_ranges(&ranges, asked.operand(), uid) {
@@ -139,8 +85,8 @@ fn has_ranges(ranges: &Ranges, user: &[u8], uid: Option<u32>) -> bool
     owned.next().is_some()
 }
 
-// The bounds of subordinate UIDs by the settings.
-fn uid_bounds(settings: &Defs) -> Bounds
+/// The bounds of subordinate UIDs by the settings.
+pub(crate) fn uid_bounds(settings: &Defs) -> Bounds
     requires held { IsHeld settings.now }
     ensures small { result.maximum ≤ greatest_id }
     ensures given { Gives settings.now uid_bounds_under result }
@@ -152,8 +98,8 @@ fn uid_bounds(settings: &Defs) -> Bounds
     }
 }
 
-// The bounds of subordinate GIDs by the settings.
-fn gid_bounds(settings: &Defs) -> Bounds
+/// The bounds of subordinate GIDs by the settings.
+pub(crate) fn gid_bounds(settings: &Defs) -> Bounds
     requires held { IsHeld settings.now }
     ensures small { result.maximum ≤ greatest_id }
     ensures given { Gives settings.now gid_bounds_under result }

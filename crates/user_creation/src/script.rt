@@ -1,23 +1,18 @@
 // The edits that make a user (useradd(8)).
-ghost use Rattle.std.specs.Prelude.{◌≡◌, ◌++◌, ◌∷◌, [], IfOk, OnOk, if◌then◌else◌};
+ghost use Rattle.std.specs.Prelude.{◌≡◌, ◌++◌, ◌∷◌, [], IfOk, OnOk};
 ghost use Rattle.account_model.specs.Edits.Edit.{Add, Put};
-ghost use Rattle.account_model.specs.Hashes.{locked};
-ghost use Rattle.account_model.specs.NewAccount.{add_group};
-ghost use Rattle.account_model.specs.Request.{operand};
+ghost use Rattle.account_model.specs.NewRanges.{allotted};
 ghost use Rattle.account_model.specs.Tables.{no_edits};
-ghost use Rattle.account_model.specs.Useradd.{join_groups as joined_groups, new_user};
+ghost use Rattle.account_model.specs.Useradd.{add_own_group, add_user, join_groups as joined_groups, new_user};
 ghost use Rattle.table_edits.specs.Additions.{HasAlso};
 ghost use Rattle.line_edits.specs.SeenEdits.{seen_edits};
 ghost use Rattle.table_edits.specs.SeenScript.{seen_script};
 ghost use Rattle.line_edits.specs.SubidChanges.{subid_becomes};
-ghost use Rattle.user_creation.specs.Allotments.{added_range};
 ghost use Rattle.user_creation.specs.Joining.{joining, joining_all};
-ghost use Rattle.user_creation.specs.Plans.{planned_script};
 
-use crate::plan::{NewIds, Plan};
-use crate::ranges::Allotment;
+use crate::plan::NewIds;
 use crate::records::new_user;
-use account_model::{ShadowRecord, SubidRecord};
+use account_model::{Allotment, Plan, ShadowRecord, SubidRecord};
 use acct_text::Bytes;
 use command_values::Asked;
 use given_groups::{find_group, group_words};
@@ -28,7 +23,7 @@ use table_lookups::{GroupIndex, Tables};
 
 /// The edits that make a user of these IDs with this line of shadow, by the plan: the lines of the
 /// user, a group of its own, the groups of `-G` and the subordinate ranges.
-pub(crate) fn planned_script(
+pub(crate) fn user_script(
     alloc: Global,
     asked: &Asked,
     tables: &Tables,
@@ -37,7 +32,7 @@ pub(crate) fn planned_script(
     shadow: ShadowRecord,
 ) -> Result<Script, AllocError>
     ensures { IfOk result (λ script. seen_script script
-        ≡ planned_script asked.now tables.now plan shadow ids.uid ids.gid) }
+        ≡ add_user asked.now tables.now plan shadow ids.uid ids.gid) }
 {
     let mut script = Script::new(alloc);
     add_lines(alloc, &mut script, asked, tables, ids, shadow)?;
@@ -78,9 +73,7 @@ fn add_own_group(
     plan: Plan,
     ids: NewIds,
 ) -> Result<(), AllocError>
-    ensures { OnOk result (HasAlso
-        (if plan.own_group then add_group (operand asked.now) locked ids.gid tables.now
-        else no_edits)
+    ensures { OnOk result (HasAlso (add_own_group asked.now tables.now plan ids.gid)
         script.old script.new) }
 {
     if !plan.own_group {
@@ -145,8 +138,8 @@ fn add_ranges(
 ) -> Result<(), AllocError>
     ensures { OnOk result (HasAlso
         (record no_edits {
-          subuid = added_range asked.now plan.subuid;
-          subgid = added_range asked.now plan.subgid;
+          subuid = allotted asked.now plan.subuid;
+          subgid = allotted asked.now plan.subgid;
         })
         script.old script.new) }
 {
@@ -162,7 +155,7 @@ fn add_range(
     allotment: Allotment,
 ) -> Result<(), AllocError>
     ensures { OnOk result (seen_edits subid_becomes edits.new.items
-        ≡ seen_edits subid_becomes edits.old.items ++ added_range asked.now allotment) }
+        ≡ seen_edits subid_becomes edits.old.items ++ allotted asked.now allotment) }
 {
     let Allotment::Range(first, count) = allotment else {
         return Ok(());

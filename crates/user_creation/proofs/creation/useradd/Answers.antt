@@ -3,8 +3,8 @@ use Rattle.table_edits.proofs.ActingLemmas.{acts-handed}
 use Rattle.user_creation.proofs.UseraddLemmas.{refused-by_words, refused-by_conflict, made-user}
 use Rattle.user_creation.proofs.creation.useradd.Goals as goal
 
-pub of-requires : goal.of-requires
-of-requires c =
+pub plan_of-requires : goal.plan_of-requires
+plan_of-requires c =
     let held = c.requires.held in
     record {
       held = record {
@@ -40,7 +40,7 @@ returns c = λ settings has.
     let conflicts = c.in_ok-ids.ensures {u = tt} in
     made-user asked c.args.tables.now (settings_for asked settings) c.args.day
     c.in_ok-plan.plan (c.in_ok-plan.ensures {u = tt} (settings_for asked settings) under)
-    words.refused c.in_ok-ids.ids c.in_ok-shadow.shadow c.in_ok-planned_script.field-0
+    words.refused c.in_ok-ids.ids c.in_ok-shadow.shadow c.in_ok-user_script.field-0
     conflicts.refused conflicts.ids
     (c.in_ok-shadow.ensures {u = tt} (settings_for asked settings) under)
-    (c.in_ok-planned_script.ensures {u = tt})
+    (c.in_ok-user_script.ensures {u = tt})
