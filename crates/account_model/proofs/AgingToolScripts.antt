@@ -14,30 +14,30 @@ use Rattle.acct_text.specs.Lines.{Line, lines_of}
 use Rattle.acct_text.specs.Numbers.{is_digits, number_within}
 use Rattle.acct_text.proofs.LinesLaws.{lines_of-are}
 use Rattle.acct_text.proofs.NumberLaws.{some-inj, number-is, is_digits-numeral}
-use Rattle.account_model.specs.declared.records.ShadowRecord.{ShadowRecord}
+use Rattle.account_formats.specs.declared.records.ShadowRecord.{ShadowRecord}
 use Rattle.account_model.specs.declared.refusal.LineProblem.{LineProblem}
 use Rattle.account_model.specs.declared.refusal.LineProblem.TheVariants.{NoColon, HashColon, UnknownUser}
 use Rattle.account_model.specs.declared.refusal.Refusal.{Refusal}
 use Rattle.account_model.specs.declared.refusal.Refusal.TheVariants.{BadLine}
-use Rattle.account_model.specs.Text.{hyphen, has_byte, first_some}
-use Rattle.account_model.specs.Format.{is_named}
-use Rattle.account_model.specs.Edits.{each_where}
-use Rattle.account_model.specs.Records.{shadow_format, greatest_days}
-use Rattle.account_model.specs.Written.{IsField, IsDaysNumber, IsShadow}
-use Rattle.account_model.specs.Tables.{no_edits}
-use Rattle.account_model.specs.WrittenScript.{IsWrittenScript}
-use Rattle.account_model.specs.Dates.{Date, DayFault, is_leap_year, no_day_shape, no_such_day, day_out_of_range, is_date, day_of, days_of_years, days_in_year, are_digits, written_date, day_of_written, read_date_pieces, read_day_number, read_day}
-use Rattle.account_model.specs.Values.{days_value, date_value}
+use Rattle.account_formats.specs.Text.{hyphen, has_byte, first_some}
+use Rattle.account_formats.specs.Format.{is_named}
+use Rattle.account_formats.specs.Edits.{each_where}
+use Rattle.account_formats.specs.Records.{shadow_format, greatest_days}
+use Rattle.account_formats.specs.Written.{IsField, IsDaysNumber, IsShadow}
+use Rattle.account_formats.specs.Tables.{no_edits}
+use Rattle.account_formats.specs.WrittenScript.{IsWrittenScript}
+use Rattle.account_words.specs.Dates.{Date, DayFault, is_leap_year, no_day_shape, no_such_day, day_out_of_range, is_date, day_of, days_of_years, days_in_year, are_digits, written_date, day_of_written, read_date_pieces, read_day_number, read_day}
+use Rattle.account_words.specs.Values.{days_value, date_value}
 use Rattle.account_model.specs.Hashes.{demand_shadow, each_user_hash}
 use Rattle.account_model.specs.Users.{has_user, aging_of}
-use Rattle.account_model.specs.Request.{Request, has_option, operand}
+use Rattle.account_words.specs.Request.{Request, has_option, operand}
 use Rattle.account_model.specs.Action.{changes, reports}
 use Rattle.account_model.specs.Chage.{with_aging, chage_refusals, chage_script, aging_report, chage}
 use Rattle.account_model.specs.Chpasswd.{line_name, line_hash, line_problem, bad_line_from, set_last_change, set_hash, line_script, chpasswd}
-use Rattle.account_model.proofs.DatesLaws.{date_parts, within_year}
+use Rattle.account_words.proofs.DatesLaws.{date_parts, within_year}
 use Rattle.account_model.proofs.DeedLaws.{first-none}
-use Rattle.account_model.proofs.FieldFacts.{lacks-byte}
-use Rattle.account_model.proofs.HeldLaws.{shadow-holds, each_where-written}
+use Rattle.account_words.proofs.FieldFacts.{lacks-byte}
+use Rattle.account_formats.proofs.HeldLaws.{shadow-holds, each_where-written}
 use Rattle.account_model.proofs.RefusalFacts.{field-kept}
 use Rattle.account_model.proofs.WrittenScripts.{none-written, users-written, order-written, demand-shadow-written, user-hash-written}
 
@@ -51,7 +51,8 @@ some-map-inj n (Some m) e = some-inj e
 -- a number of days that a value means
 days-by :
     (text : List ℕ) (days : Option ℕ) (cleared : Bool)
-    → (if cleared then Some None else option_map Some (number_within greatest_days text)) ≡ Some days
+    → (if cleared then Some None else option_map Some
+    (number_within greatest_days text)) ≡ Some days
     → IsDaysNumber days
 days-by text None cleared e = tt
 days-by text (Some n) true e = cc
@@ -84,7 +85,8 @@ date-small date is early =
 written-by :
     (date : Date) (day : Option ℕ) (there past : Bool)
     → is_date date ≡ there
-    → (if not there then Err no_such_day else (if past then Err day_out_of_range else Ok (Some (day_of date)))) ≡ Ok day
+    → (if not there then Err no_such_day else (if past then Err day_out_of_range
+    else Ok (Some (day_of date)))) ≡ Ok day
     → date.year < 10000
     → IsDaysNumber day
 written-by date day false past is e early = cc
@@ -123,7 +125,8 @@ pieces-held [] found e = cc
 pieces-held (year ∷ []) found e = cc
 pieces-held (year ∷ month ∷ []) found e = cc
 pieces-held (year ∷ month ∷ day ∷ []) found e =
-    pieces-by year month day found (are_digits 4 year && are_digits 2 month && are_digits 2 day) refl e
+    pieces-by year month day found (are_digits 4 year && are_digits 2 month
+    && are_digits 2 day) refl e
 pieces-held (year ∷ month ∷ day ∷ more ∷ rest) found e = cc
 
 -- the number of a day
@@ -158,7 +161,8 @@ value-by :
     → IsDaysNumber found
 value-by text found (Err fault) is e = cc
 value-by text found (Ok day) is e =
-    subst (λ d. IsDaysNumber d) (some-inj e) (day-by text day (bytes_eq text (codes "-1")) (is_digits text) is)
+    subst (λ d. IsDaysNumber d) (some-inj e) (day-by text day (bytes_eq text (codes "-1"))
+    (is_digits text) is)
 
 -- a date is a day that shadow holds
 pub date-held : (text : List ℕ) (day : Option ℕ) → date_value text ≡ Some day → IsDaysNumber day
@@ -171,12 +175,15 @@ aging-held : (request : Request) (r : ShadowRecord) → IsShadow r → IsShadow 
 aging-held request r is = record {
   name = is.name;
   hash = is.hash;
-  last_change = field-kept IsDaysNumber date_value (codes "d") request r.last_change date-held is.last_change;
+  last_change = field-kept IsDaysNumber date_value (codes "d") request r.last_change
+      date-held is.last_change;
   minimum = field-kept IsDaysNumber days_value (codes "m") request r.minimum days-held is.minimum;
   maximum = field-kept IsDaysNumber days_value (codes "M") request r.maximum days-held is.maximum;
   warning = field-kept IsDaysNumber days_value (codes "W") request r.warning days-held is.warning;
-  inactive = field-kept IsDaysNumber days_value (codes "I") request r.inactive days-held is.inactive;
-  expiration = field-kept IsDaysNumber date_value (codes "E") request r.expiration date-held is.expiration;
+  inactive = field-kept IsDaysNumber days_value (codes "I") request r.inactive
+      days-held is.inactive;
+  expiration = field-kept IsDaysNumber date_value (codes "E") request r.expiration
+      date-held is.expiration;
   rest = is.rest;
 }
 
@@ -193,7 +200,8 @@ chage-script-written request files = order-written
       demand-shadow-written (operand request) files,
       (
         users-written [] _ tt (
-          each_where-written shadow_format IsShadow shadow-holds (is_named shadow_format (operand request)) (with_aging request)
+          each_where-written shadow_format IsShadow shadow-holds
+              (is_named shadow_format (operand request)) (with_aging request)
               (aging-held request),
           tt,
         ),
@@ -215,7 +223,8 @@ pub chage-written :
     (request : Request) (files : Files)
     → IsWrittenScript (chage request files).script
 chage-written request files =
-    chage-by request files (has_option (codes "l") request) (aging_report (aging_of (operand request) files))
+    chage-by request files (has_option (codes "l") request)
+    (aging_report (aging_of (operand request) files))
 
 -- ---- chpasswd
 
@@ -278,9 +287,13 @@ set-hash-written :
     → day ≤ greatest_days
     → IsWrittenScript (set_hash name hash files day)
 set-hash-written name hash files day is small = order-written
-    (demand_shadow name files ∷ each_user_hash name (λ old. hash) files ∷ set_last_change name day ∷ []) (
+    (demand_shadow name files ∷ each_user_hash name (λ old. hash) files
+    ∷ set_last_change name day ∷ []) (
       demand-shadow-written name files,
-      (user-hash-written name (λ old. hash) files (λ old held. is), (last-change-written name day small, tt)),
+      (
+        user-hash-written name (λ old. hash) files (λ old held. is),
+        (last-change-written name day small, tt),
+      ),
     )
 
 -- the first line, and those behind it, have no problem
@@ -306,7 +319,8 @@ lines-written number files day [] small apart none = tt
 lines-written number files day (line ∷ lines) small apart none =
     let good = first-good number files line lines (line_problem files line.text) refl none
     in (
-      set-hash-written (line_name line.text) (line_hash line.text) files day (hash-field files line.text apart.0 good.0) small,
+      set-hash-written (line_name line.text) (line_hash line.text) files day
+          (hash-field files line.text apart.0 good.0) small,
       lines-written (suc number) files day lines small apart.1 good.1,
     )
 

@@ -4,21 +4,22 @@ use Rattle.std.specs.Prelude.{◌≡◌, ℕ, ◌&&◌, if◌then◌else◌, tru
 use Rattle.std.specs.Fmt.{digits}
 use Rattle.acct_text.specs.declared.files.Files.{Files}
 use Rattle.acct_text.specs.declared.Tab.TheVariants.{Passwd, Group}
-use Rattle.account_model.specs.declared.tool.Tool.{Tool}
-use Rattle.account_model.specs.declared.tool.Tool.TheVariants.{Groupadd}
+use Rattle.account_words.specs.declared.tool.Tool.{Tool}
+use Rattle.account_words.specs.declared.tool.Tool.TheVariants.{Groupadd}
 use Rattle.account_model.specs.Change.{action_of}
-use Rattle.account_model.specs.Text.{first_some}
+use Rattle.account_formats.specs.Text.{first_some}
 use Rattle.account_model.specs.Action.{Action, Made, made_by, multiple_entries, outcome_of}
-use Rattle.account_model.specs.Request.{Request}
+use Rattle.account_words.specs.Request.{Request}
 use Rattle.account_model.specs.Groupadd.{groupadd}
 use Rattle.account_model.specs.declared.refusal.Refusal.TheVariants.{Multiple}
 use Rattle.std.proofs.Common.{◌∙◌, ap}
-use Rattle.account_model.specs.Words.{request_of}
+use Rattle.account_words.specs.Words.{request_of}
 use Rattle.account_model.specs.Answer.{Changed, FileProblem, files_problem, files_eq, succeeding, answer, answer_made, unusable as unusable_answer, deed, new_problem, passes_limit, TableTooLarge, TableAbsent, SettingsTooLarge, BadSettingAt}
-use Rattle.account_model.proofs.Image.{image, image_defs, file}
-use Rattle.account_model.specs.Tables.{passwd_records, files_after}
+use Rattle.account_model.proofs.Image.{image}
+use Rattle.account_words.proofs.SettingsImage.{image_defs, file}
+use Rattle.account_formats.specs.Tables.{passwd_records, files_after}
 use Rattle.acct_text.proofs.LinesLaws.{lines_of-are}
-use Rattle.account_model.proofs.SameLaws.{bytes-self}
+use Rattle.account_formats.proofs.SameLaws.{bytes-self}
 use Rattle.account_model.proofs.Commands.{words, lines, today, answer_to, unusable, nothing}
 
 -- the deed of words
@@ -46,7 +47,8 @@ same_deed = refl
 
 -- `groupadd -P R q`: a passwd above the limit is seen before the absent group
 large_table : (bytes : List ℕ) → passes_limit bytes ≡ true
-    → answer_to (words "groupadd -P R q") (record nothing { passwd = Some bytes; group = None }) None
+    → answer_to (words "groupadd -P R q") (record nothing
+    { passwd = Some bytes; group = None }) None
     ≡ unusable 10 (TableTooLarge Passwd) "groupadd: passwd is too large"
 unfolding digits
 large_table bytes large = rw (large, answer, first_some) refl
@@ -65,7 +67,8 @@ large_new_table :
 large_new_table files made large = rw (large, answer_made) refl
 
 -- `groupadd -P R q`: an absent group is seen before a bad number of login.defs
-table_before_settings : answer_to (words "groupadd -P R q") (record nothing { group = None }) (Some (lines "UID_MIN x"))
+table_before_settings : answer_to (words "groupadd -P R q") (record nothing { group = None })
+    (Some (lines "UID_MIN x"))
     ≡ unusable 10 (TableAbsent Group) "groupadd: group does not exist"
 unfolding digits
 table_before_settings = refl
@@ -96,14 +99,17 @@ abbrev with_q : List ℕ → Files
 with_q bytes = record nothing { passwd = Some bytes; group = Some (lines "q:!:1000:") }
 
 -- no table has multiple entries
-none-multiple : (bytes : List ℕ) → multiple_entries (groupadd adding_q (with_passwd bytes) []).script (with_passwd bytes) ≡ None
+none-multiple : (bytes : List ℕ) → multiple_entries
+    (groupadd adding_q (with_passwd bytes) []).script (with_passwd bytes) ≡ None
 unfolding digits
 none-multiple bytes =
-    ap (λ o. first_some (option_map (λ name. Multiple Passwd name) (option_map (λ r. r.name) o) ∷ None ∷ None ∷ None ∷ []))
+    ap (λ o. first_some (option_map (λ name. Multiple Passwd name) (option_map (λ r. r.name) o)
+    ∷ None ∷ None ∷ None ∷ []))
     (find-nothing (passwd_records (with_passwd bytes)))
 
 -- what groupadd makes
-q-made : (bytes : List ℕ) → files_after (groupadd adding_q (with_passwd bytes) []).script (with_passwd bytes) ≡ with_q bytes
+q-made : (bytes : List ℕ) → files_after (groupadd adding_q (with_passwd bytes) []).script
+    (with_passwd bytes) ≡ with_q bytes
 unfolding digits
 q-made bytes = ap with_q (lines_of-are bytes).joined
 
@@ -121,8 +127,14 @@ q-outcome : (bytes : List ℕ)
     ≡ Ok (record { files = with_q bytes; status = 0; output = []; notices = [] })
 unfolding digits
 q-outcome bytes =
-    outcome-made (groupadd adding_q (with_passwd bytes) []) (with_passwd bytes) refl (none-multiple bytes)
-    ∙ ap (λ files. Ok (record { files = files; status = 0; output = []; notices = [] })) (q-made bytes)
+    outcome-made (groupadd adding_q (with_passwd bytes) []) (with_passwd bytes) refl
+    (none-multiple bytes)
+    ∙ ap (λ files. Ok (record {
+      files = files;
+      status = 0;
+      output = [];
+      notices = [];
+    })) (q-made bytes)
 
 -- the answer to what a tool made of usable files
 answer-made :
@@ -141,8 +153,11 @@ changed-made :
 changed-made tool files made small differ = rw (small, differ, answer_made) refl
 
 -- a passwd within the limit, in front of tables without a problem
-first-small : (rest : List (Option FileProblem)) (bytes : List ℕ) → passes_limit bytes ≡ false
-    → first_some ((if passes_limit bytes then Some (TableTooLarge Passwd) else None) ∷ rest) ≡ first_some rest
+first-small :
+    (rest : List (Option FileProblem)) (bytes : List ℕ)
+    → passes_limit bytes ≡ false
+    → first_some ((if passes_limit bytes then Some (TableTooLarge Passwd) else None)
+    ∷ rest) ≡ first_some rest
 first-small rest bytes small = rw small refl
 
 -- `groupadd -P R q`: whatever passwd holds within its limit, it stays as it is
@@ -151,7 +166,10 @@ any_passwd : (bytes : List ℕ) → passes_limit bytes ≡ false
     ≡ record { cause = Changed (with_q bytes); status = 0; output = []; error = [] }
 unfolding digits
 any_passwd bytes small =
-    answer-made adding_q (with_passwd bytes) (record { files = with_q bytes; status = 0; output = []; notices = [] })
+    answer-made adding_q (with_passwd bytes) (record
+    { files = with_q bytes; status = 0; output = []; notices = [] })
     (first-small (None ∷ None ∷ None ∷ None ∷ None ∷ None ∷ []) bytes small) (q-outcome bytes)
-    ∙ changed-made Groupadd (with_passwd bytes) (record { files = with_q bytes; status = 0; output = []; notices = [] })
-    (first-small (None ∷ None ∷ None ∷ None ∷ None ∷ []) bytes small) (ap (λ b. b && false) (bytes-self bytes))
+    ∙ changed-made Groupadd (with_passwd bytes)
+    (record { files = with_q bytes; status = 0; output = []; notices = [] })
+    (first-small (None ∷ None ∷ None ∷ None ∷ None ∷ []) bytes small)
+    (ap (λ b. b && false) (bytes-self bytes))

@@ -2,21 +2,21 @@
 use Rattle.std.proofs.Common.{◌≡◌, ◌≢◌, ℕ, ◌≤◌, Bool, true, false, not, List, [], ◌∷◌, length, refl, sym, ◌∙◌, subst, inl, inr, map}
 use Rattle.std.specs.Prelude.{Option, Some, None, is_some, nat_le, unwrap_or, Ok, Err, if◌then◌else◌}
 use Rattle.std.specs.List.{list_all, AllByRecursion}
-use Rattle.account_model.specs.Records.{passwd_format, shadow_format, group_format, gshadow_format, subid_format}
+use Rattle.account_formats.specs.Records.{passwd_format, shadow_format, group_format, gshadow_format, subid_format}
 use Rattle.std.proofs.lemmas.Bool.{leb-true, and_cases, true≢false}
 use Rattle.std.proofs.lemmas.Slice.Eq.{bytes_eq-Decides}
-use Rattle.account_model.specs.declared.tool.Tool.{Tool}
+use Rattle.account_words.specs.declared.tool.Tool.{Tool}
 use Rattle.acct_text.specs.declared.Tab.{Tab}
 use Rattle.acct_text.specs.declared.Tab.TheVariants.{Passwd, Shadow, Group, Gshadow, Subuid, Subgid}
 use Rattle.acct_text.specs.declared.files.Files.{Files}
 use Rattle.account_model.specs.declared.refusal.Refusal.{Refusal}
-use Rattle.account_model.specs.Text.{first_some}
-use Rattle.account_model.specs.Format.{Format}
-use Rattle.account_model.specs.Edits.{Edit}
+use Rattle.account_formats.specs.Text.{first_some}
+use Rattle.account_formats.specs.Format.{Format}
+use Rattle.account_formats.specs.Edits.{Edit}
 use Rattle.acct_text.specs.Files.{table_of}
-use Rattle.account_model.specs.Tables.{Script, table_after, files_after}
-use Rattle.account_model.specs.Settings.{settings_of}
-use Rattle.account_model.specs.Request.{Request}
+use Rattle.account_formats.specs.Tables.{Script, table_after, files_after}
+use Rattle.account_words.specs.Settings.{settings_of}
+use Rattle.account_words.specs.Request.{Request}
 use Rattle.account_model.specs.Action.{Action, made_by, outcome_of, multiple_entries}
 use Rattle.account_model.specs.Change.{action_of}
 use Rattle.acct_text.specs.Limits.{table_limit}
@@ -41,10 +41,12 @@ differing :
     → list_all (λ tab. same_content (table_of old tab) (table_of new tab)) ts ≡ false
     → (tab : Tab) × (table_of new tab ≢ table_of old tab)
 differing old new [] e = cc
-differing old new (tab ∷ ts) e = elim (and_cases (same_content (table_of old tab) (table_of new tab)) (list_all (λ tab. same_content (table_of old tab) (table_of new tab)) ts) e) [
-  | inl here ↦ (tab, eq-table (table_of old tab) (table_of new tab) here)
-  | inr later ↦ differing old new ts later
-]
+differing old new (tab ∷ ts) e = elim (and_cases
+    (same_content (table_of old tab) (table_of new tab))
+    (list_all (λ tab. same_content (table_of old tab) (table_of new tab)) ts) e) [
+      | inl here ↦ (tab, eq-table (table_of old tab) (table_of new tab) here)
+      | inr later ↦ differing old new ts later
+    ]
 
 -- ---- Tables that stand
 
@@ -131,10 +133,12 @@ record ComesFrom (script : Script) (old new : Files) : Type 0 where
 -- what a tool made is changed, by its problem and whether it is the same
 made-by :
     (tool : Tool) (action : Action) (old new : Files) (problem : Option FileProblem) (same : Bool)
-    → new_problem (files_after action.script old) ≡ problem → files_eq old (files_after action.script old) ≡ same
+    → new_problem (files_after action.script old) ≡ problem
+    → files_eq old (files_after action.script old) ≡ same
     → new_files (elim problem as (λ p. Answer) [
       | Some p ↦ unusable tool p
-      | None ↦ succeeding tool (if same then Same else Changed (files_after action.script old)) (made_by action old)
+      | None ↦ succeeding tool (if same then Same else Changed (files_after action.script old))
+          (made_by action old)
     ]).cause ≡ Some new
     → ComesFrom action.script old new
 made-by tool action old new (Some p) same is_problem is_same e = cc
@@ -155,15 +159,21 @@ outcome-by : (tool : Tool) (action : Action) (old new : Files) (refusal multiple
 outcome-by tool action old new (Some r) multiple e = cc
 outcome-by tool action old new None (Some r) e = cc
 outcome-by tool action old new None None e =
-    made-by tool action old new (new_problem (files_after action.script old)) (files_eq old (files_after action.script old)) refl refl e
+    made-by tool action old new (new_problem (files_after action.script old))
+    (files_eq old (files_after action.script old)) refl refl e
 
 -- an answer is changed, by the problem of the files
 answer-by :
     (tool : Tool) (action : Action) (old new : Files) (problem : Option FileProblem)
-    → new_files (elim problem as (λ p. Answer) [ Some p ↦ unusable tool p | None ↦ answer_outcome tool old (outcome_of action old) ]).cause ≡ Some new
+    → new_files (elim problem as (λ p. Answer) [
+      | Some p ↦ unusable tool p
+      | None ↦ answer_outcome tool old
+          (outcome_of action old)
+    ]).cause ≡ Some new
     → ComesFrom action.script old new
 answer-by tool action old new (Some p) e = cc
-answer-by tool action old new None e = outcome-by tool action old new (first_some action.refusals) (multiple_entries action.script old) e
+answer-by tool action old new None e = outcome-by tool action old new (first_some action.refusals)
+    (multiple_entries action.script old) e
 
 -- files that come from a script are a change
 comes-is :
@@ -172,9 +182,11 @@ comes-is :
     → IsChange (table_of old) (table_of new)
 comes-is script old new comes = record {
   changed = differing old new all_tables comes.differ;
-  standing = λ tab. subst (λ f. is_some (table_of f tab) ≡ is_some (table_of old tab)) comes.files (files-stand script old tab);
+  standing = λ tab. subst (λ f. is_some (table_of f tab) ≡ is_some (table_of old tab)) comes.files
+      (files-stand script old tab);
   small = λ tab bytes e. within-limit tab (table_of new tab) bytes
-      (each-table (λ tab. new_table_problem tab (table_of new tab) ≡ None) (small-among new all_tables comes.small) tab) e;
+      (each-table (λ tab. new_table_problem tab (table_of new tab) ≡ None)
+      (small-among new all_tables comes.small) tab) e;
 }
 
 -- a deed is a change
@@ -185,4 +197,5 @@ pub deed-is :
     → IsChange (table_of old) (table_of new)
 deed-is request input day old defs new e =
     let action = action_of request input day old (settings_of (unwrap_or defs []))
-    in comes-is action.script old new (answer-by request.tool action old new (files_problem old defs) e)
+    in comes-is action.script old new (answer-by request.tool action old new
+    (files_problem old defs) e)

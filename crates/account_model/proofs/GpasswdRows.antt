@@ -54,7 +54,8 @@ unfolding digits
 restricted = refl
 
 -- `gpasswd -P R -R q`: a line that isn't touched keeps its bytes, and a last one the want of an end
-kept_bytes : plainly_on (record nothing { group = Some (codes "q:h:0005:a\nr:x:0006:") }) (words "gpasswd -P R -R q")
+kept_bytes : plainly_on (record nothing { group = Some (codes "q:h:0005:a\nr:x:0006:") })
+    (words "gpasswd -P R -R q")
     ≡ changed (record nothing { group = Some (codes "q:!:5:a\nr:x:0006:") })
 unfolding digits
 kept_bytes = refl
@@ -79,7 +80,8 @@ ghost_user = refl
 
 -- `gpasswd -P R -d root sudo`
 not_member : on image (words "gpasswd -P R -d root sudo")
-    ≡ refused 3 (NotMember (codes "root") (codes "sudo")) "gpasswd: user root is not a member of sudo"
+    ≡ refused 3 (NotMember (codes "root") (codes "sudo"))
+    "gpasswd: user root is not a member of sudo"
 unfolding digits
 not_member = refl
 

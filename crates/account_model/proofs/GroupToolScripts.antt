@@ -6,22 +6,22 @@ use Rattle.std.specs.Prelude.{Option, Some, None, ◌==◌, codes, is_some, if�
 use Rattle.std.specs.List.{AllByRecursion}
 use Rattle.acct_text.specs.declared.files.Files.{Files}
 use Rattle.acct_text.proofs.NumberLaws.{some-inj}
-use Rattle.account_model.specs.declared.records.GroupRecord.{GroupRecord}
+use Rattle.account_formats.specs.declared.records.GroupRecord.{GroupRecord}
 use Rattle.account_model.specs.declared.refusal.Refusal.{Refusal}
 use Rattle.account_model.specs.declared.refusal.Refusal.TheVariants.{BadName}
-use Rattle.account_model.specs.Text.{first_some}
-use Rattle.account_model.specs.Names.{is_valid_name}
-use Rattle.account_model.specs.Records.{passwd_format, group_format, gshadow_format, greatest_id}
-use Rattle.account_model.specs.Format.{is_named}
-use Rattle.account_model.specs.Written.{IsField, IsNameField, IsListed, IsPasswd, IsGroup, IsGshadow}
-use Rattle.account_model.specs.Tables.{no_edits}
-use Rattle.account_model.specs.WrittenScript.{IsWrittenScript}
-use Rattle.account_model.specs.Values.{is_field, is_id, given_gid, list_value}
-use Rattle.account_model.specs.Settings.{Setting}
+use Rattle.account_formats.specs.Text.{first_some}
+use Rattle.account_formats.specs.Names.{is_valid_name}
+use Rattle.account_formats.specs.Records.{passwd_format, group_format, gshadow_format, greatest_id, is_id}
+use Rattle.account_formats.specs.Format.{is_named}
+use Rattle.account_formats.specs.Written.{IsField, IsNameField, IsListed, IsPasswd, IsGroup, IsGshadow}
+use Rattle.account_formats.specs.Tables.{no_edits}
+use Rattle.account_formats.specs.WrittenScript.{IsWrittenScript}
+use Rattle.account_words.specs.Values.{is_field, given_gid, list_value}
+use Rattle.account_words.specs.Settings.{Setting}
 use Rattle.account_model.specs.Members.{each_members, add_to_group, remove_from_group}
 use Rattle.account_model.specs.Hashes.{locked, elsewhere, set_group_hash, set_administrators}
 use Rattle.account_model.specs.Users.{group_named}
-use Rattle.account_model.specs.Request.{Request, has_option, value_of, operand}
+use Rattle.account_words.specs.Request.{Request, has_option, value_of, operand}
 use Rattle.account_model.specs.Refusals.{refuse_value, bad_name, bad_value, bad_key, missing_group, missing_user, missing_users, bad_list_name}
 use Rattle.account_model.specs.Action.{Action, changes, with_option, with_flag}
 use Rattle.account_model.specs.NewAccount.{kind_of, settings_for, new_hash, new_group, new_gshadow, add_group}
@@ -30,8 +30,8 @@ use Rattle.account_model.specs.Groupmod.{set_gid, gid_script, rename_group, grou
 use Rattle.account_model.specs.Groupdel.{remove_group, groupdel}
 use Rattle.account_model.specs.Gpasswd.{not_member, gpasswd_refusals, gpasswd_script, gpasswd}
 use Rattle.account_model.proofs.DeedLaws.{first-none}
-use Rattle.account_model.proofs.HeldLaws.{passwd-holds, group-holds, gshadow-holds, each_where-written, drop_where-written}
-use Rattle.account_model.proofs.FieldFacts.{is_field-is, empty-field, valid-name}
+use Rattle.account_formats.proofs.HeldLaws.{passwd-holds, group-holds, gshadow-holds, each_where-written, drop_where-written}
+use Rattle.account_words.proofs.FieldFacts.{is_field-is, empty-field, valid-name}
 use Rattle.account_model.proofs.RefusalFacts.{refuse-none, value-none, good-value, text-kept, given-small, users-listed, user-listed}
 use Rattle.account_model.proofs.SettingBounds.{free-gid-small}
 use Rattle.account_model.proofs.WrittenScripts.{none-written, groups-written, order-written, some-written, option-written, flag-written, members-written, add-to-group-written, remove-from-group-written, elsewhere-field, locked-field, group-hash-written, administrators-written}
@@ -55,8 +55,10 @@ groupdel-written request files = remove-group-written (operand request)
 -- what the refusals of gpasswd leave open is refused nowhere
 record GpasswdPasses (group : List ℕ) (request : Request) (files : Files) : Type 0 where
   added : refuse_value (codes "a") request (λ user. missing_user user files) ≡ None
-  administrators : refuse_value (codes "A") request (λ users. missing_users (list_value users) files) ≡ None
-  members : refuse_value (codes "M") request (λ users. missing_users (list_value users) files) ≡ None
+  administrators : refuse_value (codes "A") request
+      (λ users. missing_users (list_value users) files) ≡ None
+  members : refuse_value (codes "M") request
+      (λ users. missing_users (list_value users) files) ≡ None
   listed : refuse_value (codes "a") request bad_list_name ≡ None
 
 -- no refusal of gpasswd
@@ -66,10 +68,14 @@ gpasswd-passes :
     → GpasswdPasses group request files
 gpasswd-passes group request files none =
     let after_group = first-none (missing_group group files) _ none
-    in let after_added = first-none (refuse_value (codes "a") request (λ user. missing_user user files)) _ after_group.1
-    in let after_member = first-none (refuse_value (codes "d") request (not_member group files)) _ after_added.1
-    in let after_administrators = first-none (refuse_value (codes "A") request (λ users. missing_users (list_value users) files)) _ after_member.1
-    in let after_members = first-none (refuse_value (codes "M") request (λ users. missing_users (list_value users) files)) _ after_administrators.1
+    in let after_added = first-none (refuse_value (codes "a") request
+    (λ user. missing_user user files)) _ after_group.1
+    in let after_member = first-none (refuse_value (codes "d") request
+    (not_member group files)) _ after_added.1
+    in let after_administrators = first-none (refuse_value (codes "A") request
+    (λ users. missing_users (list_value users) files)) _ after_member.1
+    in let after_members = first-none (refuse_value (codes "M") request
+    (λ users. missing_users (list_value users) files)) _ after_administrators.1
     in record {
       added = after_added.0;
       administrators = after_administrators.0;
@@ -94,7 +100,8 @@ administrators-listed :
     → value_of (codes "A") request ≡ Some users
     → AllByRecursion IsListed (list_value users)
 administrators-listed group request files users passes given = users-listed files users
-    (value-none (codes "A") request (λ names. missing_users (list_value names) files) users passes.administrators given)
+    (value-none (codes "A") request (λ names. missing_users (list_value names) files) users
+    passes.administrators given)
 
 -- and so can those of `-M`
 members-listed :
@@ -103,7 +110,8 @@ members-listed :
     → value_of (codes "M") request ≡ Some users
     → AllByRecursion IsListed (list_value users)
 members-listed group request files users passes given = users-listed files users
-    (value-none (codes "M") request (λ names. missing_users (list_value names) files) users passes.members given)
+    (value-none (codes "M") request (λ names. missing_users (list_value names) files) users
+    passes.members given)
 
 -- the edits of gpasswd
 gpasswd-script-written :
@@ -119,20 +127,28 @@ gpasswd-script-written group request files passes = order-written
     ∷ with_flag (codes "R") request (set_group_hash group locked files)
     ∷ []) (
       option-written (codes "a") request (add_to_group group)
-          (λ user given. add-to-group-written group user (added-listed group request files user passes given)),
+          (λ user given. add-to-group-written group user
+          (added-listed group request files user passes given)),
       (
-        option-written (codes "d") request (remove_from_group group) (λ user given. remove-from-group-written group user),
+        option-written (codes "d") request (remove_from_group group)
+            (λ user given. remove-from-group-written group user),
         (
-          option-written (codes "A") request (λ users. set_administrators group (list_value users) files)
+          option-written (codes "A") request (λ users. set_administrators group
+              (list_value users) files)
               (λ users given. administrators-written group (list_value users) files
               (administrators-listed group request files users passes given)),
           (
-            option-written (codes "M") request (λ users. each_members group (λ members. list_value users))
+            option-written (codes "M") request (λ users. each_members group
+                (λ members. list_value users))
                 (λ users given. members-written group (λ members. list_value users)
                 (λ names all. members-listed group request files users passes given)),
             (
               flag-written (codes "r") request _ (group-hash-written group [] files empty-field),
-              (flag-written (codes "R") request _ (group-hash-written group locked files locked-field), tt),
+              (
+                flag-written (codes "R") request _ (group-hash-written group locked
+                    files locked-field),
+                tt,
+              ),
             ),
           ),
         ),
@@ -145,7 +161,8 @@ pub gpasswd-written :
     → first_some (gpasswd request files).refusals ≡ None
     → IsWrittenScript (gpasswd request files).script
 gpasswd-written request files none =
-    gpasswd-script-written (operand request) request files (gpasswd-passes (operand request) request files none)
+    gpasswd-script-written (operand request) request files
+    (gpasswd-passes (operand request) request files none)
 
 -- ---- groupmod
 
@@ -160,12 +177,19 @@ set-gid-written group gid old small = record {
   subuid = tt;
   subgid = tt;
   group = (
-    each_where-written group_format IsGroup group-holds (is_named group_format group) (λ r. record r { gid = gid })
-        (λ r is. record { name = is.name; password = is.password; gid = small; members = is.members }),
+    each_where-written group_format IsGroup group-holds (is_named group_format group)
+        (λ r. record r { gid = gid })
+        (λ r is. record {
+          name = is.name;
+          password = is.password;
+          gid = small;
+          members = is.members;
+        }),
     tt,
   );
   passwd = (
-    each_where-written passwd_format IsPasswd passwd-holds (λ user. user.gid == old.gid) (λ user. record user { gid = gid })
+    each_where-written passwd_format IsPasswd passwd-holds (λ user. user.gid == old.gid)
+        (λ user. record user { gid = gid })
         (λ r is. record {
           name = is.name;
           password = is.password;
@@ -182,11 +206,13 @@ set-gid-written group gid old small = record {
 -- a name of a first field
 rename-group-written : (old new : List ℕ) → IsNameField new → IsWrittenScript (rename_group old new)
 rename-group-written old new named = groups-written _ _ (
-  each_where-written group_format IsGroup group-holds (is_named group_format old) (λ r. record r { name = new })
+  each_where-written group_format IsGroup group-holds (is_named group_format old)
+      (λ r. record r { name = new })
       (λ r is. record { name = named; password = is.password; gid = is.gid; members = is.members }),
   tt,
 ) (
-  each_where-written gshadow_format IsGshadow gshadow-holds (is_named gshadow_format old) (λ r. record r { name = new })
+  each_where-written gshadow_format IsGshadow gshadow-holds (is_named gshadow_format old)
+      (λ r. record r { name = new })
       (λ r is. record {
         name = named;
         password = is.password;
@@ -201,7 +227,8 @@ gid-script-written :
     (group : List ℕ) (request : Request) (files : Files)
     → IsWrittenScript (gid_script group request files)
 gid-script-written group request files =
-    some-written (λ gid. elim (group_named group files) [ None ↦ no_edits | Some old ↦ set_gid group gid old ]) (given_gid request)
+    some-written (λ gid. elim (group_named group files)
+    [ None ↦ no_edits | Some old ↦ set_gid group gid old ]) (given_gid request)
     (λ gid given. some-written (set_gid group gid) (group_named group files)
     (λ old found. set-gid-written group gid old (given-small (codes "g") request gid given)))
 
@@ -227,7 +254,8 @@ groupmod-script-written group request files none =
         (
           option-written (codes "n") request (rename_group group)
               (λ name given. rename-group-written group name
-              (valid-name name (good-value (codes "n") is_valid_name request name after_name.0 given))),
+              (valid-name name (good-value (codes "n") is_valid_name request name
+              after_name.0 given))),
           tt,
         ),
       ),
@@ -267,7 +295,12 @@ pub add-group-written :
     → IsWrittenScript (add_group name hash gid files)
 add-group-written name hash gid files named is small = groups-written _ _ (
   group-holds.written (new_group name (if is_some files.gshadow then elsewhere else hash) gid)
-      (record { name = named; password = password-by hash (is_some files.gshadow) is; gid = small; members = tt }),
+      (record {
+        name = named;
+        password = password-by hash (is_some files.gshadow) is;
+        gid = small;
+        members = tt;
+      }),
   tt,
 ) (
   gshadow-holds.written (new_gshadow name hash)
@@ -307,18 +340,21 @@ new-gid-by :
     → gid ≤ greatest_id
 new-gid-by request files settings gid None small e = other-gid-small request files settings gid e
 new-gid-by request files settings gid (Some n) small e =
-    taken-by request files settings gid n (has_option (codes "f") request && is_gid_taken request files n) (small n refl) e
+    taken-by request files settings gid n (has_option (codes "f") request
+    && is_gid_taken request files n) (small n refl) e
 
 -- the edits of groupadd, whatever it tests behind the name and the values
 groupadd-script-written :
-    (name : List ℕ) (request : Request) (files : Files) (settings : List Setting) (more : List (Option Refusal))
+    (name : List ℕ) (request : Request) (files : Files) (settings : List Setting)
+    (more : List (Option Refusal))
     → first_some (groupadd_checks name request ++ more) ≡ None
     → IsWrittenScript (groupadd_script name request files settings)
 groupadd-script-written name request files settings more none =
     let after_name = first-none (bad_name name) _ none
     in let after_key = first-none (bad_key request) _ after_name.1
     in let after_hash = first-none (bad_value (codes "p") is_field request) _ after_key.1
-    in some-written (λ gid. add_group name (new_hash request) gid files) (new_gid request files settings)
+    in some-written (λ gid. add_group name (new_hash request) gid files)
+    (new_gid request files settings)
     (λ gid e. add-group-written name (new_hash request) gid files
     (valid-name name (refuse-none (is_valid_name name) (BadName name) after_name.0))
     (new-hash-field request after_hash.0)
@@ -338,7 +374,8 @@ groupadd-by-written :
     → IsWrittenScript (groupadd-by name request files settings content).script
 groupadd-by-written name request files settings true none = none-written
 groupadd-by-written name request files settings false none =
-    groupadd-script-written name request files settings (groupadd_conflicts name request files settings) none
+    groupadd-script-written name request files settings
+    (groupadd_conflicts name request files settings) none
 
 -- groupadd adds a valid name with an ID
 pub groupadd-written :
@@ -346,4 +383,5 @@ pub groupadd-written :
     → first_some (groupadd request files settings).refusals ≡ None
     → IsWrittenScript (groupadd request files settings).script
 groupadd-written request files settings none =
-    groupadd-by-written (operand request) request files settings (is_content (operand request) request files) none
+    groupadd-by-written (operand request) request files settings
+    (is_content (operand request) request files) none

@@ -5,7 +5,8 @@ use Rattle.std.specs.Str.{byte}
 use Rattle.acct_text.specs.declared.Tab.TheVariants.{Passwd, Group, Gshadow}
 use Rattle.account_model.specs.declared.refusal.Refusal.TheVariants.{BadName, BadKey, BadValue, GroupExists, GidInUse, NoFreeGid, Multiple}
 use Rattle.account_model.specs.Answer.{TableAbsent}
-use Rattle.account_model.proofs.Image.{image, image_group, image_gshadow, file}
+use Rattle.account_model.proofs.Image.{image, image_group, image_gshadow}
+use Rattle.account_words.proofs.SettingsImage.{file}
 use Rattle.account_model.proofs.Commands.{words, lines, on, plainly_on, changed, same, refused, unusable, nothing}
 
 -- `groupadd -P R -g 1500 staff`: without gshadow the hash stands in group
@@ -15,13 +16,15 @@ unfolding digits
 first_group = refl
 
 -- `groupadd -P R -g 1500 other`: staff has the GID
-second_group : plainly_on (record nothing { group = Some (lines "staff:!:1500:") }) (words "groupadd -P R -g 1500 other")
+second_group : plainly_on (record nothing { group = Some (lines "staff:!:1500:") })
+    (words "groupadd -P R -g 1500 other")
     ≡ refused 4 (GidInUse 1500) "groupadd: GID 1500 is in use"
 unfolding digits
 second_group = refl
 
 -- `groupadd -P R -o -g 1500 other`: with `-o` it is taken
-shared_gid : plainly_on (record nothing { group = Some (lines "staff:!:1500:") }) (words "groupadd -P R -o -g 1500 other")
+shared_gid : plainly_on (record nothing { group = Some (lines "staff:!:1500:") })
+    (words "groupadd -P R -o -g 1500 other")
     ≡ changed (record nothing { group = Some (lines "staff:!:1500:|other:!:1500:") })
 unfolding digits
 shared_gid = refl
@@ -100,18 +103,21 @@ invalid_hash = refl
 
 -- `groupadd -P R -g 4294967295 sudo`
 invalid_gid : on image (words "groupadd -P R -g 4294967295 sudo")
-    ≡ refused 3 (BadValue (byte "g") (codes "4294967295")) "groupadd: invalid value for -g: 4294967295"
+    ≡ refused 3 (BadValue (byte "g") (codes "4294967295"))
+    "groupadd: invalid value for -g: 4294967295"
 unfolding digits
 invalid_gid = refl
 
 -- `groupadd -P R -K GID_MIN=7 -K GID_MAX=7 q`: the only GID of the range is used
-no_gid : plainly_on (record nothing { group = Some (lines "a:x:7:") }) (words "groupadd -P R -K GID_MIN=7 -K GID_MAX=7 q")
+no_gid : plainly_on (record nothing { group = Some (lines "a:x:7:") })
+    (words "groupadd -P R -K GID_MIN=7 -K GID_MAX=7 q")
     ≡ refused 4 NoFreeGid "groupadd: no free GID"
 unfolding digits
 no_gid = refl
 
 -- `groupadd -P R q`: a stale line of gshadow is replaced
-put_gshadow : plainly_on (record nothing { gshadow = Some (lines "q:old:a:b|r:!::") }) (words "groupadd -P R q")
+put_gshadow : plainly_on (record nothing { gshadow = Some (lines "q:old:a:b|r:!::") })
+    (words "groupadd -P R q")
     ≡ changed (record nothing {
       group = Some (lines "q:x:1000:");
       gshadow = Some (lines "q:!::|r:!::");
@@ -120,7 +126,8 @@ unfolding digits
 put_gshadow = refl
 
 -- `groupadd -P R q`: two of them are multiple entries
-two_gshadow : plainly_on (record nothing { gshadow = Some (lines "q:old:a:b|q:!::") }) (words "groupadd -P R q")
+two_gshadow : plainly_on (record nothing { gshadow = Some (lines "q:old:a:b|q:!::") })
+    (words "groupadd -P R q")
     ≡ refused 10 (Multiple Gshadow (codes "q")) "groupadd: gshadow has multiple entries for q"
 unfolding digits
 two_gshadow = refl

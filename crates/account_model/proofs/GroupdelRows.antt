@@ -8,15 +8,18 @@ use Rattle.account_model.proofs.Commands.{words, lines, on, plainly_on, changed,
 
 -- `groupdel -P R bob`
 primary_group : on image (words "groupdel -P R bob")
-    ≡ refused 8 (PrimaryGroup (codes "bob") (codes "bob")) "groupdel: group bob is the primary group of bob"
+    ≡ refused 8 (PrimaryGroup (codes "bob") (codes "bob"))
+    "groupdel: group bob is the primary group of bob"
 unfolding digits
 primary_group = refl
 
 -- `groupdel -P R -f bob`: with `-f` it goes
 forced_deletion : on image (words "groupdel -P R -f bob")
     ≡ changed (record image {
-      group = Some (lines "root:x:0:|daemon:x:1:|bin:x:2:|sudo:x:27:bob|www-data:x:33:|users:x:100:|messagebus:x:101:|nogroup:x:65534:");
-      gshadow = Some (lines "root:*::|daemon:*::|bin:*::|sudo:*::bob|www-data:*::|users:*::|messagebus:!::|nogroup:*::");
+      group = Some (lines
+          "root:x:0:|daemon:x:1:|bin:x:2:|sudo:x:27:bob|www-data:x:33:|users:x:100:|messagebus:x:101:|nogroup:x:65534:");
+      gshadow = Some (lines
+          "root:*::|daemon:*::|bin:*::|sudo:*::bob|www-data:*::|users:*::|messagebus:!::|nogroup:*::");
     })
 unfolding digits
 forced_deletion = refl

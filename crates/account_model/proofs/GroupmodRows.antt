@@ -11,13 +11,16 @@ use Rattle.account_model.proofs.Commands.{words, lines, on, plainly_on, changed,
 -- the image with the group bob as staff, of GID 2000
 abbrev with_staff : Files
 with_staff = record image {
-  passwd = Some (lines "root:x:0:0:root:/root:/bin/bash|daemon:x:1:1:daemon:/usr/sbin:/usr/sbin/nologin"
+  passwd = Some (lines
+      "root:x:0:0:root:/root:/bin/bash|daemon:x:1:1:daemon:/usr/sbin:/usr/sbin/nologin"
       ++ lines "bin:x:2:2:bin:/bin:/usr/sbin/nologin|www-data:x:33:33:www-data:/var/www:/usr/sbin/nologin"
       ++ lines "_apt:x:100:65534::/nonexistent:/usr/sbin/nologin|messagebus:x:101:101::/nonexistent:/usr/sbin/nologin"
       ++ lines "nobody:x:65534:65534:nobody:/nonexistent:/usr/sbin/nologin|bob:x:1000:2000:Bob,,,:/home/bob:/bin/bash");
-  group = Some (lines "root:x:0:|daemon:x:1:|bin:x:2:|sudo:x:27:bob|www-data:x:33:|users:x:100:|messagebus:x:101:"
+  group = Some (lines
+      "root:x:0:|daemon:x:1:|bin:x:2:|sudo:x:27:bob|www-data:x:33:|users:x:100:|messagebus:x:101:"
       ++ lines "nogroup:x:65534:|staff:x:2000:");
-  gshadow = Some (lines "root:*::|daemon:*::|bin:*::|sudo:*::bob|www-data:*::|users:*::|messagebus:!::|nogroup:*::|staff:!::");
+  gshadow = Some (lines
+      "root:*::|daemon:*::|bin:*::|sudo:*::bob|www-data:*::|users:*::|messagebus:!::|nogroup:*::|staff:!::");
 }
 
 -- `groupmod -P R -g 2000 -n staff bob`: the users of the group follow
@@ -27,7 +30,8 @@ unfolding digits
 moved_group = refl
 
 -- `groupmod -P R -p k q`: the hash of a group that gshadow lacks: a line on demand
-demanded : plainly_on (record nothing { group = Some (lines "q:h:5:a,b"); gshadow = Some [] }) (words "groupmod -P R -p k q")
+demanded : plainly_on (record nothing { group = Some (lines "q:h:5:a,b"); gshadow = Some [] })
+    (words "groupmod -P R -p k q")
     ≡ changed (record nothing {
       group = Some (lines "q:x:5:a,b");
       gshadow = Some (lines "q:k::a,b");
@@ -43,7 +47,8 @@ unfolding digits
 shared_gid = refl
 
 -- `groupmod -P R -g 7 q`: also where another group has the old GID
-all_users_follow : plainly_on (small "a:x:1:5::/:|b:x:2:5::/:|c:x:3:6::/:" "q:x:5:|r:x:5:") (words "groupmod -P R -g 7 q")
+all_users_follow : plainly_on (small "a:x:1:5::/:|b:x:2:5::/:|c:x:3:6::/:" "q:x:5:|r:x:5:")
+    (words "groupmod -P R -g 7 q")
     ≡ changed (small "a:x:1:7::/:|b:x:2:7::/:|c:x:3:6::/:" "q:x:7:|r:x:5:")
 unfolding digits
 all_users_follow = refl
@@ -85,7 +90,9 @@ unfolding digits
 used_name = refl
 
 -- `groupmod -P R -n b a`
-used_name_in_gshadow : plainly_on (record nothing { group = Some (lines "a:x:5:"); gshadow = Some (lines "b:!::") }) (words "groupmod -P R -n b a")
+used_name_in_gshadow : plainly_on (record nothing
+    { group = Some (lines "a:x:5:"); gshadow = Some (lines "b:!::") })
+    (words "groupmod -P R -n b a")
     ≡ refused 9 (GroupExists (codes "b")) "groupmod: group b exists"
 unfolding digits
 used_name_in_gshadow = refl

@@ -13,8 +13,10 @@ unfolding digits
 clean_groups = refl
 
 -- `grpck -P R -r`
-unknown_names : plainly_on (record (small "" "a:x:10:ghost") { passwd = Some []; gshadow = Some (lines "b:!::") }) (words "grpck -P R -r")
-    ≡ reported 2 "group:1: group a has unknown member ghost|group:1: group a has no gshadow entry|gshadow:1: group b has no group entry"
+unknown_names : plainly_on (record (small "" "a:x:10:ghost")
+    { passwd = Some []; gshadow = Some (lines "b:!::") }) (words "grpck -P R -r")
+    ≡ reported 2
+    "group:1: group a has unknown member ghost|group:1: group a has no gshadow entry|gshadow:1: group b has no group entry"
 unfolding digits
 unknown_names = refl
 
@@ -39,7 +41,9 @@ unfolding digits
 each_place = refl
 
 -- `grpck -P R -s`: gshadow follows, and names that group lacks come last
-sorted_by_gid : plainly_on (record nothing { group = Some (lines "b:x:2:|a:x:1:"); gshadow = Some (lines "c:!::|b:!::|a:!::") }) (words "grpck -P R -s")
+sorted_by_gid : plainly_on (record nothing
+    { group = Some (lines "b:x:2:|a:x:1:"); gshadow = Some (lines "c:!::|b:!::|a:!::") })
+    (words "grpck -P R -s")
     ≡ changed (record nothing {
       group = Some (lines "a:x:1:|b:x:2:");
       gshadow = Some (lines "a:!::|b:!::|c:!::");

@@ -1,11 +1,7 @@
 -- The image of a small system, on which the rows are computed.
-use Rattle.std.specs.Prelude.{ℕ, List, [], ◌∷◌, ◌++◌, flat_map, codes, Some, None}
+use Rattle.std.specs.Prelude.{ℕ, List, [], ◌∷◌, codes, Some, None}
 use Rattle.acct_text.specs.declared.files.Files.{Files}
-use Rattle.acct_text.specs.Bytes.{newline}
-
--- a file of these lines, each with its end
-abbrev pub file : List (List ℕ) → List ℕ
-file texts = flat_map (λ text. text ++ newline ∷ []) texts
+use Rattle.account_words.proofs.SettingsImage.{file}
 
 -- the lines of passwd
 abbrev pub image_passwd : List (List ℕ)
@@ -60,19 +56,6 @@ image_gshadow = codes "root:*::"
 -- the lines of subuid, and of subgid
 abbrev pub image_subid : List (List ℕ)
 image_subid = codes "bob:100000:65536" ∷ []
-
--- the lines of login.defs
-abbrev pub image_defs : List (List ℕ)
-image_defs = codes "# settings of the image"
-    ∷ codes "MAIL_DIR        /var/mail"
-    ∷ codes "PASS_MAX_DAYS   99999"
-    ∷ codes "PASS_MIN_DAYS   0"
-    ∷ codes "PASS_WARN_AGE   7"
-    ∷ codes "UID_MIN          1000"
-    ∷ codes "UID_MAX         60000"
-    ∷ codes "USERGROUPS_ENAB yes"
-    ∷ codes "UMASK           022"
-    ∷ []
 
 -- the six tables
 abbrev pub image : Files

@@ -4,7 +4,7 @@ use Rattle.std.specs.Prelude.{◌≡◌, ℕ, ◌==◌, List, [], ◌∷◌, ◌
 use Rattle.std.specs.List.{slice_split}
 use Rattle.std.specs.Fmt.{digits}
 use Rattle.acct_text.specs.Bytes.{newline}
-use Rattle.account_model.specs.Words.{fault}
+use Rattle.account_words.specs.Words.{fault}
 use Rattle.account_model.specs.WordMessages.{word_fault_status, word_fault_message}
 
 -- a status and a line
@@ -19,7 +19,10 @@ told status text = Some (record { status = status; error = codes text ++ newline
 abbrev tell : List (List ℕ) → Option Told
 tell words = elim (fault words) [
   | None ↦ None
-  | Some found ↦ Some (record { status = word_fault_status words found; error = word_fault_message words found })
+  | Some found ↦ Some (record {
+    status = word_fault_status words found;
+    error = word_fault_message words found;
+  })
 ]
 
 abbrev words : String → List (List ℕ)

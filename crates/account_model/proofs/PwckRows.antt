@@ -21,7 +21,8 @@ clean_after_recovery = refl
 -- a line that is no record, and one that is no text and has no end
 abbrev odd_lines : Files
 odd_lines = record (small "" "root:x:0:") {
-  passwd = Some (lines "root:x:0:0:root:/root:/bin/sh|bad:x:5:5:oops" ++ codes "jos:x:1000:0:Jos" ++ 233 ∷ codes ":/home/jos:/bin/sh");
+  passwd = Some (lines "root:x:0:0:root:/root:/bin/sh|bad:x:5:5:oops" ++ codes "jos:x:1000:0:Jos"
+      ++ 233 ∷ codes ":/home/jos:/bin/sh");
 }
 
 -- `pwck -P R -r`
@@ -71,13 +72,18 @@ unfolding digits
 quiet = refl
 
 -- `pwck -P R -s`: other text keeps its place
-sorted_by_uid : plainly_on (record nothing { passwd = Some (lines "b:x:2:0::/:|oops|a:x:1:0::/:") }) (words "pwck -P R -s")
+sorted_by_uid : plainly_on (record nothing { passwd = Some (lines "b:x:2:0::/:|oops|a:x:1:0::/:") })
+    (words "pwck -P R -s")
     ≡ changed (record nothing { passwd = Some (lines "a:x:1:0::/:|oops|b:x:2:0::/:") })
 unfolding digits
 sorted_by_uid = refl
 
 -- `pwck -P R -s`: equal UIDs keep their order; shadow follows, and names that passwd lacks come last
-stable : plainly_on (record nothing { passwd = Some (lines "c:x:2:0::/:|b:x:2:0::/:|a:x:01:0::/:"); shadow = Some (lines "z:!:::::::|b:!:::::::|#|y:!:::::::|a:!:::::::|c:!:::::::") }) (words "pwck -P R -s")
+stable : plainly_on (record nothing {
+  passwd = Some (lines "c:x:2:0::/:|b:x:2:0::/:|a:x:01:0::/:");
+  shadow = Some (lines "z:!:::::::|b:!:::::::|#|y:!:::::::|a:!:::::::|c:!:::::::");
+})
+    (words "pwck -P R -s")
     ≡ changed (record nothing {
       passwd = Some (lines "a:x:01:0::/:|c:x:2:0::/:|b:x:2:0::/:");
       shadow = Some (lines "a:!:::::::|c:!:::::::|#|b:!:::::::|z:!:::::::|y:!:::::::");
@@ -86,7 +92,8 @@ unfolding digits
 stable = refl
 
 -- `pwck -P R -s`: line ends keep their places
-sorted_ends : plainly_on (record nothing { passwd = Some (codes "b:x:2:0::/:\na:x:1:0::/:") }) (words "pwck -P R -s")
+sorted_ends : plainly_on (record nothing { passwd = Some (codes "b:x:2:0::/:\na:x:1:0::/:") })
+    (words "pwck -P R -s")
     ≡ changed (record nothing { passwd = Some (codes "a:x:1:0::/:\nb:x:2:0::/:") })
 unfolding digits
 sorted_ends = refl

@@ -11,21 +11,21 @@ use Rattle.acct_text.specs.Pieces.{Lacks}
 use Rattle.acct_text.specs.Lines.{Line, lines_of}
 use Rattle.acct_text.proofs.LinesLaws.{lines_of-are}
 use Rattle.acct_text.proofs.NumberLaws.{some-inj, number-is}
-use Rattle.account_model.specs.declared.records.PasswdRecord.{PasswdRecord}
-use Rattle.account_model.specs.declared.records.GroupRecord.{GroupRecord}
+use Rattle.account_formats.specs.declared.records.PasswdRecord.{PasswdRecord}
+use Rattle.account_formats.specs.declared.records.GroupRecord.{GroupRecord}
 use Rattle.account_model.specs.declared.refusal.Refusal.{Refusal}
 use Rattle.account_model.specs.declared.refusal.Refusal.TheVariants.{BadName, NoUser}
-use Rattle.account_model.specs.Text.{comma, has_byte}
-use Rattle.account_model.specs.Format.{Format, records_of, is_named}
-use Rattle.account_model.specs.Records.{passwd_format, group_format, read_id, greatest_id}
-use Rattle.account_model.specs.Written.{IsNameField, IsListed, IsPasswd, IsGroup, Holds}
-use Rattle.account_model.specs.Tables.{table_records, passwd_records, group_records}
+use Rattle.account_formats.specs.Text.{comma, has_byte}
+use Rattle.account_formats.specs.Format.{Format, records_of, is_named}
+use Rattle.account_formats.specs.Records.{passwd_format, group_format, read_id, greatest_id}
+use Rattle.account_formats.specs.Written.{IsNameField, IsListed, IsPasswd, IsGroup, Holds}
+use Rattle.account_formats.specs.Tables.{table_records, passwd_records, group_records}
 use Rattle.account_model.specs.Users.{find_user, has_user, group_named}
-use Rattle.account_model.specs.Values.{given_id, text_value, field_value, list_value}
-use Rattle.account_model.specs.Request.{Request, value_of}
+use Rattle.account_words.specs.Values.{given_id, text_value, field_value, list_value}
+use Rattle.account_words.specs.Request.{Request, value_of}
 use Rattle.account_model.specs.Refusals.{refuse_if, refuse_value, bad_value, bad_value_of, bad_list_name, missing_user, missing_users}
-use Rattle.account_model.proofs.HeldLaws.{passwd-holds, group-holds}
-use Rattle.account_model.proofs.FieldFacts.{lacks-byte, not-false, both-listed, list-no_comma}
+use Rattle.account_formats.proofs.HeldLaws.{passwd-holds, group-holds}
+use Rattle.account_words.proofs.FieldFacts.{lacks-byte, not-false, both-listed, list-no_comma}
 
 -- ---- Values
 
@@ -60,7 +60,8 @@ pub good-value :
     → test value ≡ true
 good-value letter test request value none given =
     refuse-none (test value) (bad_value_of letter value)
-    (value-none letter request (λ v. refuse_if (not (test v)) (bad_value_of letter v)) value none given)
+    (value-none letter request (λ v. refuse_if (not (test v))
+    (bad_value_of letter v)) value none given)
 
 -- a field that takes what is given, or stays
 pub kept-by :
@@ -73,13 +74,15 @@ kept-by P (Some value) old keeps is = keeps value refl
 
 -- what holds of an old field and of all good values holds of the new field
 pub text-kept :
-    (P : List ℕ → Type 0) (letter : List ℕ) (test : List ℕ → Bool) (request : Request) (old : List ℕ)
+    (P : List ℕ → Type 0) (letter : List ℕ) (test : List ℕ → Bool)
+    (request : Request) (old : List ℕ)
     → ((value : List ℕ) → test value ≡ true → P value)
     → bad_value letter test request ≡ None
     → P old
     → P (text_value letter request old)
 text-kept P letter test request old good none is =
-    kept-by P (value_of letter request) old (λ value given. good value (good-value letter test request value none given)) is
+    kept-by P (value_of letter request) old (λ value given. good value
+    (good-value letter test request value none given)) is
 
 -- a field of a value that means something, or stays
 field-by :
@@ -92,7 +95,8 @@ field-by P meaning (Some text) old means is = kept-by P (meaning text) old (mean
 
 -- what holds of an old field and of all meanings holds of the new field
 pub field-kept :
-    {V : Type 0} (P : V → Type 0) (meaning : List ℕ → Option V) (letter : List ℕ) (request : Request) (old : V)
+    {V : Type 0} (P : V → Type 0) (meaning : List ℕ → Option V) (letter : List ℕ)
+    (request : Request) (old : V)
     → ((text : List ℕ) (value : V) → meaning text ≡ Some value → P value)
     → P old
     → P (field_value meaning letter request old)
@@ -205,7 +209,8 @@ has-named name files is = named-by name files (find_user name files) refl is
 
 -- the name of a user who isn't missing can stand in a first field
 pub user-named : (name : List ℕ) (files : Files) → missing_user name files ≡ None → IsNameField name
-user-named name files none = has-named name files (refuse-none (has_user name files) (NoUser name) none)
+user-named name files none = has-named name files
+    (refuse-none (has_user name files) (NoUser name) none)
 
 -- no name is found to be missing
 find-none :
@@ -228,8 +233,13 @@ users-by :
     → AllByRecursion IsNameField names
 users-by files [] none = tt
 users-by files (name ∷ names) none =
-    let parts = find-none (λ name. not (has_user name files)) name names (not (has_user name files)) refl none
-    in (has-named name files (not-false (has_user name files) parts.0), users-by files names parts.1)
+    let parts = find-none (λ name. not (has_user name files)) name names
+    (not (has_user name files)) refl none
+    in (
+      has-named name files (not-false (has_user name files) parts.0),
+      users-by
+          files names parts.1,
+    )
 
 -- the users of a list option can stand in a list, where none is missing
 pub users-listed :
@@ -237,7 +247,8 @@ pub users-listed :
     → missing_users (list_value text) files ≡ None
     → AllByRecursion IsListed (list_value text)
 users-listed files text none = both-listed (list_value text)
-    (users-by files (list_value text) (map-none NoUser (find (λ name. not (has_user name files)) (list_value text)) none))
+    (users-by files (list_value text) (map-none NoUser
+    (find (λ name. not (has_user name files)) (list_value text)) none))
     (list-no_comma text)
 
 -- a name that isn't refused for a comma has none

@@ -4,7 +4,7 @@ use Rattle.std.specs.Prelude.{bytes_eq, if◌then◌else◌}
 use Rattle.std.proofs.lemmas.Bool.{cases_Bool, false_from_ne_true}
 use Rattle.std.proofs.Math.Bool.{or-true}
 use Rattle.std.proofs.lemmas.Slice.Eq.{bytes_eq-Decides}
-use Rattle.account_model.specs.Text.{is_listed}
+use Rattle.account_formats.specs.Text.{is_listed}
 use Rattle.account_model.specs.Members.{without_name, name_once, renamed_in}
 
 -- tests of two names
@@ -27,7 +27,8 @@ others_without name other differ [] = refl
 others_without name other differ (n ∷ names) = elim (cases_Bool (bytes_eq n name)) [
   | inl same ↦
       let e : n ≡ name = (bytes_eq-Decides n name).0 same in
-      let not_here : bytes_eq other n ≡ false = subst (λ m. bytes_eq other m ≡ false) (sym e) (apart other name differ) in
+      let not_here : bytes_eq other n ≡ false =
+      subst (λ m. bytes_eq other m ≡ false) (sym e) (apart other name differ) in
       rw (same, not_here) (others_without name other differ names)
   | inr kept ↦ rw kept (ap (λ b. bytes_eq other n || b) (others_without name other differ names))
 ]
@@ -59,9 +60,12 @@ others_replaced old new other not_old not_new [] = refl
 others_replaced old new other not_old not_new (n ∷ names) = elim (cases_Bool (bytes_eq n old)) [
   | inl same ↦
       let e : n ≡ old = (bytes_eq-Decides n old).0 same in
-      let not_here : bytes_eq other n ≡ false = subst (λ m. bytes_eq other m ≡ false) (sym e) (apart other old not_old) in
-      rw (same, not_here, apart other new not_new) (others_replaced old new other not_old not_new names)
-  | inr kept ↦ rw kept (ap (λ b. bytes_eq other n || b) (others_replaced old new other not_old not_new names))
+      let not_here : bytes_eq other n ≡ false =
+      subst (λ m. bytes_eq other m ≡ false) (sym e) (apart other old not_old) in
+      rw (same, not_here, apart other new not_new)
+      (others_replaced old new other not_old not_new names)
+  | inr kept ↦ rw kept (ap (λ b. bytes_eq other n || b)
+      (others_replaced old new other not_old not_new names))
 ]
 
 -- the old name is gone where the new one takes its place
@@ -91,7 +95,8 @@ pub old_is_gone :
     → is_listed old names ≡ true
     → is_listed old (renamed_in old new names) ≡ false
 old_is_gone old new names differ listed =
-    ap (is_listed old) (renaming_of old new names differ listed) ∙ others_once new old differ (replaced old new names) ∙ old_replaced old new differ names
+    ap (is_listed old) (renaming_of old new names differ listed)
+    ∙ others_once new old differ (replaced old new names) ∙ old_replaced old new differ names
 
 -- the others stay
 pub others_stay :
@@ -102,7 +107,9 @@ pub others_stay :
     → other ≢ new
     → is_listed other (renamed_in old new names) ≡ is_listed other names
 others_stay old new other names differ listed not_old not_new =
-    ap (is_listed other) (renaming_of old new names differ listed) ∙ others_once new other not_new (replaced old new names) ∙ others_replaced old new other not_old not_new names
+    ap (is_listed other) (renaming_of old new names differ listed)
+    ∙ others_once new other not_new (replaced old new names)
+    ∙ others_replaced old new other not_old not_new names
 
 -- a list without the old name stays
 pub unlisted_stays :
@@ -128,22 +135,31 @@ pub new_replaced :
     → is_listed new (replaced old new names) ≡ true
 new_replaced old new [] listed = cc
 new_replaced old new (n ∷ names) listed = elim (cases_Bool (bytes_eq n old)) [
-  | inl same ↦ let itself : bytes_eq new new ≡ true = (bytes_eq-Decides new new).1 refl in rw (same, itself) refl
+  | inl same ↦ let itself : bytes_eq new new ≡ true =
+      (bytes_eq-Decides new new).1 refl in rw (same, itself) refl
   | inr kept ↦
       let rest : is_listed old names ≡ true = rw (flipped n old kept) at listed in
-      rw kept (ap (λ b. bytes_eq new n || b) (new_replaced old new names rest) ∙ or-true (bytes_eq new n))
+      rw kept (ap (λ b. bytes_eq new n || b) (new_replaced old new names rest)
+      ∙ or-true (bytes_eq new n))
 ]
 
 -- a list with the name once: some others, the name, and some others
 pub once_split :
     (name : List ℕ) (names : List (List ℕ))
     → is_listed name names ≡ true
-    → (before : List (List ℕ)) × (after : List (List ℕ)) × (name_once name names ≡ before ++ name ∷ after) × (is_listed name before ≡ false) × (is_listed name after ≡ false)
+    → (before : List (List ℕ)) × (after : List (List ℕ))
+    × (name_once name names ≡ before ++ name ∷ after) × (is_listed name before ≡ false)
+    × (is_listed name after ≡ false)
 once_split name [] listed = absurd (cc)
 once_split name (n ∷ names) listed = elim (cases_Bool (bytes_eq n name)) [
   | inl same ↦
-      let e : n ≡ name = (bytes_eq-Decides n name).0 same in
-      ([], without_name name names, rw same (ap (λ m. m ∷ without_name name names) e), refl, none_without name names)
+      let e : n ≡ name = (bytes_eq-Decides n name).0 same in (
+        [],
+        without_name name names,
+        rw same (ap (λ m. m ∷ without_name name names) e),
+        refl,
+        none_without name names,
+      )
   | inr kept ↦
       let other : bytes_eq name n ≡ false = flipped n name kept in
       let rest : is_listed name names ≡ true = rw other at listed in
@@ -156,7 +172,9 @@ pub new_stands_once :
     (old new : List ℕ) (names : List (List ℕ))
     → old ≢ new
     → is_listed old names ≡ true
-    → (before : List (List ℕ)) × (after : List (List ℕ)) × (renamed_in old new names ≡ before ++ new ∷ after) × (is_listed new before ≡ false) × (is_listed new after ≡ false)
+    → (before : List (List ℕ)) × (after : List (List ℕ))
+    × (renamed_in old new names ≡ before ++ new ∷ after) × (is_listed new before ≡ false)
+    × (is_listed new after ≡ false)
 new_stands_once old new names differ listed =
     let found = once_split new (replaced old new names) (new_replaced old new names listed) in
     (found.0, found.1, renaming_of old new names differ listed ∙ found.2, found.3, found.4)

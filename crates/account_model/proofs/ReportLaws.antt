@@ -6,9 +6,9 @@ use Rattle.std.specs.Prelude.{cond, filter, Option, Some}
 use Rattle.std.specs.List.{AllByRecursion}
 use Rattle.std.proofs.lemmas.Bool.{eq-eqb, ne_eqb}
 use Rattle.acct_text.specs.Lines.{Line, lines_of}
-use Rattle.account_model.specs.Format.{Format, records_of}
+use Rattle.account_formats.specs.Format.{Format, records_of}
 use Rattle.account_model.specs.Problems.{Problem, RecordProblems, Located, problems_of_line, at_line, is_at, AreAscending, IsReport, problems_behind, table_problems}
-use Rattle.account_model.proofs.ListLaws.{all-append}
+use Rattle.account_formats.proofs.ListLaws.{all-append}
 
 -- ---- The numbers
 
@@ -41,9 +41,11 @@ behind-ascends :
     → AreAscending (length before + 1) (problems_behind format problems before lines)
 behind-ascends format problems before [] = tt
 behind-ascends format problems before (line ∷ after) =
-    at-ascends (length before + 1) (problems_of_line format problems (records_of format before) line.text)
+    at-ascends (length before + 1) (problems_of_line format problems
+    (records_of format before) line.text)
     (problems_behind format problems (before ++ line ∷ []) after)
-    (lower-ascends (length before + 1) (length (before ++ line ∷ []) + 1) _ (omega (arith, length-more before line))
+    (lower-ascends (length before + 1) (length (before ++ line ∷ []) + 1) _
+    (omega (arith, length-more before line))
     (behind-ascends format problems (before ++ line ∷ []) after))
 
 -- problems of one line have its number
@@ -56,16 +58,21 @@ at-within number bound (problem ∷ problems) small = (small, at-within number b
 
 -- the numbers of lines behind earlier ones pass none of the lines
 behind-within :
-    {R : Type 0} (format : Format R) (problems : RecordProblems R) (before lines : List Line) (bound : ℕ)
+    {R : Type 0} (format : Format R) (problems : RecordProblems R)
+    (before lines : List Line) (bound : ℕ)
     → length before + length lines ≤ bound
-    → AllByRecursion (λ located. located.line ≤ bound) (problems_behind format problems before lines)
+    → AllByRecursion (λ located. located.line ≤ bound)
+    (problems_behind format problems before lines)
 behind-within format problems before [] bound small = tt
 behind-within format problems before (line ∷ after) bound small =
     all-append (λ located. located.line ≤ bound)
-    (at_line (length before + 1) (problems_of_line format problems (records_of format before) line.text))
+    (at_line (length before + 1) (problems_of_line format problems
+    (records_of format before) line.text))
     (problems_behind format problems (before ++ line ∷ []) after)
-    (at-within (length before + 1) bound (problems_of_line format problems (records_of format before) line.text) (omega (arith, small)))
-    (behind-within format problems (before ++ line ∷ []) after bound (omega (arith, small, length-more before line)))
+    (at-within (length before + 1) bound (problems_of_line format problems
+    (records_of format before) line.text) (omega (arith, small)))
+    (behind-within format problems (before ++ line ∷ []) after bound
+    (omega (arith, small, length-more before line)))
 
 -- ---- The problems of one line
 
@@ -88,7 +95,8 @@ at-itself :
     → filter (is_at number) (at_line number problems) ≡ at_line number problems
 at-itself number [] = refl
 at-itself number (problem ∷ problems) = rw (eq-eqb number number refl)
-    (ap (λ rest. (let located : Located = record { line = number; problem = problem } in located) ∷ rest) (at-itself number problems))
+    (ap (λ rest. (let located : Located = record { line = number; problem = problem } in located)
+    ∷ rest) (at-itself number problems))
 
 -- and none of them at another
 at-other :
@@ -120,37 +128,49 @@ length-longer (line ∷ before) first middle =
 
 -- of lines behind earlier ones, the problems at a line are the line's
 behind-of-line :
-    {R : Type 0} (format : Format R) (problems : RecordProblems R) (before middle : List Line) (line : Line) (after : List Line)
-    → filter (is_at (length (before ++ middle) + 1)) (problems_behind format problems before (middle ++ line ∷ after))
-    ≡ at_line (length (before ++ middle) + 1) (problems_of_line format problems (records_of format (before ++ middle)) line.text)
+    {R : Type 0} (format : Format R) (problems : RecordProblems R) (before middle : List Line)
+    (line : Line) (after : List Line)
+    → filter (is_at (length (before ++ middle) + 1))
+    (problems_behind format problems before (middle ++ line ∷ after))
+    ≡ at_line (length (before ++ middle) + 1)
+    (problems_of_line format problems (records_of format (before ++ middle)) line.text)
 behind-of-line format problems before [] line after =
     let same : before ++ [] ≡ before = append-nil before
     in let own = problems_of_line format problems (records_of format before) line.text
     in let rest = problems_behind format problems (before ++ line ∷ []) after
     in subst
-    (λ lines. filter (is_at (length lines + 1)) (problems_behind format problems before (line ∷ after))
-    ≡ at_line (length lines + 1) (problems_of_line format problems (records_of format lines) line.text))
+    (λ lines. filter (is_at (length lines + 1))
+    (problems_behind format problems before (line ∷ after))
+    ≡ at_line (length lines + 1) (problems_of_line format problems
+    (records_of format lines) line.text))
     (sym same) (
     filter-append (is_at (length before + 1)) (at_line (length before + 1) own) rest
-    ∙ ap (λ front. front ++ filter (is_at (length before + 1)) rest) (at-itself (length before + 1) own)
+    ∙ ap (λ front. front ++ filter (is_at (length before + 1)) rest)
+    (at-itself (length before + 1) own)
     ∙ ap (λ back. at_line (length before + 1) own ++ back)
-    (ascending-none (length before + 1) (length (before ++ line ∷ []) + 1) rest (omega (arith, length-more before line))
+    (ascending-none (length before + 1) (length (before ++ line ∷ []) + 1) rest
+    (omega (arith, length-more before line))
     (behind-ascends format problems (before ++ line ∷ []) after))
     ∙ append-nil (at_line (length before + 1) own)
     )
 behind-of-line format problems before (first ∷ middle) line after =
-    let moved : (before ++ first ∷ []) ++ middle ≡ before ++ first ∷ middle = append_assoc before (first ∷ []) middle
+    let moved : (before ++ first ∷ []) ++ middle ≡ before ++ first ∷ middle =
+    append_assoc before (first ∷ []) middle
     in let later = subst
-    (λ lines. filter (is_at (length lines + 1)) (problems_behind format problems (before ++ first ∷ []) (middle ++ line ∷ after))
-    ≡ at_line (length lines + 1) (problems_of_line format problems (records_of format lines) line.text))
+    (λ lines. filter (is_at (length lines + 1))
+    (problems_behind format problems (before ++ first ∷ []) (middle ++ line ∷ after))
+    ≡ at_line (length lines + 1) (problems_of_line format problems
+    (records_of format lines) line.text))
     moved (behind-of-line format problems (before ++ first ∷ []) middle line after)
     in filter-append (is_at (length (before ++ first ∷ middle) + 1))
-    (at_line (length before + 1) (problems_of_line format problems (records_of format before) first.text))
+    (at_line (length before + 1) (problems_of_line format problems
+    (records_of format before) first.text))
     (problems_behind format problems (before ++ first ∷ []) (middle ++ line ∷ after))
     ∙ ap (λ front. front ++ filter (is_at (length (before ++ first ∷ middle) + 1))
     (problems_behind format problems (before ++ first ∷ []) (middle ++ line ∷ after)))
     (at-other (length (before ++ first ∷ middle) + 1) (length before + 1)
-    (problems_of_line format problems (records_of format before) first.text) (omega (arith, length-longer before first middle)))
+    (problems_of_line format problems (records_of format before) first.text)
+    (omega (arith, length-longer before first middle)))
     ∙ later
 
 -- ---- The whole
@@ -169,9 +189,11 @@ lines-report format problems lines = record {
 
 -- what is printed of a table is the report of its lines
 pub table-report :
-    {R : Type 0} (format : Format R) (problems : RecordProblems R) (content : Option (List ℕ)) (bytes : List ℕ)
+    {R : Type 0} (format : Format R) (problems : RecordProblems R)
+    (content : Option (List ℕ)) (bytes : List ℕ)
     → content ≡ Some bytes
     → IsReport format problems (lines_of bytes) (table_problems format problems content)
 table-report format problems content bytes stands =
-    subst (λ c. IsReport format problems (lines_of bytes) (table_problems format problems c)) (sym stands)
+    subst (λ c. IsReport format problems (lines_of bytes)
+    (table_problems format problems c)) (sym stands)
     (lines-report format problems (lines_of bytes))

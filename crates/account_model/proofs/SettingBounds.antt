@@ -7,18 +7,18 @@ use Rattle.std.proofs.lemmas.Bool.{leb-true}
 use Rattle.std.proofs.Math.Nat.{le_trans}
 use Rattle.acct_text.specs.declared.files.Files.{Files}
 use Rattle.acct_text.proofs.NumberLaws.{some-inj}
-use Rattle.account_model.specs.declared.settings.Key.{Key}
-use Rattle.account_model.specs.declared.settings.Key.TheVariants.{UidMin, GidMin, UidMax, GidMax, SysUidMin, SysGidMin, SysUidMax, SysGidMax, SubUidMax, SubGidMax, PassMinDays, PassMaxDays, PassWarnAge}
-use Rattle.account_model.specs.declared.settings.Kind.{Kind}
-use Rattle.account_model.specs.declared.settings.Kind.TheVariants.{Regular, System}
-use Rattle.account_model.specs.declared.settings.IdSort.TheVariants.{Uid, Gid}
-use Rattle.account_model.specs.Records.{greatest_id, greatest_days}
-use Rattle.account_model.specs.Written.{IsDaysNumber}
-use Rattle.account_model.specs.Settings.{Setting, key_name, setting_number, within, is_days_key, allowed_value, last_setting_value, given_value, default_value, one_less, number, range_between, range}
-use Rattle.account_model.specs.Ids.{chosen_id, used_uids, used_gids}
+use Rattle.account_words.specs.declared.settings.Key.{Key}
+use Rattle.account_words.specs.declared.settings.Key.TheVariants.{UidMin, GidMin, UidMax, GidMax, SysUidMin, SysGidMin, SysUidMax, SysGidMax, SubUidMax, SubGidMax, PassMinDays, PassMaxDays, PassWarnAge}
+use Rattle.account_words.specs.declared.settings.Kind.{Kind}
+use Rattle.account_words.specs.declared.settings.Kind.TheVariants.{Regular, System}
+use Rattle.account_words.specs.declared.settings.IdSort.TheVariants.{Uid, Gid}
+use Rattle.account_formats.specs.Records.{greatest_id, greatest_days}
+use Rattle.account_formats.specs.Written.{IsDaysNumber}
+use Rattle.account_words.specs.Settings.{Setting, key_name, setting_number, within, is_days_key, allowed_value, last_setting_value, given_value, default_value, one_less, number, range_between, range}
+use Rattle.account_words.specs.Ids.{chosen_id, used_uids, used_gids}
 use Rattle.account_model.specs.NewAccount.{free_uid, free_gid}
 use Rattle.account_model.specs.NewRanges.{id_number}
-use Rattle.account_model.proofs.IdsLaws.{chosen-free}
+use Rattle.account_words.proofs.IdsLaws.{chosen-free}
 
 -- ---- The value of a key
 
@@ -64,7 +64,8 @@ days-by n o false e = allowed-by greatest_days n o e
 key-by :
     (text : List ℕ) (n : ℕ) (days : Bool)
     → (if days
-    then (if bytes_eq text (codes "-1") then Some None else option_map Some (within greatest_days (setting_number text)))
+    then (if bytes_eq text (codes "-1") then Some None
+    else option_map Some (within greatest_days (setting_number text)))
     else option_map Some (within greatest_id (setting_number text))) ≡ Some (Some n)
     → n ≤ bound_of days
 key-by text n true e = days-by n (setting_number text) (bytes_eq text (codes "-1")) e
@@ -187,11 +188,13 @@ uid-range :
     → range Uid kind settings ≡ Some r
     → r.1 ≤ greatest_id
 uid-range Regular settings r e = small-range (number UidMin settings) (number UidMax settings) r
-    (λ n. number-bound UidMax (Some 60000) settings n (λ m. literal-small greatest_id 60000 m (lit≤ tt))) e
+    (λ n. number-bound UidMax (Some 60000) settings n
+    (λ m. literal-small greatest_id 60000 m (lit≤ tt))) e
 uid-range System settings r e =
     small-range (number SysUidMin settings) (number SysUidMax settings) r
     (λ n. number-bound SysUidMax (default_value SysUidMax settings) settings n
-    (λ m. less-bound (unwrap_or (given_value UidMin settings) (Some 1000)) m (uid-minimum settings))) e
+    (λ m. less-bound (unwrap_or (given_value UidMin settings) (Some 1000)) m
+    (uid-minimum settings))) e
 
 -- and so are GIDs
 gid-range :
@@ -199,11 +202,13 @@ gid-range :
     → range Gid kind settings ≡ Some r
     → r.1 ≤ greatest_id
 gid-range Regular settings r e = small-range (number GidMin settings) (number GidMax settings) r
-    (λ n. number-bound GidMax (Some 60000) settings n (λ m. literal-small greatest_id 60000 m (lit≤ tt))) e
+    (λ n. number-bound GidMax (Some 60000) settings n
+    (λ m. literal-small greatest_id 60000 m (lit≤ tt))) e
 gid-range System settings r e =
     small-range (number SysGidMin settings) (number SysGidMax settings) r
     (λ n. number-bound SysGidMax (default_value SysGidMax settings) settings n
-    (λ m. less-bound (unwrap_or (given_value GidMin settings) (Some 1000)) m (gid-minimum settings))) e
+    (λ m. less-bound (unwrap_or (given_value GidMin settings) (Some 1000)) m
+    (gid-minimum settings))) e
 
 -- what is chosen from a range is at most its maximum
 chosen-small :
@@ -246,9 +251,11 @@ unwrapped-small (Some n) small = small n refl
 -- SUB_UID_MAX
 pub subuid-maximum : (settings : List Setting) → id_number SubUidMax settings ≤ greatest_id
 subuid-maximum settings = unwrapped-small (number SubUidMax settings)
-    (λ n. number-bound SubUidMax (Some 600100000) settings n (λ m. literal-small greatest_id 600100000 m (lit≤ tt)))
+    (λ n. number-bound SubUidMax (Some 600100000) settings n
+    (λ m. literal-small greatest_id 600100000 m (lit≤ tt)))
 
 -- SUB_GID_MAX
 pub subgid-maximum : (settings : List Setting) → id_number SubGidMax settings ≤ greatest_id
 subgid-maximum settings = unwrapped-small (number SubGidMax settings)
-    (λ n. number-bound SubGidMax (Some 600100000) settings n (λ m. literal-small greatest_id 600100000 m (lit≤ tt)))
+    (λ n. number-bound SubGidMax (Some 600100000) settings n
+    (λ m. literal-small greatest_id 600100000 m (lit≤ tt)))

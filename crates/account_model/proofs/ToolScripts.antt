@@ -3,15 +3,15 @@
 use Rattle.std.proofs.Common.{◌≡◌, ℕ, ◌≤◌, Bool, true, false, List, []}
 use Rattle.std.specs.Prelude.{None, codes, if◌then◌else◌}
 use Rattle.acct_text.specs.declared.files.Files.{Files}
-use Rattle.account_model.specs.declared.tool.Tool.{Tool}
-use Rattle.account_model.specs.declared.tool.Tool.TheVariants.{Useradd, Usermod, Userdel, Groupadd, Groupmod, Groupdel, Gpasswd, Chage, Chpasswd, Pwck, Grpck, Getsubids}
-use Rattle.account_model.specs.Text.{first_some}
-use Rattle.account_model.specs.Records.{greatest_days}
-use Rattle.account_model.specs.Request.{Request, has_option}
-use Rattle.account_model.specs.Settings.{Setting}
+use Rattle.account_words.specs.declared.tool.Tool.{Tool}
+use Rattle.account_words.specs.declared.tool.Tool.TheVariants.{Useradd, Usermod, Userdel, Groupadd, Groupmod, Groupdel, Gpasswd, Chage, Chpasswd, Pwck, Grpck, Getsubids}
+use Rattle.account_formats.specs.Text.{first_some}
+use Rattle.account_formats.specs.Records.{greatest_days}
+use Rattle.account_words.specs.Request.{Request, has_option}
+use Rattle.account_words.specs.Settings.{Setting}
 use Rattle.account_model.specs.Action.{changes}
 use Rattle.account_model.specs.Change.{action_by, action_of}
-use Rattle.account_model.specs.WrittenScript.{IsWrittenScript}
+use Rattle.account_formats.specs.WrittenScript.{IsWrittenScript}
 use Rattle.account_model.specs.Pwck.{pwck_sort, pwck_report}
 use Rattle.account_model.specs.Grpck.{grpck_sort, grpck_report}
 use Rattle.account_model.proofs.WrittenScripts.{none-written}
@@ -24,9 +24,17 @@ use Rattle.account_model.proofs.AgingToolScripts.{chage-written, chpasswd-writte
 -- pwck, by whether it sorts
 pwck-by :
     (request : Request) (files : Files) (today : ℕ) (sorts : Bool)
-    → IsWrittenScript (if sorts then changes [] (pwck_sort files) else pwck_report request files today).script
+    → IsWrittenScript (if sorts then changes [] (pwck_sort files)
+    else pwck_report request files today).script
 pwck-by request files today true =
-    record { passwd = (tt, tt); shadow = (tt, tt); group = tt; gshadow = tt; subuid = tt; subgid = tt }
+    record {
+      passwd = (tt, tt);
+      shadow = (tt, tt);
+      group = tt;
+      gshadow = tt;
+      subuid = tt;
+      subgid = tt;
+    }
 pwck-by request files today false = none-written
 
 -- grpck, by whether it sorts
@@ -34,12 +42,20 @@ grpck-by :
     (files : Files) (sorts : Bool)
     → IsWrittenScript (if sorts then changes [] (grpck_sort files) else grpck_report files).script
 grpck-by files true =
-    record { passwd = tt; shadow = tt; group = (tt, tt); gshadow = (tt, tt); subuid = tt; subgid = tt }
+    record {
+      passwd = tt;
+      shadow = tt;
+      group = (tt, tt);
+      gshadow = (tt, tt);
+      subuid = tt;
+      subgid = tt;
+    }
 grpck-by files false = none-written
 
 -- tool by tool
 tool-written :
-    (tool : Tool) (request : Request) (input : List ℕ) (day : ℕ) (files : Files) (settings : List Setting)
+    (tool : Tool) (request : Request) (input : List ℕ) (day : ℕ) (files : Files)
+    (settings : List Setting)
     → day ≤ greatest_days
     → first_some (action_by tool request input day files settings).refusals ≡ None
     → IsWrittenScript (action_by tool request input day files settings).script

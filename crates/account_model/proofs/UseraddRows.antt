@@ -5,9 +5,10 @@ use Rattle.std.specs.Str.{byte}
 use Rattle.acct_text.specs.declared.Tab.TheVariants.{Shadow, Group, Gshadow, Subuid, Subgid}
 use Rattle.account_model.specs.declared.refusal.Refusal.TheVariants.{BadName, BadKey, BadValue, UserExists, GroupExists, NoGroup, UidInUse, NoFreeUid, NoFreeGid, NoGap, Multiple}
 use Rattle.acct_text.specs.Bytes.{newline}
-use Rattle.account_model.specs.declared.word_fault.WordFault.TheVariants.{UnknownOption}
+use Rattle.account_words.specs.declared.word_fault.WordFault.TheVariants.{UnknownOption}
 use Rattle.account_model.specs.Answer.{BadSettingAt}
-use Rattle.account_model.proofs.Image.{image, image_passwd, image_shadow, file}
+use Rattle.account_model.proofs.Image.{image, image_passwd, image_shadow}
+use Rattle.account_words.proofs.SettingsImage.{file}
 use Rattle.account_model.proofs.Commands.{words, lines, answer_to, on, plainly_on, changed, refused, unusable, with_ann, image_and, small, nothing}
 
 -- `useradd -P R -c "Ann Lee" -G sudo ann`: a user with a comment and a group
@@ -24,7 +25,8 @@ system_user = refl
 
 -- `useradd -r -F -P R svc`: with `-F` a system user gets subordinate IDs too
 system_user_with_ranges : on image (words "useradd -r -F -P R svc")
-    ≡ changed (record (image_and "svc:x:999:999::/home/svc:" "svc:!:20000::::::" "svc:x:999:" "svc:!::") {
+    ≡ changed (record (image_and "svc:x:999:999::/home/svc:" "svc:!:20000::::::"
+    "svc:x:999:" "svc:!::") {
       subuid = Some (lines "bob:100000:65536|svc:165536:65536");
       subgid = Some (lines "bob:100000:65536|svc:165536:65536");
     })
@@ -38,7 +40,8 @@ unfolding digits
 first_system_user = refl
 
 -- `useradd -r -N -P R sve`
-second_system_user : plainly_on (record nothing { passwd = Some (lines "svc:!:999:100::/home/svc:") }) (words "useradd -r -N -P R sve")
+second_system_user : plainly_on (record nothing
+    { passwd = Some (lines "svc:!:999:100::/home/svc:") }) (words "useradd -r -N -P R sve")
     ≡ changed (record nothing {
       passwd = Some (lines "svc:!:999:100::/home/svc:|sve:!:998:100::/home/sve:");
     })
@@ -46,15 +49,22 @@ unfolding digits
 second_system_user = refl
 
 -- `useradd -P R -N d`: the highest UID of the range is used, so the lowest free one is taken
-lowest_free_uid : plainly_on (record nothing { passwd = Some (lines "a:x:1000:0::/:|b:x:1001:0::/:|c:x:1002:0::/:|z:x:60000:0::/:") }) (words "useradd -P R -N d")
+lowest_free_uid : plainly_on (record nothing
+    { passwd = Some (lines "a:x:1000:0::/:|b:x:1001:0::/:|c:x:1002:0::/:|z:x:60000:0::/:") })
+    (words "useradd -P R -N d")
     ≡ changed (record nothing {
-      passwd = Some (lines "a:x:1000:0::/:|b:x:1001:0::/:|c:x:1002:0::/:|z:x:60000:0::/:|d:!:1003:100::/home/d:");
+      passwd = Some (lines
+          "a:x:1000:0::/:|b:x:1001:0::/:|c:x:1002:0::/:|z:x:60000:0::/:|d:!:1003:100::/home/d:");
     })
 unfolding digits
 lowest_free_uid = refl
 
 -- `useradd -P R -N -K UID_MIN=1000 -K UID_MAX=1002 d`
-no_free_uid : plainly_on (record nothing { passwd = Some (lines "a:x:1000:0::/:|b:x:1001:0::/:|c:x:1002:0::/:|z:x:60000:0::/:") }) (words "useradd -P R -N -K UID_MIN=1000 -K UID_MAX=1002 d")
+no_free_uid : plainly_on (record nothing {
+  passwd = Some
+      (lines "a:x:1000:0::/:|b:x:1001:0::/:|c:x:1002:0::/:|z:x:60000:0::/:");
+})
+    (words "useradd -P R -N -K UID_MIN=1000 -K UID_MAX=1002 d")
     ≡ refused 4 NoFreeUid "useradd: no free UID"
 unfolding digits
 no_free_uid = refl
@@ -77,7 +87,10 @@ unfolding digits
 shared_uid = refl
 
 -- `useradd -P R -N ann`: the gap from 101000 has 65535 numbers, and that from 166545 has 65536
-first_gap : plainly_on (record nothing { subuid = Some (lines "a:100000:1000|b:166535:10|c:232081:1") }) (words "useradd -P R -N ann")
+first_gap : plainly_on (record nothing {
+  subuid = Some
+      (lines "a:100000:1000|b:166535:10|c:232081:1");
+}) (words "useradd -P R -N ann")
     ≡ changed (record nothing {
       passwd = Some (lines "ann:!:1000:100::/home/ann:");
       subuid = Some (lines "a:100000:1000|b:166535:10|c:232081:1|ann:166545:65536");
@@ -107,7 +120,8 @@ unfolding digits
 all_fields = refl
 
 -- `useradd -P R -N -d /d -p h -e 2024-10-04 -f 3 -K PASS_WARN_AGE=5 ann`: with shadow they stand there
-all_shadow_fields : plainly_on (record nothing { shadow = Some [] }) (words "useradd -P R -N -d /d -p h -e 2024-10-04 -f 3 -K PASS_WARN_AGE=5 ann")
+all_shadow_fields : plainly_on (record nothing { shadow = Some [] })
+    (words "useradd -P R -N -d /d -p h -e 2024-10-04 -f 3 -K PASS_WARN_AGE=5 ann")
     ≡ changed (record nothing {
       passwd = Some (lines "ann:x:1000:100::/d:");
       shadow = Some (lines "ann:h:20000:::5:3:20000:");
@@ -121,8 +135,10 @@ group_by_gid :
     ≡ changed (record image {
       passwd = Some (file image_passwd ++ lines "x:x:1001:100::/home/x:");
       shadow = Some (file image_shadow ++ lines "x:!:20000:0:99999:7:::");
-      group = Some (lines "root:x:0:|daemon:x:1:|bin:x:2:|sudo:x:27:bob,x|www-data:x:33:|users:x:100:|messagebus:x:101:|nogroup:x:65534:|bob:x:1000:");
-      gshadow = Some (lines "root:*::|daemon:*::|bin:*::|sudo:*::bob,x|www-data:*::|users:*::|messagebus:!::|nogroup:*::|bob:!::");
+      group = Some (lines
+          "root:x:0:|daemon:x:1:|bin:x:2:|sudo:x:27:bob,x|www-data:x:33:|users:x:100:|messagebus:x:101:|nogroup:x:65534:|bob:x:1000:");
+      gshadow = Some (lines
+          "root:*::|daemon:*::|bin:*::|sudo:*::bob,x|www-data:*::|users:*::|messagebus:!::|nogroup:*::|bob:!::");
     })
 unfolding digits
 group_by_gid = refl
@@ -136,7 +152,8 @@ unfolding digits
 gid_of_own_group = refl
 
 -- `useradd -P R -N ann`: a line of shadow without a user is replaced
-shadow_line_is_put : plainly_on (record nothing { shadow = Some (lines "ann:*:1::::::") }) (words "useradd -P R -N ann")
+shadow_line_is_put : plainly_on (record nothing { shadow = Some (lines "ann:*:1::::::") })
+    (words "useradd -P R -N ann")
     ≡ changed (record nothing {
       passwd = Some (lines "ann:x:1000:100::/home/ann:");
       shadow = Some (lines "ann:!:20000::::::");
@@ -201,7 +218,8 @@ bad_value_p = refl
 
 -- `useradd -P R -u 4294967295 bob`
 bad_value_u : on image (words "useradd -P R -u 4294967295 bob")
-    ≡ refused 3 (BadValue (byte "u") (codes "4294967295")) "useradd: invalid value for -u: 4294967295"
+    ≡ refused 3 (BadValue (byte "u") (codes "4294967295"))
+    "useradd: invalid value for -u: 4294967295"
 unfolding digits
 bad_value_u = refl
 
@@ -230,7 +248,8 @@ unfolding digits
 group_exists = refl
 
 -- `useradd -P R -K GID_MIN=5 -K GID_MAX=4 -K UID_MIN=100 -K UID_MAX=101 -o -u 27 x`
-no_free_gid : on image (words "useradd -P R -K GID_MIN=5 -K GID_MAX=4 -K UID_MIN=100 -K UID_MAX=101 -o -u 27 x")
+no_free_gid : on image (words
+    "useradd -P R -K GID_MIN=5 -K GID_MAX=4 -K UID_MIN=100 -K UID_MAX=101 -o -u 27 x")
     ≡ refused 4 NoFreeGid "useradd: no free GID"
 unfolding digits
 no_free_gid = refl
@@ -267,13 +286,15 @@ unfolding digits
 bad_option = refl
 
 -- `useradd -P R -N ann`: two stale lines of shadow
-useradd_multiple_shadow : plainly_on (record nothing { shadow = Some (lines "ann:!:::::::|ann:*:::::::") }) (words "useradd -P R -N ann")
+useradd_multiple_shadow : plainly_on (record nothing
+    { shadow = Some (lines "ann:!:::::::|ann:*:::::::") }) (words "useradd -P R -N ann")
     ≡ refused 1 (Multiple Shadow (codes "ann")) "useradd: shadow has multiple entries for ann"
 unfolding digits
 useradd_multiple_shadow = refl
 
 -- `useradd -P R -U ann`: a line that is put as it is counts as touched
-equal_put_touches : plainly_on (record nothing { gshadow = Some (lines "ann:!::|ann:!::") }) (words "useradd -P R -U ann")
+equal_put_touches : plainly_on (record nothing { gshadow = Some (lines "ann:!::|ann:!::") })
+    (words "useradd -P R -U ann")
     ≡ refused 10 (Multiple Gshadow (codes "ann")) "useradd: gshadow has multiple entries for ann"
 unfolding digits
 equal_put_touches = refl

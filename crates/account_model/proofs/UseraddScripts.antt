@@ -7,43 +7,43 @@ use Rattle.std.proofs.lemmas.Bool.{and_parts}
 use Rattle.std.proofs.Math.Nat.{le_trans}
 use Rattle.acct_text.specs.declared.files.Files.{Files}
 use Rattle.acct_text.proofs.NumberLaws.{some-inj}
-use Rattle.account_model.specs.declared.records.GroupRecord.{GroupRecord}
+use Rattle.account_formats.specs.declared.records.GroupRecord.{GroupRecord}
 use Rattle.account_model.specs.declared.new_user.Allotment.TheVariants.{Unwanted, Full, Range}
-use Rattle.account_model.specs.declared.settings.Key.TheVariants.{PassMinDays, PassMaxDays, PassWarnAge}
+use Rattle.account_words.specs.declared.settings.Key.TheVariants.{PassMinDays, PassMaxDays, PassWarnAge}
 use Rattle.account_model.specs.declared.refusal.Refusal.{Refusal}
 use Rattle.account_model.specs.declared.refusal.Refusal.TheVariants.{BadName}
 use Rattle.acct_text.specs.Bytes.{newline, colon}
-use Rattle.account_model.specs.Text.{first_some, has_byte}
-use Rattle.account_model.specs.Names.{is_valid_name}
-use Rattle.account_model.specs.Records.{subid_format, greatest_id, greatest_days}
-use Rattle.account_model.specs.RecordEdits.{IsWrittenEdit}
-use Rattle.account_model.specs.Edits.Edit.{Add, Put}
-use Rattle.account_model.specs.Written.{IsField, IsListed, IsDaysNumber, IsPasswd, IsShadow, IsSubid}
-use Rattle.account_model.specs.Tables.{no_edits}
-use Rattle.account_model.specs.WrittenScript.{IsWrittenScript}
-use Rattle.account_model.specs.Settings.{Setting, number}
-use Rattle.account_model.specs.Values.{is_field, is_folder, is_shell, is_days_value, is_expiration_value, given_uid, days_value, expiration_value, text_value}
+use Rattle.account_formats.specs.Text.{first_some, has_byte}
+use Rattle.account_formats.specs.Names.{is_valid_name}
+use Rattle.account_formats.specs.Records.{subid_format, greatest_id, greatest_days}
+use Rattle.account_formats.specs.RecordEdits.{IsWrittenEdit}
+use Rattle.account_formats.specs.Edits.Edit.{Add, Put}
+use Rattle.account_formats.specs.Written.{IsField, IsListed, IsDaysNumber, IsPasswd, IsShadow, IsSubid}
+use Rattle.account_formats.specs.Tables.{no_edits}
+use Rattle.account_formats.specs.WrittenScript.{IsWrittenScript}
+use Rattle.account_words.specs.Settings.{Setting, number}
+use Rattle.account_words.specs.Values.{is_field, is_folder, is_shell, is_days_value, is_expiration_value, given_uid, days_value, expiration_value, text_value}
 use Rattle.account_model.specs.GivenGroups.{given_group, given_groups}
 use Rattle.account_model.specs.Hashes.{locked}
 use Rattle.account_model.specs.Members.{add_to_group}
-use Rattle.account_model.specs.Request.{Request, has_option, operand}
+use Rattle.account_words.specs.Request.{Request, has_option, operand}
 use Rattle.account_model.specs.Refusals.{bad_name, bad_value, bad_key}
 use Rattle.account_model.specs.NewAccount.{kind_of, settings_for, free_uid, free_gid, new_hash, add_group}
-use Rattle.account_model.specs.FreeRange.{IsFreeRange}
-use Rattle.account_model.specs.Ids.{is_used, used_gids}
-use Rattle.account_model.specs.SubidOwner.{is_owned}
+use Rattle.account_words.specs.FreeRange.{IsFreeRange}
+use Rattle.account_words.specs.Ids.{is_used, used_gids}
+use Rattle.account_words.specs.SubidOwner.{is_owned}
 use Rattle.account_model.specs.NewRanges.{Subordinate, subordinate_uids, subordinate_gids, may_have_ranges, is_allotted, free_start, new_range, allotment, allotted}
 use Rattle.account_model.specs.Useradd.{makes_group, new_uid, gid_beside, own_gid, default_gid, primary_gid, useradd_checks, useradd_conflicts, new_home, new_user, new_shadow, plan_of, add_own_group, join_groups, add_user, useradd_script, useradd_under, useradd}
 use Rattle.account_model.proofs.DeedLaws.{first-none}
-use Rattle.account_model.proofs.HeldLaws.{passwd-holds, shadow-holds, subid-holds}
-use Rattle.account_model.proofs.FieldFacts.{is_field-is, is_folder-is, is_shell-is, field-append, empty-field, valid-name, valid-listed, lacks-byte}
+use Rattle.account_formats.proofs.HeldLaws.{passwd-holds, shadow-holds, subid-holds}
+use Rattle.account_words.proofs.FieldFacts.{is_field-is, is_folder-is, is_shell-is, field-append, empty-field, valid-name, valid-listed, lacks-byte}
 use Rattle.account_model.proofs.RefusalFacts.{refuse-none, text-kept, field-kept, given-small}
 use Rattle.account_model.proofs.SettingBounds.{free-uid-small, free-gid-small, minimum-days, maximum-days, warning-days, subuid-maximum, subgid-maximum}
 use Rattle.account_model.proofs.WrittenScripts.{none-written, users-written, order-written, either-written, add-to-group-written, locked-field}
 use Rattle.account_model.proofs.GroupToolScripts.{add-group-written, password-by, new-hash-field}
 use Rattle.account_model.proofs.GivenFacts.{given-group-gid, expiration-held}
 use Rattle.account_model.proofs.AgingToolScripts.{days-held}
-use Rattle.account_model.proofs.FreeRangeLaws.{free_range-is}
+use Rattle.account_words.proofs.FreeRangeLaws.{free_range-is}
 
 -- ---- useradd: the IDs
 
@@ -51,7 +51,11 @@ use Rattle.account_model.proofs.FreeRangeLaws.{free_range-is}
 uid-by :
     (request : Request) (files : Files) (settings : List Setting) (uid : ℕ) (given : Option ℕ)
     → ((n : ℕ) → given ≡ Some n → n ≤ greatest_id)
-    → elim given as (λ o. Option ℕ) [ Some n ↦ Some n | None ↦ free_uid (kind_of request) files settings ] ≡ Some uid
+    → elim given as (λ o. Option ℕ) [
+      | Some n ↦ Some n
+      | None ↦ free_uid (kind_of request) files
+          settings
+    ] ≡ Some uid
     → uid ≤ greatest_id
 uid-by request files settings uid None small e =
     free-uid-small (kind_of request) files settings uid e
@@ -91,10 +95,12 @@ primary-by :
     (request : Request) (files : Files) (settings : List Setting) (gid : ℕ) (makes : Bool)
     → (if makes
     then own_gid request files settings
-    else Some (unwrap_or (option_map (λ group. group.gid) (given_group request files)) default_gid)) ≡ Some gid
+    else Some (unwrap_or (option_map (λ group. group.gid) (given_group request files))
+    default_gid)) ≡ Some gid
     → gid ≤ greatest_id
 primary-by request files settings gid true e =
-    own-gid-by request files settings gid (new_uid request files settings) (new-uid-small request files settings) e
+    own-gid-by request files settings gid (new_uid request files settings)
+    (new-uid-small request files settings) e
 primary-by request files settings gid false e =
     subst (λ k. k ≤ greatest_id) (some-inj e) (given-group-gid request files default_gid (lit≤ tt))
 
@@ -128,8 +134,10 @@ useradd-passes request more none =
     in let after_comment = first-none (bad_value (codes "c") is_field request) _ after_key.1
     in let after_home = first-none (bad_value (codes "d") is_folder request) _ after_comment.1
     in let after_base = first-none (bad_value (codes "b") is_folder request) _ after_home.1
-    in let after_expiration = first-none (bad_value (codes "e") is_expiration_value request) _ after_base.1
-    in let after_inactive = first-none (bad_value (codes "f") is_days_value request) _ after_expiration.1
+    in let after_expiration = first-none (bad_value (codes "e") is_expiration_value
+    request) _ after_base.1
+    in let after_inactive = first-none (bad_value (codes "f") is_days_value request)
+    _ after_expiration.1
     in let after_shell = first-none (bad_value (codes "s") is_shell request) _ after_inactive.1
     in let after_hash = first-none (bad_value (codes "p") is_field request) _ after_shell.1
     in record {
@@ -148,18 +156,25 @@ literal-field :
     → has_byte newline text ≡ false
     → IsField text
 literal-field text no_colon no_newline =
-    record { no_colon = lacks-byte colon text no_colon; no_newline = lacks-byte newline text no_newline }
+    record {
+      no_colon = lacks-byte colon text no_colon;
+      no_newline = lacks-byte
+          newline text no_newline;
+    }
 
 -- the home of a new user
 home-field : (request : Request) → UseraddPasses request → IsField (new_home request)
 home-field request passes =
-    let base = text-kept IsField (codes "b") is_folder request (codes "/home") is_folder-is passes.base
+    let base = text-kept IsField (codes "b") is_folder request (codes "/home")
+    is_folder-is passes.base
     (literal-field (codes "/home") refl refl)
     in let name = (valid-name (operand request) passes.name).field
     in let folder = text_value (codes "b") request (codes "/home") ++ codes "/"
     in let in_base : IsField (folder ++ operand request) = field-append folder (operand request)
-    (field-append (text_value (codes "b") request (codes "/home")) (codes "/") base (literal-field (codes "/") refl refl)) name
-    in text-kept IsField (codes "d") is_folder request (folder ++ operand request) is_folder-is passes.home in_base
+    (field-append (text_value (codes "b") request (codes "/home")) (codes "/") base
+    (literal-field (codes "/") refl refl)) name
+    in text-kept IsField (codes "d") is_folder request (folder ++ operand request)
+    is_folder-is passes.home in_base
 
 -- the new line of passwd
 new-user-held :
@@ -170,10 +185,12 @@ new-user-held :
     → IsPasswd (new_user request files uid gid)
 new-user-held request files uid gid passes small_uid small_gid = record {
   name = valid-name (operand request) passes.name;
-  password = password-by (new_hash request) (is_some files.shadow) (new-hash-field request passes.hash);
+  password = password-by (new_hash request) (is_some files.shadow)
+      (new-hash-field request passes.hash);
   uid = small_uid;
   gid = small_gid;
-  comment = text-kept IsField (codes "c") is_field request [] is_field-is passes.comment empty-field;
+  comment = text-kept IsField (codes "c") is_field request [] is_field-is
+      passes.comment empty-field;
   home = home-field request passes;
   shell = text-kept IsField (codes "s") is_shell request [] is_shell-is passes.shell empty-field;
 }
@@ -196,9 +213,12 @@ new-shadow-held request settings day passes small = record {
   name = valid-name (operand request) passes.name;
   hash = new-hash-field request passes.hash;
   last_change = small;
-  minimum = aging-by (number PassMinDays settings) (has_option (codes "r") request) (minimum-days settings);
-  maximum = aging-by (number PassMaxDays settings) (has_option (codes "r") request) (maximum-days settings);
-  warning = aging-by (number PassWarnAge settings) (has_option (codes "r") request) (warning-days settings);
+  minimum = aging-by (number PassMinDays settings) (has_option (codes "r") request)
+      (minimum-days settings);
+  maximum = aging-by (number PassMaxDays settings) (has_option (codes "r") request)
+      (maximum-days settings);
+  warning = aging-by (number PassWarnAge settings) (has_option (codes "r") request)
+      (warning-days settings);
   inactive = field-kept IsDaysNumber days_value (codes "f") request None days-held tt;
   expiration = field-kept IsDaysNumber expiration_value (codes "e") request None expiration-held tt;
   rest = empty-field;
@@ -215,7 +235,8 @@ range-held :
     → free_start ids ≡ Some start
     → IsSubid (new_range request start ids.count)
 range-held request ids start passes small some found =
-    let free = subst (λ choice. IsFreeRange ids.minimum ids.maximum ids.count ids.records choice) found
+    let free = subst (λ choice. IsFreeRange ids.minimum ids.maximum ids.count
+    ids.records choice) found
     (free_range-is ids.minimum ids.maximum ids.count some ids.records)
     in record {
       owner = valid-name (operand request) passes.name;
@@ -233,8 +254,11 @@ start-written :
     → AllByRecursion (IsWrittenEdit subid_format)
     (allotted request (elim start [ None ↦ Full | Some first ↦ Range first ids.count ]))
 start-written request ids None passes small some found = tt
-start-written request ids (Some start) passes small some found =
-    (subid-holds.written (new_range request start ids.count) (range-held request ids start passes small some found), tt)
+start-written request ids (Some start) passes small some found = (
+  subid-holds.written (new_range request start ids.count)
+      (range-held request ids start passes small some found),
+  tt,
+)
 
 -- a count that isn't 0
 some-count : (count : ℕ) → not (count == 0) ≡ true → 0 < count
@@ -253,7 +277,8 @@ allotted-by :
 allotted-by request uid ids false is passes small = tt
 allotted-by request uid ids true is passes small =
     start-written request ids (free_start ids) passes small
-    (some-count ids.count (and_parts (is_some ids.bytes && not (list_any (is_owned (operand request) uid) ids.records)
+    (some-count ids.count (and_parts (is_some ids.bytes
+    && not (list_any (is_owned (operand request) uid) ids.records)
     && may_have_ranges request) (not (ids.count == 0)) is).1)
     refl
 
@@ -285,7 +310,8 @@ add-user-written :
     → uid ≤ greatest_id
     → gid ≤ greatest_id
     → IsWrittenScript
-    (add_user request files (plan_of request files settings) (new_shadow request settings day) uid gid)
+    (add_user request files (plan_of request files settings)
+    (new_shadow request settings day) uid gid)
 add-user-written request files settings day uid gid passes small small_uid small_gid = order-written
     (record no_edits {
       passwd = Add (new_user request files uid gid) ∷ [];
@@ -302,15 +328,22 @@ add-user-written request files settings day uid gid passes small small_uid small
         passwd-holds.written (new_user request files uid gid)
             (new-user-held request files uid gid passes small_uid small_gid),
         tt,
-      )
-          (shadow-holds.written (new_shadow request settings day) (new-shadow-held request settings day passes small), tt),
+      ) (
+        shadow-holds.written (new_shadow request settings day)
+            (new-shadow-held request settings day passes small),
+        tt,
+      ),
       (
-        either-written (makes_group request settings) (add_group (operand request) locked gid files) no_edits
-            (add-group-written (operand request) locked gid files (valid-name (operand request) passes.name) locked-field small_gid)
+        either-written (makes_group request settings)
+            (add_group (operand request) locked gid files) no_edits
+            (add-group-written (operand request) locked gid files
+            (valid-name (operand request) passes.name) locked-field small_gid)
             none-written,
         (
-          order-written (map (λ group. add_to_group group.name (operand request)) (given_groups request files))
-              (joined-written (operand request) (given_groups request files) (valid-listed (operand request) passes.name)),
+          order-written (map (λ group. add_to_group group.name (operand request))
+              (given_groups request files))
+              (joined-written (operand request) (given_groups request files)
+              (valid-listed (operand request) passes.name)),
           (
             record {
               passwd = tt;
@@ -337,10 +370,14 @@ useradd-script-written :
     → ((n : ℕ) → gid ≡ Some n → n ≤ greatest_id)
     → IsWrittenScript (useradd_script request files (plan_of request files settings)
     (new_shadow request settings day) uid gid)
-useradd-script-written request files settings day None gid passes small small_uid small_gid = none-written
-useradd-script-written request files settings day (Some uid) None passes small small_uid small_gid = none-written
-useradd-script-written request files settings day (Some uid) (Some gid) passes small small_uid small_gid =
-    add-user-written request files settings day uid gid passes small (small_uid uid refl) (small_gid gid refl)
+useradd-script-written request files settings day None gid passes small small_uid
+    small_gid = none-written
+useradd-script-written request files settings day (Some uid) None passes small small_uid
+    small_gid = none-written
+useradd-script-written request files settings day (Some uid) (Some gid) passes small
+    small_uid small_gid =
+    add-user-written request files settings day uid gid passes small (small_uid uid refl)
+    (small_gid gid refl)
 
 -- useradd under settings
 useradd-under-written :
@@ -349,7 +386,8 @@ useradd-under-written :
     → first_some (useradd_under settings request files day).refusals ≡ None
     → IsWrittenScript (useradd_under settings request files day).script
 useradd-under-written settings request files day small none =
-    useradd-script-written request files settings day (new_uid request files settings) (primary_gid request files settings)
+    useradd-script-written request files settings day (new_uid request files settings)
+    (primary_gid request files settings)
     (useradd-passes request (useradd_conflicts request files (plan_of request files settings)) none)
     small
     (new-uid-small request files settings) (primary-gid-small request files settings)

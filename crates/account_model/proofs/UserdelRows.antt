@@ -5,11 +5,16 @@ use Rattle.acct_text.specs.declared.Tab.TheVariants.{Passwd, Shadow, Group}
 use Rattle.account_model.specs.declared.refusal.Refusal.TheVariants.{NoUser, Multiple}
 use Rattle.acct_text.specs.Bytes.{newline}
 use Rattle.account_model.specs.Answer.{Changed}
-use Rattle.account_model.proofs.Image.{image, image_passwd, image_group, image_gshadow, file}
+use Rattle.account_model.proofs.Image.{image, image_passwd, image_group, image_gshadow}
+use Rattle.account_words.proofs.SettingsImage.{file}
 use Rattle.account_model.proofs.Commands.{words, lines, answer_to, on, plainly_on, changed, refused, with_ann, small}
 
 -- `userdel -P R ann`: the group of the user's name stays: carl has it
-removed : on (record with_ann { passwd = Some (file image_passwd ++ lines "ann:x:1001:1001:Ann Lee:/home/ann:|carl:x:1002:1001::/home/carl:") }) (words "userdel -P R ann")
+removed : on (record with_ann {
+  passwd = Some
+      (file image_passwd ++ lines
+      "ann:x:1001:1001:Ann Lee:/home/ann:|carl:x:1002:1001::/home/carl:");
+}) (words "userdel -P R ann")
     ≡ Ok (record {
       cause = Changed (record image {
         passwd = Some (file image_passwd ++ lines "carl:x:1002:1001::/home/carl:");
@@ -24,7 +29,11 @@ unfolding digits
 removed = refl
 
 -- `userdel -f -P R ann`: with `-f` it goes
-removed_with_group : on (record with_ann { passwd = Some (file image_passwd ++ lines "ann:x:1001:1001:Ann Lee:/home/ann:|carl:x:1002:1001::/home/carl:") }) (words "userdel -f -P R ann")
+removed_with_group : on (record with_ann {
+  passwd = Some
+      (file image_passwd ++ lines
+      "ann:x:1001:1001:Ann Lee:/home/ann:|carl:x:1002:1001::/home/carl:");
+}) (words "userdel -f -P R ann")
     ≡ changed (record image {
       passwd = Some (file image_passwd ++ lines "carl:x:1002:1001::/home/carl:");
     })
@@ -32,9 +41,12 @@ unfolding digits
 removed_with_group = refl
 
 -- `userdel -f -P R a`: a group with members stays, with `-f` too
-members_left : answer_to (words "userdel -f -P R a") (record (small "a:x:1:1::/:" "a:x:1:a,b") { gshadow = Some (lines "a:!:b,a:a") }) (Some (lines "USERGROUPS_ENAB yes"))
+members_left : answer_to (words "userdel -f -P R a")
+    (record (small "a:x:1:1::/:" "a:x:1:a,b") { gshadow = Some (lines "a:!:b,a:a") })
+    (Some (lines "USERGROUPS_ENAB yes"))
     ≡ Ok (record {
-      cause = Changed (record (small "" "a:x:1:b") { passwd = Some []; gshadow = Some (lines "a:!:b:") });
+      cause = Changed (record (small "" "a:x:1:b")
+          { passwd = Some []; gshadow = Some (lines "a:!:b:") });
       status = 0;
       output = [];
       error = codes "userdel: group a kept: it has members" ++ newline ∷ [];
@@ -49,13 +61,15 @@ unfolding digits
 no_user_groups = refl
 
 -- `userdel -P R a`: ranges of the UID go where no other user has it
-ranges_by_uid : plainly_on (record (small "a:x:1:1::/:|b:x:2:1::/:|c:x:2:1::/:" "a:x:1:") { subuid = Some (lines "1:5:1|a:6:1|2:7:1") }) (words "userdel -P R a")
+ranges_by_uid : plainly_on (record (small "a:x:1:1::/:|b:x:2:1::/:|c:x:2:1::/:" "a:x:1:")
+    { subuid = Some (lines "1:5:1|a:6:1|2:7:1") }) (words "userdel -P R a")
     ≡ changed (record (small "b:x:2:1::/:|c:x:2:1::/:" "a:x:1:") { subuid = Some (lines "2:7:1") })
 unfolding digits
 ranges_by_uid = refl
 
 -- `userdel -P R b`
-ranges_of_shared_uid : plainly_on (record (small "a:x:1:1::/:|b:x:2:1::/:|c:x:2:1::/:" "a:x:1:") { subuid = Some (lines "1:5:1|b:6:1|2:7:1") }) (words "userdel -P R b")
+ranges_of_shared_uid : plainly_on (record (small "a:x:1:1::/:|b:x:2:1::/:|c:x:2:1::/:" "a:x:1:")
+    { subuid = Some (lines "1:5:1|b:6:1|2:7:1") }) (words "userdel -P R b")
     ≡ changed (record (small "a:x:1:1::/:|c:x:2:1::/:" "a:x:1:") {
       subuid = Some (lines "1:5:1|2:7:1");
     })
@@ -81,7 +95,8 @@ unfolding digits
 userdel_multiple_group = refl
 
 -- `userdel -P R a`: of two reasons to keep the group the notice names the members
-members_first : answer_to (words "userdel -P R a") (small "a:x:1:1::/:|c:x:2:1::/:" "a:x:1:b") (Some (lines "USERGROUPS_ENAB yes"))
+members_first : answer_to (words "userdel -P R a") (small "a:x:1:1::/:|c:x:2:1::/:" "a:x:1:b")
+    (Some (lines "USERGROUPS_ENAB yes"))
     ≡ Ok (record {
       cause = Changed (small "c:x:2:1::/:" "a:x:1:b");
       status = 0;
@@ -101,7 +116,8 @@ multiple_in_passwd = refl
 
 -- `userdel -P R a`: multiple entries in shadow alone
 multiple_in_shadow : plainly_on
-    (record (small "a:x:1:1::/:" "g:x:1:a|g:x:1:") { shadow = Some (lines "a:!:::::::|a:!:::::::") })
+    (record (small "a:x:1:1::/:" "g:x:1:a|g:x:1:")
+    { shadow = Some (lines "a:!:::::::|a:!:::::::") })
     (words "userdel -P R a")
     ≡ refused 1 (Multiple Shadow (codes "a")) "userdel: shadow has multiple entries for a"
 unfolding digits

@@ -6,16 +6,16 @@ use Rattle.std.specs.List.{AllByRecursion, cons_option}
 use Rattle.std.proofs.lemmas.Bool.{leb-true, ltb-true}
 use Rattle.acct_text.specs.Pieces.{cut_at}
 use Rattle.acct_text.proofs.NumberLaws.{some-inj, number-is}
-use Rattle.account_model.specs.declared.records.SubidRecord.{SubidRecord}
-use Rattle.account_model.specs.Text.{hyphen}
-use Rattle.account_model.specs.Format.{is_named}
-use Rattle.account_model.specs.Records.{subid_format, greatest_id, read_id, last_id}
-use Rattle.account_model.specs.RecordEdits.{IsWrittenEdit}
-use Rattle.account_model.specs.Written.{IsWritten, IsNameField, IsSubid}
-use Rattle.account_model.specs.SubidOwner.{is_owned, left_below, left_above, left_without}
+use Rattle.account_formats.specs.declared.records.SubidRecord.{SubidRecord}
+use Rattle.account_formats.specs.Text.{hyphen}
+use Rattle.account_formats.specs.Format.{is_named}
+use Rattle.account_formats.specs.Records.{subid_format, greatest_id, read_id, last_id}
+use Rattle.account_formats.specs.RecordEdits.{IsWrittenEdit}
+use Rattle.account_formats.specs.Written.{IsWritten, IsNameField, IsSubid}
+use Rattle.account_words.specs.SubidOwner.{is_owned, left_below, left_above, left_without}
 use Rattle.account_model.specs.UsermodRanges.{IdRange, range_of_ids, range_of_pieces, range_value, RangeOwner, RangeChange, rename_owner, cut_range, add_range, edits_before_adding, range_edits}
-use Rattle.account_model.proofs.HeldLaws.{subid-holds, each_where-written}
-use Rattle.account_model.proofs.ListLaws.{all-append}
+use Rattle.account_formats.proofs.HeldLaws.{subid-holds, each_where-written}
+use Rattle.account_formats.proofs.ListLaws.{all-append}
 
 -- two IDs in their order
 pub record IsOrdered (ids : IdRange) : Type 0 where
@@ -27,7 +27,8 @@ ordered-by :
     (first last : ℕ) (ids : IdRange) (fits : Bool)
     → nat_le first last ≡ fits
     → last ≤ greatest_id
-    → (if fits then Some (let r : IdRange = record { first = first; last = last } in r) else None) ≡ Some ids
+    → (if fits then Some (let r : IdRange = record { first = first; last = last } in r)
+    else None) ≡ Some ids
     → IsOrdered ids
 ordered-by first last ids false is small e = cc
 ordered-by first last ids true is small e =
@@ -52,7 +53,8 @@ pieces-ordered :
 pieces-ordered [] ids e = cc
 pieces-ordered (first ∷ []) ids e = cc
 pieces-ordered (first ∷ last ∷ []) ids e =
-    ids-by (read_id first) (read_id last) ids (λ n found. (number-is greatest_id last n found).bounded) e
+    ids-by (read_id first) (read_id last) ids
+    (λ n found. (number-is greatest_id last n found).bounded) e
 pieces-ordered (first ∷ last ∷ more ∷ rest) ids e = cc
 
 -- ranges of values
@@ -76,7 +78,8 @@ pub below-by :
     (first : ℕ) (r : SubidRecord) (before : Bool)
     → nat_lt r.first first ≡ before
     → IsSubid r
-    → AllByRecursion IsSubid (if before then record r { count = min (last_id r + 1) first - r.first } ∷ [] else [])
+    → AllByRecursion IsSubid (if before then record r
+    { count = min (last_id r + 1) first - r.first } ∷ [] else [])
 below-by first r false is held = tt
 below-by first r true is held =
     let less : r.first < first = ltb-true r.first first is
@@ -90,7 +93,11 @@ pub above-by :
     → nat_lt last (last_id r) ≡ behind
     → IsSubid r
     → AllByRecursion IsSubid (if behind
-    then record r { first = max r.first (last + 1); count = last_id r + 1 - max r.first (last + 1) } ∷ []
+    then record r {
+      first = max r.first (last + 1);
+      count = last_id r + 1 - max
+          r.first (last + 1);
+    } ∷ []
     else [])
 above-by last r false is held = tt
 above-by last r true is held =
@@ -105,7 +112,8 @@ pub left-held :
     → IsSubid r
     → AllByRecursion IsSubid (left_without first last r)
 left-held first last r held = all-append IsSubid (left_below first r) (left_above last r)
-    (below-by first r (nat_lt r.first first) refl held) (above-by last r (nat_lt last (last_id r)) refl held)
+    (below-by first r (nat_lt r.first first) refl held)
+    (above-by last r (nat_lt last (last_id r)) refl held)
 
 -- records that can stand in lines are written
 subids-written :
@@ -119,7 +127,8 @@ subids-written (r ∷ records) all = (subid-holds.written r all.0, subids-writte
 cut-by :
     (ids : IdRange) (r : SubidRecord) (owned : Bool)
     → IsSubid r
-    → AllByRecursion (IsWritten subid_format) (if owned then left_without ids.first ids.last r else r ∷ [])
+    → AllByRecursion (IsWritten subid_format)
+    (if owned then left_without ids.first ids.last r else r ∷ [])
 cut-by ids r true held =
     subids-written (left_without ids.first ids.last r) (left-held ids.first ids.last r held)
 cut-by ids r false held = (subid-holds.written r held, tt)
@@ -130,7 +139,8 @@ cuts-written :
     → AllByRecursion (IsWrittenEdit subid_format) (map (cut_range owner) ranges)
 cuts-written owner [] = tt
 cuts-written owner (ids ∷ ranges) = (
-  (λ text r lacks read. cut-by ids r (is_owned owner.new_name owner.uid r) (subid-holds.read text r lacks read)),
+  (λ text r lacks read. cut-by ids r (is_owned owner.new_name owner.uid r)
+      (subid-holds.read text r lacks read)),
   cuts-written owner ranges,
 )
 
@@ -149,8 +159,11 @@ adds-written :
     → AllByRecursion IsOrdered ranges
     → AllByRecursion (IsWrittenEdit subid_format) (map (add_range owner) ranges)
 adds-written owner [] named all = tt
-adds-written owner (ids ∷ ranges) named all =
-    (subid-holds.written _ (added-held owner.new_name ids named all.0), adds-written owner ranges named all.1)
+adds-written owner (ids ∷ ranges) named all = (
+  subid-holds.written _ (added-held owner.new_name ids named all.0),
+  adds-written
+      owner ranges named all.1,
+)
 
 -- the owner field
 owner-written :
@@ -159,7 +172,8 @@ owner-written :
     → IsWrittenEdit subid_format (rename_owner owner)
 owner-written owner named =
     each_where-written subid_format IsSubid subid-holds (is_named subid_format owner.old_name)
-    (λ r. record r { owner = owner.new_name }) (λ r is. record { owner = named; some = is.some; last = is.last })
+    (λ r. record r { owner = owner.new_name })
+    (λ r is. record { owner = named; some = is.some; last = is.last })
 
 -- all edits of a table of subordinate IDs
 pub range-edits-written :
@@ -168,5 +182,7 @@ pub range-edits-written :
     → AllByRecursion IsOrdered change.added
     → AllByRecursion (IsWrittenEdit subid_format) (range_edits owner change)
 range-edits-written owner change named all =
-    all-append (IsWrittenEdit subid_format) (edits_before_adding owner change) (map (add_range owner) change.added)
-    (owner-written owner named, cuts-written owner change.removed) (adds-written owner change.added named all)
+    all-append (IsWrittenEdit subid_format) (edits_before_adding owner change)
+    (map (add_range owner) change.added)
+    (owner-written owner named, cuts-written owner change.removed)
+    (adds-written owner change.added named all)

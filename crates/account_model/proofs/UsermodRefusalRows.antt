@@ -8,37 +8,43 @@ use Rattle.account_model.proofs.Image.{image}
 use Rattle.account_model.proofs.Commands.{words, lines, on, plainly_on, same, refused, small}
 
 -- `usermod -P R -W 1-4294967295 -w 1- -V 1 -v 2-1 -u -1 -l -x -p a:b -s sh -f -2 -e x -d home -c : ann`: the refusals of usermod, in their order
-usermod_value_c : on image (words "usermod -P R -W 1-4294967295 -w 1- -V 1 -v 2-1 -u -1 -l -x -p a:b -s sh -f -2 -e x -d home -c : ann")
+usermod_value_c : on image (words
+    "usermod -P R -W 1-4294967295 -w 1- -V 1 -v 2-1 -u -1 -l -x -p a:b -s sh -f -2 -e x -d home -c : ann")
     ≡ refused 3 (BadValue (byte "c") (codes ":")) "usermod: invalid value for -c: :"
 unfolding digits
 usermod_value_c = refl
 
 -- `usermod -P R -W 1-4294967295 -w 1- -V 1 -v 2-1 -u -1 -l -x -p a:b -s sh -f -2 -e x -d home ann`
-usermod_value_d : on image (words "usermod -P R -W 1-4294967295 -w 1- -V 1 -v 2-1 -u -1 -l -x -p a:b -s sh -f -2 -e x -d home ann")
+usermod_value_d : on image (words
+    "usermod -P R -W 1-4294967295 -w 1- -V 1 -v 2-1 -u -1 -l -x -p a:b -s sh -f -2 -e x -d home ann")
     ≡ refused 3 (BadValue (byte "d") (codes "home")) "usermod: invalid value for -d: home"
 unfolding digits
 usermod_value_d = refl
 
 -- `usermod -P R -W 1-4294967295 -w 1- -V 1 -v 2-1 -u -1 -l -x -p a:b -s sh -f -2 -e x ann`
-usermod_value_e : on image (words "usermod -P R -W 1-4294967295 -w 1- -V 1 -v 2-1 -u -1 -l -x -p a:b -s sh -f -2 -e x ann")
+usermod_value_e : on image (words
+    "usermod -P R -W 1-4294967295 -w 1- -V 1 -v 2-1 -u -1 -l -x -p a:b -s sh -f -2 -e x ann")
     ≡ refused 3 (BadValue (byte "e") (codes "x")) "usermod: invalid value for -e: x"
 unfolding digits
 usermod_value_e = refl
 
 -- `usermod -P R -W 1-4294967295 -w 1- -V 1 -v 2-1 -u -1 -l -x -p a:b -s sh -f -2 ann`
-usermod_value_f : on image (words "usermod -P R -W 1-4294967295 -w 1- -V 1 -v 2-1 -u -1 -l -x -p a:b -s sh -f -2 ann")
+usermod_value_f : on image (words
+    "usermod -P R -W 1-4294967295 -w 1- -V 1 -v 2-1 -u -1 -l -x -p a:b -s sh -f -2 ann")
     ≡ refused 3 (BadValue (byte "f") (codes "-2")) "usermod: invalid value for -f: -2"
 unfolding digits
 usermod_value_f = refl
 
 -- `usermod -P R -W 1-4294967295 -w 1- -V 1 -v 2-1 -u -1 -l -x -p a:b -s sh ann`
-usermod_value_s : on image (words "usermod -P R -W 1-4294967295 -w 1- -V 1 -v 2-1 -u -1 -l -x -p a:b -s sh ann")
+usermod_value_s : on image (words
+    "usermod -P R -W 1-4294967295 -w 1- -V 1 -v 2-1 -u -1 -l -x -p a:b -s sh ann")
     ≡ refused 3 (BadValue (byte "s") (codes "sh")) "usermod: invalid value for -s: sh"
 unfolding digits
 usermod_value_s = refl
 
 -- `usermod -P R -W 1-4294967295 -w 1- -V 1 -v 2-1 -u -1 -l -x -p a:b ann`
-usermod_value_p : on image (words "usermod -P R -W 1-4294967295 -w 1- -V 1 -v 2-1 -u -1 -l -x -p a:b ann")
+usermod_value_p : on image (words
+    "usermod -P R -W 1-4294967295 -w 1- -V 1 -v 2-1 -u -1 -l -x -p a:b ann")
     ≡ refused 3 (BadValue (byte "p") (codes "a:b")) "usermod: invalid value for -p: a:b"
 unfolding digits
 usermod_value_p = refl
@@ -75,7 +81,8 @@ usermod_value_w = refl
 
 -- `usermod -P R -W 1-4294967295 ann`
 usermod_value_del_w : on image (words "usermod -P R -W 1-4294967295 ann")
-    ≡ refused 3 (BadValue (byte "W") (codes "1-4294967295")) "usermod: invalid value for -W: 1-4294967295"
+    ≡ refused 3 (BadValue (byte "W") (codes "1-4294967295"))
+    "usermod: invalid value for -W: 1-4294967295"
 unfolding digits
 usermod_value_del_w = refl
 
@@ -98,7 +105,8 @@ unfolding digits
 name_taken = refl
 
 -- `usermod -P R -l b a`
-name_taken_in_shadow : plainly_on (record (small "a:x:1:1::/:" "g:x:1:") { shadow = Some (lines "b:!:::::::") }) (words "usermod -P R -l b a")
+name_taken_in_shadow : plainly_on (record (small "a:x:1:1::/:" "g:x:1:")
+    { shadow = Some (lines "b:!:::::::") }) (words "usermod -P R -l b a")
     ≡ refused 9 (UserExists (codes "b")) "usermod: user b exists"
 unfolding digits
 name_taken_in_shadow = refl
@@ -129,18 +137,21 @@ unknown_group = refl
 
 -- `usermod -P R -U -v 100000-100000 messagebus`
 empty_hash : on image (words "usermod -P R -U -v 100000-100000 messagebus")
-    ≡ refused 3 (EmptyHash (codes "messagebus")) "usermod: unlocking messagebus would leave no password"
+    ≡ refused 3 (EmptyHash (codes "messagebus"))
+    "usermod: unlocking messagebus would leave no password"
 unfolding digits
 empty_hash = refl
 
 -- `usermod -P R -U a`: a user without a line in shadow: the password field counts
-empty_hash_in_passwd : plainly_on (record (small "a:!:1:1::/:" "g:x:1:") { shadow = Some [] }) (words "usermod -P R -U a")
+empty_hash_in_passwd : plainly_on (record (small "a:!:1:1::/:" "g:x:1:") { shadow = Some [] })
+    (words "usermod -P R -U a")
     ≡ refused 3 (EmptyHash (codes "a")) "usermod: unlocking a would leave no password"
 unfolding digits
 empty_hash_in_passwd = refl
 
 -- `usermod -P R -f 1 -v 5-5 a`
-meets_before_no_shadow : plainly_on (record (small "a:!:1:1::/:" "g:x:1:") { subuid = Some (lines "#|b:5:1") }) (words "usermod -P R -f 1 -v 5-5 a")
+meets_before_no_shadow : plainly_on (record (small "a:!:1:1::/:" "g:x:1:")
+    { subuid = Some (lines "#|b:5:1") }) (words "usermod -P R -f 1 -v 5-5 a")
     ≡ refused 3 (Meets 5 5 Subuid 2) "usermod: range 5-5 meets subuid line 2"
 unfolding digits
 meets_before_no_shadow = refl

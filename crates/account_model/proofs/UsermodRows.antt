@@ -3,7 +3,8 @@ use Rattle.std.specs.Prelude.{◌≡◌, [], ◌∷◌, ◌++◌, codes, refl, S
 use Rattle.std.specs.Fmt.{digits}
 use Rattle.acct_text.specs.declared.Tab.TheVariants.{Passwd, Group, Subuid, Subgid}
 use Rattle.account_model.specs.declared.refusal.Refusal.TheVariants.{Meets, NoShadow, Multiple}
-use Rattle.account_model.proofs.Image.{image, image_passwd, image_shadow, file}
+use Rattle.account_model.proofs.Image.{image, image_passwd, image_shadow}
+use Rattle.account_words.proofs.SettingsImage.{file}
 use Rattle.account_model.proofs.Commands.{words, lines, on, plainly_on, changed, same, refused, with_ann, small, nothing}
 
 -- `usermod -P R -v 165535-165540 ann`: the range of `-v` meets one that stands
@@ -49,8 +50,10 @@ renamed : on with_ann (words "usermod -P R -l bea ann")
     ≡ changed (record {
       passwd = Some (file image_passwd ++ lines "bea:x:1001:1001:Ann Lee:/home/ann:");
       shadow = Some (file image_shadow ++ lines "bea:!:20000:0:99999:7:::");
-      group = Some (lines "root:x:0:|daemon:x:1:|bin:x:2:|sudo:x:27:bob,bea|www-data:x:33:|users:x:100:|messagebus:x:101:|nogroup:x:65534:|bob:x:1000:|ann:x:1001:");
-      gshadow = Some (lines "root:*::|daemon:*::|bin:*::|sudo:*::bob,bea|www-data:*::|users:*::|messagebus:!::|nogroup:*::|bob:!::|ann:!::");
+      group = Some (lines
+          "root:x:0:|daemon:x:1:|bin:x:2:|sudo:x:27:bob,bea|www-data:x:33:|users:x:100:|messagebus:x:101:|nogroup:x:65534:|bob:x:1000:|ann:x:1001:");
+      gshadow = Some (lines
+          "root:*::|daemon:*::|bin:*::|sudo:*::bob,bea|www-data:*::|users:*::|messagebus:!::|nogroup:*::|bob:!::|ann:!::");
       subuid = Some (lines "bob:100000:65536|bea:165536:65536");
       subgid = Some (lines "bob:100000:65536|bea:165536:65536");
     })
@@ -70,21 +73,28 @@ unfolding digits
 renamed_to_itself = refl
 
 -- `usermod -P R -c Jo jos`: a line that is no text, and the last without an end
-odd_line_changed : plainly_on (record nothing { passwd = Some (lines "root:x:0:0:root:/root:/bin/sh|bad:x:5:5:oops" ++ codes "jos:x:1000:0:Jos" ++ 233 ∷ codes ":/home/jos:/bin/sh") }) (words "usermod -P R -c Jo jos")
+odd_line_changed : plainly_on (record nothing {
+  passwd = Some (lines "root:x:0:0:root:/root:/bin/sh|bad:x:5:5:oops"
+      ++ codes "jos:x:1000:0:Jos" ++ 233 ∷ codes ":/home/jos:/bin/sh");
+})
+    (words "usermod -P R -c Jo jos")
     ≡ changed (record nothing {
-      passwd = Some (lines "root:x:0:0:root:/root:/bin/sh|bad:x:5:5:oops" ++ codes "jos:x:1000:0:Jo:/home/jos:/bin/sh");
+      passwd = Some (lines "root:x:0:0:root:/root:/bin/sh|bad:x:5:5:oops"
+          ++ codes "jos:x:1000:0:Jo:/home/jos:/bin/sh");
     })
 unfolding digits
 odd_line_changed = refl
 
 -- `usermod -P R -s /bin/sh ann`
-two_lines : plainly_on (small "ann:x:1000:0::/:|ann:x:1000:0::/:" "g:x:0:") (words "usermod -P R -s /bin/sh ann")
+two_lines : plainly_on (small "ann:x:1000:0::/:|ann:x:1000:0::/:" "g:x:0:")
+    (words "usermod -P R -s /bin/sh ann")
     ≡ refused 1 (Multiple Passwd (codes "ann")) "usermod: passwd has multiple entries for ann"
 unfolding digits
 two_lines = refl
 
 -- `usermod -P R -s /bin/sh ann`
-two_lines_untouched : plainly_on (small "ann:x:1000:0::/:/bin/sh|ann:x:1000:0::/:/bin/sh" "g:x:0:") (words "usermod -P R -s /bin/sh ann")
+two_lines_untouched : plainly_on (small "ann:x:1000:0::/:/bin/sh|ann:x:1000:0::/:/bin/sh" "g:x:0:")
+    (words "usermod -P R -s /bin/sh ann")
     ≡ same
 unfolding digits
 two_lines_untouched = refl
@@ -92,8 +102,10 @@ two_lines_untouched = refl
 -- `usermod -P R -aGsudo www-data`
 bundled_groups : on image (words "usermod -P R -aGsudo www-data")
     ≡ changed (record image {
-      group = Some (lines "root:x:0:|daemon:x:1:|bin:x:2:|sudo:x:27:bob,www-data|www-data:x:33:|users:x:100:|messagebus:x:101:|nogroup:x:65534:|bob:x:1000:");
-      gshadow = Some (lines "root:*::|daemon:*::|bin:*::|sudo:*::bob,www-data|www-data:*::|users:*::|messagebus:!::|nogroup:*::|bob:!::");
+      group = Some (lines
+          "root:x:0:|daemon:x:1:|bin:x:2:|sudo:x:27:bob,www-data|www-data:x:33:|users:x:100:|messagebus:x:101:|nogroup:x:65534:|bob:x:1000:");
+      gshadow = Some (lines
+          "root:*::|daemon:*::|bin:*::|sudo:*::bob,www-data|www-data:*::|users:*::|messagebus:!::|nogroup:*::|bob:!::");
     })
 unfolding digits
 bundled_groups = refl
@@ -107,7 +119,8 @@ groups_left = refl
 -- `usermod -P R -L bob`
 locked : on image (words "usermod -P R -L bob")
     ≡ changed (record image {
-      shadow = Some (lines "root:*:19700:0:99999:7:::|daemon:*:19700:0:99999:7:::|bin:*:19700:0:99999:7:::|www-data:*:19700:0:99999:7:::|_apt:*:19700:0:99999:7:::|messagebus:!:19700::::::|nobody:*:19700:0:99999:7:::|bob:!$y$hash:19800:0:99999:7:::");
+      shadow = Some (lines
+          "root:*:19700:0:99999:7:::|daemon:*:19700:0:99999:7:::|bin:*:19700:0:99999:7:::|www-data:*:19700:0:99999:7:::|_apt:*:19700:0:99999:7:::|messagebus:!:19700::::::|nobody:*:19700:0:99999:7:::|bob:!$y$hash:19800:0:99999:7:::");
     })
 unfolding digits
 locked = refl
@@ -140,31 +153,36 @@ no_shadow = refl
 -- `usermod -P R -p new bob`: `-p` sets the last change too
 new_hash : on image (words "usermod -P R -p new bob")
     ≡ changed (record image {
-      shadow = Some (lines "root:*:19700:0:99999:7:::|daemon:*:19700:0:99999:7:::|bin:*:19700:0:99999:7:::|www-data:*:19700:0:99999:7:::|_apt:*:19700:0:99999:7:::|messagebus:!:19700::::::|nobody:*:19700:0:99999:7:::|bob:new:20000:0:99999:7:::");
+      shadow = Some (lines
+          "root:*:19700:0:99999:7:::|daemon:*:19700:0:99999:7:::|bin:*:19700:0:99999:7:::|www-data:*:19700:0:99999:7:::|_apt:*:19700:0:99999:7:::|messagebus:!:19700::::::|nobody:*:19700:0:99999:7:::|bob:new:20000:0:99999:7:::");
     })
 unfolding digits
 new_hash = refl
 
 -- `usermod -P R -f 8 -e  bob`: an empty `-e` empties the field
-aging : on (record image { shadow = Some (lines "bob:h:1:2:3:4:5:6:7") }) (words "usermod -P R -f 8 -e  bob")
+aging : on (record image { shadow = Some (lines "bob:h:1:2:3:4:5:6:7") })
+    (words "usermod -P R -f 8 -e  bob")
     ≡ changed (record image { shadow = Some (lines "bob:h:1:2:3:4:8::7") })
 unfolding digits
 aging = refl
 
 -- `usermod -P R -L a`: a line on demand also where the hash stays as it is
-lock_on_demand : plainly_on (record (small "a:!h:1:1::/:" "g:x:1:") { shadow = Some [] }) (words "usermod -P R -L a")
+lock_on_demand : plainly_on (record (small "a:!h:1:1::/:" "g:x:1:") { shadow = Some [] })
+    (words "usermod -P R -L a")
     ≡ changed (record (small "a:x:1:1::/:" "g:x:1:") { shadow = Some (lines "a:!h:::::::") })
 unfolding digits
 lock_on_demand = refl
 
 -- `usermod -P R -c c -d /d -s /s -u 5 -g g -p p a`
-passwd_fields : plainly_on (small "a:h:1:1:C:/:" "g:x:7:") (words "usermod -P R -c c -d /d -s /s -u 5 -g g -p p a")
+passwd_fields : plainly_on (small "a:h:1:1:C:/:" "g:x:7:")
+    (words "usermod -P R -c c -d /d -s /s -u 5 -g g -p p a")
     ≡ changed (small "a:p:5:7:c:/d:/s" "g:x:7:")
 unfolding digits
 passwd_fields = refl
 
 -- `usermod -P R -G g a`: every line of a listed group changes
-usermod_multiple_group : plainly_on (small "a:x:1:1::/:" "g:x:1:|g:x:1:") (words "usermod -P R -G g a")
+usermod_multiple_group : plainly_on (small "a:x:1:1::/:" "g:x:1:|g:x:1:")
+    (words "usermod -P R -G g a")
     ≡ refused 10 (Multiple Group (codes "g")) "usermod: group has multiple entries for g"
 unfolding digits
 usermod_multiple_group = refl
@@ -177,7 +195,8 @@ unfolding digits
 second_line_touched = refl
 
 -- `usermod -P R -l b -u 7 -V 5-6 a`: ranges are cut for the new name and the new UID
-ranges_of_new_owner : plainly_on (record (small "a:x:1:1::/:" "g:x:1:") { subuid = Some (lines "a:4:4|7:4:2|c:5:1|1:5:1") }) (words "usermod -P R -l b -u 7 -V 5-6 a")
+ranges_of_new_owner : plainly_on (record (small "a:x:1:1::/:" "g:x:1:")
+    { subuid = Some (lines "a:4:4|7:4:2|c:5:1|1:5:1") }) (words "usermod -P R -l b -u 7 -V 5-6 a")
     ≡ changed (record (small "b:x:7:1::/:" "g:x:1:") {
       subuid = Some (lines "b:4:1|b:7:1|7:4:1|c:5:1|1:5:1");
     })
@@ -185,19 +204,22 @@ unfolding digits
 ranges_of_new_owner = refl
 
 -- `usermod -P R -V 5-6 a`: a last line without an end that becomes two gets ends
-cut_last_line : plainly_on (record (small "a:x:1:1::/:" "g:x:1:") { subuid = Some (codes "a:4:4") }) (words "usermod -P R -V 5-6 a")
+cut_last_line : plainly_on (record (small "a:x:1:1::/:" "g:x:1:") { subuid = Some (codes "a:4:4") })
+    (words "usermod -P R -V 5-6 a")
     ≡ changed (record (small "a:x:1:1::/:" "g:x:1:") { subuid = Some (codes "a:4:1\na:7:1\n") })
 unfolding digits
 cut_last_line = refl
 
 -- `usermod -P R -V 5-9 a`: and one that becomes one keeps the want of it
-cut_keeps_no_end : plainly_on (record (small "a:x:1:1::/:" "g:x:1:") { subuid = Some (codes "a:4:4") }) (words "usermod -P R -V 5-9 a")
+cut_keeps_no_end : plainly_on (record (small "a:x:1:1::/:" "g:x:1:")
+    { subuid = Some (codes "a:4:4") }) (words "usermod -P R -V 5-9 a")
     ≡ changed (record (small "a:x:1:1::/:" "g:x:1:") { subuid = Some (codes "a:4:1") })
 unfolding digits
 cut_keeps_no_end = refl
 
 -- `usermod -P R -V 9-9 a`: an owned line that loses no number keeps its bytes
-uncut_keeps_bytes : plainly_on (record (small "a:x:1:1::/:" "g:x:1:") { subuid = Some (codes "a:04:4") }) (words "usermod -P R -V 9-9 a")
+uncut_keeps_bytes : plainly_on (record (small "a:x:1:1::/:" "g:x:1:")
+    { subuid = Some (codes "a:04:4") }) (words "usermod -P R -V 9-9 a")
     ≡ same
 unfolding digits
 uncut_keeps_bytes = refl

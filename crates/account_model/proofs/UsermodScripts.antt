@@ -9,29 +9,29 @@ use Rattle.acct_text.specs.declared.files.Files.{Files}
 use Rattle.acct_text.specs.declared.Tab.TheVariants.{Subuid, Subgid}
 use Rattle.acct_text.specs.Bytes.{newline, colon, is_empty}
 use Rattle.acct_text.proofs.NumberLaws.{number-is}
-use Rattle.account_model.specs.declared.records.PasswdRecord.{PasswdRecord}
-use Rattle.account_model.specs.declared.records.ShadowRecord.{ShadowRecord}
-use Rattle.account_model.specs.declared.records.GroupRecord.{GroupRecord}
-use Rattle.account_model.specs.declared.records.GshadowRecord.{GshadowRecord}
-use Rattle.account_model.specs.Text.{exclamation, begins_with, is_listed, first_some}
-use Rattle.account_model.specs.Format.{is_named}
-use Rattle.account_model.specs.Names.{is_valid_name}
-use Rattle.account_model.specs.Records.{passwd_format, shadow_format, group_format, gshadow_format, greatest_id, greatest_days, read_id}
-use Rattle.account_model.specs.Written.{IsField, IsNameField, IsListed, IsDaysNumber, IsPasswd, IsShadow, IsGroup, IsGshadow}
-use Rattle.account_model.specs.Tables.{no_edits}
-use Rattle.account_model.specs.WrittenScript.{IsWrittenScript}
-use Rattle.account_model.specs.Values.{is_field, is_folder, is_shell, is_days_value, is_expiration_value, days_value, expiration_value}
+use Rattle.account_formats.specs.declared.records.PasswdRecord.{PasswdRecord}
+use Rattle.account_formats.specs.declared.records.ShadowRecord.{ShadowRecord}
+use Rattle.account_formats.specs.declared.records.GroupRecord.{GroupRecord}
+use Rattle.account_formats.specs.declared.records.GshadowRecord.{GshadowRecord}
+use Rattle.account_formats.specs.Text.{exclamation, begins_with, is_listed, first_some}
+use Rattle.account_formats.specs.Format.{is_named}
+use Rattle.account_formats.specs.Names.{is_valid_name}
+use Rattle.account_formats.specs.Records.{passwd_format, shadow_format, group_format, gshadow_format, greatest_id, greatest_days, read_id}
+use Rattle.account_formats.specs.Written.{IsField, IsNameField, IsListed, IsDaysNumber, IsPasswd, IsShadow, IsGroup, IsGshadow}
+use Rattle.account_formats.specs.Tables.{no_edits}
+use Rattle.account_formats.specs.WrittenScript.{IsWrittenScript}
+use Rattle.account_words.specs.Values.{is_field, is_folder, is_shell, is_days_value, is_expiration_value, days_value, expiration_value}
 use Rattle.account_model.specs.GivenGroups.{given_groups, unknown_group, unknown_groups}
 use Rattle.account_model.specs.Hashes.{locked, demand_shadow, each_user_hash}
 use Rattle.account_model.specs.Members.{with_name, without_name, renamed_in}
-use Rattle.account_model.specs.Request.{Request, has_option, value_of, values_of, operand}
+use Rattle.account_words.specs.Request.{Request, has_option, value_of, values_of, operand}
 use Rattle.account_model.specs.Refusals.{bad_value, missing_user, bad_list_name}
 use Rattle.account_model.specs.UsermodHash.{sets_hash, sets_aging, locked_hash, unlocked_hash, relocked_hash, hash_after, hash_script}
 use Rattle.account_model.specs.UsermodRanges.{meeting_in}
 use Rattle.account_model.specs.Usermod.{new_name, changed_user, changed_shadow, is_listed_group, joined_or_left, members_after, changed_group, changed_gshadow, range_owner, subuid_change, subgid_change, taken_name, taken_uid, empty_hash, no_shadow, unlistable_name, usermod_checks, usermod_conflicts, usermod_refusals, change_user, usermod}
 use Rattle.account_model.proofs.DeedLaws.{first-none}
-use Rattle.account_model.proofs.HeldLaws.{passwd-holds, shadow-holds, group-holds, gshadow-holds, each-written, each_where-written}
-use Rattle.account_model.proofs.FieldFacts.{is_field-is, is_folder-is, is_shell-is, valid-name, valid-listed}
+use Rattle.account_formats.proofs.HeldLaws.{passwd-holds, shadow-holds, group-holds, gshadow-holds, each-written, each_where-written}
+use Rattle.account_words.proofs.FieldFacts.{is_field-is, is_folder-is, is_shell-is, valid-name, valid-listed}
 use Rattle.account_model.proofs.RefusalFacts.{text-kept, field-kept, good-value, user-named, user-listed}
 use Rattle.account_model.proofs.WrittenScripts.{none-written, order-written, either-written, locked-field, demand-shadow-written, user-hash-written}
 use Rattle.account_model.proofs.MemberLaws.{with-listed, without-listed, renamed-listed}
@@ -69,8 +69,10 @@ usermod-passes request files none =
     let parts = first-append (usermod_checks request) (usermod_conflicts request files) none
     in let after_comment = first-none (bad_value (codes "c") is_field request) _ parts.0
     in let after_home = first-none (bad_value (codes "d") is_folder request) _ after_comment.1
-    in let after_expiration = first-none (bad_value (codes "e") is_expiration_value request) _ after_home.1
-    in let after_inactive = first-none (bad_value (codes "f") is_days_value request) _ after_expiration.1
+    in let after_expiration = first-none (bad_value (codes "e") is_expiration_value
+    request) _ after_home.1
+    in let after_inactive = first-none (bad_value (codes "f") is_days_value request)
+    _ after_expiration.1
     in let after_shell = first-none (bad_value (codes "s") is_shell request) _ after_inactive.1
     in let after_hash = first-none (bad_value (codes "p") is_field request) _ after_shell.1
     in let after_name = first-none (bad_value (codes "l") is_valid_name request) _ after_hash.1
@@ -80,8 +82,10 @@ usermod-passes request files none =
     in let after_group = first-none (unknown_group request files) _ after_taken_uid.1
     in let after_groups = first-none (unknown_groups request files) _ after_group.1
     in let after_empty = first-none (empty_hash request files) _ after_groups.1
-    in let after_subuid = first-none (meeting_in Subuid (range_owner request files) (subuid_change request) files.subuid) _ after_empty.1
-    in let after_subgid = first-none (meeting_in Subgid (range_owner request files) (subgid_change request) files.subgid) _ after_subuid.1
+    in let after_subuid = first-none (meeting_in Subuid (range_owner request files)
+    (subuid_change request) files.subuid) _ after_empty.1
+    in let after_subgid = first-none (meeting_in Subgid (range_owner request files)
+    (subgid_change request) files.subgid) _ after_subuid.1
     in let after_shadow = first-none (no_shadow request files) _ after_subgid.1
     in record {
       comment = after_comment.0;
@@ -116,7 +120,8 @@ changed-user-held request files r passes is = record {
   uid = field-kept (λ id. id ≤ greatest_id) read_id (codes "u") request r.uid
       (λ text id e. (number-is greatest_id text id e).bounded) is.uid;
   gid = given-group-gid request files r.gid is.gid;
-  comment = text-kept IsField (codes "c") is_field request r.comment is_field-is passes.comment is.comment;
+  comment = text-kept IsField (codes "c") is_field request r.comment is_field-is
+      passes.comment is.comment;
   home = text-kept IsField (codes "d") is_folder request r.home is_folder-is passes.home is.home;
   shell = text-kept IsField (codes "s") is_shell request r.shell is_shell-is passes.shell is.shell;
 }
@@ -142,7 +147,10 @@ either-field false a b is_a is_b = is_b
 -- a hash behind `!`
 locked-hash-field : (hash : List ℕ) → IsField hash → IsField (locked_hash hash)
 locked-hash-field hash is = either-field (begins_with exclamation hash) hash (locked ++ hash) is
-    (record { no_colon = (locked-field.no_colon.0, is.no_colon); no_newline = (locked-field.no_newline.0, is.no_newline) })
+    (record {
+      no_colon = (locked-field.no_colon.0, is.no_colon);
+      no_newline = (locked-field.no_newline.0, is.no_newline);
+    })
 
 -- a hash without a leading `!`
 unlocked-hash-field : (hash : List ℕ) → IsField hash → IsField (unlocked_hash hash)
@@ -187,12 +195,15 @@ changed-shadow-held :
 changed-shadow-held request files day r passes small is = record {
   name = new-name-field request files passes;
   hash = is.hash;
-  last_change = last-change-by day r.last_change (has_option (codes "p") request) small is.last_change;
+  last_change = last-change-by day r.last_change (has_option (codes "p") request)
+      small is.last_change;
   minimum = is.minimum;
   maximum = is.maximum;
   warning = is.warning;
-  inactive = field-kept IsDaysNumber days_value (codes "f") request r.inactive days-held is.inactive;
-  expiration = field-kept IsDaysNumber expiration_value (codes "e") request r.expiration expiration-held is.expiration;
+  inactive = field-kept IsDaysNumber days_value (codes "f") request r.inactive
+      days-held is.inactive;
+  expiration = field-kept IsDaysNumber expiration_value (codes "e") request r.expiration
+      expiration-held is.expiration;
   rest = is.rest;
 }
 
@@ -202,10 +213,13 @@ hash-script-written :
     → UsermodPasses request files
     → IsWrittenScript (hash_script request files)
 hash-script-written request files passes = order-written
-    ((if sets_hash request || sets_aging request then demand_shadow (operand request) files else no_edits)
-    ∷ (if sets_hash request then each_user_hash (operand request) (hash_after request) files else no_edits)
+    ((if sets_hash request || sets_aging request
+    then demand_shadow (operand request) files else no_edits)
+    ∷ (if sets_hash request then each_user_hash (operand request) (hash_after request)
+    files else no_edits)
     ∷ []) (
-      either-written (sets_hash request || sets_aging request) _ no_edits (demand-shadow-written (operand request) files) none-written,
+      either-written (sets_hash request || sets_aging request) _ no_edits
+          (demand-shadow-written (operand request) files) none-written,
       (
         either-written (sets_hash request) _ no_edits
             (user-hash-written (operand request) (hash_after request) files
@@ -234,7 +248,8 @@ new-name-listed :
     → IsListed (new_name request)
 new-name-listed request files passes other =
     name-by (operand request) (value_of (codes "l") request)
-    (λ name given. valid-listed name (good-value (codes "l") is_valid_name request name passes.name given)) other
+    (λ name given. valid-listed name (good-value (codes "l") is_valid_name request name
+    passes.name given)) other
 
 -- a name that is added to some group
 listable-by :
@@ -256,7 +271,8 @@ login-listed request files group passes listed = user-listed (operand request) f
 
 -- members that `-G` changes, by what it asks
 joined-by :
-    (request : Request) (files : Files) (group : List ℕ) (members : List (List ℕ)) (asked listed appended : Bool)
+    (request : Request) (files : Files) (group : List ℕ) (members : List (List ℕ))
+    (asked listed appended : Bool)
     → UsermodPasses request files
     → is_listed_group request files group ≡ listed
     → AllByRecursion IsListed members
@@ -279,7 +295,8 @@ members-after-listed :
 members-after-listed request files group members passes all =
     renamed-listed (operand request) (new_name request) (joined_or_left request files group members)
     (new-name-listed request files passes)
-    (joined-by request files group members (has_option (codes "G") request) (is_listed_group request files group)
+    (joined-by request files group members (has_option (codes "G") request)
+    (is_listed_group request files group)
     (has_option (codes "a") request) passes refl all)
 
 -- a line of group
@@ -319,13 +336,16 @@ change-user-written :
     → IsWrittenScript (change_user request files day)
 change-user-written request files day passes small = record {
   passwd = (
-    each_where-written passwd_format IsPasswd passwd-holds (is_named passwd_format (operand request))
+    each_where-written passwd_format IsPasswd passwd-holds
+        (is_named passwd_format (operand request))
         (changed_user request files) (λ r is. changed-user-held request files r passes is),
     tt,
   );
   shadow = (
-    each_where-written shadow_format IsShadow shadow-holds (is_named shadow_format (operand request))
-        (changed_shadow request day) (λ r is. changed-shadow-held request files day r passes small is),
+    each_where-written shadow_format IsShadow shadow-holds
+        (is_named shadow_format (operand request))
+        (changed_shadow request day) (λ r is. changed-shadow-held request files
+        day r passes small is),
     tt,
   );
   group = (
@@ -352,5 +372,7 @@ pub usermod-written :
     → IsWrittenScript (usermod request files day).script
 usermod-written request files day small none =
     let passes = usermod-passes request files none
-    in order-written (hash_script request files ∷ change_user request files day ∷ [])
-    (hash-script-written request files passes, (change-user-written request files day passes small, tt))
+    in order-written (hash_script request files ∷ change_user request files day ∷ []) (
+      hash-script-written request files passes,
+      (change-user-written request files day passes small, tt),
+    )

@@ -4,25 +4,25 @@ use Rattle.std.proofs.Common.{◌≡◌, ℕ, Bool, true, false, List, [], ◌�
 use Rattle.std.specs.Prelude.{Option, Some, None, is_some, if◌then◌else◌}
 use Rattle.std.specs.List.{AllByRecursion}
 use Rattle.acct_text.specs.declared.files.Files.{Files}
-use Rattle.account_model.specs.declared.records.PasswdRecord.{PasswdRecord}
-use Rattle.account_model.specs.declared.records.ShadowRecord.{ShadowRecord}
-use Rattle.account_model.specs.declared.records.GroupRecord.{GroupRecord}
-use Rattle.account_model.specs.declared.records.GshadowRecord.{GshadowRecord}
-use Rattle.account_model.specs.Text.{is_listed}
-use Rattle.account_model.specs.Format.{is_named}
-use Rattle.account_model.specs.Edits.{Edit, each_where}
-use Rattle.account_model.specs.Records.{passwd_format, shadow_format, group_format, gshadow_format, hash_alone}
-use Rattle.account_model.specs.RecordEdits.{IsWrittenEdit}
-use Rattle.account_model.specs.Written.{IsField, IsListed, IsPasswd, IsShadow, IsGroup, IsGshadow}
-use Rattle.account_model.specs.Tables.{Script, no_edits, followed_by, in_order}
-use Rattle.account_model.specs.WrittenScript.{IsWrittenScript}
+use Rattle.account_formats.specs.declared.records.PasswdRecord.{PasswdRecord}
+use Rattle.account_formats.specs.declared.records.ShadowRecord.{ShadowRecord}
+use Rattle.account_formats.specs.declared.records.GroupRecord.{GroupRecord}
+use Rattle.account_formats.specs.declared.records.GshadowRecord.{GshadowRecord}
+use Rattle.account_formats.specs.Text.{is_listed}
+use Rattle.account_formats.specs.Format.{is_named}
+use Rattle.account_formats.specs.Edits.{Edit, each_where}
+use Rattle.account_formats.specs.Records.{passwd_format, shadow_format, group_format, gshadow_format, hash_alone}
+use Rattle.account_formats.specs.RecordEdits.{IsWrittenEdit}
+use Rattle.account_formats.specs.Written.{IsField, IsListed, IsPasswd, IsShadow, IsGroup, IsGshadow}
+use Rattle.account_formats.specs.Tables.{Script, no_edits, followed_by, in_order}
+use Rattle.account_formats.specs.WrittenScript.{IsWrittenScript}
 use Rattle.account_model.specs.Members.{with_name, without_name, each_members, add_to_group, remove_from_group}
 use Rattle.account_model.specs.Hashes.{elsewhere, locked, lacks_shadow, make_shadow, demand_shadow, each_password, each_user_hash, lacks_gshadow, gshadow_of, make_gshadow, demand_gshadow, set_password, write_group_hash, write_administrators, set_group_hash, set_administrators}
 use Rattle.account_model.specs.Users.{find_user, group_named}
-use Rattle.account_model.specs.Request.{Request, has_option, value_of}
+use Rattle.account_words.specs.Request.{Request, has_option, value_of}
 use Rattle.account_model.specs.Action.{with_option, with_flag}
-use Rattle.account_model.proofs.HeldLaws.{passwd-holds, shadow-holds, group-holds, gshadow-holds, each_where-written}
-use Rattle.account_model.proofs.ListLaws.{all-append}
+use Rattle.account_formats.proofs.HeldLaws.{passwd-holds, shadow-holds, group-holds, gshadow-holds, each_where-written}
+use Rattle.account_formats.proofs.ListLaws.{all-append}
 use Rattle.account_model.proofs.MemberLaws.{with-listed, without-listed}
 use Rattle.account_model.proofs.RefusalFacts.{user-held, group-held}
 
@@ -30,7 +30,14 @@ use Rattle.account_model.proofs.RefusalFacts.{user-held, group-held}
 
 -- no edits
 pub none-written : IsWrittenScript no_edits
-none-written = record { passwd = tt; shadow = tt; group = tt; gshadow = tt; subuid = tt; subgid = tt }
+none-written = record {
+  passwd = tt;
+  shadow = tt;
+  group = tt;
+  gshadow = tt;
+  subuid = tt;
+  subgid = tt;
+}
 
 -- edits of group and gshadow alone
 pub groups-written :
@@ -39,7 +46,14 @@ pub groups-written :
     → AllByRecursion (IsWrittenEdit gshadow_format) gshadow
     → IsWrittenScript (record no_edits { group = group; gshadow = gshadow })
 groups-written group gshadow is_group is_gshadow =
-    record { passwd = tt; shadow = tt; group = is_group; gshadow = is_gshadow; subuid = tt; subgid = tt }
+    record {
+      passwd = tt;
+      shadow = tt;
+      group = is_group;
+      gshadow = is_gshadow;
+      subuid = tt;
+      subgid = tt;
+    }
 
 -- edits of passwd and shadow alone
 pub users-written :
@@ -48,7 +62,14 @@ pub users-written :
     → AllByRecursion (IsWrittenEdit shadow_format) shadow
     → IsWrittenScript (record no_edits { passwd = passwd; shadow = shadow })
 users-written passwd shadow is_passwd is_shadow =
-    record { passwd = is_passwd; shadow = is_shadow; group = tt; gshadow = tt; subuid = tt; subgid = tt }
+    record {
+      passwd = is_passwd;
+      shadow = is_shadow;
+      group = tt;
+      gshadow = tt;
+      subuid = tt;
+      subgid = tt;
+    }
 
 -- two scripts
 pub followed-written :
@@ -116,7 +137,13 @@ pub members-written :
 members-written group f keeps = groups-written _ _ (
   each_where-written group_format IsGroup group-holds (is_named group_format group)
       (λ r. record r { members = f r.members })
-      (λ r is. record { name = is.name; password = is.password; gid = is.gid; members = keeps r.members is.members }),
+      (λ r is. record {
+        name = is.name;
+        password = is.password;
+        gid = is.gid;
+        members = keeps
+            r.members is.members;
+      }),
   tt,
 ) (
   each_where-written gshadow_format IsGshadow gshadow-holds (is_named gshadow_format group)
@@ -201,14 +228,16 @@ pub demand-shadow-written :
     (name : List ℕ) (files : Files)
     → IsWrittenScript (demand_shadow name files)
 demand-shadow-written name files = either-written (lacks_shadow name files) _ no_edits
-    (some-written make_shadow (find_user name files) (λ user found. make-shadow-written user (user-held name files user found)))
+    (some-written make_shadow (find_user name files)
+    (λ user found. make-shadow-written user (user-held name files user found)))
     none-written
 
 -- a hash of shadow that becomes one which can stand in a line
 shadow-hash-written :
     (name : List ℕ) (f : List ℕ → List ℕ)
     → ((hash : List ℕ) → IsField hash → IsField (f hash))
-    → IsWrittenEdit shadow_format (each_where (is_named shadow_format name) (λ r. record r { hash = f r.hash }))
+    → IsWrittenEdit shadow_format (each_where (is_named shadow_format name)
+    (λ r. record r { hash = f r.hash }))
 shadow-hash-written name f keeps =
     each_where-written shadow_format IsShadow shadow-holds (is_named shadow_format name)
     (λ r. record r { hash = f r.hash })
@@ -266,7 +295,12 @@ make-gshadow-written : (group : GroupRecord) → IsGroup group → IsWrittenScri
 make-gshadow-written group is = groups-written _ _
     (group-password-written group.name elsewhere elsewhere-field, tt) (
       gshadow-holds.written (gshadow_of group)
-          (record { name = is.name; password = is.password; administrators = tt; members = is.members }),
+          (record {
+            name = is.name;
+            password = is.password;
+            administrators = tt;
+            members = is.members;
+          }),
       tt,
     )
 

@@ -1,30 +1,13 @@
 -- The texts of refusals, as a tool prints them on the error stream. They are this profile's own.
 use Rattle.std.specs.Prelude.{ℕ, List, [], ◌∷◌, ◌++◌, codes, decimal, flat_map, Option, None, Some}
-use Rattle.account_model.specs.declared.tool.Tool.{Tool}
-use Rattle.account_model.specs.declared.tool.Tool.TheVariants.{Useradd, Usermod, Userdel, Groupadd, Groupmod, Groupdel, Gpasswd, Chage, Chpasswd, Pwck, Grpck, Getsubids}
+use Rattle.account_words.specs.declared.tool.Tool.{Tool}
 use Rattle.account_model.specs.declared.refusal.Refusal.{Refusal}
 use Rattle.account_model.specs.declared.refusal.Refusal.TheVariants.{BadName, BadKey, BadValue, UserExists, GroupExists, NoUser, NoGroup, UidInUse, GidInUse, NoFreeUid, NoFreeGid, NoGap, Meets, EmptyHash, PrimaryGroup, NotMember, NoShadow, BadLine, NoRanges, Multiple}
 use Rattle.account_model.specs.declared.refusal.LineProblem.{LineProblem}
 use Rattle.account_model.specs.declared.refusal.LineProblem.TheVariants.{NoColon, HashColon, UnknownUser}
 use Rattle.acct_text.specs.Bytes.{newline}
 use Rattle.acct_text.specs.Tables.{table_name}
-
--- ---- Names
-
--- the word that names the tool
-abbrev pub tool_name : Tool → List ℕ
-tool_name Useradd = codes "useradd"
-tool_name Usermod = codes "usermod"
-tool_name Userdel = codes "userdel"
-tool_name Groupadd = codes "groupadd"
-tool_name Groupmod = codes "groupmod"
-tool_name Groupdel = codes "groupdel"
-tool_name Gpasswd = codes "gpasswd"
-tool_name Chage = codes "chage"
-tool_name Chpasswd = codes "chpasswd"
-tool_name Pwck = codes "pwck"
-tool_name Grpck = codes "grpck"
-tool_name Getsubids = codes "getsubids"
+use Rattle.account_words.specs.Words.{tool_name}
 
 -- ---- Texts
 

@@ -1,46 +1,5 @@
-//! Laws on the definitions of `specs/`. Each is a function that does nothing, and whose contract is the law.
-ghost use Rattle.account_model.specs.Laws.{RecordsAreFound, FaultsAreFound, RecordsReadBack, TablesAreEdited, ToolsAreWritten, NoEditsNoChange, OtherTextStays, IdsAreChosen, RangesAreFound, DeedsAreChanges, TouchedLinesAreMet, UntouchedLinesStay, ReportsAreWhole};
-
-/// A text is at most one record of a table: the reader of the format finds exactly what the relation says
-/// (passwd(5), shadow(5), group(5), gshadow(5), subuid(5), subgid(5)).
-pub fn records_are_found()
-    ensures { RecordsAreFound }
-{}
-
-/// A text is a record exactly where there is no fault to name.
-pub fn faults_are_found()
-    ensures { FaultsAreFound }
-{}
-
-/// A record whose fields a line can hold prints as one line, and that line reads as the same record.
-pub fn records_read_back()
-    ensures { RecordsReadBack }
-{}
-
-/// The records of a table after edits of its lines are its records, edited one after another.
-pub fn tables_are_edited()
-    ensures { TablesAreEdited }
-{}
-
-/// Without edits all files stay, byte for byte.
-pub fn no_edits_no_change()
-    ensures { NoEditsNoChange }
-{}
-
-/// Other text of a table stays as it is, in its order.
-pub fn other_text_stays()
-    ensures { OtherTextStays }
-{}
-
-/// Lines that no edit touches stay byte for byte, in their order.
-pub fn untouched_lines_stay()
-    ensures { UntouchedLinesStay }
-{}
-
-/// The first touched line of a name with several lines is the one that a `put` meets.
-pub fn touched_lines_are_met()
-    ensures { TouchedLinesAreMet }
-{}
+//! Laws of commands. Each is a function that does nothing, and whose contract is the law.
+ghost use Rattle.account_model.specs.Laws.{ToolsAreWritten, DeedsAreChanges, ReportsAreWhole};
 
 /// A tool that doesn't refuse prints only records that read back.
 pub fn tools_are_written()
@@ -50,16 +9,6 @@ pub fn tools_are_written()
 /// A report of pwck(8) or grpck(8) has the problems of each line, line after line, and no other.
 pub fn reports_are_whole()
     ensures { ReportsAreWhole }
-{}
-
-/// There is one choice of an ID, and `chosen_id` computes it (useradd(8), groupadd(8)).
-pub fn ids_are_chosen()
-    ensures { IdsAreChosen }
-{}
-
-/// There is one free range for a count of 1 or more, and `free_range` computes its start (subuid(5), subgid(5)).
-pub fn ranges_are_found()
-    ensures { RangesAreFound }
 {}
 
 /// A deed changes a table, makes none stand or go, and keeps the limit of each.

@@ -4,13 +4,13 @@
 use Rattle.std.proofs.Common.{◌≡◌, ℕ, List, [], ◌∷◌, length, refl, sym, ◌∙◌, ap, arith, Ok, Err, Option, Some, None, false}
 use Rattle.std.specs.Prelude.{option_map, if◌then◌else◌}
 use Rattle.std.specs.Option.{ok_or}
-use Rattle.account_model.specs.declared.fault.LineFault.{LineFault}
-use Rattle.account_model.specs.declared.fault.LineFault.TheVariants.{BadNumber, EmptyName}
-use Rattle.account_model.specs.declared.records.GroupRecord.{GroupRecord}
+use Rattle.account_formats.specs.declared.fault.LineFault.{LineFault}
+use Rattle.account_formats.specs.declared.fault.LineFault.TheVariants.{BadNumber, EmptyName}
+use Rattle.account_formats.specs.declared.records.GroupRecord.{GroupRecord}
 use Rattle.acct_text.specs.Bytes.{is_empty}
-use Rattle.account_model.specs.Text.{first_some}
-use Rattle.account_model.specs.Records.{read_id, read_names, group_of_fields, group_format}
-use Rattle.account_model.specs.Faults.{field_at, group_fault}
+use Rattle.account_formats.specs.Text.{first_some}
+use Rattle.account_formats.specs.Records.{read_id, read_names, group_of_fields, group_format}
+use Rattle.account_formats.specs.Faults.{field_at, group_fault}
 use Rattle.acct_lines.specs.Fields.{AreFields, IsUnnamed}
 use Rattle.acct_lines.proofs.Read.{number_fault, read-some, read-none, read-fault}
 

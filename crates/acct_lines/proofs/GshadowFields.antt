@@ -2,11 +2,11 @@
 -- (`gshadow-read`), and an empty name is the fault of the line (`no-name`).
 use Rattle.std.proofs.Common.{◌≡◌, ℕ, List, [], ◌∷◌, length, refl, sym, ◌∙◌, ap, arith, Some, None, false}
 use Rattle.std.specs.Prelude.{if◌then◌else◌}
-use Rattle.account_model.specs.declared.fault.LineFault.{LineFault}
-use Rattle.account_model.specs.declared.records.GshadowRecord.{GshadowRecord}
+use Rattle.account_formats.specs.declared.fault.LineFault.{LineFault}
+use Rattle.account_formats.specs.declared.records.GshadowRecord.{GshadowRecord}
 use Rattle.acct_text.specs.Bytes.{is_empty}
-use Rattle.account_model.specs.Records.{read_names, gshadow_of_fields, gshadow_format}
-use Rattle.account_model.specs.Faults.{field_at, gshadow_fault}
+use Rattle.account_formats.specs.Records.{read_names, gshadow_of_fields, gshadow_format}
+use Rattle.account_formats.specs.Faults.{field_at, gshadow_fault}
 use Rattle.acct_lines.specs.Fields.{AreFields, IsUnnamed}
 
 -- the record of four fields, by their places

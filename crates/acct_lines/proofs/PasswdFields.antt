@@ -4,13 +4,13 @@
 use Rattle.std.proofs.Common.{◌≡◌, ℕ, List, [], ◌∷◌, length, refl, sym, ◌∙◌, ap, arith, Ok, Err, Option, Some, None, false}
 use Rattle.std.specs.Prelude.{if◌then◌else◌}
 use Rattle.std.specs.Option.{ok_or}
-use Rattle.account_model.specs.declared.fault.LineFault.{LineFault}
-use Rattle.account_model.specs.declared.fault.LineFault.TheVariants.{BadNumber, EmptyName}
-use Rattle.account_model.specs.declared.records.PasswdRecord.{PasswdRecord}
+use Rattle.account_formats.specs.declared.fault.LineFault.{LineFault}
+use Rattle.account_formats.specs.declared.fault.LineFault.TheVariants.{BadNumber, EmptyName}
+use Rattle.account_formats.specs.declared.records.PasswdRecord.{PasswdRecord}
 use Rattle.acct_text.specs.Bytes.{is_empty}
-use Rattle.account_model.specs.Text.{first_some}
-use Rattle.account_model.specs.Records.{read_id, passwd_of_fields, passwd_with, passwd_format}
-use Rattle.account_model.specs.Faults.{field_at, passwd_fault}
+use Rattle.account_formats.specs.Text.{first_some}
+use Rattle.account_formats.specs.Records.{read_id, passwd_of_fields, passwd_with, passwd_format}
+use Rattle.account_formats.specs.Faults.{field_at, passwd_fault}
 use Rattle.acct_lines.specs.Fields.{AreFields, IsUnnamed}
 use Rattle.acct_lines.proofs.Read.{number_fault, read-some, read-none, read-fault}
 

@@ -4,10 +4,10 @@ use Rattle.std.proofs.Common.{◌≡◌, ℕ, true, List, ◌∙◌, ap, Option,
 use Rattle.std.specs.Result.{result_err}
 use Rattle.std.specs.Prelude.{IsErrAnd, MatchResult, is_some, is_none, if◌then◌else◌}
 use Rattle.std.specs.Option.{ok_or}
-use Rattle.account_model.specs.declared.fault.LineFault.{LineFault}
-use Rattle.account_model.specs.declared.fault.LineFault.TheVariants.{BadNumber}
-use Rattle.account_model.specs.Format.{Format}
-use Rattle.account_model.specs.LineFormat.{IsLineFormat}
+use Rattle.account_formats.specs.declared.fault.LineFault.{LineFault}
+use Rattle.account_formats.specs.declared.fault.LineFault.TheVariants.{BadNumber}
+use Rattle.account_formats.specs.Format.{Format}
+use Rattle.account_formats.specs.LineFormat.{IsLineFormat}
 
 -- a value that was read is there
 pub read-some :

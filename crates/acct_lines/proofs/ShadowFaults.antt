@@ -4,12 +4,12 @@
 use Rattle.std.proofs.Common.{◌≡◌, ℕ, List, [], ◌∷◌, refl, ◌∙◌, ap, Ok, Err}
 use Rattle.std.specs.Prelude.{Option, Some, None, if◌then◌else◌}
 use Rattle.std.specs.Option.{ok_or}
-use Rattle.account_model.specs.declared.fault.LineFault.{LineFault}
-use Rattle.account_model.specs.declared.fault.LineFault.TheVariants.{BadNumber, EmptyName}
+use Rattle.account_formats.specs.declared.fault.LineFault.{LineFault}
+use Rattle.account_formats.specs.declared.fault.LineFault.TheVariants.{BadNumber, EmptyName}
 use Rattle.acct_text.specs.Bytes.{is_empty}
-use Rattle.account_model.specs.Text.{first_some}
-use Rattle.account_model.specs.Records.{read_days}
-use Rattle.account_model.specs.Faults.{field_at, shadow_fault}
+use Rattle.account_formats.specs.Text.{first_some}
+use Rattle.account_formats.specs.Records.{read_days}
+use Rattle.account_formats.specs.Faults.{field_at, shadow_fault}
 use Rattle.acct_lines.specs.Fields.{AreFields, IsUnnamed}
 use Rattle.acct_lines.proofs.Read.{number_fault, read-some, read-none, read-fault}
 

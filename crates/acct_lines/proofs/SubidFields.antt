@@ -5,13 +5,13 @@
 use Rattle.std.proofs.Common.{◌≡◌, ℕ, List, [], ◌∷◌, length, refl, sym, ◌∙◌, ap, arith, Ok, Err, Option, Some, None, true, false}
 use Rattle.std.specs.Prelude.{if◌then◌else◌}
 use Rattle.std.specs.Option.{ok_or}
-use Rattle.account_model.specs.declared.fault.LineFault.{LineFault}
-use Rattle.account_model.specs.declared.fault.LineFault.TheVariants.{BadNumber, EmptyName, BadRange}
-use Rattle.account_model.specs.declared.records.SubidRecord.{SubidRecord}
+use Rattle.account_formats.specs.declared.fault.LineFault.{LineFault}
+use Rattle.account_formats.specs.declared.fault.LineFault.TheVariants.{BadNumber, EmptyName, BadRange}
+use Rattle.account_formats.specs.declared.records.SubidRecord.{SubidRecord}
 use Rattle.acct_text.specs.Bytes.{is_empty}
-use Rattle.account_model.specs.Text.{first_some}
-use Rattle.account_model.specs.Records.{read_id, read_count, is_bad_range, subid_of_fields, subid_with, subid_format}
-use Rattle.account_model.specs.Faults.{field_at, subid_fault, range_fault}
+use Rattle.account_formats.specs.Text.{first_some}
+use Rattle.account_formats.specs.Records.{read_id, read_count, is_bad_range, subid_of_fields, subid_with, subid_format}
+use Rattle.account_formats.specs.Faults.{field_at, subid_fault, range_fault}
 use Rattle.acct_lines.specs.Fields.{AreFields, IsUnnamed}
 use Rattle.acct_lines.proofs.Read.{number_fault, read-some, read-none, read-fault}
 

@@ -1,7 +1,7 @@
 -- The fields of a line as they are read: so many as the table has, and the first with a name.
 use Rattle.std.specs.Prelude.{◌≡◌, ◌≢◌, ℕ, true, false, List, [], length, Option, None, Some}
-use Rattle.account_model.specs.declared.fault.LineFault.{LineFault}
-use Rattle.account_model.specs.declared.fault.LineFault.TheVariants.{FieldCount, EmptyName}
+use Rattle.account_formats.specs.declared.fault.LineFault.{LineFault}
+use Rattle.account_formats.specs.declared.fault.LineFault.TheVariants.{FieldCount, EmptyName}
 use Rattle.acct_text.specs.Bytes.{is_empty}
 use Rattle.acct_text.specs.Pieces.{fields_of}
 use denote.Ref.{Bor}

@@ -2,13 +2,13 @@
 // from 1.
 ghost use Rattle.std.specs.Prelude.{◌≡◌, ◌<◌, ◌+◌, ◌++◌, [], ◌∷◌, IfOk, MatchResult, OnOk, bytes_eq, length};
 ghost use Rattle.std.specs.Option.{ok_or};
-ghost use Rattle.account_model.specs.Records.{read_count, read_days, read_id, read_names};
-ghost use Rattle.account_model.specs.Text.{is_listed, nonempty};
+ghost use Rattle.account_formats.specs.Records.{read_count, read_days, read_id, read_names};
+ghost use Rattle.account_formats.specs.Text.{is_listed, nonempty};
 ghost use Rattle.acct_text.specs.Numbers.{number_within};
 ghost use Rattle.acct_lines.specs.Fields.{AreFields, IsMiscount, IsNameIn, IsUnnamed};
-ghost use Rattle.account_model.specs.Naming.{first_field as first_of};
+ghost use Rattle.account_formats.specs.Naming.{first_field as first_of};
 
-use account_model::{GREATEST_DAYS, GREATEST_ID, LineFault};
+use account_formats::{GREATEST_DAYS, GREATEST_ID, LineFault};
 use acct_text::{Names, cut_once, read_decimal};
 use memchr::memchr_iter;
 use std::alloc::{AllocError, Global};

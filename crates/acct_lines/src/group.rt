@@ -1,7 +1,7 @@
 // The records of group (group(5)).
 ghost use Rattle.std.specs.Prelude.{◌≡◌, Some, IfOk, MatchResult};
-ghost use Rattle.account_model.specs.Faults.{group_fault};
-ghost use Rattle.account_model.specs.Records.{group_format};
+ghost use Rattle.account_formats.specs.Faults.{group_fault};
+ghost use Rattle.account_formats.specs.Records.{group_format};
 
 use crate::fields::{self, Fields};
 use crate::walks::{copy_field, copy_fields, print_field, print_fields, read_fields};
@@ -57,10 +57,10 @@ impl<'a> GroupLine<'a> {
 }
 
 impl TableRecord for GroupRecord {
-    ghost use Rattle.account_model.specs.Records.{group_format};
-    ghost use Rattle.account_model.specs.Faults.{group_fault};
-    ghost use Rattle.account_model.proofs.FormatLaws.{group-is_format};
-    ghost use Rattle.account_model.proofs.NamingLaws.{group-names_first};
+    ghost use Rattle.account_formats.specs.Records.{group_format};
+    ghost use Rattle.account_formats.specs.Faults.{group_fault};
+    ghost use Rattle.account_formats.proofs.FormatLaws.{group-is_format};
+    ghost use Rattle.account_formats.proofs.NamingLaws.{group-names_first};
 
     ghost format = { group_format };
 

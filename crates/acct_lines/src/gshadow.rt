@@ -1,7 +1,7 @@
 // The records of gshadow (gshadow(5)).
 ghost use Rattle.std.specs.Prelude.{◌≡◌, Some, IfOk, MatchResult};
-ghost use Rattle.account_model.specs.Faults.{gshadow_fault};
-ghost use Rattle.account_model.specs.Records.{gshadow_format};
+ghost use Rattle.account_formats.specs.Faults.{gshadow_fault};
+ghost use Rattle.account_formats.specs.Records.{gshadow_format};
 
 use crate::fields::{self, Fields};
 use crate::walks::{copy_field, copy_fields, print_field, print_fields, read_fields};
@@ -57,10 +57,10 @@ impl<'a> GshadowLine<'a> {
 }
 
 impl TableRecord for GshadowRecord {
-    ghost use Rattle.account_model.specs.Records.{gshadow_format};
-    ghost use Rattle.account_model.specs.Faults.{gshadow_fault};
-    ghost use Rattle.account_model.proofs.FormatLaws.{gshadow-is_format};
-    ghost use Rattle.account_model.proofs.NamingLaws.{gshadow-names_first};
+    ghost use Rattle.account_formats.specs.Records.{gshadow_format};
+    ghost use Rattle.account_formats.specs.Faults.{gshadow_fault};
+    ghost use Rattle.account_formats.proofs.FormatLaws.{gshadow-is_format};
+    ghost use Rattle.account_formats.proofs.NamingLaws.{gshadow-names_first};
 
     ghost format = { gshadow_format };
 

@@ -18,7 +18,7 @@ mod shadow;
 mod subid;
 mod walks;
 
-pub use account_model::{
+pub use account_formats::{
     GroupRecord, GshadowRecord, LineFault, PasswdRecord, ShadowRecord, SubidRecord,
 };
 pub use fields::{cut_names, first_field, has_first_field, lists};

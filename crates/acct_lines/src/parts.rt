@@ -1,7 +1,7 @@
 // The fields that a record prints, each added behind those of its line so far.
 ghost use Rattle.std.specs.Prelude.{◌≡◌, ◌++◌, [], ◌∷◌, OnOk};
 ghost use Rattle.std.specs.Fmt.{decimal};
-ghost use Rattle.account_model.specs.Records.{print_days, print_names};
+ghost use Rattle.account_formats.specs.Records.{print_days, print_names};
 
 use acct_text::{Bytes, Names, Piece, join};
 use std::alloc::{AllocError, Global};

@@ -12,10 +12,10 @@ use Rattle.std.proofs.lemmas.Bool.{cases_Bool}
 use Rattle.std.proofs.lemmas.List.{get_or_default, map-append, map_more, take_rest}
 use Rattle.std.proofs.lemmas.Slice.Eq.{bytes_eq-Decides}
 use Rattle.acct_text.specs.Lines.{Line}
-use Rattle.account_model.specs.Edits.{printed_line, with_line}
-use Rattle.account_model.specs.Format.{Format}
-use Rattle.account_model.specs.RecordEdits.{TellsSame}
-use Rattle.account_model.specs.Written.{IsWritten}
+use Rattle.account_formats.specs.Edits.{printed_line, with_line}
+use Rattle.account_formats.specs.Format.{Format}
+use Rattle.account_formats.specs.RecordEdits.{TellsSame}
+use Rattle.account_formats.specs.Written.{IsWritten}
 use Rattle.acct_tables.specs.NameIndex.{line_name, line_names}
 use Rattle.acct_tables.specs.TableLines.{changed_at, with_record}
 use Rattle.acct_tables.proofs.RecordLines.{lines-from}

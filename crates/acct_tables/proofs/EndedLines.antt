@@ -4,7 +4,7 @@ use Rattle.std.proofs.Common.{◌≡◌, ℕ, ◌+◌, ◌<◌, ◌≤◌, true,
 use Rattle.std.proofs.Math.ListN.{set}
 use Rattle.std.proofs.lemmas.List.{append-nil, length-map, map-append, take_all}
 use Rattle.acct_text.specs.Lines.{Line}
-use Rattle.account_model.specs.Edits.{as_ended, with_line}
+use Rattle.account_formats.specs.Edits.{as_ended, with_line}
 
 -- the lines, of which so many have been given an end
 abbrev pub ended_up_to : ℕ → List Line → List Line

@@ -3,10 +3,10 @@
 use Rattle.std.proofs.Common.{◌≡◌, ◌≢◌, ℕ, Bool, true, false, List, [], ◌∷◌, ◌++◌, map, refl, sym, ◌∙◌, ap}
 use Rattle.std.specs.Prelude.{◌&&◌, Option, Some, None, flat_map, if◌then◌else◌}
 use Rattle.acct_text.specs.Lines.{Line}
-use Rattle.account_model.specs.Edits.{becomes, line_becomes, is_multiple}
-use Rattle.account_model.specs.Format.{Format, count_named}
-use Rattle.account_model.specs.RecordEdits.{TellsSame}
-use Rattle.account_model.specs.Text.{first_some}
+use Rattle.account_formats.specs.Edits.{becomes, line_becomes, is_multiple}
+use Rattle.account_formats.specs.Format.{Format, count_named}
+use Rattle.account_formats.specs.RecordEdits.{TellsSame}
+use Rattle.account_formats.specs.Text.{first_some}
 use Rattle.acct_tables.specs.declared.fault.TableFault.{TableFault}
 use Rattle.acct_tables.specs.declared.fault.TableFault.TheVariants.{Multiple, Memory}
 use Rattle.acct_tables.specs.Lists.{changed_line, holder_refusal, line_refusal}

@@ -7,7 +7,7 @@ use Rattle.std.specs.Prelude.{Option, Some, None, count_by, is_some, nat_le, opt
 use Rattle.std.specs.List.{cons_option, position_from}
 use Rattle.std.proofs.lemmas.List.Sums.{sum_by-cons}
 use Rattle.acct_text.specs.Lines.{Line}
-use Rattle.account_model.specs.Format.{Format, count_named, find_named, has_named, is_named, records_of}
+use Rattle.account_formats.specs.Format.{Format, count_named, find_named, has_named, is_named, records_of}
 use Rattle.acct_tables.specs.NameIndex.{are_several, has_name, line_name, line_names, lines_named, records_at}
 use Rattle.acct_tables.specs.TableLines.{line_is_named, record_at}
 use Rattle.acct_tables.proofs.FirstRecords.{found-at, record_of}

@@ -9,9 +9,9 @@ use Rattle.std.proofs.lemmas.List.{take-append-drop, get_or_default}
 use Rattle.std.proofs.lemmas.List.Sums.{sum_by-cons}
 use Rattle.std.proofs.lemmas.Grind.{flat_map-append}
 use Rattle.acct_text.specs.Lines.{Line}
-use Rattle.account_model.specs.Format.{Format, records_of, is_named, count_named}
-use Rattle.account_model.specs.Edits.{becomes, line_becomes, edited, each_where, drop_where}
-use Rattle.account_model.specs.RecordEdits.{TellsSame}
+use Rattle.account_formats.specs.Format.{Format, records_of, is_named, count_named}
+use Rattle.account_formats.specs.Edits.{becomes, line_becomes, edited, each_where, drop_where}
+use Rattle.account_formats.specs.RecordEdits.{TellsSame}
 use Rattle.acct_tables.specs.Refusals.{not_single, single_refusal}
 use Rattle.acct_tables.specs.TableLines.{IsOnlyPlace, changed_at, line_is_named, with_record}
 use Rattle.acct_tables.proofs.RecordLines.{lines-from, count-met, count-cut}

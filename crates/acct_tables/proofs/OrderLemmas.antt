@@ -6,7 +6,7 @@ use Rattle.std.specs.Prelude.{Option, Some, None, is_some}
 use Rattle.std.specs.List.{cons_option}
 use Rattle.std.proofs.lemmas.List.{drop_more}
 use Rattle.acct_text.specs.Lines.{Line}
-use Rattle.account_model.specs.Format.{Format, records_of}
+use Rattle.account_formats.specs.Format.{Format, records_of}
 use Rattle.acct_tables.specs.Order.{text_at, with_texts}
 use Rattle.acct_tables.proofs.RecordLines.{lines-from, records-from}
 

@@ -8,7 +8,7 @@ use Rattle.std.proofs.lemmas.List.{drop_more, take-append-drop}
 use Rattle.std.proofs.lemmas.List.Sums.{sum_by-cons, sum_by-append}
 use Rattle.std.proofs.lemmas.List.Elements.{filter_map-append}
 use Rattle.acct_text.specs.Lines.{Line}
-use Rattle.account_model.specs.Format.{Format, records_of, is_named, find_named, count_named}
+use Rattle.account_formats.specs.Format.{Format, records_of, is_named, find_named, count_named}
 use Rattle.acct_tables.specs.TableLines.{is_named_at, line_is_named}
 
 -- the lines from a place on begin with the line there

@@ -6,7 +6,7 @@ use Rattle.std.specs.Prelude.{Option, Some, None, count_by, option_map}
 use Rattle.std.specs.List.{position_from}
 use Rattle.std.proofs.lemmas.List.{get_or_default}
 use Rattle.acct_text.specs.Lines.{Line}
-use Rattle.account_model.specs.Format.{Format, count_named, is_named, records_of}
+use Rattle.account_formats.specs.Format.{Format, count_named, is_named, records_of}
 use Rattle.acct_tables.specs.declared.name_index.NamedLines.{NamedLines}
 use Rattle.acct_tables.specs.NameIndex.{has_name, line_names, lines_named, records_at}
 use Rattle.acct_tables.specs.TableLines.{IsOnlyPlace, line_is_named}

@@ -2,7 +2,7 @@
 use Rattle.std.specs.Prelude.{◌≡◌, ℕ, Bool, false, bytes_eq, List, Option, Some, None}
 use Rattle.acct_text.specs.Bytes.{newline}
 use Rattle.acct_text.specs.Pieces.{Lacks}
-use Rattle.account_model.specs.Format.{Format}
+use Rattle.account_formats.specs.Format.{Format}
 
 -- the text is one line, and reads as the record that is kept with it
 pub record IsKept {R : Type 0} (format : Format R) (text : List ℕ) (kept : Option R) : Type 0 where

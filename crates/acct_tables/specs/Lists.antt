@@ -2,12 +2,12 @@
 -- and which it refuses (usermod(8), `-l`).
 use Rattle.std.specs.Prelude.{ℕ, Bool, ◌&&◌, ◌||◌, List, map, Option, Some, None, if◌then◌else◌}
 use Rattle.acct_text.specs.Lines.{Line}
-use Rattle.account_model.specs.declared.records.GroupRecord.{GroupRecord}
-use Rattle.account_model.specs.declared.records.GshadowRecord.{GshadowRecord}
-use Rattle.account_model.specs.Edits.{is_multiple}
-use Rattle.account_model.specs.Format.{Format, records_of, count_named}
+use Rattle.account_formats.specs.declared.records.GroupRecord.{GroupRecord}
+use Rattle.account_formats.specs.declared.records.GshadowRecord.{GshadowRecord}
+use Rattle.account_formats.specs.Edits.{is_multiple}
+use Rattle.account_formats.specs.Format.{Format, records_of, count_named}
 use Rattle.account_model.specs.Members.{renamed_in}
-use Rattle.account_model.specs.Text.{first_some, is_listed}
+use Rattle.account_formats.specs.Text.{first_some, is_listed}
 use Rattle.acct_tables.specs.declared.fault.TableFault.{TableFault}
 use Rattle.acct_tables.specs.declared.fault.TableFault.TheVariants.{Multiple}
 use Rattle.acct_tables.specs.TableLines.{with_record}

@@ -1,7 +1,7 @@
 -- The texts of records in another order, in the places of records (pwck(8), grpck(8), `-s`).
 use Rattle.std.specs.Prelude.{ℕ, List, [], ◌∷◌, map, is_some, slice_get, Some, None, if◌then◌else◌}
 use Rattle.acct_text.specs.Lines.{Line}
-use Rattle.account_model.specs.Format.{Format}
+use Rattle.account_formats.specs.Format.{Format}
 
 -- the text of the line at a place, counted from 0; past the end it is empty
 abbrev pub text_at : List Line → ℕ → List ℕ

@@ -4,8 +4,8 @@
 use Rattle.std.specs.Prelude.{◌≡◌, ℕ, ◌+◌, ◌<◌, ◌==◌, Bool, true, false, List, ◌∷◌, ◌++◌, length, map, take, drop, Option, Some, None, slice_get, if◌then◌else◌}
 use Rattle.std.specs.List.{insert}
 use Rattle.acct_text.specs.Lines.{Line}
-use Rattle.account_model.specs.Format.{Format, is_named, records_of, count_named}
-use Rattle.account_model.specs.Edits.{printed_line, with_line}
+use Rattle.account_formats.specs.Format.{Format, is_named, records_of, count_named}
+use Rattle.account_formats.specs.Edits.{printed_line, with_line}
 
 -- ---- What is found
 

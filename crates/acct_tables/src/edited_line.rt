@@ -3,8 +3,8 @@ ghost use Rattle.std.specs.Prelude.{◌≡◌, ◌++◌, Bool, IfOk, IfSome, OnO
 ghost use Rattle.acct_text.specs.Bytes.{newline};
 ghost use Rattle.acct_text.specs.Lines.{line_bytes};
 ghost use Rattle.acct_text.specs.Pieces.{Lacks};
-ghost use Rattle.account_model.specs.Edits.{as_ended, printed_line};
-ghost use Rattle.account_model.specs.Written.{IsWritten};
+ghost use Rattle.account_formats.specs.Edits.{as_ended, printed_line};
+ghost use Rattle.account_formats.specs.Written.{IsWritten};
 ghost use Rattle.acct_tables.specs.EditedTexts.{text_of};
 ghost use Rattle.acct_tables.specs.Kept.{is_printed_as};
 ghost use Rattle.acct_tables.specs.TableLines.{with_record};

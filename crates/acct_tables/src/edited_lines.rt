@@ -1,8 +1,8 @@
 // The lines of a table's file while edits change them.
 ghost use Rattle.std.specs.Prelude.{◌≡◌, ◌<◌, length, map, IfOk, IfSome, OnOk, OnErr};
 ghost use Rattle.acct_text.specs.Lines.{lines_of, file_bytes};
-ghost use Rattle.account_model.specs.Edits.{as_ended, with_line};
-ghost use Rattle.account_model.specs.Written.{IsWritten};
+ghost use Rattle.account_formats.specs.Edits.{as_ended, with_line};
+ghost use Rattle.account_formats.specs.Written.{IsWritten};
 ghost use Rattle.acct_tables.specs.Order.{text_at};
 ghost use Rattle.acct_tables.specs.TableLines.{changed_at, record_at, with_record};
 

@@ -2,10 +2,10 @@
 ghost use Rattle.std.specs.Prelude.{◌≡◌, ◌∷◌, [], codes, is_none, IfOk, option_and_then};
 ghost use Rattle.account_model.specs.Chage.{aging_report as report_of, chage, chage_refusals, chage_script, with_aging};
 ghost use Rattle.account_model.specs.Refusals.{refuse_if};
-ghost use Rattle.account_model.specs.Request.{operand, value_of};
-ghost use Rattle.account_model.specs.Text.{first_some};
+ghost use Rattle.account_words.specs.Request.{operand, value_of};
+ghost use Rattle.account_formats.specs.Text.{first_some};
 ghost use Rattle.account_model.specs.Users.{aging_of};
-ghost use Rattle.account_model.specs.Values.{date_value, days_value};
+ghost use Rattle.account_words.specs.Values.{date_value, days_value};
 ghost use Rattle.tool_answers.specs.Refusing.{RefusesBy};
 ghost use Rattle.table_edits.specs.Acting.{ActsBy, IsReportOf};
 ghost use Rattle.table_edits.specs.SeenScript.{seen_script};
@@ -16,8 +16,8 @@ use crate::listing::aging_report;
 use account_model::Refusal;
 use acct_text::{Bytes, Names};
 use command_values::{Asked, Form, ToolFault, read_date, read_days};
-use std::alloc::{AllocError, Global};
 use line_edits::{ShadowAct, ShadowFields};
+use std::alloc::{AllocError, Global};
 use table_edits::{Report, Script, hash_alone};
 use table_lookups::Tables;
 
@@ -36,11 +36,7 @@ pub fn chage(alloc: Global, asked: &Asked, tables: &Tables) -> Result<Script, To
 }
 
 /// What chage prints: with `-l` the aging of the user, and else nothing.
-pub fn chage_report(
-    alloc: Global,
-    asked: &Asked,
-    tables: &Tables,
-) -> Result<Report, AllocError>
+pub fn chage_report(alloc: Global, asked: &Asked, tables: &Tables) -> Result<Report, AllocError>
     ensures { IfOk result (IsReportOf (chage asked.now tables.now)) }
 {
     if !asked.has(b'l') {

@@ -2,7 +2,7 @@
 ghost use Rattle.std.specs.Prelude.{◌≡◌, ◌≤◌, length, map, IfOk, OnOk};
 ghost use Rattle.acct_text.specs.Limits.{table_limit};
 ghost use Rattle.account_model.specs.Chpasswd.{chpasswd, set_hash};
-ghost use Rattle.account_model.specs.Tables.{in_order};
+ghost use Rattle.account_formats.specs.Tables.{in_order};
 ghost use Rattle.table_edits.specs.Acting.{ActsBy};
 ghost use Rattle.table_edits.specs.Additions.{HasAlso};
 ghost use Rattle.table_edits.specs.SeenScript.{seen_script};
@@ -11,8 +11,8 @@ ghost use Rattle.aging_commands.specs.HashLines.{hash_script, seen_line};
 use crate::hash_lines::{NewHash, read_hashes};
 use acct_text::Bytes;
 use command_values::ToolFault;
-use std::alloc::{AllocError, Global};
 use line_edits::{HashChange, ShadowAct};
+use std::alloc::{AllocError, Global};
 use table_edits::Script;
 use table_lookups::{Tables, UserIndex};
 
@@ -20,12 +20,7 @@ use table_lookups::{Tables, UserIndex};
 /// table is passed over once, however many lines there are.
 ///
 /// `BadLine` refuses the whole input where one of its lines is bad: the first, counted from 1.
-pub fn chpasswd(
-    alloc: Global,
-    input: &[u8],
-    tables: &Tables,
-    day: u32,
-) -> Result<Script, ToolFault>
+pub fn chpasswd(alloc: Global, input: &[u8], tables: &Tables, day: u32) -> Result<Script, ToolFault>
     requires { length input.now ≤ table_limit }
     ensures { ActsBy (chpasswd input.now tables.now day) result }
 {

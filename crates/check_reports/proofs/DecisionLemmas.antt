@@ -6,23 +6,23 @@ use Rattle.std.specs.Prelude.{codes, Option, Some, None, Ok}
 use Rattle.std.specs.List.{position_or_len}
 use Rattle.acct_text.specs.declared.files.Files.{Files}
 use Rattle.account_model.specs.declared.refusal.Refusal.{Refusal}
-use Rattle.account_model.specs.declared.tool.Tool.{Tool}
+use Rattle.account_words.specs.declared.tool.Tool.{Tool}
 use Rattle.acct_text.specs.Contents.{same_content}
 use Rattle.account_model.specs.Action.{changes, made_by, outcome_of, reports, multiple_entries}
 use Rattle.account_model.specs.Answer.{files_eq}
-use Rattle.account_model.specs.Edits.{Arrange, first_multiple}
-use Rattle.account_model.specs.Format.{Format, is_named}
+use Rattle.account_formats.specs.Edits.{Arrange, first_multiple}
+use Rattle.account_formats.specs.Format.{Format, is_named}
 use Rattle.account_model.specs.Grpck.{grpck, grpck_report, grpck_sort, sorted_groups}
 use Rattle.account_model.specs.Pwck.{pwck, pwck_report, pwck_sort, sorted_users}
-use Rattle.account_model.specs.Request.{Request, has_option}
-use Rattle.account_model.specs.Records.{passwd_format, shadow_format, group_format, gshadow_format}
-use Rattle.account_model.specs.Tables.{no_edits, files_after, table_after, table_records, passwd_records, shadow_records, group_records, gshadow_records}
-use Rattle.account_model.specs.Text.{first_some}
+use Rattle.account_words.specs.Request.{Request, has_option}
+use Rattle.account_formats.specs.Records.{passwd_format, shadow_format, group_format, gshadow_format}
+use Rattle.account_formats.specs.Tables.{no_edits, files_after, table_after, table_records, passwd_records, shadow_records, group_records, gshadow_records}
+use Rattle.account_formats.specs.Text.{first_some}
 use Rattle.tool_answers.specs.Decisions.{decision_of, made_decision}
 use Rattle.tool_answers.specs.declared.decision.Decision.{Decision}
 use Rattle.tool_answers.specs.declared.decision.Decision.TheVariants.{Same}
-use Rattle.account_model.proofs.NoEdits.{files-stay}
-use Rattle.account_model.proofs.SameLaws.{bytes-self}
+use Rattle.account_formats.proofs.NoEdits.{files-stay}
+use Rattle.account_formats.proofs.SameLaws.{bytes-self}
 use Rattle.check_reports.specs.Decided.{DecidesBy}
 
 -- no edit touches a record

@@ -6,8 +6,8 @@ use Rattle.std.specs.Prelude.{Option, Some, None, is_some, option_map, option_to
 use Rattle.std.specs.List.{cons_option}
 use Rattle.std.proofs.lemmas.List.{drop_more}
 use Rattle.acct_text.specs.Lines.{Line, file_bytes, line_bytes}
-use Rattle.account_model.specs.Edits.{Keyed, in_places, keyed_text, keyed_texts}
-use Rattle.account_model.specs.Format.{Format}
+use Rattle.account_formats.specs.Edits.{Keyed, in_places, keyed_text, keyed_texts}
+use Rattle.account_formats.specs.Format.{Format}
 
 -- one more in front of what an option has
 cons-front :

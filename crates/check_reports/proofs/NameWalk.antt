@@ -8,7 +8,7 @@ use Rattle.std.specs.HashSet.{HashSet}
 use Rattle.std.specs.HashSet as bag
 use Rattle.std.specs.Set.{KeepsOthers}
 use Rattle.acct_text.specs.Lines.{Line}
-use Rattle.account_model.specs.Format.{Format, has_named, is_named, records_of}
+use Rattle.account_formats.specs.Format.{Format, has_named, is_named, records_of}
 use Rattle.acct_tables.specs.TableLines.{record_at}
 use Rattle.check_reports.specs.declared.names.NameSet.{NameSet}
 use Rattle.check_reports.specs.Names.{AreNamesOf, has_name}

@@ -7,7 +7,7 @@ use Rattle.std.specs.List.{position_from, position_or_len}
 use Rattle.std.specs.Cmp.Lexicographic.{bytes_decides}
 use Rattle.std.specs.Map.{update}
 use Rattle.acct_text.specs.Lines.{Line}
-use Rattle.account_model.specs.Format.{Format, is_named, records_of}
+use Rattle.account_formats.specs.Format.{Format, is_named, records_of}
 use Rattle.acct_tables.specs.TableLines.{record_at}
 use Rattle.check_reports.specs.declared.sorting.ByPlace.{ByPlace}
 use Rattle.check_reports.specs.Sorted.{IsOrderOf, Places, first_places, kept_places, with_place}

@@ -9,7 +9,7 @@ use Rattle.std.proofs.lemmas.List.Elements.{filter-append}
 use Rattle.acct_text.specs.declared.Tab.{Tab}
 use Rattle.acct_text.specs.Bytes.{is_empty}
 use Rattle.acct_text.specs.Lines.{Line}
-use Rattle.account_model.specs.Format.{Format, records_of}
+use Rattle.account_formats.specs.Format.{Format, records_of}
 use Rattle.account_model.specs.Problems.{Located, RecordProblems, at_line, is_notice, problem_line, problem_lines, problems_behind, problems_of_line, table_problems}
 use Rattle.account_model.specs.Problems as model
 use Rattle.acct_tables.specs.Order.{text_at}

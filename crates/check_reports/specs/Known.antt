@@ -2,8 +2,8 @@
 use Rattle.std.specs.Prelude.{◌≡◌, ℕ, Bool, false, ◌==◌, List, Option, Some, None}
 use Rattle.std.specs.List.{list_any}
 use Rattle.acct_text.specs.declared.files.Files.{Files}
-use Rattle.account_model.specs.declared.records.GroupRecord.{GroupRecord}
-use Rattle.account_model.specs.Tables.{group_records}
+use Rattle.account_formats.specs.declared.records.GroupRecord.{GroupRecord}
+use Rattle.account_formats.specs.Tables.{group_records}
 use Rattle.account_model.specs.Users.{has_user, has_shadow, has_group, has_gshadow}
 use Rattle.check_reports.specs.declared.names.NameSet.{NameSet}
 use Rattle.check_reports.specs.Names.{has_name}

@@ -1,7 +1,7 @@
 -- The names of the records of a table (passwd(5), shadow(5), group(5), gshadow(5)).
 use Rattle.std.specs.Prelude.{◌≡◌, ℕ, Bool, List, bytes_eq}
 use Rattle.std.specs.HashSet as bag
-use Rattle.account_model.specs.Format.{Format, has_named}
+use Rattle.account_formats.specs.Format.{Format, has_named}
 use Rattle.check_reports.specs.declared.names.NameSet.{NameSet}
 
 -- whether it is one of the names

@@ -3,8 +3,8 @@
 use Rattle.std.specs.Prelude.{◌≡◌, ℕ, List, Option, Some, None, bytes_eq, length, if◌then◌else◌}
 use Rattle.std.specs.HashMap as hash
 use Rattle.std.specs.List.{position_from}
-use Rattle.account_model.specs.Format.{Format, is_named}
-use Rattle.account_model.specs.Edits as model
+use Rattle.account_formats.specs.Format.{Format, is_named}
+use Rattle.account_formats.specs.Edits as model
 use Rattle.check_reports.specs.declared.sorting.ByPlace.{ByPlace}
 use Rattle.check_reports.specs.declared.sorting.Keyed.{Keyed}
 

@@ -1,25 +1,25 @@
 // getsubids NAME (getsubids(1)): lists the subordinate ranges of a user.
 ghost use Rattle.std.specs.Prelude.{◌≡◌, ◌++◌, filter, map, IfOk, OnOk};
 ghost use Rattle.account_model.specs.Getsubids.{getsubids, range_line, range_lines_from};
-ghost use Rattle.account_model.specs.Records.{subid_format};
-ghost use Rattle.account_model.specs.SubidOwner.{is_owned};
-ghost use Rattle.account_model.specs.Tables.{table_records};
+ghost use Rattle.account_formats.specs.Records.{subid_format};
+ghost use Rattle.account_words.specs.SubidOwner.{is_owned};
+ghost use Rattle.account_formats.specs.Tables.{table_records};
 ghost use Rattle.account_model.specs.Users.{uid_of};
 ghost use Rattle.subid_ranges.specs.Owned.{first_and_count};
 ghost use Rattle.check_reports.specs.Decided.{DecidesBy};
 ghost use Rattle.check_reports.specs.Listed.{listed_file, range_for};
 
 use crate::decision::told;
-use account_model::{PasswdRecord, Refusal};
+use account_formats::PasswdRecord;
+use account_model::Refusal;
 use acct_tables::find_record;
-use tool_answers::Decision;
 use acct_text::Piece::{Number, Text};
 use acct_text::{Bytes, Files};
 use command_values::Asked;
 use std::alloc::{AllocError, Global};
 use subid_ranges::OwnedRanges;
 use table_lookups::text_of;
-use tool_answers::refuse;
+use tool_answers::{Decision, refuse};
 
 /// Lists the ranges of the user in subuid(5), or with `-g` in subgid(5). `NoRanges` refuses a user
 /// who has none there.

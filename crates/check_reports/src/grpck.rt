@@ -11,12 +11,12 @@ use crate::problem::{Listing, Problem};
 use crate::problems::Problems;
 use crate::report::{CheckedRecord, Report};
 use crate::sorting::{ById, sorted_file, sorted_like};
-use account_model::{GroupRecord, GshadowRecord};
+use account_formats::{GroupRecord, GshadowRecord};
 use acct_lines::is_valid_name;
-use tool_answers::Decision;
 use acct_text::{Files, Names, Tab};
 use command_values::Asked;
 use std::alloc::{AllocError, Global};
+use tool_answers::Decision;
 
 /// Sorts group and gshadow with `-s`, and else reports their problems.
 pub fn grpck(

@@ -1,13 +1,13 @@
 // What a check looks up in the tables, found without a search of them (pwck(8), grpck(8), `-r`).
 ghost use Rattle.std.specs.Prelude.{◌≡◌, ℕ, ◌||◌, is_some, nat_eq, IfOk, OnOk};
 ghost use Rattle.std.specs.HashSet as bag;
-ghost use Rattle.account_model.specs.Records.{group_format};
-ghost use Rattle.account_model.specs.Tables.{group_records, table_records};
+ghost use Rattle.account_formats.specs.Records.{group_format};
+ghost use Rattle.account_formats.specs.Tables.{group_records, table_records};
 ghost use Rattle.account_model.specs.Users.{has_user, has_shadow, has_group, has_gshadow};
 ghost use Rattle.check_reports.specs.Known.{has_gid, is_of};
 
 use crate::names::NameSet;
-use account_model::{GroupRecord, GshadowRecord, PasswdRecord, ShadowRecord};
+use account_formats::{GroupRecord, GshadowRecord, PasswdRecord, ShadowRecord};
 use acct_tables::Lines;
 use acct_text::{Bytes, Files};
 use std::alloc::{AllocError, Global};

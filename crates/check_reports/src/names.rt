@@ -1,6 +1,6 @@
 // The names of a table's records, found without a search of the table.
 ghost use Rattle.std.specs.Prelude.{◌≡◌, ◌||◌, List, ℕ, bytes_eq, false, IfOk, OnOk};
-ghost use Rattle.account_model.specs.Tables.{table_records};
+ghost use Rattle.account_formats.specs.Tables.{table_records};
 ghost use Rattle.check_reports.specs.Names.{AreNamesOf, has_name};
 
 use acct_lines::TableRecord;

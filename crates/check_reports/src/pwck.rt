@@ -10,21 +10,16 @@ use crate::problem::Problem;
 use crate::problems::Problems;
 use crate::report::{CheckedRecord, Report};
 use crate::sorting::{ById, sorted_file, sorted_like};
-use account_model::{PasswdRecord, ShadowRecord};
+use account_formats::{PasswdRecord, ShadowRecord};
 use acct_lines::is_valid_name;
-use tool_answers::Decision;
 use acct_text::{Files, Tab};
 use command_values::Asked;
 use std::alloc::{AllocError, Global};
+use tool_answers::Decision;
 
 /// Sorts passwd and shadow with `-s`, and else reports their problems, on the day in days since
 /// 1970-01-01.
-pub fn pwck(
-    alloc: Global,
-    asked: &Asked,
-    files: &Files,
-    today: u32,
-) -> Result<Decision, AllocError>
+pub fn pwck(alloc: Global, asked: &Asked, files: &Files, today: u32) -> Result<Decision, AllocError>
     ensures { IfOk result
         (DecidesBy asked.now.tool (pwck asked.now files.now today) files.now) }
 {

@@ -1,9 +1,9 @@
 // The report of a check: the problems of its tables, line after line (pwck(8), grpck(8), `-r`).
 ghost use Rattle.std.specs.Prelude.{◌≡◌, ◌++◌, ◌∷◌, [], List, option_to_list, true, IfOk, OnOk};
 ghost use Rattle.acct_text.specs.declared.files.Files.{Files};
-ghost use Rattle.account_model.specs.declared.tool.Tool.{Tool};
+ghost use Rattle.account_words.specs.declared.tool.Tool.{Tool};
 ghost use Rattle.account_model.specs.Action.{reports};
-ghost use Rattle.account_model.specs.Format.{has_named};
+ghost use Rattle.account_formats.specs.Format.{has_named};
 ghost use Rattle.account_model.specs.Problems as model;
 ghost use Rattle.account_model.specs.Problems.{at_line, is_nis, problem_line, problems_of_line, table_problems};
 ghost use Rattle.check_reports.specs.Decided.{DecidesBy};
@@ -19,10 +19,10 @@ use crate::problem::Problem;
 use crate::problems::Problems;
 use acct_lines::{TableRecord, first_field};
 use acct_tables::read_record;
-use tool_answers::Decision;
 use acct_text::{Bytes, Tab, push_decimal};
 use std::alloc::{AllocError, Global};
 use table_lookups::file_lines;
+use tool_answers::Decision;
 
 // The status of a report with a problem.
 const BAD_ENTRIES: u8 = 2;

@@ -14,7 +14,6 @@ mod ranges;
 mod row_law;
 mod settings;
 
-pub use tool_answers::ToolFault;
 pub use asked::Asked;
 pub use checks::{check_list_name, check_name};
 pub use days::{read_date, read_days, read_expiration};
@@ -24,3 +23,4 @@ pub use lists::list_value;
 pub use ranges::read_range;
 pub use row_law::requests_keep_their_row;
 pub use settings::free_id;
+pub use tool_answers::ToolFault;

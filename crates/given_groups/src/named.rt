@@ -1,9 +1,9 @@
 // The groups that words name (useradd(8), usermod(8), `-g` and `-G`).
 ghost use Rattle.std.specs.Prelude.{◌≡◌, IfOk};
 ghost use Rattle.account_model.specs.GivenGroups.{find_group as named_by_word, given_group, group_words as words_of_groups};
-ghost use Rattle.account_model.specs.Tables.{group_records};
+ghost use Rattle.account_formats.specs.Tables.{group_records};
 
-use account_model::GroupRecord;
+use account_formats::GroupRecord;
 use acct_lines::is_digits;
 use acct_text::Names;
 use command_values::{Asked, list_value, read_id};

@@ -1,11 +1,11 @@
 // groupadd NAME (groupadd(8)): makes a group.
 ghost use Rattle.std.specs.Prelude.{◌≡◌, List, IfOk};
 ghost use Rattle.account_model.specs.Groupadd.{groupadd, groupadd_checks, groupadd_used_gid, is_content, is_gid_taken, new_gid};
-ghost use Rattle.account_model.specs.Ids.{used_gids as gids_of};
+ghost use Rattle.account_words.specs.Ids.{used_gids as gids_of};
 ghost use Rattle.account_model.specs.NewAccount.{settings_for};
-ghost use Rattle.account_model.specs.Request.{operand};
-ghost use Rattle.account_model.specs.Settings.{Setting};
-ghost use Rattle.account_model.specs.Text.{first_some};
+ghost use Rattle.account_words.specs.Request.{operand};
+ghost use Rattle.account_words.specs.Settings.{Setting};
+ghost use Rattle.account_formats.specs.Text.{first_some};
 ghost use Rattle.tool_answers.specs.Refusing.{RefusesBy};
 ghost use Rattle.command_values.specs.Chosen.{AddsSettings};
 ghost use Rattle.id_choice.specs.Used.{AreThoseOf};
@@ -13,7 +13,8 @@ ghost use Rattle.login_defs.specs.Held.{HasSettings};
 ghost use Rattle.table_edits.specs.Acting.{ActsBy};
 ghost use Rattle.group_commands.specs.GroupaddGid.{GivesGid};
 
-use account_model::{IdSort, Refusal};
+use account_model::Refusal;
+use account_words::IdSort;
 use acct_text::Bytes;
 use command_values::{Asked, Form, ToolFault, check_name, free_id};
 use id_choice::UsedIds;

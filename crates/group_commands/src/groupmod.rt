@@ -10,11 +10,12 @@ ghost use Rattle.table_edits.specs.Acting.{ActsBy};
 ghost use Rattle.table_edits.specs.Additions.{HasAlso};
 ghost use Rattle.table_lookups.specs.Stopping.{StopsBy};
 
-use account_model::{GroupRecord, Refusal};
+use account_formats::GroupRecord;
+use account_model::Refusal;
 use acct_text::Bytes;
 use command_values::{Asked, Form, ToolFault};
-use std::alloc::{AllocError, Global};
 use line_edits::{Edit, GroupAct, GshadowAct, PasswdAct, PasswdChange};
+use std::alloc::{AllocError, Global};
 use table_edits::Script;
 use table_lookups::Tables;
 

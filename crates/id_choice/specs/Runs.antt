@@ -1,7 +1,7 @@
 -- What the contracts of `Runs` say: a set of numbers is told by its members. A run is as long as it
 -- can be.
 use Rattle.std.specs.Prelude.{◌≡◌, ℕ, ◌+◌, ◌<◌, ◌≤◌, true, false, ◌||◌, List}
-use Rattle.account_model.specs.Ids.{in_range, is_used}
+use Rattle.account_words.specs.Ids.{in_range, is_used}
 use Rattle.id_choice.specs.declared.runs.Run.{Run}
 
 -- the new numbers are the old ones and those from the first to the last

@@ -3,7 +3,7 @@
 ghost use Rattle.std.specs.Prelude.{◌≡◌, ◌≤◌, [], MatchOption, OnOk, OnErr};
 ghost use Rattle.std.specs.BTreeMap.{IsOrdered};
 ghost use Rattle.std.specs.Ordering.{nat_cmp};
-ghost use Rattle.account_model.specs.Ids.{is_used};
+ghost use Rattle.account_words.specs.Ids.{is_used};
 ghost use Rattle.id_choice.specs.RunMaps.{AreApart, BeginsAt, EndsAt, HasBehind, HasFrom, HasNoneBehind, HasNoneFrom, HasNoneUpTo, HasUpTo, IsWithout};
 
 use std::alloc::{AllocError, Global};

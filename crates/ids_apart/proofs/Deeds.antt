@@ -4,19 +4,19 @@ use Rattle.std.proofs.Common.{◌≡◌, ℕ, Bool, true, false, List, [], refl,
 use Rattle.std.specs.Prelude.{Option, Some, None, unwrap_or, Ok, Err, if◌then◌else◌}
 use Rattle.acct_text.specs.declared.files.Files.{Files}
 use Rattle.acct_text.proofs.NumberLaws.{some-inj}
-use Rattle.account_model.specs.declared.tool.Tool.{Tool}
+use Rattle.account_words.specs.declared.tool.Tool.{Tool}
 use Rattle.account_model.specs.declared.refusal.Refusal.{Refusal}
-use Rattle.account_model.specs.Text.{first_some}
-use Rattle.account_model.specs.Records.{passwd_format, group_format, subid_format}
-use Rattle.account_model.specs.Tables.{Script, files_after, passwd_records, group_records, subuid_records, subgid_records}
-use Rattle.account_model.specs.Settings.{settings_of}
-use Rattle.account_model.specs.Request.{Request}
+use Rattle.account_formats.specs.Text.{first_some}
+use Rattle.account_formats.specs.Records.{passwd_format, group_format, subid_format}
+use Rattle.account_formats.specs.Tables.{Script, files_after, passwd_records, group_records, subuid_records, subgid_records}
+use Rattle.account_words.specs.Settings.{settings_of}
+use Rattle.account_words.specs.Request.{Request}
 use Rattle.account_model.specs.Action.{Action, made_by, outcome_of, multiple_entries}
 use Rattle.account_model.specs.Change.{action_of}
 use Rattle.account_model.specs.Answer.{Answer, FileProblem, Same, Changed, new_problem, files_problem, files_eq, answer_outcome, new_files, deed, succeeding, unusable}
-use Rattle.account_model.specs.WrittenScript.{IsWrittenScript}
-use Rattle.account_model.proofs.SameLaws.{passwd-tells, group-tells, subid-tells}
-use Rattle.account_model.proofs.EditLines.{table-edited}
+use Rattle.account_formats.specs.WrittenScript.{IsWrittenScript}
+use Rattle.account_formats.proofs.SameLaws.{passwd-tells, group-tells, subid-tells}
+use Rattle.account_formats.proofs.EditLines.{table-edited}
 use Rattle.ids_apart.specs.Apart.{AreApart, UidsAreDistinct, GidsAreDistinct, SubuidsAreApart, SubgidsAreApart}
 use Rattle.ids_apart.specs.Laws.{SharesNoId, DeedsKeepIdsApart}
 use Rattle.ids_apart.proofs.Pairs.{pairs-each, each-pairs}

@@ -1,7 +1,7 @@
 -- What each deed keeps apart.
 use Rattle.std.specs.Prelude.{◌≡◌, ℕ, List, false, Option, Some, codes, ⊤}
 use Rattle.acct_text.specs.declared.files.Files.{Files}
-use Rattle.account_model.specs.Request.{Request, has_option}
+use Rattle.account_words.specs.Request.{Request, has_option}
 use Rattle.account_model.specs.Answer.{deed}
 use Rattle.ids_apart.specs.Apart.{UidsAreDistinct, GidsAreDistinct, SubuidsAreApart, SubgidsAreApart}
 

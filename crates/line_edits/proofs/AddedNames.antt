@@ -4,9 +4,9 @@
 use Rattle.std.proofs.Common.{◌≡◌, ℕ, suc, ◌+◌, true, List, [], ◌∷◌, ◌++◌, length, map, refl, sym, ap, subst, arith}
 use Rattle.std.specs.Prelude.{Some, option_map}
 use Rattle.acct_text.specs.Lines.{Line}
-use Rattle.account_model.specs.Edits.{as_ended, with_line}
-use Rattle.account_model.specs.Format.{Format}
-use Rattle.account_model.specs.Written.{IsWritten}
+use Rattle.account_formats.specs.Edits.{as_ended, with_line}
+use Rattle.account_formats.specs.Format.{Format}
+use Rattle.account_formats.specs.Written.{IsWritten}
 use Rattle.acct_tables.specs.NameIndex.{line_name, line_names}
 use Rattle.line_edits.specs.NamedLines.{AllEnded, AreWritten, IsWrittenRead}
 

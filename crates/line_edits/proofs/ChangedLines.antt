@@ -7,9 +7,9 @@ use Rattle.std.specs.Prelude.{Option, Some, None, if◌then◌else◌}
 use Rattle.std.proofs.lemmas.List.{drop_more}
 use Rattle.std.proofs.lemmas.Option.{slice_get-get_or}
 use Rattle.acct_text.specs.Lines.{Line, file_bytes, line_bytes}
-use Rattle.account_model.specs.Format.{Format}
-use Rattle.account_model.specs.Edits.{becomes, line_becomes}
-use Rattle.account_model.specs.RecordEdits.{TellsSame}
+use Rattle.account_formats.specs.Format.{Format}
+use Rattle.account_formats.specs.Edits.{becomes, line_becomes}
+use Rattle.account_formats.specs.RecordEdits.{TellsSame}
 use Rattle.acct_tables.specs.Order.{text_at}
 use Rattle.acct_tables.specs.TableLines.{record_at, changed_at, with_record}
 use Rattle.acct_tables.proofs.LinesHere.{blank_line, line_here, read-here, record-here}

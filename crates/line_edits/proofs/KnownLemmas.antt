@@ -5,11 +5,11 @@ use Rattle.std.proofs.Common.{◌≡◌, ℕ, true, false, List, length, sym, �
 use Rattle.std.specs.Prelude.{is_some}
 use Rattle.std.proofs.lemmas.List.{length-map}
 use Rattle.acct_text.specs.Lines.{Line}
-use Rattle.account_model.specs.Edits.{edited, with_line}
-use Rattle.account_model.specs.Edits.Edit.{AddMissing, Become}
-use Rattle.account_model.specs.Format.{Format}
-use Rattle.account_model.specs.RecordEdits.{IsWrittenEdit}
-use Rattle.account_model.specs.Written.{IsWritten}
+use Rattle.account_formats.specs.Edits.{edited, with_line}
+use Rattle.account_formats.specs.Edits.Edit.{AddMissing, Become}
+use Rattle.account_formats.specs.Format.{Format}
+use Rattle.account_formats.specs.RecordEdits.{IsWrittenEdit}
+use Rattle.account_formats.specs.Written.{IsWritten}
 use Rattle.acct_tables.specs.NameIndex.{IsNoted, Tells, line_name, line_names, told}
 use Rattle.acct_tables.proofs.NameIndexLemmas.{told-record}
 use Rattle.acct_tables.proofs.NamedRecords.{told-has}

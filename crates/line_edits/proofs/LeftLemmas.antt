@@ -3,11 +3,11 @@
 -- of a record is the first field of its line.
 use Rattle.std.proofs.Common.{◌≡◌, ℕ, true, false, Bool, List, [], ◌∷◌, refl, sym, ◌∙◌, ap}
 use Rattle.std.specs.Prelude.{◌||◌, not, bytes_eq, Some}
-use Rattle.account_model.specs.Format.{Format, is_named}
+use Rattle.account_formats.specs.Format.{Format, is_named}
 use Rattle.account_model.specs.Members.{without_name}
-use Rattle.account_model.specs.Text.{is_listed}
+use Rattle.account_formats.specs.Text.{is_listed}
 use Rattle.account_model.proofs.RenamingLaws.{flipped}
-use Rattle.account_model.specs.Naming.{NamesFirst, first_field}
+use Rattle.account_formats.specs.Naming.{NamesFirst, first_field}
 
 -- what isn't so is false
 pub isn't : (test : Bool) → not test ≡ true → test ≡ false

@@ -7,7 +7,7 @@ use Rattle.std.specs.HashSet.{HashSet}
 use Rattle.std.specs.HashSet as bag
 use Rattle.std.specs.Set.{KeepsOthers}
 use Rattle.std.proofs.lemmas.List.Folds.{list_any-append}
-use Rattle.account_model.specs.Text.{is_listed}
+use Rattle.account_formats.specs.Text.{is_listed}
 use Rattle.line_edits.specs.NameSets.{has_text}
 
 -- a text that is the first isn't the other

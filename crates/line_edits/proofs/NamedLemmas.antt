@@ -6,11 +6,11 @@ use Rattle.std.specs.Prelude.{Option, Some, None, count_by, option_map, flat_map
 use Rattle.std.specs.List.{AllByRecursion, position_from}
 use Rattle.std.proofs.lemmas.List.Sums.{sum_by-cons}
 use Rattle.acct_text.specs.Lines.{Line}
-use Rattle.account_model.specs.Edits.{becomes, line_becomes}
-use Rattle.account_model.specs.Edits.Edit.{Become}
-use Rattle.account_model.specs.Format.{Format}
-use Rattle.account_model.specs.RecordEdits.{IsWrittenEdit, TellsSame}
-use Rattle.account_model.specs.Written.{IsWritten}
+use Rattle.account_formats.specs.Edits.{becomes, line_becomes}
+use Rattle.account_formats.specs.Edits.Edit.{Become}
+use Rattle.account_formats.specs.Format.{Format}
+use Rattle.account_formats.specs.RecordEdits.{IsWrittenEdit, TellsSame}
+use Rattle.account_formats.specs.Written.{IsWritten}
 use Rattle.acct_tables.specs.declared.name_index.NamedLines.{NamedLines}
 use Rattle.acct_tables.specs.NameIndex.{has_name, line_name, line_names, lines_named, records_at}
 use Rattle.acct_tables.proofs.NameIndexLemmas.{none-counts}

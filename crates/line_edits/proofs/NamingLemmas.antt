@@ -2,12 +2,12 @@
 -- done with (`only-user`, `only-shadow`, `only-group`, `only-gshadow`). Way: act by act.
 use Rattle.std.proofs.Common.{◌≡◌, ℕ, Bool, true, false, List, [], ◌∷◌, map, refl, ap, if◌then◌else◌}
 use Rattle.std.specs.Prelude.{Option, Some, None, is_none, unwrap_or}
-use Rattle.account_model.specs.declared.records.GroupRecord.{GroupRecord}
-use Rattle.account_model.specs.declared.records.GshadowRecord.{GshadowRecord}
-use Rattle.account_model.specs.declared.records.PasswdRecord.{PasswdRecord}
-use Rattle.account_model.specs.declared.records.ShadowRecord.{ShadowRecord}
-use Rattle.account_model.specs.Format.{Format, is_named}
-use Rattle.account_model.specs.Records.{group_format, gshadow_format, passwd_format, shadow_format}
+use Rattle.account_formats.specs.declared.records.GroupRecord.{GroupRecord}
+use Rattle.account_formats.specs.declared.records.GshadowRecord.{GshadowRecord}
+use Rattle.account_formats.specs.declared.records.PasswdRecord.{PasswdRecord}
+use Rattle.account_formats.specs.declared.records.ShadowRecord.{ShadowRecord}
+use Rattle.account_formats.specs.Format.{Format, is_named}
+use Rattle.account_formats.specs.Records.{group_format, gshadow_format, passwd_format, shadow_format}
 use Rattle.line_edits.specs.GroupChanges.{group_after, group_becomes, keeps_group_name}
 use Rattle.line_edits.specs.GshadowChanges.{gshadow_after, gshadow_becomes, keeps_gshadow_name}
 use Rattle.line_edits.specs.Naming.{ChangesOnly}

@@ -7,8 +7,8 @@ use Rattle.std.proofs.Math.Seq.{take-append_seam}
 use Rattle.std.proofs.lemmas.List.{length-append}
 use Rattle.acct_text.specs.Lines.{Line, file_bytes, line_bytes, lines_of}
 use Rattle.acct_text.proofs.LinesLaws.{lines_of-are}
-use Rattle.account_model.specs.Edits.{becomes}
-use Rattle.account_model.specs.Format.{Format}
+use Rattle.account_formats.specs.Edits.{becomes}
+use Rattle.account_formats.specs.Format.{Format}
 use Rattle.line_edits.specs.OpenLines.{IsOpenFrom}
 
 -- what stands in front of the end of a text

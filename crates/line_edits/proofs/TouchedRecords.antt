@@ -7,8 +7,8 @@ use Rattle.std.specs.Prelude.{◌&&◌, IfSome, Option, Some, None, option_map, 
 use Rattle.std.specs.List.{cons_option}
 use Rattle.std.proofs.lemmas.List.{at_drop_more}
 use Rattle.acct_text.specs.Lines.{Line}
-use Rattle.account_model.specs.Format.{Format, records_of}
-use Rattle.account_model.specs.Edits.{Edit, first_multiple, is_multiple, touches}
+use Rattle.account_formats.specs.Format.{Format, records_of}
+use Rattle.account_formats.specs.Edits.{Edit, first_multiple, is_multiple, touches}
 use Rattle.acct_tables.specs.TableLines.{record_at}
 use Rattle.std.specs.HashSet.{HashSet}
 use denote.Ref.{Bor}

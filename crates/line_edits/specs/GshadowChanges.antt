@@ -1,9 +1,9 @@
 -- What the changes of groups make of a record of gshadow (gshadow(5)).
 use Rattle.std.specs.Prelude.{ℕ, Bool, true, false, List, [], ◌∷◌, if◌then◌else◌}
-use Rattle.account_model.specs.declared.records.GshadowRecord.{GshadowRecord}
-use Rattle.account_model.specs.Format.{is_named}
+use Rattle.account_formats.specs.declared.records.GshadowRecord.{GshadowRecord}
+use Rattle.account_formats.specs.Format.{is_named}
 use Rattle.account_model.specs.Members.{with_name, without_name}
-use Rattle.account_model.specs.Records.{gshadow_format}
+use Rattle.account_formats.specs.Records.{gshadow_format}
 use Rattle.line_edits.specs.Memberships.{gshadow_by}
 use Rattle.line_edits.specs.declared.gshadow_changes.GshadowAct.{GshadowAct}
 use Rattle.line_edits.specs.declared.gshadow_changes.GshadowAct.TheVariants.{Rename, SetPassword, SetAdministrators, AddMember, RemoveMember, SetMembers, RemoveUser, SetMembership}

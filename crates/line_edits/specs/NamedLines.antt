@@ -2,8 +2,8 @@
 use Rattle.std.specs.Prelude.{◌≡◌, true, List, Option, None, Some, ⊤}
 use Rattle.std.specs.List.{AllByRecursion}
 use Rattle.acct_text.specs.Lines.{Line}
-use Rattle.account_model.specs.Format.{Format}
-use Rattle.account_model.specs.Written.{IsWritten}
+use Rattle.account_formats.specs.Format.{Format}
+use Rattle.account_formats.specs.Written.{IsWritten}
 use Rattle.acct_tables.specs.NameIndex.{Tells, line_names, told}
 use Rattle.line_edits.specs.declared.named_edits.Known.{Known}
 

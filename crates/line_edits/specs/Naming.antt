@@ -1,9 +1,9 @@
 -- Edits that each may touch the records of one name only, and leave their names (passwd(5),
 -- shadow(5)).
 use Rattle.std.specs.Prelude.{◌≡◌, ℕ, false, List, [], ◌∷◌, map, Some}
-use Rattle.account_model.specs.Format.{Format, is_named}
-use Rattle.account_model.specs.Edits.{Edit}
-use Rattle.account_model.specs.Edits.Edit.{Become, Add, AddMissing}
+use Rattle.account_formats.specs.Format.{Format, is_named}
+use Rattle.account_formats.specs.Edits.{Edit}
+use Rattle.account_formats.specs.Edits.Edit.{Become, Add, AddMissing}
 
 -- f leaves the record that the text is, if it is one
 abbrev pub Leaves : {R : Type 0} → Format R → (R → List R) → List ℕ → Type 0

@@ -1,8 +1,8 @@
 -- What the changes of users make of a record of passwd (passwd(5)).
 use Rattle.std.specs.Prelude.{Bool, true, is_none, List, [], ◌∷◌, ◌==◌, unwrap_or, if◌then◌else◌}
-use Rattle.account_model.specs.declared.records.PasswdRecord.{PasswdRecord}
-use Rattle.account_model.specs.Format.{is_named}
-use Rattle.account_model.specs.Records.{passwd_format}
+use Rattle.account_formats.specs.declared.records.PasswdRecord.{PasswdRecord}
+use Rattle.account_formats.specs.Format.{is_named}
+use Rattle.account_formats.specs.Records.{passwd_format}
 use Rattle.line_edits.specs.HashChanges.{hash_by}
 use Rattle.line_edits.specs.declared.passwd_changes.UserFields.{UserFields}
 use Rattle.line_edits.specs.declared.passwd_changes.PasswdAct.{PasswdAct}

@@ -1,8 +1,8 @@
 -- What the changes of users make of a record of shadow (shadow(5)).
 use Rattle.std.specs.Prelude.{Bool, true, List, [], ◌∷◌, Some, is_none, unwrap_or, if◌then◌else◌}
-use Rattle.account_model.specs.declared.records.ShadowRecord.{ShadowRecord}
-use Rattle.account_model.specs.Format.{is_named}
-use Rattle.account_model.specs.Records.{shadow_format}
+use Rattle.account_formats.specs.declared.records.ShadowRecord.{ShadowRecord}
+use Rattle.account_formats.specs.Format.{is_named}
+use Rattle.account_formats.specs.Records.{shadow_format}
 use Rattle.line_edits.specs.HashChanges.{hash_by}
 use Rattle.line_edits.specs.declared.shadow_changes.ShadowFields.{ShadowFields}
 use Rattle.line_edits.specs.declared.shadow_changes.ShadowAct.{ShadowAct}

@@ -2,8 +2,8 @@
 -- group(5), gshadow(5)).
 use Rattle.std.specs.Prelude.{◌≡◌, ℕ, Bool, false, ◌&&◌, List, [], ◌∷◌, Option, Some, None, option_map, find, if◌then◌else◌}
 use Rattle.acct_text.specs.Lines.{Line}
-use Rattle.account_model.specs.Format.{Format, records_of}
-use Rattle.account_model.specs.Edits.{Edit, touches, is_multiple}
+use Rattle.account_formats.specs.Format.{Format, records_of}
+use Rattle.account_formats.specs.Edits.{Edit, touches, is_multiple}
 use Rattle.acct_tables.specs.TableLines.{record_at}
 use Rattle.std.specs.HashSet.{HashSet}
 use Rattle.line_edits.specs.NameSets.{has_text}

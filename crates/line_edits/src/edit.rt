@@ -1,6 +1,6 @@
 // The edits of a table as data, and what a record has so that edits can be made of it.
 ghost use Rattle.std.specs.Prelude.{◌≡◌, true, List, [], None, IfOk, IfSome};
-ghost use Rattle.account_model.specs.Written.{IsWritten};
+ghost use Rattle.account_formats.specs.Written.{IsWritten};
 ghost use Rattle.line_edits.specs.Naming.{ChangesOnly, Leaves};
 ghost use Rattle.line_edits.specs.SeenEdits.{records_in};
 

@@ -1,6 +1,6 @@
 // Fields of records that a tool sets or leaves as they are, and those of a line by which one is left.
 ghost use Rattle.std.specs.Prelude.{◌≡◌, not, bytes_eq, IfOk, unwrap_or};
-ghost use Rattle.account_model.specs.Naming.{first_field as first_of};
+ghost use Rattle.account_formats.specs.Naming.{first_field as first_of};
 
 use acct_lines::has_first_field;
 use acct_text::Bytes;

@@ -1,8 +1,8 @@
 // What the tools do with records of group (group(5)).
 ghost use Rattle.std.specs.Prelude.{◌≡◌, true, Some, IfOk, OnOk};
-ghost use Rattle.account_model.specs.Records.{group_format};
-ghost use Rattle.account_model.specs.Text.{is_listed};
-ghost use Rattle.account_model.specs.declared.records.GroupRecord.{GroupRecord};
+ghost use Rattle.account_formats.specs.Records.{group_format};
+ghost use Rattle.account_formats.specs.Text.{is_listed};
+ghost use Rattle.account_formats.specs.declared.records.GroupRecord.{GroupRecord};
 ghost use Rattle.line_edits.specs.GroupChanges.{group_after, keeps_group_name};
 ghost use Rattle.line_edits.specs.Memberships.{group_by};
 

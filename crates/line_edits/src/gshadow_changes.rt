@@ -1,8 +1,8 @@
 // What the tools do with records of gshadow (gshadow(5)).
 ghost use Rattle.std.specs.Prelude.{◌≡◌, ◌||◌, true, Some, IfOk, OnOk};
-ghost use Rattle.account_model.specs.declared.records.GshadowRecord.{GshadowRecord};
-ghost use Rattle.account_model.specs.Records.{gshadow_format};
-ghost use Rattle.account_model.specs.Text.{is_listed};
+ghost use Rattle.account_formats.specs.declared.records.GshadowRecord.{GshadowRecord};
+ghost use Rattle.account_formats.specs.Records.{gshadow_format};
+ghost use Rattle.account_formats.specs.Text.{is_listed};
 ghost use Rattle.line_edits.specs.GshadowChanges.{gshadow_after, keeps_gshadow_name, without_user};
 ghost use Rattle.line_edits.specs.Memberships.{gshadow_by};
 

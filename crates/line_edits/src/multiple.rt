@@ -1,11 +1,11 @@
 // Which records the edits of a table touch, and the first of them whose name has several records.
 ghost use Rattle.std.specs.Prelude.{◌≡◌, ◌≤◌, true, false, Some, None, not, nat_le, length, IfOk, IfSome};
 ghost use Rattle.std.specs.List.{AllByRecursion};
-ghost use Rattle.account_model.specs.Edits.{first_multiple, is_multiple, touches};
-ghost use Rattle.account_model.specs.Edits as model;
-ghost use Rattle.account_model.specs.Format.{count_named, records_of};
-ghost use Rattle.account_model.specs.RecordEdits.{IsWrittenEdit};
-ghost use Rattle.account_model.specs.Written.{IsWritten};
+ghost use Rattle.account_formats.specs.Edits.{first_multiple, is_multiple, touches};
+ghost use Rattle.account_formats.specs.Edits as model;
+ghost use Rattle.account_formats.specs.Format.{count_named, records_of};
+ghost use Rattle.account_formats.specs.RecordEdits.{IsWrittenEdit};
+ghost use Rattle.account_formats.specs.Written.{IsWritten};
 ghost use Rattle.acct_tables.specs.NameIndex.{Tells, line_names, told};
 ghost use Rattle.acct_tables.specs.TableLines.{record_at};
 ghost use Rattle.line_edits.specs.SeenEdits.{seen_edit, seen_edits};

@@ -1,7 +1,7 @@
 // A list of names, of which each is found without a pass over all.
 ghost use Rattle.std.specs.Prelude.{◌≡◌, ℕ, List, IfOk};
 ghost use Rattle.std.specs.Vec.{vec_items};
-ghost use Rattle.account_model.specs.Text.{is_listed};
+ghost use Rattle.account_formats.specs.Text.{is_listed};
 ghost use Rattle.line_edits.specs.NameSets.{has_text};
 
 use acct_text::{Bytes, Names};
@@ -19,7 +19,7 @@ pub struct NameSet {
 impl Model for NameSet {
     ghost use Rattle.std.specs.Prelude.{◌≡◌, ℕ, List};
     ghost use Rattle.std.specs.Vec.{vec_items};
-    ghost use Rattle.account_model.specs.Text.{is_listed};
+    ghost use Rattle.account_formats.specs.Text.{is_listed};
     ghost use Rattle.line_edits.specs.NameSets.{has_text};
 
     ghost Value = { List (List ℕ) };

@@ -2,10 +2,10 @@
 // so that a list of them takes no pass over the table for each.
 ghost use Rattle.std.specs.Prelude.{◌≡◌, ◌≤◌, true, map, IfOk, IfSome, OnOk};
 ghost use Rattle.acct_text.specs.Lines.{lines_of};
-ghost use Rattle.account_model.specs.Edits.{as_ended, edited, with_line};
-ghost use Rattle.account_model.specs.Edits as model;
-ghost use Rattle.account_model.specs.RecordEdits.{IsWrittenEdit};
-ghost use Rattle.account_model.specs.Written.{IsWritten};
+ghost use Rattle.account_formats.specs.Edits.{as_ended, edited, with_line};
+ghost use Rattle.account_formats.specs.Edits as model;
+ghost use Rattle.account_formats.specs.RecordEdits.{IsWrittenEdit};
+ghost use Rattle.account_formats.specs.Written.{IsWritten};
 ghost use Rattle.acct_tables.specs.NameIndex.{line_names, lines_named};
 ghost use Rattle.line_edits.specs.NamedLines.{IsKnown};
 ghost use Rattle.line_edits.specs.Naming.{ChangesOnly, IsOfName};

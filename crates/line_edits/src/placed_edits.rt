@@ -1,8 +1,8 @@
 // A change that leaves the names of records, carried out in lines at their places.
 ghost use Rattle.std.specs.Prelude.{◌≡◌, ◌<◌, length, OnOk};
-ghost use Rattle.account_model.specs.Edits.{becomes, edited};
-ghost use Rattle.account_model.specs.Edits as model;
-ghost use Rattle.account_model.specs.RecordEdits.{IsWrittenEdit};
+ghost use Rattle.account_formats.specs.Edits.{becomes, edited};
+ghost use Rattle.account_formats.specs.Edits as model;
+ghost use Rattle.account_formats.specs.RecordEdits.{IsWrittenEdit};
 ghost use Rattle.line_edits.specs.Naming.{KeepsNames};
 ghost use Rattle.line_edits.specs.Places.{spliced_at};
 

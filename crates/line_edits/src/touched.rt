@@ -1,6 +1,6 @@
 // The names of the records that the edits of a table may touch.
 ghost use Rattle.std.specs.Prelude.{◌≡◌, false, IfOk, IfSome};
-ghost use Rattle.account_model.specs.Format.{is_named};
+ghost use Rattle.account_formats.specs.Format.{is_named};
 ghost use Rattle.line_edits.specs.SeenEdits.{seen_edit, seen_edits};
 ghost use Rattle.line_edits.specs.Touching.{LeavesTo, TouchOnly};
 

@@ -12,6 +12,6 @@ mod reading;
 mod rules;
 mod words;
 
-pub use account_model::{Given, Tool, WordFault};
+pub use account_words::{Given, Tool, WordFault};
 pub use parsed::{Options, Parsed};
 pub use words::read_words;

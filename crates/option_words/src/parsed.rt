@@ -1,9 +1,9 @@
 // What the words of a command ask for, and the options that it gives.
 ghost use Rattle.std.specs.Prelude.{◌≡◌, ◌↔◌, [], ◌∷◌, ◌++◌, List, length, IsTrue, OnOk, OnErr, slice_get};
 ghost use Rattle.std.specs.Option.{option_copied};
-ghost use Rattle.account_model.specs.declared.given.Given.{Given};
+ghost use Rattle.account_words.specs.declared.given.Given.{Given};
 
-use account_model::{Given, Tool};
+use account_words::{Given, Tool};
 use acct_text::{Bytes, Names};
 use std::alloc::{AllocError, Global};
 use std::marker::Model;

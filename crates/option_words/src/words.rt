@@ -1,11 +1,11 @@
 // The words of a command, from their limits to the request.
 ghost use Rattle.std.specs.Prelude.{◌≡◌, ◌⊎◌, Some, IfOk, IfErr};
-ghost use Rattle.account_model.specs.Words.{Asks, fault, past_limit as first_past_limit};
+ghost use Rattle.account_words.specs.Words.{Asks, fault, past_limit as first_past_limit};
 ghost use Rattle.option_words.specs.Parsed.{request_in};
 
 use crate::Parsed;
 use crate::reading::read_arguments;
-use account_model::{Tool, WordFault};
+use account_words::{Tool, WordFault};
 use acct_text::Word;
 use std::alloc::Global;
 

@@ -9,13 +9,13 @@ use Rattle.std.specs.Prelude.{if◌then◌else◌, unwrap_or, IfOk}
 use Rattle.acct_text.specs.Bytes.{Bytes}
 use Rattle.acct_outside.specs.Moment.{Past}
 use Rattle.acct_outside.specs.Streams.{WhereBytesTold}
-use Rattle.account_model.specs.declared.tool.Tool.{Tool}
-use Rattle.account_model.specs.declared.word_fault.WordFault.{WordFault}
+use Rattle.account_words.specs.declared.tool.Tool.{Tool}
+use Rattle.account_words.specs.declared.word_fault.WordFault.{WordFault}
 use Rattle.account_model.specs.Answer.{Answer, AnswerCause, Unusable, Refused, Same, Changed, TableTooLarge, SettingsTooLarge, TableAbsent, BadSettingAt, answer, new_files}
-use Rattle.account_model.specs.Options.{Word}
-use Rattle.account_model.specs.Request.{Request}
-use Rattle.account_model.specs.Words.{Asks}
-use Rattle.account_model.proofs.AsksLaws.{asks_iff_read}
+use Rattle.account_words.specs.Options.{Word}
+use Rattle.account_words.specs.Request.{Request}
+use Rattle.account_words.specs.Words.{Asks}
+use Rattle.account_words.proofs.AsksLaws.{asks_iff_read}
 use Rattle.suite_answers.specs.declared.cause.Outcome.{Outcome}
 use Rattle.suite_session.specs.Answers.{cause_of_answer}
 use Rattle.suite_session.specs.Deeds.{is_change}

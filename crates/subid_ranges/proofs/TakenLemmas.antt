@@ -6,9 +6,9 @@ use Rattle.std.specs.List.{cons_option}
 use Rattle.std.proofs.lemmas.Bool.{and_from, and_left, and_right, cases_lt, le-leb, lt-leb, or_from, or_left, or_right}
 use Rattle.std.proofs.lemmas.Option.{MatchOption-at_some}
 use Rattle.acct_text.specs.Lines.{Line}
-use Rattle.account_model.specs.declared.records.SubidRecord.{SubidRecord}
-use Rattle.account_model.specs.Ids.{is_used}
-use Rattle.account_model.specs.Records.{subid_format}
+use Rattle.account_formats.specs.declared.records.SubidRecord.{SubidRecord}
+use Rattle.account_words.specs.Ids.{is_used}
+use Rattle.account_formats.specs.Records.{subid_format}
 use Rattle.id_choice.specs.declared.runs.Run.{Run}
 use Rattle.id_choice.specs.Runs.{HasNothingUpTo, IsLastUpTo}
 use Rattle.subid_ranges.specs.declared.taken.Taken.{Taken}

@@ -5,14 +5,14 @@ use Rattle.std.specs.Prelude.{◌||◌}
 use Rattle.std.proofs.lemmas.List.Folds.{list_any-append}
 use Rattle.acct_text.specs.Lines.{file_bytes, lines_of}
 use Rattle.acct_text.proofs.LinesLaws.{lines_of-are}
-use Rattle.account_model.specs.declared.records.SubidRecord.{SubidRecord}
-use Rattle.account_model.specs.Edits.{Add}
-use Rattle.account_model.specs.FreeRange.{meets}
-use Rattle.account_model.specs.Ids.{in_range}
-use Rattle.account_model.specs.Records.{subid_format}
-use Rattle.account_model.specs.Written.{IsSubid}
-use Rattle.account_model.proofs.EditLaws.{edit-is}
-use Rattle.account_model.proofs.SameLaws.{subid-tells}
+use Rattle.account_formats.specs.declared.records.SubidRecord.{SubidRecord}
+use Rattle.account_formats.specs.Edits.{Add}
+use Rattle.account_words.specs.FreeRange.{meets}
+use Rattle.account_words.specs.Ids.{in_range}
+use Rattle.account_formats.specs.Records.{subid_format}
+use Rattle.account_formats.specs.Written.{IsSubid}
+use Rattle.account_formats.proofs.EditLaws.{edit-is}
+use Rattle.account_formats.proofs.SameLaws.{subid-tells}
 use Rattle.subid_ranges.specs.declared.taken.Taken.{Taken}
 use Rattle.subid_ranges.specs.Numbers.{is_ranged}
 use Rattle.subid_ranges.specs.RangeLines.{new_range, ranges_of, with_range}

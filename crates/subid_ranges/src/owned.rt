@@ -1,7 +1,7 @@
 // The ranges of one owner (getsubids(1), usermod(8)).
 ghost use Rattle.std.specs.Prelude.{◌≡◌};
 ghost use Rattle.acct_text.specs.Lines.{lines_of};
-ghost use Rattle.account_model.specs.Records.{subid_format};
+ghost use Rattle.account_formats.specs.Records.{subid_format};
 ghost use Rattle.subid_ranges.specs.Owned.{owned_one, owned_ranges};
 
 use crate::range_line::range_in;

@@ -5,10 +5,10 @@ ghost use Rattle.std.specs.List.{AllByRecursion};
 ghost use Rattle.acct_text.specs.Bytes.{newline};
 ghost use Rattle.acct_text.specs.Lines.{lines_of, file_bytes};
 ghost use Rattle.acct_text.specs.Pieces.{Lacks};
-ghost use Rattle.account_model.specs.FreeRange.{FitsAt, Meeting, free_range};
-ghost use Rattle.account_model.specs.Ids.{IsLeast};
-ghost use Rattle.account_model.specs.Records.{greatest_id, subid_format};
-ghost use Rattle.account_model.specs.Written.{IsNameField, IsSubid};
+ghost use Rattle.account_words.specs.FreeRange.{FitsAt, Meeting, free_range};
+ghost use Rattle.account_words.specs.Ids.{IsLeast};
+ghost use Rattle.account_formats.specs.Records.{greatest_id, subid_format};
+ghost use Rattle.account_formats.specs.Written.{IsNameField, IsSubid};
 ghost use Rattle.subid_ranges.specs.Owned.{owned_ranges};
 ghost use Rattle.subid_ranges.specs.RangeLines.{is_bad, meets_at, meeting_line, new_range, ranges_of, with_range, without_range};
 ghost use Rattle.subid_ranges.specs.Refusals.{AnswersRange, add_refusal, bad_refusal, gap_refusal};
@@ -16,13 +16,13 @@ ghost use Rattle.subid_ranges.specs.Refusals.{AnswersRange, add_refusal, bad_ref
 use crate::range_line::{end_of, range_in};
 use crate::taken::Taken;
 use crate::{OwnedRanges, RangeFault};
-use account_model::GREATEST_ID;
+use account_formats::GREATEST_ID;
 use acct_lines::{SubidRecord, TableRecord};
 use acct_tables::{FileLine, Lines, append_line};
 use acct_text::Bytes;
+use line_edits::{RangeCut, SubidChange, changed_text};
 use std::alloc::{AllocError, Global};
 use std::marker::Model;
-use line_edits::{RangeCut, SubidChange, changed_text};
 
 /// The lines of a file of subordinate IDs, each a range of an owner or other text.
 #[derive(Drop)]

@@ -5,8 +5,8 @@ ghost use Rattle.std.specs.Option.{ForSome};
 ghost use Rattle.acct_text.specs.Bytes.{newline};
 ghost use Rattle.acct_text.specs.Lines.{lines_of};
 ghost use Rattle.acct_text.specs.Pieces.{Lacks};
-ghost use Rattle.account_model.specs.Ids.{in_range};
-ghost use Rattle.account_model.specs.Records.{subid_format};
+ghost use Rattle.account_words.specs.Ids.{in_range};
+ghost use Rattle.account_formats.specs.Records.{subid_format};
 ghost use Rattle.subid_ranges.specs.Numbers.{AddsFound, MeetsRun, MissesRun};
 
 use crate::range_line::{end_of, range_in};

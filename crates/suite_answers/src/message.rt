@@ -6,7 +6,7 @@ ghost use Rattle.suite_answers.specs.Reasons.{reason_text};
 
 use crate::Cause;
 use crate::reason::reason_text;
-use account_model::Tool;
+use account_words::Tool;
 use acct_text::Bytes;
 use std::alloc::{AllocError, Global};
 use tool_answers::push_line;
@@ -23,11 +23,7 @@ pub(crate) fn of_cause(alloc: Global, tool: Tool, cause: &Cause) -> Result<Bytes
 }
 
 /// The line with the reason, of the tool or, where none is known, of `accounts`.
-pub(crate) fn line_of(
-    alloc: Global,
-    tool: Option<Tool>,
-    cause: &Cause,
-) -> Result<Bytes, AllocError>
+pub(crate) fn line_of(alloc: Global, tool: Option<Tool>, cause: &Cause) -> Result<Bytes, AllocError>
     ensures { IfOk result (λ text. text ≡ line_by tool (reason_text cause.now)) }
 {
     let reason = reason_text(alloc, cause)?;

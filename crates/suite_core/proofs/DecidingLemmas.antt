@@ -13,11 +13,11 @@ use Rattle.acct_text.specs.Files.{table_of}
 use Rattle.acct_text.specs.Limits.{table_limit}
 use Rattle.acct_text.specs.Tables.{all_tables}
 use Rattle.account_model.specs.declared.refusal.Refusal.{Refusal}
-use Rattle.account_model.specs.declared.tool.Tool.{Tool}
-use Rattle.account_model.specs.Text.{first_some}
+use Rattle.account_words.specs.declared.tool.Tool.{Tool}
+use Rattle.account_formats.specs.Text.{first_some}
 use Rattle.account_model.specs.Action.{Made, outcome_of}
 use Rattle.account_model.specs.Change.{action_of}
-use Rattle.account_model.specs.Settings.{bad_line, settings_of}
+use Rattle.account_words.specs.Settings.{bad_line, settings_of}
 use Rattle.account_model.specs.Answer.{FileProblem, TableTooLarge, BadSettingAt, Same, Changed, Answer as ToolAnswer, answer_outcome, succeeding, unusable, passes_limit, must_stand, table_problem, settings_problem, files_problem, new_table_problem, new_problem, files_eq, cause_of}
 use Rattle.std.specs.Prelude.{IfOk}
 use Rattle.std.specs.Result.{result_err}

@@ -9,7 +9,7 @@ use Rattle.acct_outside.specs.declared.Name.TheVariants.{Table}
 use Rattle.account_model.specs.Action.{outcome_of}
 use Rattle.account_model.specs.Answer.{passes_limit}
 use Rattle.account_model.specs.Change.{action_of}
-use Rattle.account_model.specs.Settings.{Setting}
+use Rattle.account_words.specs.Settings.{Setting}
 use Rattle.login_defs.specs.declared.defs.Defs.{Defs}
 use Rattle.login_defs.specs.declared.defs.DefsFault.{DefsFault}
 use Rattle.login_defs.specs.declared.defs.DefsFault.TheVariants.{BadNumber}

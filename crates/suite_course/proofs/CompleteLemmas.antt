@@ -24,7 +24,7 @@ use Rattle.acct_outside.specs.Calls.{answers, done}
 use Rattle.acct_outside.specs.History.{Event, History, after, own_events}
 use Rattle.acct_outside.specs.Others.{Admission}
 use Rattle.acct_outside.specs.Contract.{WhereTold}
-use Rattle.account_model.specs.declared.tool.Tool.{Tool}
+use Rattle.account_words.specs.declared.tool.Tool.{Tool}
 use Rattle.suite_rules.specs.Deeds.{SuiteDeeds}
 use Rattle.suite_rules.specs.Standing.{standing}
 use Rattle.suite_rules.specs.Lawful.{Lawful}
@@ -50,7 +50,8 @@ use Rattle.suite_course.proofs.OpenLemmas.{some-event, never-last, never-gone, n
 
 -- ---- A session that was alone
 
-module _ (deeds : SuiteDeeds) (asked : Question) (first : Folder) (old new : History) (token : Token)
+module _ (deeds : SuiteDeeds) (asked : Question) (first : Folder)
+    (old new : History) (token : Token)
     (lawful : Lawful deeds first new) (alone : IsAlone token old new)
     (opened : StandsOpen (after first old) token new) (given : Answer) where
   -- it gives the tool's answer, by the cause of its own
@@ -145,9 +146,11 @@ module _ (asked : Question) (before now : Moment) (was holds : Streams) (outcome
       answers-as deeds asked first old new token lawful alone opened given given.outcome.cause refl
       (answered.commits ∙ ap (λ (one : Outcome). stage_of one.cause) ends) says
       (λ fault. none (failed fault)) shown
-  answers-put (Err Failed) served ends deeds first old new lawful token answered alone opened shown =
+  answers-put (Err Failed) served ends deeds first old new lawful token answered
+      alone opened shown =
       absurd (none-failed (Some asked.request.tool) was holds serve given served)
-  answers-put (Err NoMemory) served ends deeds first old new lawful token answered alone opened shown =
+  answers-put (Err NoMemory) served ends deeds first old new lawful token answered
+      alone opened shown =
       inl (stage_of given.outcome.cause, refl)
 
   -- by what became of a begin that gave no token
@@ -173,14 +176,16 @@ module _ (asked : Question) (before now : Moment) (was holds : Streams) (outcome
       RunsOrNot asked before.admits given outcome first old new →
       (token : Token) → IsAlone token old new → StandsOpen (after first old) token new →
       AnswersOnOld deeds asked first old new token (after_streams put given)
-  answers-told put served ends deeds ours first old new others was_lawful lawful (inl run) token alone
+  answers-told put served ends deeds ours first old new others was_lawful lawful
+      (inl run) token alone
       opened =
       let same = one-alone asked outcome token run.0 old new alone run.1.answered run.1.fresh in
       answers-put put served ends deeds first old new lawful token
       (subst (λ (one : Token). Answered asked outcome one new) same run.1.answered) alone opened
       (subst (λ (one : Token). IsShownAt deeds asked first new one given given.outcome.cause) same
       (run.1.shows deeds ours others was_lawful).shown)
-  answers-told put served ends deeds ours first old new others was_lawful lawful (inr idle) token alone
+  answers-told put served ends deeds ours first old new others was_lawful lawful
+      (inr idle) token alone
       opened =
       unbegun-put put served (not-run-cause asked.request.tool idle.fault given idle.tells) deeds
       first old new token
@@ -192,7 +197,8 @@ where-both : (admits : Admission) (T : Folder → History → History → Type 0
     LawfulOthers deeds admits first → Lawful deeds first old → T first old new →
     P deeds first old new → Q deeds first old new) →
     (was told : Option Past) → WhereTold was told T →
-    WhereTold was told (λ first old new. IfLawful admits first old (λ deeds. P deeds first old new)) →
+    WhereTold was told (λ first old new. IfLawful admits first old
+    (λ deeds. P deeds first old new)) →
     WhereTold was told (λ first old new. IfLawful admits first old (λ deeds. Q deeds first old new))
 where-both admits T P Q follows None None told one = tt
 where-both admits T P Q follows (Some was) (Some past) told one = (
@@ -204,17 +210,23 @@ where-both admits T P Q follows None (Some past) told one = absurd one
 where-both admits T P Q follows (Some was) None told one = absurd one
 
 -- the first claim
-pub ran-complete : (asked : Question) (before now : Moment) (was holds : Streams) (outcome : Outcome)
-    (given : Answer) → Says asked given given.outcome.cause →
-    (IsDiskFault given.outcome.cause → HasRisen before.faults now.faults) →
-    (put : Result (Unit {0}) SinkFault) → Serves (Some asked.request.tool) given was holds put →
-    outcome ≡ (after_streams put given).outcome → WhereLawful before now ExtendsLawfully →
-    WhereTold before.told now.told (RunsOrNot asked before.admits given outcome) →
-    (HasRisen before.faults now.faults → ⊥) → StreamsServe was holds →
-    WhereLawful before now (λ deeds first old new. (token : Token) → IsAlone token old new →
-    StandsOpen (after first old) token new →
-    AnswersOnOld deeds asked first old new token (after_streams put given))
-ran-complete asked before now was holds outcome given says failed put served ends lawful session none
+pub ran-complete :
+    (asked : Question) (before now : Moment) (was holds : Streams)
+    (outcome : Outcome) (given : Answer)
+    → Says asked given given.outcome.cause
+    → (IsDiskFault given.outcome.cause → HasRisen before.faults now.faults)
+    → (put : Result (Unit {0}) SinkFault)
+    → Serves (Some asked.request.tool) given was holds put
+    → outcome ≡ (after_streams put given).outcome
+    → WhereLawful before now ExtendsLawfully
+    → WhereTold before.told now.told (RunsOrNot asked before.admits given outcome)
+    → (HasRisen before.faults now.faults → ⊥)
+    → StreamsServe was holds
+    → WhereLawful before now (λ deeds first old new. (token : Token) → IsAlone token old new
+    → StandsOpen (after first old) token new → AnswersOnOld deeds asked first old new token
+    (after_streams put given))
+ran-complete asked before now was holds outcome given says failed put served
+    ends lawful session none
     serve =
     where-both before.admits (RunsOrNot asked before.admits given outcome) ExtendsLawfully
     (λ deeds first old new. (token : Token) → IsAlone token old new →

@@ -106,7 +106,8 @@ module _ (deeds : SuiteDeeds) (first : Folder) (history : History)
   some-stayed runner answer same question uncalled some was =
       let looked : HasLooked history token some.number some.seen =
       record { kept = some.kept; uncommitted = uncalled; clean = some.clean } in
-      let there : IsAnswerAt deeds asked first history some.number answer = subst (λ (one : Question).
+      let there : IsAnswerAt deeds asked first history some.number answer =
+      subst (λ (one : Question).
       IsAnswerOn one (files_of (at_place some.number)) (settings_file first) answer) question
       (some.is_answer (files_of (at_place some.number)) (settings_file first) (record {
         each_table = λ table content is. places-stay.has_seen deeds first history lawful token
@@ -120,7 +121,8 @@ module _ (deeds : SuiteDeeds) (first : Folder) (history : History)
         kept = some.kept;
         none = committed-once.none deeds first history lawful token uncalled;
         at_place = there;
-        alone = answers-alone deeds first history lawful asked token answer some.number some.kept was
+        alone = answers-alone deeds first history lawful asked token answer
+            some.number some.kept was
             there;
       }
 
@@ -140,8 +142,10 @@ changed-at deeds first history lawful asked token runner answer same question be
     let kept_now = subst (λ (one : History). kept_number (standing token one).own ≡ Some all.number)
     (sym all.parts)
     (kept-stays deeds first all.newer all.older whole token all.number kept_then) in
-    let top_is = (invariant deeds first all.older before).keeper_view token all.number owner.active in
-    let there : IsAnswerAt deeds asked first history all.number answer = subst (λ (one : List Commitment). IsAnswerOn asked
+    let top_is = (invariant deeds first all.older before).keeper_view token
+    all.number owner.active in
+    let there : IsAnswerAt deeds asked first history all.number answer =
+    subst (λ (one : List Commitment). IsAnswerOn asked
     (files_of (folded deeds first one)) (settings_file first) answer)
     (sym (ap (λ (one : History). place all.number (committed one)) all.parts
     ∙ places-stay.stays deeds first all.newer all.older whole all.number
@@ -176,7 +180,8 @@ large-at : (deeds : SuiteDeeds) (first : Folder) (history : History) → Lawful 
     ShowsLarge runner answer history name →
     HasStayed deeds asked first history runner.token answer
 large-at deeds first history lawful asked runner answer name question is (inl all) =
-    all-stayed deeds first history lawful asked runner.token runner answer refl question is all.0 all.1
+    all-stayed deeds first history lawful asked runner.token runner answer refl
+    question is all.0 all.1
 large-at deeds first history lawful asked runner answer name question is (inr large) =
     large-stayed deeds first history lawful asked runner answer name question is large
 
@@ -206,13 +211,20 @@ shown-at deeds first history lawful asked runner answer question began Changed t
     changed-at deeds first history lawful asked runner.token runner answer refl question began is
     told shown
 shown-at deeds first history lawful asked runner answer question began Same told is shown =
-    all-stayed deeds first history lawful asked runner.token runner answer refl question is shown.0 shown.1
-shown-at deeds first history lawful asked runner answer question began (Refused refusal) told is shown =
-    all-stayed deeds first history lawful asked runner.token runner answer refl question is shown.0 shown.1
-shown-at deeds first history lawful asked runner answer question began (BadSetting line) told is shown =
-    all-stayed deeds first history lawful asked runner.token runner answer refl question is shown.0 shown.1
-shown-at deeds first history lawful asked runner answer question began (NoTable table) told is shown =
-    some-stayed deeds first history lawful asked runner.token runner answer refl question is shown.0 shown.1
+    all-stayed deeds first history lawful asked runner.token runner answer refl
+    question is shown.0 shown.1
+shown-at deeds first history lawful asked runner answer question began
+    (Refused refusal) told is shown =
+    all-stayed deeds first history lawful asked runner.token runner answer refl
+    question is shown.0 shown.1
+shown-at deeds first history lawful asked runner answer question began
+    (BadSetting line) told is shown =
+    all-stayed deeds first history lawful asked runner.token runner answer refl
+    question is shown.0 shown.1
+shown-at deeds first history lawful asked runner answer question began
+    (NoTable table) told is shown =
+    some-stayed deeds first history lawful asked runner.token runner answer refl
+    question is shown.0 shown.1
 shown-at deeds first history lawful asked runner answer question began
     (TooLarge (File (Table table))) told is shown =
     large-at deeds first history lawful asked runner answer (Table table) question is shown

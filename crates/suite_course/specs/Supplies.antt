@@ -8,8 +8,8 @@ use Rattle.acct_outside.specs.declared.streams.SourceFault.{SourceFault}
 use Rattle.acct_outside.specs.declared.streams.SourceFault.TheVariants.{Failed, Memory as NoMemory}
 use Rattle.acct_outside.specs.Faults.{Faults, HasRisen, LastFailed, NoneFailed}
 use Rattle.acct_outside.specs.Streams.{ClockMoment, SourceMoment, WhereBytesTold}
-use Rattle.account_model.specs.declared.tool.Tool.{Tool}
-use Rattle.account_model.specs.declared.tool.Tool.TheVariants.{Chpasswd}
+use Rattle.account_words.specs.declared.tool.Tool.{Tool}
+use Rattle.account_words.specs.declared.tool.Tool.TheVariants.{Chpasswd}
 use Rattle.suite_answers.specs.declared.cause.Which.TheVariants.{Input}
 use Rattle.suite_answers.specs.declared.cause.Cause.{Cause}
 use Rattle.suite_answers.specs.declared.cause.Cause.TheVariants.{TooLarge, InputFault, ClockFault, Memory}

@@ -2,8 +2,8 @@
 use Rattle.std.specs.Prelude.{ℕ, Bool, true, false, not, ◌&&◌, List, [], ◌∷◌, ◌++◌, length, take, drop, filter, Option, Some, None, codes, bytes_eq, if◌then◌else◌}
 use Rattle.acct_text.specs.Bytes.{newline, blank}
 use Rattle.acct_text.specs.Pieces.{cut_at}
-use Rattle.account_model.specs.Text.{begins_with}
-use Rattle.account_model.specs.Options.{OptionForm, Word}
+use Rattle.account_formats.specs.Text.{begins_with}
+use Rattle.account_words.specs.Options.{OptionForm, Word}
 
 -- the long name of an option behind its letter
 abbrev pub long_part : Option Word → List ℕ

@@ -3,7 +3,7 @@
 // statuses.
 
 ghost use Rattle.std.specs.Prelude.{◌≡◌, true};
-ghost use Rattle.account_model.specs.Options.{option_forms};
+ghost use Rattle.account_words.specs.Options.{option_forms};
 ghost use Rattle.suite_main.specs.HelpTexts.{tells_options};
 
 mod chage;
@@ -19,7 +19,7 @@ mod useradd;
 mod userdel;
 mod usermod;
 
-use account_model::Tool;
+use account_words::Tool;
 
 /// The program with its version.
 pub(crate) const VERSION: &str = "accounts 0.2.0\n";

@@ -10,7 +10,7 @@ use Rattle.acct_outside.specs.declared.Name.TheVariants.{Intent}
 use Rattle.acct_outside.specs.Calls.{Found, found_absent, found_bytes, found_too_large, lists}
 use Rattle.acct_outside.specs.Moment.{Past}
 use Rattle.acct_outside.specs.Tokens.{Token}
-use Rattle.account_model.specs.declared.tool.Tool.{Tool}
+use Rattle.account_words.specs.declared.tool.Tool.{Tool}
 use Rattle.acct_text.specs.Bytes.{Bytes}
 use Rattle.intent_file.specs.Intent.{Intended, ReadsIntent}
 use Rattle.intent_file.proofs.Reading.{allowed_parts, at_most_six}

@@ -4,8 +4,8 @@ use Rattle.acct_text.specs.Bytes.{Bytes}
 use Rattle.acct_text.specs.Limits.{last_day, table_limit}
 use Rattle.acct_outside.specs.Tokens.{Token}
 use Rattle.acct_outside.specs.Calls.{Command}
-use Rattle.account_model.specs.Request.{Request}
-use Rattle.account_model.specs.Words.{Asks}
+use Rattle.account_words.specs.Request.{Request}
+use Rattle.account_words.specs.Words.{Asks}
 
 -- what a session is asked: its words, input and day, and the request of the words
 pub record Question : Type 0 where

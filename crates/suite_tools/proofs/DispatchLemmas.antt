@@ -9,13 +9,13 @@ use Rattle.std.proofs.lemmas.Bool.{cases_Bool}
 use Rattle.std.proofs.lemmas.Result.{IfOk-weaker}
 use Rattle.acct_text.specs.declared.files.Files.{Files}
 use Rattle.acct_text.specs.Limits.{last_day}
-use Rattle.account_model.specs.declared.tool.Tool.{Tool}
-use Rattle.account_model.specs.declared.tool.Tool.TheVariants.{Useradd, Usermod, Groupadd, Groupmod, Groupdel, Gpasswd, Chpasswd}
+use Rattle.account_words.specs.declared.tool.Tool.{Tool}
+use Rattle.account_words.specs.declared.tool.Tool.TheVariants.{Useradd, Usermod, Groupadd, Groupmod, Groupdel, Gpasswd, Chpasswd}
 use Rattle.account_model.specs.Action.{Action, outcome_of}
 use Rattle.account_model.specs.Change.{action_by}
 use Rattle.account_model.specs.Groupadd.{is_content}
-use Rattle.account_model.specs.Request.{operand}
-use Rattle.account_model.specs.Settings.{Setting}
+use Rattle.account_words.specs.Request.{operand}
+use Rattle.account_words.specs.Settings.{Setting}
 use Rattle.tool_answers.specs.Decisions.{Decides}
 use Rattle.tool_answers.specs.declared.decision.Decision.{Decision}
 use Rattle.tool_answers.specs.declared.tool_fault.ToolFault.{ToolFault}
@@ -59,7 +59,7 @@ module _ (asking : Asking) (day : ℕ) (files : Files) (defs : Defs) where
       (tool : Tool) (result : Result Decision AllocError)
       → asking.request.tool ≡ tool
       → IfOk result (λ decision. (settings : List Setting) → HasSettings defs settings
-          → Decides tool files (outcome_of (action_as tool settings) files) decision)
+      → Decides tool files (outcome_of (action_as tool settings) files) decision)
       → IfOk result (DecidesUnder defs day asking files)
   by-itself tool result is decided = IfOk-weaker result _ _
       (λ decision decides settings held.
@@ -74,7 +74,7 @@ module _ (asking : Asking) (day : ℕ) (files : Files) (defs : Defs) where
       → ActsAs tool script
       → ((settings : List Setting) → IsSilent (action_as tool settings))
       → IfOk result (λ decision. (action : Action) → ActsBy action script → IsSilent action
-          → Decides told files (outcome_of action files) decision)
+      → Decides told files (outcome_of action files) decision)
       → IfOk result (DecidesUnder defs day asking files)
   by-script tool told script result is same acts silent decided = by-itself tool result is
       (IfOk-weaker result _ _

@@ -4,8 +4,8 @@ use Rattle.std.specs.Prelude.{ℕ, List, []}
 use Rattle.acct_text.specs.declared.files.Files.{Files}
 use Rattle.account_model.specs.Action.{Action, outcome_of}
 use Rattle.account_model.specs.Change.{action_of}
-use Rattle.account_model.specs.Request.{Request}
-use Rattle.account_model.specs.Settings.{Setting}
+use Rattle.account_words.specs.Request.{Request}
+use Rattle.account_words.specs.Settings.{Setting}
 use Rattle.tool_answers.specs.Decisions.{Decides}
 use Rattle.tool_answers.specs.declared.decision.Decision.{Decision}
 use Rattle.login_defs.specs.declared.defs.Defs.{Defs}

@@ -3,7 +3,7 @@ ghost use Rattle.std.specs.Prelude.{◌≤◌, List, length, IfOk};
 ghost use Rattle.acct_text.specs.Limits.{last_day, table_limit};
 ghost use Rattle.account_model.specs.Action.{Action, outcome_of};
 ghost use Rattle.account_model.specs.Chage.{chage};
-ghost use Rattle.account_model.specs.Settings.{Setting};
+ghost use Rattle.account_words.specs.Settings.{Setting};
 ghost use Rattle.account_model.specs.Userdel.{userdel};
 ghost use Rattle.tool_answers.specs.Decisions.{Decides};
 ghost use Rattle.login_defs.specs.Held.{HasSettings, IsHeld};
@@ -11,7 +11,7 @@ ghost use Rattle.table_edits.specs.Acting.{ActsBy, IsOfTool};
 ghost use Rattle.suite_tools.specs.Decided.{DecidesUnder, IsSilent};
 
 use crate::{Decision, ToolRequest};
-use account_model::Tool;
+use account_words::Tool;
 use acct_text::Files;
 use aging_commands::chage::{chage, chage_report};
 use aging_commands::chpasswd::chpasswd;
@@ -68,7 +68,12 @@ fn decide_on(
 {
     let tool = asked.tool();
     match tool {
-        Tool::Useradd => edits(alloc, tool, tables, useradd(alloc, asked, tables, defs, day)),
+        Tool::Useradd => edits(
+            alloc,
+            tool,
+            tables,
+            useradd(alloc, asked, tables, defs, day),
+        ),
         Tool::Usermod => edits(alloc, tool, tables, usermod(alloc, asked, tables, day)),
         Tool::Userdel => removes_user(alloc, asked, tables, defs),
         Tool::Groupadd => edits(alloc, tool, tables, groupadd(alloc, asked, tables, defs)),

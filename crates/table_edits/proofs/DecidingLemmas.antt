@@ -2,7 +2,7 @@
 -- (`acted-decides`). Way: without a refusal the action is one of these edits and this report.
 use Rattle.std.proofs.Common.{◌≡◌, [], refl, ◌∙◌, ap, subst}
 use Rattle.acct_text.specs.declared.files.Files.{Files}
-use Rattle.account_model.specs.declared.tool.Tool.{Tool}
+use Rattle.account_words.specs.declared.tool.Tool.{Tool}
 use Rattle.account_model.specs.Action.{Action, outcome_of}
 use Rattle.tool_answers.specs.Decisions.{Decides}
 use Rattle.tool_answers.specs.declared.decision.Decision.{Decision}

@@ -1,8 +1,8 @@
 -- Claim: a file after the edits of a slice is that after the edits of its list (`edited-file`).
 use Rattle.std.proofs.Common.{◌≡◌, ◌∙◌, ℕ, List, ap}
 use Rattle.std.specs.Prelude.{Option}
-use Rattle.account_model.specs.Format.{Format}
-use Rattle.account_model.specs.Tables.{table_after}
+use Rattle.account_formats.specs.Format.{Format}
+use Rattle.account_formats.specs.Tables.{table_after}
 use Rattle.line_edits.specs.declared.edit.Edit.{Edit}
 use Rattle.line_edits.specs.SeenEdits.{seen_edits}
 

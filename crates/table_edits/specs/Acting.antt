@@ -3,11 +3,11 @@ use Rattle.std.specs.Prelude.{◌≡◌, ◌≤◌, ⊤, ℕ, List, [], Some, No
 use Rattle.acct_text.specs.declared.files.Files.{Files}
 use Rattle.account_model.specs.Action.{Action}
 use Rattle.account_model.specs.Change.{action_of}
-use Rattle.account_model.specs.Records.{greatest_days}
-use Rattle.account_model.specs.Request.{Request}
-use Rattle.account_model.specs.Settings.{Setting}
-use Rattle.account_model.specs.Tables as model
-use Rattle.account_model.specs.Text.{first_some}
+use Rattle.account_formats.specs.Records.{greatest_days}
+use Rattle.account_words.specs.Request.{Request}
+use Rattle.account_words.specs.Settings.{Setting}
+use Rattle.account_formats.specs.Tables as model
+use Rattle.account_formats.specs.Text.{first_some}
 use Rattle.tool_answers.specs.declared.tool_fault.ToolFault.{ToolFault}
 use Rattle.tool_answers.specs.declared.tool_fault.ToolFault.TheVariants.{Refused, Memory}
 use Rattle.table_edits.specs.declared.report.Report.{Report}

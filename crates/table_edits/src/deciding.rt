@@ -5,7 +5,8 @@ ghost use Rattle.tool_answers.specs.Decisions.{Decides};
 ghost use Rattle.table_edits.specs.Acting.{ActsBy, IsOfTool, IsReportOf};
 
 use crate::{Report, Script, decide_by};
-use account_model::{Tool, tools_are_written};
+use account_model::tools_are_written;
+use account_words::Tool;
 use std::alloc::{AllocError, Global};
 use table_lookups::Tables;
 use tool_answers::{Decision, ToolFault, refuse};

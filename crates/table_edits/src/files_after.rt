@@ -1,10 +1,10 @@
 // The files after a command's edits (passwd(5), shadow(5), group(5), gshadow(5), subuid(5), subgid(5)).
 ghost use Rattle.std.specs.Prelude.{◌≡◌, IfOk};
 ghost use Rattle.std.specs.List.{AllByRecursion};
-ghost use Rattle.account_model.specs.RecordEdits.{IsWrittenEdit};
-ghost use Rattle.account_model.specs.Records.{subid_format};
-ghost use Rattle.account_model.specs.Tables.{files_after, table_after};
-ghost use Rattle.account_model.specs.WrittenScript.{IsWrittenScript};
+ghost use Rattle.account_formats.specs.RecordEdits.{IsWrittenEdit};
+ghost use Rattle.account_formats.specs.Records.{subid_format};
+ghost use Rattle.account_formats.specs.Tables.{files_after, table_after};
+ghost use Rattle.account_formats.specs.WrittenScript.{IsWrittenScript};
 ghost use Rattle.line_edits.specs.SeenEdits.{seen_edits};
 ghost use Rattle.table_edits.specs.SeenScript.{seen_script};
 ghost use Rattle.line_edits.specs.SubidChanges.{subid_becomes};

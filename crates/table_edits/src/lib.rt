@@ -18,8 +18,11 @@ mod report;
 mod script;
 mod user_edits;
 
-pub use account_model::{Refusal, Tool};
-pub use acct_lines::{GroupRecord, GshadowRecord, PasswdRecord, ShadowRecord, SubidRecord, TableRecord};
+pub use account_model::Refusal;
+pub use account_words::Tool;
+pub use acct_lines::{
+    GroupRecord, GshadowRecord, PasswdRecord, ShadowRecord, SubidRecord, TableRecord,
+};
 pub use acct_tables::FileLines;
 pub use decide::{are_same, decide_by};
 pub use deciding::decide_as;

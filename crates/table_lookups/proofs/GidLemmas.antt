@@ -8,9 +8,9 @@ use Rattle.std.specs.HashMap.{HashMap, get}
 use Rattle.std.proofs.lemmas.Bool.{eqb-true}
 use Rattle.std.proofs.lemmas.List.{length-take-le, take_more}
 use Rattle.acct_text.specs.Lines.{Line}
-use Rattle.account_model.specs.declared.records.GroupRecord.{GroupRecord}
-use Rattle.account_model.specs.Format.{records_of}
-use Rattle.account_model.specs.Records.{group_format}
+use Rattle.account_formats.specs.declared.records.GroupRecord.{GroupRecord}
+use Rattle.account_formats.specs.Format.{records_of}
+use Rattle.account_formats.specs.Records.{group_format}
 use Rattle.acct_tables.specs.TableLines.{record_at}
 use Rattle.acct_tables.proofs.FirstRecords.{found-at, record_of}
 use Rattle.acct_tables.proofs.LinesHere.{blank_line, line_here, record-here}

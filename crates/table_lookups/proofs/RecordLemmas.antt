@@ -4,8 +4,8 @@ use Rattle.std.proofs.Common.{◌≡◌, ℕ, Bool, true, false, List, [], ◌�
 use Rattle.std.specs.Prelude.{Option, Some, None, option_map, find, ◌||◌, ◌==◌}
 use Rattle.std.specs.List.{cons_option}
 use Rattle.acct_text.specs.Lines.{Line}
-use Rattle.account_model.specs.Format.{Format, records_of}
-use Rattle.account_model.specs.Ids.{is_used}
+use Rattle.account_formats.specs.Format.{Format, records_of}
+use Rattle.account_words.specs.Ids.{is_used}
 use Rattle.id_choice.specs.Used.{AreThoseOf}
 use Rattle.table_lookups.specs.Accepting.{is_accepted}
 

@@ -4,8 +4,8 @@ use Rattle.std.specs.Prelude.{◌≡◌, ℕ, ◌==◌, nat_eq, Bool, List, Opti
 use Rattle.std.specs.HashMap.{HashMap, get}
 use Rattle.std.specs.List.{position_from}
 use Rattle.acct_text.specs.Lines.{Line}
-use Rattle.account_model.specs.Format.{Format}
-use Rattle.account_model.specs.Records.{group_format}
+use Rattle.account_formats.specs.Format.{Format}
+use Rattle.account_formats.specs.Records.{group_format}
 use Rattle.acct_tables.specs.NameIndex.{Tells, line_names, told}
 use Rattle.table_lookups.specs.Accepting.{is_accepted}
 use Rattle.table_lookups.specs.declared.group_index.GroupLines.{GroupLines}

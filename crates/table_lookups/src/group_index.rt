@@ -1,10 +1,10 @@
 // The groups of group, looked up by name and by GID: where many are asked for, without a pass over
 // the table for each.
 ghost use Rattle.std.specs.Prelude.{◌≡◌, ◌<◌, ◌+◌, length, take, IfOk, OnOk};
-ghost use Rattle.account_model.specs.Format.{records_of};
+ghost use Rattle.account_formats.specs.Format.{records_of};
 ghost use Rattle.account_model.specs.GivenGroups.{find_gid as first_of_gid};
-ghost use Rattle.account_model.specs.Records.{group_format};
-ghost use Rattle.account_model.specs.Tables.{group_records};
+ghost use Rattle.account_formats.specs.Records.{group_format};
+ghost use Rattle.account_formats.specs.Tables.{group_records};
 ghost use Rattle.account_model.specs.Users.{group_named as group_of_name};
 ghost use Rattle.table_lookups.specs.IndexedLines.{AreGroups, TellsGids};
 ghost use Rattle.table_lookups.specs.TablesOfLines.{lines_in};

@@ -1,7 +1,7 @@
 // The IDs that users and groups have by their records (passwd(5), group(5)).
 ghost use Rattle.std.specs.Prelude.{◌≡◌, ℕ, map, option_map, IfOk, OnOk};
 ghost use Rattle.std.specs.List.{cons_option};
-ghost use Rattle.account_model.specs.Tables.{table_records};
+ghost use Rattle.account_formats.specs.Tables.{table_records};
 ghost use Rattle.id_choice.specs.Used.{AreThoseOf};
 
 use crate::text_of;

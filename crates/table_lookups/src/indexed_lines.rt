@@ -1,6 +1,6 @@
 // The lines of a file of records, of which one is found by its name without a pass over all.
 ghost use Rattle.std.specs.Prelude.{◌≡◌, IfOk, IfSome};
-ghost use Rattle.account_model.specs.Format.{find_named, records_of};
+ghost use Rattle.account_formats.specs.Format.{find_named, records_of};
 ghost use Rattle.table_lookups.specs.IndexedLines.{AreIndexed, IsIndexed};
 ghost use Rattle.table_lookups.specs.TablesOfLines.{lines_in};
 

@@ -20,7 +20,7 @@ pub struct UserIndex<'a> {
 
 impl<'a> Model for UserIndex<'a> {
     ghost use Rattle.acct_text.specs.declared.files.Files.{Files};
-    ghost use Rattle.account_model.specs.Records.{passwd_format, shadow_format};
+    ghost use Rattle.account_formats.specs.Records.{passwd_format, shadow_format};
     ghost use Rattle.table_lookups.specs.IndexedLines.{AreIndexed};
     ghost use Rattle.table_lookups.specs.TablesOfLines.{lines_in};
 

@@ -2,7 +2,7 @@
 -- they are, or they become others; and what it prints with that ("EXIT VALUES" of each page).
 use Rattle.std.specs.Prelude.{◌≡◌, [], Result, Ok, Err, if◌then◌else◌}
 use Rattle.acct_text.specs.declared.files.Files.{Files}
-use Rattle.account_model.specs.declared.tool.Tool.{Tool}
+use Rattle.account_words.specs.declared.tool.Tool.{Tool}
 use Rattle.account_model.specs.declared.refusal.Refusal.{Refusal}
 use Rattle.account_model.specs.Action.{Made}
 use Rattle.account_model.specs.Answer.{files_eq}

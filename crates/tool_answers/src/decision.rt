@@ -3,7 +3,8 @@ ghost use Rattle.std.specs.Prelude.{◌≡◌, IfOk};
 ghost use Rattle.tool_answers.specs.Decisions.{refusal_output};
 
 use crate::{push_line, refusal_status, refusal_text};
-use account_model::{Refusal, Tool};
+use account_model::Refusal;
+use account_words::Tool;
 use acct_text::{Bytes, Files};
 use std::alloc::{AllocError, Global};
 

@@ -12,7 +12,8 @@ mod status;
 mod tool_fault;
 mod word_fault;
 
-pub use account_model::{LineProblem, Refusal, Tool, WordFault};
+pub use account_model::{LineProblem, Refusal};
+pub use account_words::{Tool, WordFault};
 pub use decision::{Decision, Output, refuse};
 pub use message::{messages, push_line, speaker};
 pub use refusal::refusal_text;

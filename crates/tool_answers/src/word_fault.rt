@@ -1,10 +1,10 @@
 // What is said of the first fault of a list of words, and its status ("EXIT VALUES" of each page).
 ghost use Rattle.std.specs.Prelude.{◌≡◌, IfOk};
-ghost use Rattle.account_model.specs.Words.{tool_named};
+ghost use Rattle.account_words.specs.Words.{tool_named};
 ghost use Rattle.account_model.specs.WordMessages.{faulty_tool, syntax_status, word_at, word_fault_message, word_fault_status, word_fault_text};
 
 use crate::{MEMORY_STATUS, push_line};
-use account_model::{Tool, WordFault};
+use account_words::{Tool, WordFault};
 use acct_text::Piece::{Number, Text};
 use acct_text::{Bytes, Word};
 use std::alloc::{AllocError, Global};
@@ -89,7 +89,14 @@ fn word_fault_text(alloc: Global, words: &[Word], fault: WordFault) -> Result<By
 {
     match fault {
         WordFault::WordLimit(place) => {
-            Bytes::made_of(alloc, &[Text(b"word "), Number(place as u64), Text(b" passes a limit")])
+            Bytes::made_of(
+                alloc,
+                &[
+                    Text(b"word "),
+                    Number(place as u64),
+                    Text(b" passes a limit"),
+                ],
+            )
         }
         WordFault::NoTool => Bytes::of(alloc, b"no command given"),
         WordFault::UnknownTool => {
@@ -106,11 +113,19 @@ fn word_fault_text(alloc: Global, words: &[Word], fault: WordFault) -> Result<By
         ),
         WordFault::MissingValue(place) => Bytes::made_of(
             alloc,
-            &[Text(b"option in word "), Number(place as u64), Text(b" needs a value")],
+            &[
+                Text(b"option in word "),
+                Number(place as u64),
+                Text(b" needs a value"),
+            ],
         ),
         WordFault::UnexpectedValue(place) => Bytes::made_of(
             alloc,
-            &[Text(b"option in word "), Number(place as u64), Text(b" takes no value")],
+            &[
+                Text(b"option in word "),
+                Number(place as u64),
+                Text(b" takes no value"),
+            ],
         ),
         WordFault::TooMany(place) => Bytes::made_of(
             alloc,
@@ -124,7 +139,10 @@ fn word_fault_text(alloc: Global, words: &[Word], fault: WordFault) -> Result<By
         WordFault::NoPrefix => Bytes::of(alloc, b"option -P is required"),
         WordFault::TooFew => Bytes::of(alloc, b"missing operand"),
         WordFault::Clash(rule) => {
-            Bytes::made_of(alloc, &[Text(b"options break rule "), Number(u64::from(rule))])
+            Bytes::made_of(
+                alloc,
+                &[Text(b"options break rule "), Number(u64::from(rule))],
+            )
         }
         WordFault::Memory => Ok(Bytes::new(alloc)),
     }

@@ -3,9 +3,9 @@
 use Rattle.std.specs.Prelude.{ℕ, Option, Some, None, option_map, option_and_then, codes, if◌then◌else◌}
 use Rattle.acct_text.specs.declared.files.Files.{Files}
 use Rattle.account_model.specs.GivenGroups.{given_group}
-use Rattle.account_model.specs.Request.{Request, has_option, value_of}
+use Rattle.account_words.specs.Request.{Request, has_option, value_of}
 use Rattle.account_model.specs.Usermod.{new_name}
-use Rattle.account_model.specs.Values.{days_value, expiration_value, given_uid}
+use Rattle.account_words.specs.Values.{days_value, expiration_value, given_uid}
 use Rattle.line_edits.specs.declared.passwd_changes.UserFields.{UserFields}
 use Rattle.line_edits.specs.declared.shadow_changes.ShadowFields.{ShadowFields}
 

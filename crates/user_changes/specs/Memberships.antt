@@ -2,7 +2,7 @@
 use Rattle.std.specs.Prelude.{ℕ, List, map, not, codes, if◌then◌else◌}
 use Rattle.acct_text.specs.declared.files.Files.{Files}
 use Rattle.account_model.specs.GivenGroups.{given_groups}
-use Rattle.account_model.specs.Request.{Request, has_option, operand}
+use Rattle.account_words.specs.Request.{Request, has_option, operand}
 use Rattle.account_model.specs.Usermod.{new_name}
 use Rattle.line_edits.specs.declared.memberships.Membership.{Membership}
 use Rattle.line_edits.specs.declared.memberships.UserGroups.{UserGroups}

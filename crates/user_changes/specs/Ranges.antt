@@ -4,8 +4,8 @@ use Rattle.std.specs.Prelude.{List, map, Option}
 use Rattle.acct_text.specs.declared.Tab.{Tab}
 use Rattle.acct_text.specs.Lines.{Line}
 use Rattle.account_model.specs.declared.refusal.Refusal.{Refusal}
-use Rattle.account_model.specs.Edits.{edited_by}
-use Rattle.account_model.specs.Records.{subid_format}
+use Rattle.account_formats.specs.Edits.{edited_by}
+use Rattle.account_formats.specs.Records.{subid_format}
 use Rattle.account_model.specs.UsermodRanges.{RangeOwner, RangeChange, edits_before_adding, first_meeting}
 use Rattle.command_values.specs.Ranges.{ids_named}
 use Rattle.user_changes.specs.declared.ranges.UserRanges.{UserRanges}

@@ -1,9 +1,9 @@
 // What usermod(8) refuses by the tables: what is missing, and what is taken.
 ghost use Rattle.std.specs.Prelude.{◌≡◌, ◌||◌, None, IfOk, codes};
-ghost use Rattle.account_model.specs.Ids.{used_uids};
-ghost use Rattle.account_model.specs.Names.{is_valid_name};
+ghost use Rattle.account_words.specs.Ids.{used_uids};
+ghost use Rattle.account_formats.specs.Names.{is_valid_name};
 ghost use Rattle.account_model.specs.Refusals.{bad_value};
-ghost use Rattle.account_model.specs.Text.{first_some};
+ghost use Rattle.account_formats.specs.Text.{first_some};
 ghost use Rattle.account_model.specs.Usermod.{empty_hash, is_own_uid, is_uid_taken, no_shadow, taken_name, taken_uid, unlistable_name, usermod_conflicts};
 ghost use Rattle.account_model.specs.Users.{has_user, has_shadow};
 ghost use Rattle.tool_answers.specs.Refusing.{RefusesBy};

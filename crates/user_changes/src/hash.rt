@@ -1,8 +1,8 @@
 // The hash of a user (usermod(8), `-p`, `-L` and `-U`).
 ghost use Rattle.std.specs.Prelude.{◌≡◌, ◌||◌, IfOk, OnOk, if◌then◌else◌};
 ghost use Rattle.account_model.specs.Hashes.{demand_shadow, each_user_hash};
-ghost use Rattle.account_model.specs.Request.{operand};
-ghost use Rattle.account_model.specs.Tables.{no_edits};
+ghost use Rattle.account_words.specs.Request.{operand};
+ghost use Rattle.account_formats.specs.Tables.{no_edits};
 ghost use Rattle.account_model.specs.UsermodHash.{hash_after, hash_script, relocked_hash, sets_aging, sets_hash};
 ghost use Rattle.account_model.specs.Users.{hash_of, passwd_field};
 ghost use Rattle.table_edits.specs.Additions.{HasAlso};
@@ -10,8 +10,8 @@ ghost use Rattle.line_edits.specs.HashChanges.{hash_by};
 
 use acct_text::Bytes;
 use command_values::Asked;
-use std::alloc::{AllocError, Global};
 use line_edits::HashChange;
+use std::alloc::{AllocError, Global};
 use table_edits::Script;
 use table_lookups::Tables;
 

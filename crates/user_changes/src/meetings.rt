@@ -4,11 +4,11 @@ ghost use Rattle.std.specs.Prelude.{◌≡◌, ◌+◌, ◌-◌, IfOk, OnOk, opt
 ghost use Rattle.acct_text.specs.Lines.{lines_of};
 ghost use Rattle.acct_text.specs.declared.Tab.TheVariants.{Subuid, Subgid};
 ghost use Rattle.account_model.specs.declared.refusal.Refusal.TheVariants.{Meets};
-ghost use Rattle.account_model.specs.Edits.{edited_by};
-ghost use Rattle.account_model.specs.Records.{subid_format};
+ghost use Rattle.account_formats.specs.Edits.{edited_by};
+ghost use Rattle.account_formats.specs.Records.{subid_format};
 ghost use Rattle.account_model.specs.Usermod.{new_name, range_owner, subgid_change, subuid_change};
 ghost use Rattle.account_model.specs.UsermodRanges.{edits_before_adding, meeting_in};
-ghost use Rattle.account_model.specs.Written.{IsNameField};
+ghost use Rattle.account_formats.specs.Written.{IsNameField};
 ghost use Rattle.subid_ranges.specs.RangeLines.{meeting_line, with_range};
 ghost use Rattle.table_lookups.specs.Stopping.{StopsBy};
 ghost use Rattle.user_changes.specs.Ranges.{change_of, first_meeting_in, owner_of};

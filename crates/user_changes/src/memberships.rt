@@ -1,8 +1,8 @@
 // The groups that a user joins and leaves, and the name in them (usermod(8), `-G`, `-a` and `-l`).
 ghost use Rattle.std.specs.Prelude.{◌≡◌, [], ◌∷◌, IfOk, OnOk};
-ghost use Rattle.account_model.specs.Edits.{each};
-ghost use Rattle.account_model.specs.Edits.Edit.{Become};
-ghost use Rattle.account_model.specs.Tables.{no_edits};
+ghost use Rattle.account_formats.specs.Edits.{each};
+ghost use Rattle.account_formats.specs.Edits.Edit.{Become};
+ghost use Rattle.account_formats.specs.Tables.{no_edits};
 ghost use Rattle.account_model.specs.Usermod.{changed_group, changed_gshadow};
 ghost use Rattle.table_edits.specs.Additions.{HasAlso};
 ghost use Rattle.line_edits.specs.GroupChanges.{group_becomes};
@@ -15,8 +15,10 @@ use crate::changes::new_name;
 use acct_text::{Bytes, Names};
 use command_values::Asked;
 use given_groups::{find_group, group_words};
+use line_edits::{
+    Edit, GroupAct, GroupChange, GshadowAct, GshadowChange, Membership, NameSet, UserGroups,
+};
 use std::alloc::{AllocError, Global};
-use line_edits::{Edit, GroupAct, GroupChange, GshadowAct, GshadowChange, Membership, NameSet, UserGroups};
 use table_edits::Script;
 use table_lookups::{GroupIndex, Tables};
 

@@ -1,8 +1,8 @@
 // The subordinate IDs that a user loses and gets (usermod(8), `-v`, `-V`, `-w` and `-W`; subuid(5),
 // subgid(5)).
 ghost use Rattle.std.specs.Prelude.{◌≡◌, ◌++◌, ◌∷◌, [], map, IfOk, OnOk};
-ghost use Rattle.account_model.specs.Edits.Edit.{Add, Become};
-ghost use Rattle.account_model.specs.Tables.{no_edits};
+ghost use Rattle.account_formats.specs.Edits.Edit.{Add, Become};
+ghost use Rattle.account_formats.specs.Tables.{no_edits};
 ghost use Rattle.account_model.specs.Usermod.{range_owner, subgid_change, subuid_change, uid_after};
 ghost use Rattle.account_model.specs.UsermodRanges.{add_range, cut_range, edits_before_adding, range_edits, ranges_given};
 ghost use Rattle.account_model.specs.Users.{uid_of};
@@ -16,8 +16,8 @@ use crate::changes::new_name;
 use acct_lines::SubidRecord;
 use acct_text::Bytes;
 use command_values::{Asked, IdRange};
-use std::alloc::{AllocError, Global};
 use line_edits::{Edit, RangeCut, SubidChange};
+use std::alloc::{AllocError, Global};
 use table_edits::Script;
 use table_lookups::Tables;
 

@@ -8,10 +8,10 @@ use Rattle.std.specs.Option.{MatchOption}
 use Rattle.std.proofs.lemmas.Bool.{cases_Bool}
 use Rattle.acct_text.specs.Lines.{Line, lines_of}
 use Rattle.account_model.specs.declared.new_user.Allotment.TheVariants.{Full, Range}
-use Rattle.account_model.specs.FreeRange.{free_range}
+use Rattle.account_words.specs.FreeRange.{free_range}
 use Rattle.account_model.specs.NewRanges.{Subordinate, allotment, free_start, is_allotted, may_have_ranges}
-use Rattle.account_model.specs.Request.{Request, operand}
-use Rattle.account_model.specs.SubidOwner.{is_owned}
+use Rattle.account_words.specs.Request.{Request, operand}
+use Rattle.account_words.specs.SubidOwner.{is_owned}
 use Rattle.subid_ranges.specs.RangeLines.{ranges_of}
 use Rattle.user_creation.specs.Allotments.{subordinate_of}
 use Rattle.user_creation.specs.declared.ranges.Bounds.{Bounds}

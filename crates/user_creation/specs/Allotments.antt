@@ -1,11 +1,11 @@
 -- The table of subordinate IDs that a new user gets a range of, by its file and the bounds of the settings (useradd(8);
 -- subuid(5), subgid(5); SUB_UID_MIN, SUB_UID_MAX and SUB_UID_COUNT of login.defs(5), and the same of GIDs).
 use Rattle.std.specs.Prelude.{ℕ, List, Option}
-use Rattle.account_model.specs.declared.settings.Key.TheVariants.{SubUidMin, SubGidMin, SubUidMax, SubGidMax, SubUidCount, SubGidCount}
+use Rattle.account_words.specs.declared.settings.Key.TheVariants.{SubUidMin, SubGidMin, SubUidMax, SubGidMax, SubUidCount, SubGidCount}
 use Rattle.account_model.specs.NewRanges.{Subordinate, id_number}
-use Rattle.account_model.specs.Records.{subid_format}
-use Rattle.account_model.specs.Settings.{Setting}
-use Rattle.account_model.specs.Tables.{table_records}
+use Rattle.account_formats.specs.Records.{subid_format}
+use Rattle.account_words.specs.Settings.{Setting}
+use Rattle.account_formats.specs.Tables.{table_records}
 use Rattle.user_creation.specs.declared.ranges.Bounds.{Bounds}
 
 -- a table with this file, with the bounds and the count of a new range

@@ -3,13 +3,14 @@
 ghost use Rattle.std.specs.Prelude.{◌≡◌, ◌<◌, ◌≤◌, true, Some, IfOk};
 ghost use Rattle.std.specs.List.{list_any};
 ghost use Rattle.account_model.specs.NewRanges.{allotment, id_number, may_have_ranges};
-ghost use Rattle.account_model.specs.Records.{greatest_id};
-ghost use Rattle.account_model.specs.SubidOwner.{is_owned};
+ghost use Rattle.account_formats.specs.Records.{greatest_id};
+ghost use Rattle.account_words.specs.SubidOwner.{is_owned};
 ghost use Rattle.login_defs.specs.Held.{Gives, IsHeld};
 ghost use Rattle.subid_ranges.specs.RangeLines.{ranges_of};
 ghost use Rattle.user_creation.specs.Allotments.{gid_bounds_under, subordinate_of, uid_bounds_under};
 
-use account_model::{Allotment, Key};
+use account_model::Allotment;
+use account_words::Key;
 use acct_text::Bytes;
 use command_values::Asked;
 use login_defs::Defs;

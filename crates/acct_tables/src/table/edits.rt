@@ -2,9 +2,9 @@
 // bytes of all lines that it doesn't name.
 ghost use Rattle.std.specs.Prelude.{◌≡◌, ◌<◌, ◌≤◌, ◌&&◌, not, bytes_eq, List, [], ◌∷◌, length, map, OnOk, OnErr};
 ghost use Rattle.std.specs.List.{remove};
-ghost use Rattle.account_model.specs.Edits.{as_ended, edited, each_where, drop_where, with_line};
-ghost use Rattle.account_model.specs.Format.{records_of, is_named, has_named};
-ghost use Rattle.account_model.specs.Written.{IsWritten};
+ghost use Rattle.account_formats.specs.Edits.{as_ended, edited, each_where, drop_where, with_line};
+ghost use Rattle.account_formats.specs.Format.{records_of, is_named, has_named};
+ghost use Rattle.account_formats.specs.Written.{IsWritten};
 ghost use Rattle.acct_tables.specs.Refusals.{AnswersRefusal, single_refusal, present_refusal, replace_refusal};
 ghost use Rattle.acct_tables.specs.TableLines.{changed_at, with_record, with_record_at};
 

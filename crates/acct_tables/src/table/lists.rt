@@ -1,8 +1,8 @@
 // The renaming of a user in the lists of a table (usermod(8), `-l`).
 ghost use Rattle.std.specs.Prelude.{◌≡◌, IfOk, OnOk, OnErr};
-ghost use Rattle.account_model.specs.Edits.{each, edited};
-ghost use Rattle.account_model.specs.Format.{records_of};
-ghost use Rattle.account_model.specs.Written.{IsListed};
+ghost use Rattle.account_formats.specs.Edits.{each, edited};
+ghost use Rattle.account_formats.specs.Format.{records_of};
+ghost use Rattle.account_formats.specs.Written.{IsListed};
 ghost use Rattle.acct_tables.specs.Lists.{holder_refusal, line_refusal, list_refusal};
 ghost use Rattle.acct_tables.specs.Refusals.{AnswersRefusal};
 

@@ -1,7 +1,7 @@
 // What `accounts getsubids --help` prints (getsubids(1)).
 ghost use Rattle.std.specs.Prelude.{◌≡◌, true};
-ghost use Rattle.account_model.specs.declared.tool.Tool.TheVariants.{Getsubids};
-ghost use Rattle.account_model.specs.Options.{option_forms};
+ghost use Rattle.account_words.specs.declared.tool.Tool.TheVariants.{Getsubids};
+ghost use Rattle.account_words.specs.Options.{option_forms};
 ghost use Rattle.suite_main.specs.HelpTexts.{tells_options};
 
 /// The text, with the options of getsubids and no others.

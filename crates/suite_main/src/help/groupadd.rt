@@ -1,7 +1,7 @@
 // What `accounts groupadd --help` prints (groupadd(8)).
 ghost use Rattle.std.specs.Prelude.{◌≡◌, true};
-ghost use Rattle.account_model.specs.declared.tool.Tool.TheVariants.{Groupadd};
-ghost use Rattle.account_model.specs.Options.{option_forms};
+ghost use Rattle.account_words.specs.declared.tool.Tool.TheVariants.{Groupadd};
+ghost use Rattle.account_words.specs.Options.{option_forms};
 ghost use Rattle.suite_main.specs.HelpTexts.{tells_options};
 
 /// The text, with the options of groupadd and no others.

@@ -1,6 +1,6 @@
 use Rattle.std.proofs.Common.{◌∙◌, length, ap, sym, arith}
 use Rattle.std.proofs.lemmas.Result.{IfOk-weaker}
-use Rattle.account_model.specs.Format.{find_named, records_of}
+use Rattle.account_formats.specs.Format.{find_named, records_of}
 use Rattle.acct_tables.proofs.RecordLines.{met-by, passed-by}
 use Rattle.acct_tables.proofs.lines.find_record.Goals as goal
 

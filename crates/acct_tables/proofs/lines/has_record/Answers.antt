@@ -1,6 +1,6 @@
 use Rattle.std.proofs.Common.{◌∙◌, length, ap, sym, arith}
 use Rattle.std.specs.Prelude.{is_some}
-use Rattle.account_model.specs.Format.{find_named, has_named, records_of}
+use Rattle.account_formats.specs.Format.{find_named, has_named, records_of}
 use Rattle.acct_tables.proofs.RecordLines.{met-by, passed-by, named-some}
 use Rattle.acct_tables.proofs.lines.has_record.Goals as goal
 

@@ -3,7 +3,7 @@ use Rattle.acct_text.specs.declared.files.Files.{Files}
 use Rattle.acct_text.specs.declared.Tab.TheVariants.{Group, Gshadow}
 use Rattle.account_model.specs.Grpck.{group_problems, group_report, gshadow_problems, gshadow_report}
 use Rattle.account_model.specs.Problems.{table_problems}
-use Rattle.account_model.specs.Records.{group_format, gshadow_format}
+use Rattle.account_formats.specs.Records.{group_format, gshadow_format}
 use Rattle.check_reports.specs.Reported.{with_problems}
 use Rattle.check_reports.proofs.ReportLemmas.{told-both}
 use Rattle.check_reports.proofs.grpck.report_groups.Goals as goal

@@ -2,9 +2,9 @@ use Rattle.std.proofs.Common.{◌≡◌, ◌∙◌, ℕ, Bool, true, false, List
 use Rattle.std.specs.Prelude.{◌||◌, Option, None, Some}
 use Rattle.std.specs.HashSet as bag
 use Rattle.std.specs.List.{cons_option}
-use Rattle.account_model.specs.declared.records.GroupRecord.{GroupRecord}
-use Rattle.account_model.specs.Format.{records_of}
-use Rattle.account_model.specs.Records.{group_format}
+use Rattle.account_formats.specs.declared.records.GroupRecord.{GroupRecord}
+use Rattle.account_formats.specs.Format.{records_of}
+use Rattle.account_formats.specs.Records.{group_format}
 use Rattle.acct_tables.specs.SeenLines.{seen_line}
 use Rattle.check_reports.specs.Known.{has_gid, is_of}
 use Rattle.table_lookups.proofs.FileLemmas.{records-in}

@@ -1,9 +1,9 @@
 use Rattle.std.proofs.Common.{◌≡◌, ℕ, length, nat_eq}
 use Rattle.std.specs.Prelude.{◌||◌}
 use Rattle.std.specs.HashSet as bag
-use Rattle.account_model.specs.Format.{records_of}
-use Rattle.account_model.specs.Records.{group_format}
-use Rattle.account_model.specs.Tables.{table_records}
+use Rattle.account_formats.specs.Format.{records_of}
+use Rattle.account_formats.specs.Records.{group_format}
+use Rattle.account_formats.specs.Tables.{table_records}
 use Rattle.check_reports.specs.Known.{has_gid}
 use Rattle.check_reports.proofs.known.gids_of.Given as goal
 

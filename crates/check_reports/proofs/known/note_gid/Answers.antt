@@ -1,8 +1,8 @@
 use Rattle.std.proofs.Common.{◌≡◌, ◌∙◌, ◌==◌, ℕ, Bool, true, false, nat_eq, refl, sym, ap}
 use Rattle.std.specs.Prelude.{◌||◌, Option, None, Some, cond, option_map}
 use Rattle.std.specs.HashSet as bag
-use Rattle.account_model.specs.declared.records.GroupRecord.{GroupRecord}
-use Rattle.account_model.specs.Records.{group_format}
+use Rattle.account_formats.specs.declared.records.GroupRecord.{GroupRecord}
+use Rattle.account_formats.specs.Records.{group_format}
 use Rattle.check_reports.specs.Known.{is_of}
 use Rattle.check_reports.proofs.known.note_gid.Goals as goal
 

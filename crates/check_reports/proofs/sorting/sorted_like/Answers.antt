@@ -2,9 +2,9 @@ use Rattle.std.proofs.Common.{◌≡◌, ◌∙◌, [], ◌∷◌, ap}
 use Rattle.std.specs.Prelude.{unwrap_or}
 use Rattle.std.specs.List.{position_or_len}
 use Rattle.std.proofs.lemmas.Result.{IfOk-weaker}
-use Rattle.account_model.specs.Edits.{Arrange}
-use Rattle.account_model.specs.Format.{is_named}
-use Rattle.account_model.specs.Tables.{table_after, table_records}
+use Rattle.account_formats.specs.Edits.{Arrange}
+use Rattle.account_formats.specs.Format.{is_named}
+use Rattle.account_formats.specs.Tables.{table_after, table_records}
 use Rattle.check_reports.specs.Sorted.{kept_places}
 use Rattle.check_reports.proofs.PlaceLemmas.{place-or-count}
 use Rattle.check_reports.proofs.sorting.sorted_like.Goals as goal

@@ -1,7 +1,7 @@
 use Rattle.std.proofs.Common.{◌∙◌, map, ap}
 use Rattle.std.proofs.lemmas.Result.{IfOk-weaker}
 use Rattle.acct_text.specs.Lines.{file_bytes, lines_of}
-use Rattle.account_model.specs.Edits.{in_places, sorted_by_key}
+use Rattle.account_formats.specs.Edits.{in_places, sorted_by_key}
 use Rattle.check_reports.specs.Sorted.{seen_keyed}
 use Rattle.check_reports.proofs.sorting.sorted_text.Goals as goal
 

@@ -3,8 +3,8 @@ use Rattle.std.specs.List.{AllByRecursion}
 use Rattle.std.proofs.lemmas.List.{take_rest}
 use Rattle.std.proofs.lemmas.Result.{IfOk-weaker}
 use Rattle.acct_text.specs.Lines.{file_bytes, lines_of}
-use Rattle.account_model.specs.Edits.{edited_by}
-use Rattle.account_model.specs.RecordEdits.{IsWrittenEdit}
+use Rattle.account_formats.specs.Edits.{edited_by}
+use Rattle.account_formats.specs.RecordEdits.{IsWrittenEdit}
 use Rattle.acct_tables.specs.SeenLines.{AreOfFile}
 use Rattle.acct_tables.proofs.EditedFiles.{text-of_file}
 use Rattle.line_edits.specs.SeenEdits.{seen_edits}

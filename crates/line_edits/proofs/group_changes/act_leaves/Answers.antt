@@ -1,6 +1,6 @@
 use Rattle.std.proofs.Common.{◌≡◌, ◌∙◌, false, ap, sym}
 use Rattle.account_model.specs.Members.{without_name}
-use Rattle.account_model.specs.Text.{is_listed}
+use Rattle.account_formats.specs.Text.{is_listed}
 use Rattle.line_edits.specs.GroupChanges.{group_after}
 use Rattle.line_edits.proofs.LeftLemmas.{isn't, without-unlisted}
 use Rattle.line_edits.proofs.group_changes.act_leaves.Goals as goal

@@ -1,6 +1,6 @@
 use Rattle.std.proofs.Common.{◌∙◌, ap, sym}
 use Rattle.account_model.specs.Members.{without_name}
-use Rattle.account_model.specs.Text.{is_listed}
+use Rattle.account_formats.specs.Text.{is_listed}
 use Rattle.line_edits.specs.GshadowChanges.{gshadow_after, without_user}
 use Rattle.line_edits.proofs.LeftLemmas.{isn't, neither, without-unlisted}
 use Rattle.line_edits.proofs.gshadow_changes.act_leaves.Goals as goal

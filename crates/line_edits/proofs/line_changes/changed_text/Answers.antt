@@ -1,7 +1,7 @@
 use Rattle.std.proofs.Common.{◌∙◌, ◌++◌, length, ap, arith}
 use Rattle.std.specs.Prelude.{flat_map}
 use Rattle.acct_text.specs.Lines.{file_bytes}
-use Rattle.account_model.specs.Edits.{becomes}
+use Rattle.account_formats.specs.Edits.{becomes}
 use Rattle.acct_tables.specs.SeenLines.{seen_line}
 use Rattle.acct_tables.proofs.LinesAhead.{walked, walked-all}
 use Rattle.line_edits.proofs.line_changes.changed_text.Goals as goal
@@ -17,8 +17,12 @@ lines-preserved g c =
 
 pub lines-smaller : goal.lines-smaller
 lines-smaller g c =
-    omega (arith, c.in_ok-left-2.ensures.no_more, ap length c.bytes.ensures.lines,
-    ap length c.in-Some.ensures.taken)
+    omega (
+      arith,
+      c.in_ok-left-2.ensures.no_more,
+      ap length c.bytes.ensures.lines,
+      ap length c.in-Some.ensures.taken,
+    )
 
 pub returns : goal.returns
 returns g c =

@@ -1,5 +1,5 @@
 use Rattle.std.proofs.Common.{◌≡◌, drop}
-use Rattle.account_model.specs.Format.{records_of}
+use Rattle.account_formats.specs.Format.{records_of}
 use Rattle.line_edits.specs.SeenEdits.{seen_edits}
 use Rattle.line_edits.specs.Touching.{first_touched}
 use Rattle.line_edits.proofs.multiple.first_multiple.Given as goal

@@ -1,6 +1,6 @@
 use Rattle.std.proofs.Common.{◌≡◌, ◌∙◌, ◌+◌, [], drop, ap, sym, arith}
 use Rattle.std.proofs.Math.ListN.{drop_of_length-le}
-use Rattle.account_model.specs.Edits.{touches}
+use Rattle.account_formats.specs.Edits.{touches}
 use Rattle.line_edits.specs.SeenEdits.{seen_edits}
 use Rattle.line_edits.proofs.EditLists.{seen-from}
 use Rattle.line_edits.proofs.multiple.leave.Goals as goal

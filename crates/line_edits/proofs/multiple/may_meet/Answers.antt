@@ -1,6 +1,6 @@
 use Rattle.std.proofs.Common.{◌∙◌, ap, sym, subst}
 use Rattle.std.specs.Prelude.{nat_le}
-use Rattle.account_model.specs.Format.{count_named, records_of}
+use Rattle.account_formats.specs.Format.{count_named, records_of}
 use Rattle.acct_tables.specs.TableLines.{record_at}
 use Rattle.line_edits.specs.SeenEdits.{seen_edits}
 use Rattle.line_edits.specs.Touching.{LacksName}

@@ -1,6 +1,6 @@
 use Rattle.std.proofs.Common.{subst}
 use Rattle.std.proofs.lemmas.Result.{on_ok_weaker}
-use Rattle.account_model.specs.RecordEdits.{IsWrittenEdit}
+use Rattle.account_formats.specs.RecordEdits.{IsWrittenEdit}
 use Rattle.line_edits.specs.Naming.{IsOfName}
 use Rattle.line_edits.specs.SeenEdits.{seen_edit}
 use Rattle.line_edits.proofs.KnownLemmas.{known-changed}

@@ -1,7 +1,7 @@
 use Rattle.std.proofs.Common.{◌≡◌, ◌∙◌, ◌+◌, [], drop, ap, sym, arith}
 use Rattle.std.specs.Cmp.Lexicographic.{nat_list_eq_equiv}
 use Rattle.std.proofs.Math.ListN.{drop_of_length-le}
-use Rattle.account_model.specs.Edits.{touches}
+use Rattle.account_formats.specs.Edits.{touches}
 use Rattle.line_edits.specs.SeenEdits.{seen_edits}
 use Rattle.line_edits.proofs.EditLists.{seen-from}
 use Rattle.line_edits.proofs.LeftLemmas.{neither}

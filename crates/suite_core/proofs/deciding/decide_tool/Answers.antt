@@ -2,7 +2,7 @@ use Rattle.std.proofs.Common.{ℕ, List, subst}
 use Rattle.std.proofs.lemmas.Result.{IfOk-weaker}
 use Rattle.account_model.specs.Action.{outcome_of}
 use Rattle.account_model.specs.Change.{action_of}
-use Rattle.account_model.specs.Request.{Request}
+use Rattle.account_words.specs.Request.{Request}
 use Rattle.tool_answers.specs.Decisions.{Decides}
 use Rattle.suite_tools.specs.Decided.{Asking}
 use Rattle.suite_core.proofs.deciding.decide_tool.Goals as goal

@@ -1,6 +1,6 @@
 use Rattle.std.proofs.Common.{[], arith}
 use Rattle.std.proofs.lemmas.Result.{IfOk-weaker}
-use Rattle.account_model.specs.declared.tool.Tool.TheVariants.{Chage}
+use Rattle.account_words.specs.declared.tool.Tool.TheVariants.{Chage}
 use Rattle.account_model.specs.Chage.{chage}
 use Rattle.suite_tools.proofs.dispatch.ages.Goals as goal
 

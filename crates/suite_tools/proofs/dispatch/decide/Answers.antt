@@ -1,7 +1,7 @@
 use Rattle.std.proofs.Common.{ℕ, List, subst}
 use Rattle.std.specs.Prelude.{IfOk}
 use Rattle.acct_text.specs.declared.files.Files.{Files}
-use Rattle.account_model.specs.Request.{Request}
+use Rattle.account_words.specs.Request.{Request}
 use Rattle.suite_tools.specs.Decided.{DecidesUnder}
 use Rattle.suite_tools.proofs.dispatch.decide.Goals as goal
 

@@ -1,6 +1,6 @@
 use Rattle.std.proofs.Common.{◌≡◌, ◌∙◌, [], sym, ap}
-use Rattle.account_model.specs.Edits.{first_multiple}
-use Rattle.account_model.specs.Tables.{table_records}
+use Rattle.account_formats.specs.Edits.{first_multiple}
+use Rattle.account_formats.specs.Tables.{table_records}
 use Rattle.line_edits.specs.SeenEdits.{seen_edits}
 use Rattle.line_edits.proofs.EditLists.{no-edits}
 use Rattle.line_edits.proofs.TouchedRecords.{none-met}

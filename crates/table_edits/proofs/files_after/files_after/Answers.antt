@@ -1,4 +1,4 @@
-use Rattle.account_model.specs.Records.{passwd_format, shadow_format, group_format, gshadow_format, subid_format}
+use Rattle.account_formats.specs.Records.{passwd_format, shadow_format, group_format, gshadow_format, subid_format}
 use Rattle.line_edits.specs.GroupChanges.{group_becomes}
 use Rattle.line_edits.specs.GshadowChanges.{gshadow_becomes}
 use Rattle.line_edits.specs.PasswdChanges.{passwd_becomes}

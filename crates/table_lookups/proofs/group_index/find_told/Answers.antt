@@ -1,6 +1,6 @@
 use Rattle.std.proofs.Common.{◌∙◌, ap, sym}
 use Rattle.std.proofs.lemmas.Result.{IfOk-weaker}
-use Rattle.account_model.specs.Records.{group_format}
+use Rattle.account_formats.specs.Records.{group_format}
 use Rattle.acct_tables.proofs.FirstRecords.{record_of}
 use Rattle.table_lookups.proofs.GidLemmas.{found-gid}
 use Rattle.table_lookups.proofs.group_index.find_told.Goals as goal

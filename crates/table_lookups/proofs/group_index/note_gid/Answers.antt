@@ -1,6 +1,6 @@
 use Rattle.std.proofs.Common.{◌∙◌, ap, refl, sym}
 use Rattle.std.specs.Prelude.{None, Some, option_map}
-use Rattle.account_model.specs.Records.{group_format}
+use Rattle.account_formats.specs.Records.{group_format}
 use Rattle.acct_tables.proofs.LinesHere.{read-here}
 use Rattle.table_lookups.proofs.GidLemmas.{gid-known, gid-noted, gid-other, is-none}
 use Rattle.table_lookups.proofs.group_index.note_gid.Goals as goal

@@ -1,8 +1,8 @@
 use Rattle.std.proofs.Common.{◌∙◌, length, map, refl, ap, arith}
 use Rattle.std.specs.Prelude.{◌||◌, option_map}
-use Rattle.account_model.specs.Format.{records_of}
-use Rattle.account_model.specs.Ids.{is_used}
-use Rattle.account_model.specs.Tables.{table_records}
+use Rattle.account_formats.specs.Format.{records_of}
+use Rattle.account_words.specs.Ids.{is_used}
+use Rattle.account_formats.specs.Tables.{table_records}
 use Rattle.acct_tables.specs.SeenLines.{seen_line}
 use Rattle.table_lookups.proofs.FileLemmas.{records-in}
 use Rattle.table_lookups.proofs.RecordLemmas.{ids-end, ids-found}

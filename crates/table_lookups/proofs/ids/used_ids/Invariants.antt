@@ -1,5 +1,5 @@
 use Rattle.std.proofs.Common.{length, map}
-use Rattle.account_model.specs.Tables.{table_records}
+use Rattle.account_formats.specs.Tables.{table_records}
 use Rattle.table_lookups.proofs.RecordLemmas.{Gathers}
 use Rattle.table_lookups.proofs.ids.used_ids.Given as goal
 

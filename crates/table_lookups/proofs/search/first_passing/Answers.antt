@@ -1,7 +1,7 @@
 use Rattle.std.proofs.Common.{◌∙◌, length, sym, ap, arith}
 use Rattle.std.specs.Prelude.{find}
 use Rattle.std.proofs.lemmas.Result.{IfOk-weaker}
-use Rattle.account_model.specs.Format.{records_of}
+use Rattle.account_formats.specs.Format.{records_of}
 use Rattle.table_lookups.proofs.FileLemmas.{records-in}
 use Rattle.table_lookups.proofs.RecordLemmas.{find-accepted, find-refused}
 use Rattle.table_lookups.proofs.search.first_passing.Goals as goal

@@ -1,7 +1,7 @@
 use Rattle.std.proofs.Common.{◌∙◌, ap, subst}
 use Rattle.std.specs.Prelude.{IfSome, is_some}
-use Rattle.account_model.specs.Format.{has_named}
-use Rattle.account_model.specs.Records.{passwd_format}
+use Rattle.account_formats.specs.Format.{has_named}
+use Rattle.account_formats.specs.Records.{passwd_format}
 use Rattle.acct_tables.proofs.NamedRecords.{told-has}
 use Rattle.table_lookups.specs.IndexedLines.{AreIndexed}
 use Rattle.table_lookups.specs.TablesOfLines.{lines_in}

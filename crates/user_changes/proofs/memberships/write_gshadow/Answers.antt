@@ -1,7 +1,7 @@
 use Rattle.std.proofs.Common.{[], ◌∷◌, ◌∙◌, ap, subst}
 use Rattle.std.specs.Prelude.{OnOk}
-use Rattle.account_model.specs.Edits.Edit.{Become}
-use Rattle.account_model.specs.Tables.{no_edits}
+use Rattle.account_formats.specs.Edits.Edit.{Become}
+use Rattle.account_formats.specs.Tables.{no_edits}
 use Rattle.table_edits.specs.Additions.{HasAlso}
 use Rattle.line_edits.specs.GshadowChanges.{gshadow_becomes}
 use Rattle.line_edits.specs.declared.gshadow_changes.GshadowAct.TheVariants.{SetMembership}

@@ -1,5 +1,5 @@
 use Rattle.std.proofs.Common.{refl, ap, sym, ◌∙◌}
-use Rattle.account_model.specs.declared.fault.LineFault.TheVariants.{FieldCount}
+use Rattle.account_formats.specs.declared.fault.LineFault.TheVariants.{FieldCount}
 use Rattle.acct_text.specs.Bytes.{colon}
 use Rattle.acct_lines.proofs.Counted.{pieces-counted}
 use Rattle.acct_lines.proofs.fields.Fields.of.Goals as goal

@@ -1,5 +1,5 @@
 use Rattle.std.proofs.Common.{◌∙◌, [], ◌∷◌, ◌++◌, length, map, ap, arith}
-use Rattle.account_model.specs.Edits.{as_ended}
+use Rattle.account_formats.specs.Edits.{as_ended}
 use Rattle.acct_tables.proofs.EndedLines.{appended}
 use Rattle.acct_tables.proofs.edited_lines.EditedLines.append_any.Goals as goal
 

@@ -1,5 +1,5 @@
 use Rattle.std.proofs.Common.{◌≡◌, ◌+◌, ◌≤◌, drop}
-use Rattle.account_model.specs.Format.{records_of, count_named}
+use Rattle.account_formats.specs.Format.{records_of, count_named}
 use Rattle.acct_tables.proofs.file_lines.FileLines.has_several.Given as goal
 
 -- those counted so far, with those among the lines left, are all of the name

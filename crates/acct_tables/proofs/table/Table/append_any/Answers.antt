@@ -1,6 +1,6 @@
 use Rattle.std.proofs.Common.{◌≡◌, ◌∙◌, ◌-◌, [], ◌∷◌, ◌++◌, length, map, take, drop, sym, ap, subst, arith, length-append}
 use Rattle.std.proofs.lemmas.List.{length-map}
-use Rattle.account_model.specs.Edits.{as_ended, with_line}
+use Rattle.account_formats.specs.Edits.{as_ended, with_line}
 use Rattle.acct_tables.specs.NameIndex.{IsNoted, Tells, line_name, line_names}
 use Rattle.acct_tables.specs.TableNames.{told_names}
 use Rattle.acct_tables.proofs.EditedNames.{names-with}

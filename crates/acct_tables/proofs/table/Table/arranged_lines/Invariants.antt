@@ -1,5 +1,5 @@
 use Rattle.std.proofs.Common.{◌≡◌, ◌+◌, ◌++◌, length, map, drop}
-use Rattle.account_model.specs.Format.{records_of}
+use Rattle.account_formats.specs.Format.{records_of}
 use Rattle.acct_tables.specs.Order.{arranged, text_at, with_texts}
 use Rattle.acct_tables.proofs.table.Table.arranged_lines.Given as goal
 

@@ -1,5 +1,5 @@
 use Rattle.std.proofs.Common.{◌∙◌, ap, sym}
-use Rattle.account_model.specs.Format.{count_named, records_of}
+use Rattle.account_formats.specs.Format.{count_named, records_of}
 use Rattle.acct_tables.proofs.ToldLines.{none-counted, told-counts}
 use Rattle.acct_tables.proofs.table.Table.count.Goals as goal
 

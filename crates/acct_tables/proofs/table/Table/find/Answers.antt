@@ -1,6 +1,6 @@
 use Rattle.std.proofs.Common.{◌∙◌, ap, sym}
 use Rattle.std.specs.Prelude.{option_map}
-use Rattle.account_model.specs.Format.{find_named, records_of}
+use Rattle.account_formats.specs.Format.{find_named, records_of}
 use Rattle.acct_tables.specs.TableLines.{record_at}
 use Rattle.acct_tables.proofs.NamedRecords.{found-first, found-none}
 use Rattle.acct_tables.proofs.table.Table.find.Goals as goal

@@ -1,6 +1,6 @@
 use Rattle.std.proofs.Common.{◌∙◌, sym, refl}
 use Rattle.std.specs.Prelude.{Err}
-use Rattle.account_model.specs.Format.{records_of}
+use Rattle.account_formats.specs.Format.{records_of}
 use Rattle.acct_tables.specs.Lists.{list_refusal}
 use Rattle.acct_tables.proofs.ListLines.{list-no_memory}
 use Rattle.acct_tables.proofs.RefusalLemmas.{refusal-answers}

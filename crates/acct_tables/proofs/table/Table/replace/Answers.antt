@@ -1,6 +1,6 @@
 use Rattle.std.proofs.Common.{◌≡◌, ◌∙◌, List, ℕ, Bool, Some, None, sym, ap, true, false}
 use Rattle.std.specs.Prelude.{◌&&◌, not, bytes_eq, if◌then◌else◌}
-use Rattle.account_model.specs.Format.{Format, records_of, has_named}
+use Rattle.account_formats.specs.Format.{Format, records_of, has_named}
 use Rattle.acct_text.specs.Lines.{Line}
 use Rattle.acct_tables.specs.declared.fault.TableFault.TheVariants.{Present}
 use Rattle.acct_tables.specs.Refusals.{replace_refusal, renaming_refusal, single_refusal}

@@ -1,5 +1,5 @@
 use Rattle.std.proofs.Common.{◌∙◌, sym, ap, arith}
-use Rattle.account_model.specs.Edits.{as_ended}
+use Rattle.account_formats.specs.Edits.{as_ended}
 use Rattle.acct_tables.proofs.EndedLines.{end-next}
 use Rattle.acct_tables.proofs.table.edits.end_all.Goals as goal
 

@@ -1,6 +1,6 @@
 use Rattle.std.proofs.Common.{◌∙◌, ◌<◌, length, refl, ap, arith}
 use Rattle.std.specs.Prelude.{None, Some}
-use Rattle.account_model.specs.Format.{has_named}
+use Rattle.account_formats.specs.Format.{has_named}
 use Rattle.check_reports.specs.Names.{has_name}
 use Rattle.acct_tables.specs.TableLines.{record_at}
 use Rattle.table_lookups.proofs.FileLemmas.{records-in}

@@ -1,6 +1,6 @@
 use Rattle.std.proofs.Common.{◌≡◌, ◌∙◌, ◌+◌, ◌<◌, ◌++◌, [], length, take, refl, sym, ap, arith}
 use Rattle.std.specs.Prelude.{option_to_list}
-use Rattle.account_model.specs.Format.{has_named, records_of}
+use Rattle.account_formats.specs.Format.{has_named, records_of}
 use Rattle.account_model.specs.Problems.{at_line, problems_behind, problems_of_line}
 use Rattle.acct_tables.specs.Order.{text_at}
 use Rattle.check_reports.specs.Reported.{with_problems}

@@ -1,5 +1,5 @@
 use Rattle.std.proofs.Common.{◌≡◌, [], take}
-use Rattle.account_model.specs.Format.{records_of}
+use Rattle.account_formats.specs.Format.{records_of}
 use Rattle.account_model.specs.Problems.{problems_behind}
 use Rattle.check_reports.specs.Names.{AreNamesOf}
 use Rattle.check_reports.specs.Reported.{with_problems}

@@ -1,6 +1,6 @@
 use Rattle.std.proofs.Common.{◌∙◌, ◌==◌, ap, Bool}
 use Rattle.std.specs.Prelude.{is_some, find}
-use Rattle.account_model.specs.declared.given.Given.{Given}
+use Rattle.account_words.specs.declared.given.Given.{Given}
 use Rattle.command_values.proofs.OptionLemmas.{is_some-find}
 use Rattle.command_values.proofs.asked.Asked.has.Goals as goal
 

@@ -1,7 +1,7 @@
 use Rattle.std.proofs.Common.{◌≡◌, ℕ, length}
 use Rattle.std.specs.Prelude.{◌||◌}
 use Rattle.acct_text.specs.Lines.{lines_of}
-use Rattle.account_model.specs.Ids.{is_used}
+use Rattle.account_words.specs.Ids.{is_used}
 use Rattle.subid_ranges.specs.Numbers.{is_ranged}
 use Rattle.subid_ranges.specs.RangeLines.{ranges_of}
 use Rattle.subid_ranges.proofs.taken.Taken.of.Given as goal

@@ -1,9 +1,9 @@
 use Rattle.std.proofs.Common.{◌∙◌, ap, subst}
 use Rattle.std.specs.Prelude.{IfSome}
 use Rattle.std.proofs.lemmas.Result.{IfOk-weaker}
-use Rattle.account_model.specs.Format.{find_named}
-use Rattle.account_model.specs.Records.{group_format}
-use Rattle.account_model.specs.Tables.{group_records}
+use Rattle.account_formats.specs.Format.{find_named}
+use Rattle.account_formats.specs.Records.{group_format}
+use Rattle.account_formats.specs.Tables.{group_records}
 use Rattle.table_lookups.specs.IndexedLines.{AreGroups}
 use Rattle.table_lookups.specs.TablesOfLines.{lines_in}
 use Rattle.table_lookups.proofs.FileLemmas.{records-in}

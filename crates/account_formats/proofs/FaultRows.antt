@@ -1,0 +1,34 @@
+-- Rows of lines that are no records.
+use Rattle.std.specs.Prelude.{◌≡◌, codes, refl, Some, None}
+use Rattle.account_formats.specs.declared.fault.LineFault.TheVariants.{FieldCount, BadNumber, EmptyName, BadRange}
+use Rattle.account_formats.specs.Faults.{passwd_fault, shadow_fault, group_fault, gshadow_fault, subid_fault}
+
+six_fields : passwd_fault (codes "bad:x:5:5:oops:") ≡ Some (FieldCount 6)
+six_fields = refl
+
+bad_gid : passwd_fault (codes ":x:5:-:::") ≡ Some (BadNumber 4)
+bad_gid = refl
+
+no_name : passwd_fault (codes ":x:5:5:::") ≡ Some EmptyName
+no_name = refl
+
+bad_days : shadow_fault (codes "ann:h:-1::2147483648::::") ≡ Some (BadNumber 5)
+bad_days = refl
+
+good_shadow : shadow_fault (codes "+::::::::") ≡ None
+good_shadow = refl
+
+nis_group : group_fault (codes "+:::") ≡ Some (BadNumber 3)
+nis_group = refl
+
+nis_gshadow : gshadow_fault (codes "+:::") ≡ None
+nis_gshadow = refl
+
+no_count : subid_fault (codes "ann:1:0") ≡ Some BadRange
+no_count = refl
+
+far_last : subid_fault (codes "ann:4294967294:2") ≡ Some BadRange
+far_last = refl
+
+last_one : subid_fault (codes "ann:4294967294:1") ≡ None
+last_one = refl

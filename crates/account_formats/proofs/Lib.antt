@@ -1,0 +1,17 @@
+pub mod ReadsLaws
+pub mod WrittenLaws
+pub mod ListLaws
+pub mod ScriptLaws
+pub mod EditLaws
+pub mod SameLaws
+pub mod EditLines
+pub mod FaultRows
+pub mod FaultLaws
+pub mod HeldLaws
+pub mod OtherText
+pub mod NoEdits
+pub mod TouchedLaws
+pub mod UntouchedLaws
+pub mod FormatLaws
+pub mod NamingLaws
+pub mod TextLaws

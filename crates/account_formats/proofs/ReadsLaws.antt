@@ -1,0 +1,486 @@
+-- The reader of each format finds exactly the record that a text is.
+use Rattle.std.proofs.Common.{◌≡◌, zero, suc, ◌+◌, ◌-◌, ◌||◌, ℕ, ◌<◌, ◌≤◌, Bool, true, false, not, List, [], ◌∷◌, length, refl, sym, ◌∙◌, ap, subst, arith, inl, inr, lt_irrefl}
+use Rattle.std.specs.Prelude.{◌==◌, Option, Some, None, nat_le, bytes_eq, codes, option_map, if◌then◌else◌}
+use Rattle.std.specs.Char.{digit_value}
+use Rattle.std.proofs.lemmas.Bool.Decides.{eqb_tells}
+use Rattle.std.proofs.lemmas.Bool.{ne_eqb, leb-true, le-leb}
+use Rattle.std.proofs.lemmas.Slice.Eq.{bytes_eq-Decides}
+use Rattle.account_formats.specs.declared.records.PasswdRecord.{PasswdRecord}
+use Rattle.account_formats.specs.declared.records.ShadowRecord.{ShadowRecord}
+use Rattle.account_formats.specs.declared.records.GroupRecord.{GroupRecord}
+use Rattle.account_formats.specs.declared.records.GshadowRecord.{GshadowRecord}
+use Rattle.account_formats.specs.declared.records.SubidRecord.{SubidRecord}
+use Rattle.acct_text.specs.Bytes.{colon, is_empty}
+use Rattle.acct_text.specs.Pieces.{cut_at, AreCutAt}
+use Rattle.acct_text.specs.Numbers.{number_within, IsNumber}
+use Rattle.account_formats.specs.Text.{comma, nonempty}
+use Rattle.account_formats.specs.Records.{greatest_id, greatest_days, read_id, read_days, read_names, passwd_format, passwd_of_fields, passwd_with, shadow_format, shadow_of_fields, shadow_with, group_format, group_of_fields, gshadow_format, gshadow_of_fields, subid_format, subid_of_fields, subid_with}
+use Rattle.account_formats.specs.Reads.{IsDays, AreNames, ReadsPasswd, ReadsShadow, ReadsGroup, ReadsGshadow, ReadsSubid}
+use Rattle.acct_text.proofs.NumberLaws.{some-inj, empty-no, empty-some, number-found, number-is}
+use Rattle.acct_text.proofs.Cut.{cut_at-is, cut_at-only}
+
+-- ---- group
+
+names-found :
+    (text : List ℕ) (names : List (List ℕ))
+    → AreNames text names
+    → read_names text ≡ names
+names-found text names are = ap nonempty (cut_at-only comma text are.pieces
+    are.cut) ∙ sym are.dropped
+
+names-are : (text : List ℕ) → AreNames text (read_names text)
+names-are text = record { pieces = cut_at comma text; cut = cut_at-is comma text; dropped = refl }
+
+group-fields : (name password gid members : List ℕ) (id : ℕ)
+    (names : List (List ℕ)) → 0 < length name
+    → IsNumber greatest_id gid id → AreNames members names
+    → group_of_fields (name ∷ password ∷ gid ∷ members ∷ [])
+    ≡ Some (record { name = name; password = password; gid = id; members = names })
+group-fields name password gid members id names named number are =
+    rw (
+      empty-no name named,
+      number-found greatest_id gid id number,
+      names-found
+          members names are,
+    ) refl
+
+pub group-found :
+    (text : List ℕ) (r : GroupRecord)
+    → ReadsGroup text r
+    → group_format.read text ≡ Some r
+group-found text r reads =
+    ap group_of_fields (cut_at-only colon text
+    (r.name ∷ r.password ∷ reads.gid ∷ reads.members ∷ []) reads.cut)
+    ∙ group-fields r.name r.password reads.gid reads.members r.gid r.members reads.named
+    reads.gid_reads reads.members_read
+
+group-by : (text name password gid members : List ℕ) (r : GroupRecord)
+    (empty : Bool) (id : Option ℕ)
+    → AreCutAt colon text (name ∷ password ∷ gid ∷ members ∷ []) → is_empty name
+    ≡ empty → read_id gid ≡ id
+    → (if empty then None else option_map (λ g.
+    record {
+      name = name;
+      password = password;
+      gid = g;
+      members = read_names
+          members;
+    }) id) ≡ Some r
+    → ReadsGroup text r
+group-by text name password gid members r true id cut empty number found = cc
+group-by text name password gid members r false None cut empty number found = cc
+group-by text name password gid members r false (Some id) cut empty number found =
+    let reads : ReadsGroup text (record {
+      name = name;
+      password = password;
+      gid = id;
+      members = read_names members;
+    }) = record {
+      gid = gid;
+      members = members;
+      cut = cut;
+      named = empty-some name empty;
+      gid_reads = number-is greatest_id gid id number;
+      members_read = names-are members;
+    }
+    in subst (λ s. ReadsGroup text s) (some-inj found) reads
+
+group-of :
+    (text : List ℕ) (pieces : List (List ℕ)) (r : GroupRecord)
+    → AreCutAt colon text pieces
+    → group_of_fields pieces ≡ Some r
+    → ReadsGroup text r
+group-of text (name ∷ password ∷ gid ∷ members ∷ []) r cut found =
+    group-by text name password gid members r (is_empty name) (read_id gid) cut refl refl found
+group-of text pieces r cut found = cc
+
+pub group-is :
+    (text : List ℕ) (r : GroupRecord)
+    → group_format.read text ≡ Some r
+    → ReadsGroup text r
+group-is text r found = group-of text (cut_at colon text) r (cut_at-is colon text) found
+
+-- ---- passwd
+
+passwd-fields : (name password uid gid comment home shell : List ℕ) (u g : ℕ) → 0 < length name
+    → IsNumber greatest_id uid u → IsNumber greatest_id gid g
+    → passwd_of_fields (name ∷ password ∷ uid ∷ gid ∷ comment ∷ home ∷ shell ∷ [])
+    ≡ Some (record {
+      name = name;
+      password = password;
+      uid = u;
+      gid = g;
+      comment = comment;
+      home = home;
+      shell = shell;
+    })
+passwd-fields name password uid gid comment home shell u g named is_uid is_gid =
+    rw (
+      number-found greatest_id uid u is_uid,
+      number-found greatest_id gid g is_gid,
+      empty-no name named,
+    ) refl
+
+pub passwd-found :
+    (text : List ℕ) (r : PasswdRecord)
+    → ReadsPasswd text r
+    → passwd_format.read text ≡ Some r
+passwd-found text r reads =
+    ap passwd_of_fields (cut_at-only colon text
+    (r.name ∷ r.password ∷ reads.uid ∷ reads.gid ∷ r.comment ∷ r.home ∷ r.shell ∷ []) reads.cut)
+    ∙ passwd-fields r.name r.password reads.uid reads.gid r.comment r.home r.shell r.uid r.gid
+    reads.named reads.uid_reads reads.gid_reads
+
+passwd-by :
+    (text name password uid gid comment home shell : List ℕ) (r : PasswdRecord)
+    (u g : Option ℕ) (empty : Bool)
+    → AreCutAt colon text (name ∷ password ∷ uid ∷ gid ∷ comment ∷ home ∷ shell ∷ [])
+    → read_id uid ≡ u
+    → read_id gid ≡ g
+    → is_empty name ≡ empty
+    → passwd_with name password u g comment home shell ≡ Some r
+    → ReadsPasswd text r
+passwd-by text name password uid gid comment home shell r None g empty cut is_uid
+    is_gid none found = cc
+passwd-by text name password uid gid comment home shell r (Some u) None empty cut is_uid
+    is_gid none found = cc
+passwd-by text name password uid gid comment home shell r (Some u) (Some g) true cut is_uid is_gid
+    none found = let e = rw none at found in cc
+passwd-by text name password uid gid comment home shell r (Some u) (Some g) false cut
+    is_uid is_gid none found =
+    let reads : ReadsPasswd text (record {
+      name = name;
+      password = password;
+      uid = u;
+      gid = g;
+      comment = comment;
+      home = home;
+      shell = shell;
+    }) = record {
+      uid = uid;
+      gid = gid;
+      cut = cut;
+      named = empty-some name none;
+      uid_reads = number-is greatest_id uid u is_uid;
+      gid_reads = number-is greatest_id gid g is_gid;
+    }
+    in subst (λ s. ReadsPasswd text s) (some-inj (rw none at found)) reads
+
+passwd-of :
+    (text : List ℕ) (pieces : List (List ℕ)) (r : PasswdRecord)
+    → AreCutAt colon text pieces
+    → passwd_of_fields pieces ≡ Some r
+    → ReadsPasswd text r
+passwd-of text (name ∷ password ∷ uid ∷ gid ∷ comment ∷ home ∷ shell ∷ []) r cut found =
+    passwd-by text name password uid gid comment home shell r (read_id uid) (read_id gid)
+    (is_empty name) cut refl refl refl found
+passwd-of text pieces r cut found = cc
+
+pub passwd-is :
+    (text : List ℕ) (r : PasswdRecord)
+    → passwd_format.read text ≡ Some r
+    → ReadsPasswd text r
+passwd-is text r found = passwd-of text (cut_at colon text) r (cut_at-is colon text) found
+
+-- ---- gshadow
+
+gshadow-fields : (name password administrators members : List ℕ)
+    (ads names : List (List ℕ)) → 0 < length name
+    → AreNames administrators ads → AreNames members names
+    → gshadow_of_fields (name ∷ password ∷ administrators ∷ members ∷ [])
+    ≡ Some (record { name = name; password = password; administrators = ads; members = names })
+gshadow-fields name password administrators members ads names named are_ads are =
+    rw (
+      empty-no name named,
+      names-found administrators ads are_ads,
+      names-found
+          members names are,
+    ) refl
+
+pub gshadow-found :
+    (text : List ℕ) (r : GshadowRecord)
+    → ReadsGshadow text r
+    → gshadow_format.read text ≡ Some r
+gshadow-found text r reads =
+    ap gshadow_of_fields (cut_at-only colon text
+    (r.name ∷ r.password ∷ reads.administrators ∷ reads.members ∷ []) reads.cut)
+    ∙ gshadow-fields r.name r.password reads.administrators reads.members r.administrators r.members
+    reads.named reads.administrators_read reads.members_read
+
+gshadow-by : (text name password administrators members : List ℕ) (r : GshadowRecord) (empty : Bool)
+    → AreCutAt colon text (name ∷ password ∷ administrators ∷ members ∷ []) → is_empty name ≡ empty
+    → (if empty then None else Some (record {
+      name = name;
+      password = password;
+      administrators = read_names administrators;
+      members = read_names members;
+    })) ≡ Some r
+    → ReadsGshadow text r
+gshadow-by text name password administrators members r true cut empty found = cc
+gshadow-by text name password administrators members r false cut empty found =
+    let reads : ReadsGshadow text (record {
+      name = name;
+      password = password;
+      administrators = read_names administrators;
+      members = read_names members;
+    }) = record {
+      administrators = administrators;
+      members = members;
+      cut = cut;
+      named = empty-some name empty;
+      administrators_read = names-are administrators;
+      members_read = names-are members;
+    }
+    in subst (λ s. ReadsGshadow text s) (some-inj found) reads
+
+gshadow-of :
+    (text : List ℕ) (pieces : List (List ℕ)) (r : GshadowRecord)
+    → AreCutAt colon text pieces
+    → gshadow_of_fields pieces ≡ Some r
+    → ReadsGshadow text r
+gshadow-of text (name ∷ password ∷ administrators ∷ members ∷ []) r cut found =
+    gshadow-by text name password administrators members r (is_empty name) cut refl found
+gshadow-of text pieces r cut found = cc
+
+pub gshadow-is :
+    (text : List ℕ) (r : GshadowRecord)
+    → gshadow_format.read text ≡ Some r
+    → ReadsGshadow text r
+gshadow-is text r found = gshadow-of text (cut_at colon text) r (cut_at-is colon text) found
+
+-- ---- shadow
+
+no-minus : (b : ℕ) (text : List ℕ) → digit_value b < 10 → bytes_eq (b ∷ text) (codes "-1") ≡ false
+no-minus b text digit = elim (eqb_tells b 45) [
+  | inl at ↦ let wrong : 36 < 10 = rw at.1 at digit in absurd (lt_irrefl 9 (omega (arith, wrong)))
+  | inr past ↦ rw past.0 refl
+]
+
+days-found : (text : List ℕ) (days : Option ℕ) → IsDays text days → read_days text ≡ Some days
+days-found text None (inl empty) = rw empty refl
+days-found text None (inr minus) = rw minus refl
+days-found [] (Some days) number = absurd (lt_irrefl 0 number.digits.0)
+days-found (b ∷ text) (Some days) number =
+    rw (no-minus b text number.digits.1.0, number-found greatest_days (b ∷ text) days number) refl
+
+days-by :
+    (b : ℕ) (text : List ℕ) (days : Option ℕ) (minus : Bool) (number : Option ℕ)
+    → bytes_eq (b ∷ text) (codes "-1") ≡ minus
+    → number_within greatest_days (b ∷ text) ≡ number
+    → (if minus then Some None else option_map Some number) ≡ Some days
+    → IsDays (b ∷ text) days
+days-by b text days true number is_minus is_number found =
+    subst (λ d. IsDays (b ∷ text) d) (some-inj found)
+    (inr ((bytes_eq-Decides (b ∷ text) (codes "-1")).0 is_minus))
+days-by b text days false None is_minus is_number found = cc
+days-by b text days false (Some n) is_minus is_number found =
+    subst (λ d. IsDays (b ∷ text) d) (some-inj found)
+    (number-is greatest_days (b ∷ text) n is_number)
+
+days-is : (text : List ℕ) (days : Option ℕ) → read_days text ≡ Some days → IsDays text days
+days-is [] days found = subst (λ d. IsDays [] d) (some-inj found) (inl refl)
+days-is (b ∷ text) days found =
+    days-by b text days (bytes_eq (b ∷ text) (codes "-1"))
+    (number_within greatest_days (b ∷ text)) refl refl found
+
+shadow-fields : (name hash last_change minimum maximum warning inactive expiration rest : List ℕ)
+    (a b c d e f : Option ℕ) → 0 < length name → IsDays last_change a → IsDays minimum b
+    → IsDays maximum c → IsDays warning d → IsDays inactive e → IsDays expiration f
+    → shadow_of_fields (name ∷ hash ∷ last_change ∷ minimum ∷ maximum ∷ warning ∷ inactive
+    ∷ expiration ∷ rest ∷ []) ≡ Some (record {
+      name = name;
+      hash = hash;
+      last_change = a;
+      minimum = b;
+      maximum = c;
+      warning = d;
+      inactive = e;
+      expiration = f;
+      rest = rest;
+    })
+shadow-fields name hash last_change minimum maximum warning inactive expiration rest a b c d e f
+    named is_a is_b is_c is_d is_e is_f =
+    rw (
+      days-found last_change a is_a,
+      days-found minimum b is_b,
+      days-found maximum c is_c,
+      days-found warning d is_d,
+      days-found inactive e is_e,
+      days-found expiration f is_f,
+      empty-no name named,
+    ) refl
+
+pub shadow-found :
+    (text : List ℕ) (r : ShadowRecord)
+    → ReadsShadow text r
+    → shadow_format.read text ≡ Some r
+shadow-found text r reads =
+    ap shadow_of_fields (cut_at-only colon text
+    (r.name ∷ r.hash ∷ reads.last_change ∷ reads.minimum ∷ reads.maximum ∷ reads.warning
+    ∷ reads.inactive ∷ reads.expiration ∷ r.rest ∷ []) reads.cut)
+    ∙ shadow-fields r.name r.hash reads.last_change reads.minimum reads.maximum reads.warning
+    reads.inactive reads.expiration r.rest r.last_change r.minimum r.maximum r.warning
+    r.inactive r.expiration reads.named reads.last_change_reads reads.minimum_reads
+    reads.maximum_reads reads.warning_reads reads.inactive_reads reads.expiration_reads
+
+shadow-by :
+    (text name hash last_change minimum maximum warning inactive expiration rest : List ℕ)
+    (r : ShadowRecord) (oa ob oc od oe of : Option (Option ℕ)) (empty : Bool)
+    → AreCutAt colon text (name ∷ hash ∷ last_change ∷ minimum ∷ maximum ∷ warning ∷ inactive
+    ∷ expiration ∷ rest ∷ [])
+    → read_days last_change ≡ oa
+    → read_days minimum ≡ ob
+    → read_days maximum ≡ oc
+    → read_days warning ≡ od
+    → read_days inactive ≡ oe
+    → read_days expiration ≡ of
+    → is_empty name ≡ empty
+    → shadow_with name hash oa ob oc od oe of rest ≡ Some r
+    → ReadsShadow text r
+shadow-by text name hash last_change minimum maximum warning inactive expiration rest r None ob oc
+    od oe of empty cut is_a is_b is_c is_d is_e is_f none found = cc
+shadow-by text name hash last_change minimum maximum warning inactive expiration rest r (Some a)
+    None oc od oe of empty cut is_a is_b is_c is_d is_e is_f none found = cc
+shadow-by text name hash last_change minimum maximum warning inactive expiration rest r (Some a)
+    (Some b) None od oe of empty cut is_a is_b is_c is_d is_e is_f none found = cc
+shadow-by text name hash last_change minimum maximum warning inactive expiration rest r (Some a)
+    (Some b) (Some c) None oe of empty cut is_a is_b is_c is_d is_e is_f none found = cc
+shadow-by text name hash last_change minimum maximum warning inactive expiration rest r (Some a)
+    (Some b) (Some c) (Some d) None of empty cut is_a is_b is_c is_d is_e is_f none found = cc
+shadow-by text name hash last_change minimum maximum warning inactive expiration rest r (Some a)
+    (Some b) (Some c) (Some d) (Some e) None empty cut is_a is_b is_c is_d is_e is_f none found = cc
+shadow-by text name hash last_change minimum maximum warning inactive expiration rest r (Some a)
+    (Some b) (Some c) (Some d) (Some e) (Some f) true cut is_a is_b is_c is_d is_e is_f none found =
+    let wrong = rw none at found in cc
+shadow-by text name hash last_change minimum maximum warning inactive expiration rest r (Some a)
+    (Some b) (Some c) (Some d) (Some e) (Some f) false cut is_a is_b is_c is_d
+    is_e is_f none found =
+    let reads : ReadsShadow text (record {
+      name = name;
+      hash = hash;
+      last_change = a;
+      minimum = b;
+      maximum = c;
+      warning = d;
+      inactive = e;
+      expiration = f;
+      rest = rest;
+    }) = record {
+      last_change = last_change;
+      minimum = minimum;
+      maximum = maximum;
+      warning = warning;
+      inactive = inactive;
+      expiration = expiration;
+      cut = cut;
+      named = empty-some name none;
+      last_change_reads = days-is last_change a is_a;
+      minimum_reads = days-is minimum b is_b;
+      maximum_reads = days-is maximum c is_c;
+      warning_reads = days-is warning d is_d;
+      inactive_reads = days-is inactive e is_e;
+      expiration_reads = days-is expiration f is_f;
+    }
+    in subst (λ s. ReadsShadow text s) (some-inj (rw none at found)) reads
+
+shadow-of :
+    (text : List ℕ) (pieces : List (List ℕ)) (r : ShadowRecord)
+    → AreCutAt colon text pieces
+    → shadow_of_fields pieces ≡ Some r
+    → ReadsShadow text r
+shadow-of text (name ∷ hash ∷ last_change ∷ minimum ∷ maximum ∷ warning ∷ inactive ∷ expiration
+    ∷ rest ∷ []) r cut found =
+    shadow-by text name hash last_change minimum maximum warning inactive expiration rest r
+    (read_days last_change) (read_days minimum) (read_days maximum) (read_days warning)
+    (read_days inactive) (read_days expiration) (is_empty name) cut refl refl refl refl
+    refl refl refl found
+shadow-of text pieces r cut found = cc
+
+pub shadow-is :
+    (text : List ℕ) (r : ShadowRecord)
+    → shadow_format.read text ≡ Some r
+    → ReadsShadow text r
+shadow-is text r found = shadow-of text (cut_at colon text) r (cut_at-is colon text) found
+
+-- ---- subuid and subgid
+
+subid-fields : (owner first count : List ℕ) (f n : ℕ) → 0 < length owner
+    → IsNumber greatest_id first f → IsNumber (greatest_id + 1) count n
+    → 0 < n → f + n - 1 ≤ greatest_id → subid_of_fields (owner ∷ first ∷ count ∷ [])
+    ≡ Some (record { owner = owner; first = f; count = n })
+subid-fields owner first count f n named is_first is_count some last =
+    rw (
+      number-found greatest_id first f is_first,
+      number-found (greatest_id + 1) count n is_count,
+      empty-no owner named,
+      ne_eqb n 0 (λ e. lt_irrefl 0 (rw e at some)),
+      le-leb (f + n - 1) greatest_id last,
+    ) refl
+
+pub subid-found :
+    (text : List ℕ) (r : SubidRecord)
+    → ReadsSubid text r
+    → subid_format.read text ≡ Some r
+subid-found text r reads =
+    ap subid_of_fields (cut_at-only colon text (r.owner ∷ reads.first ∷ reads.count ∷ []) reads.cut)
+    ∙ subid-fields r.owner reads.first reads.count r.first r.count reads.named reads.first_reads
+    reads.count_reads reads.some reads.last
+
+some-number : (n : ℕ) → (n == 0) ≡ false → 0 < n
+some-number zero e = cc
+some-number (suc n) e = omega arith
+
+subid-tests : (text owner first count : List ℕ) (r : SubidRecord) (f n : ℕ)
+    (empty none small : Bool) → AreCutAt colon text (owner ∷ first ∷ count ∷ [])
+    → read_id first ≡ Some f → number_within (greatest_id + 1) count ≡ Some n → is_empty owner
+    ≡ empty → (n == 0) ≡ none → nat_le (f + n - 1) greatest_id ≡ small
+    → (if empty || (none || not small) then None
+    else Some (record { owner = owner; first = f; count = n })) ≡ Some r → ReadsSubid text r
+subid-tests text owner first count r f n true none small cut is_first is_count unnamed
+    at_zero within found = cc
+subid-tests text owner first count r f n false true small cut is_first is_count unnamed
+    at_zero within found = cc
+subid-tests text owner first count r f n false false false cut is_first is_count unnamed
+    at_zero within found = cc
+subid-tests text owner first count r f n false false true cut is_first is_count unnamed
+    at_zero within found =
+    let reads : ReadsSubid text (record { owner = owner; first = f; count = n }) = record {
+      first = first;
+      count = count;
+      cut = cut;
+      named = empty-some owner unnamed;
+      first_reads = number-is greatest_id first f is_first;
+      count_reads = number-is (greatest_id + 1) count n is_count;
+      some = some-number n at_zero;
+      last = leb-true (f + n - 1) greatest_id within;
+    }
+    in subst (λ s. ReadsSubid text s) (some-inj found) reads
+
+subid-by :
+    (text owner first count : List ℕ) (r : SubidRecord) (f n : Option ℕ)
+    → AreCutAt colon text (owner ∷ first ∷ count ∷ [])
+    → read_id first ≡ f
+    → number_within (greatest_id + 1) count ≡ n
+    → subid_with owner f n ≡ Some r
+    → ReadsSubid text r
+subid-by text owner first count r None n cut is_first is_count found = cc
+subid-by text owner first count r (Some f) None cut is_first is_count found = cc
+subid-by text owner first count r (Some f) (Some n) cut is_first is_count found =
+    subid-tests text owner first count r f n (is_empty owner) (n == 0)
+    (nat_le (f + n - 1) greatest_id) cut is_first is_count refl refl refl found
+
+subid-of :
+    (text : List ℕ) (pieces : List (List ℕ)) (r : SubidRecord)
+    → AreCutAt colon text pieces
+    → subid_of_fields pieces ≡ Some r
+    → ReadsSubid text r
+subid-of text (owner ∷ first ∷ count ∷ []) r cut found =
+    subid-by text owner first count r (read_id first)
+    (number_within (greatest_id + 1) count) cut refl refl found
+subid-of text pieces r cut found = cc
+
+pub subid-is :
+    (text : List ℕ) (r : SubidRecord)
+    → subid_format.read text ≡ Some r
+    → ReadsSubid text r
+subid-is text r found = subid-of text (cut_at colon text) r (cut_at-is colon text) found

@@ -1,0 +1,15 @@
+pub mod Text
+pub mod Format
+pub mod Edits
+pub mod Records
+pub mod Names
+pub mod Tables
+pub mod Reads
+pub mod Written
+pub mod Laws
+pub mod RecordEdits
+pub mod Faults
+pub mod WrittenScript
+pub mod TouchedLines
+pub mod LineFormat
+pub mod Naming

@@ -1,0 +1,297 @@
+-- Claim: words ask for a request exactly where that request is read of them (`asks_iff_read`), and
+-- every list of words asks for one request or has one fault (`one_request`, `request_or_fault`).
+-- Way: each condition of `Asks` is one step of `request_of`. What is asked for passes each step
+-- (`asked_is_read`). What is read has passed each: the limits, the tool, the spelling, the prefix,
+-- the operands and the rules, in this order (`read_is_asked`).
+use Rattle.std.proofs.Common.{◌≡◌, ◌≢◌, ◌↔◌, ◌⊎◌, ℕ, ◌≤◌, ◌<◌, true, false, Bool, cond, List, [], ◌∷◌, length, find, Option, Some, None, Result, Ok, Err, refl, ap, sym, subst, ◌∙◌, arith, inl, inr}
+use Rattle.std.specs.Prelude.{nat_lt, bytes_eq}
+use Rattle.std.proofs.lemmas.Bool.{cases_Bool, ltb-false, false_from_ne_true, ltb-true}
+use Rattle.std.proofs.lemmas.Slice.Eq.{bytes_eq-Decides}
+use Rattle.account_words.specs.declared.tool.Tool.{Tool}
+use Rattle.account_words.specs.declared.tool.Tool.TheVariants.{Useradd, Usermod, Userdel, Groupadd, Groupmod, Groupdel, Gpasswd, Chage, Chpasswd, Pwck, Grpck, Getsubids}
+use Rattle.account_words.specs.declared.word_fault.WordFault.{WordFault}
+use Rattle.account_words.specs.declared.word_fault.WordFault.TheVariants.{TooFew}
+use Rattle.account_words.specs.declared.given.Given.{Given}
+use Rattle.account_words.specs.Request.{Request, last_value}
+use Rattle.account_words.specs.Words.{tool_name, tools, tool_named, past_limit, without_prefix, broken_rule, Asks, request_by_rules, request_with, request_of_arguments, request_of_tool, request_within_limits, request_by_limit, request_of, fault}
+use Rattle.account_words.specs.Options.{Word, prefix_letter, option_forms, operands_of}
+use Rattle.account_words.specs.Spelling.{Spelled, Arguments, read_arguments}
+use Rattle.account_words.proofs.SpelledIsRead.{IsTable, spelled_is_read}
+use Rattle.account_words.proofs.ReadIsSpelled.{IsReading, read_is_spelled}
+
+-- ---- The tools and their tables
+
+-- no tool has an option `-` or an option with an empty long name
+pub is_table : (tool : Tool) → IsTable (option_forms tool)
+is_table Useradd = record { letters = refl; names = refl }
+is_table Usermod = record { letters = refl; names = refl }
+is_table Userdel = record { letters = refl; names = refl }
+is_table Groupadd = record { letters = refl; names = refl }
+is_table Groupmod = record { letters = refl; names = refl }
+is_table Groupdel = record { letters = refl; names = refl }
+is_table Gpasswd = record { letters = refl; names = refl }
+is_table Chage = record { letters = refl; names = refl }
+is_table Chpasswd = record { letters = refl; names = refl }
+is_table Pwck = record { letters = refl; names = refl }
+is_table Grpck = record { letters = refl; names = refl }
+is_table Getsubids = record { letters = refl; names = refl }
+
+-- a tool's name names it
+pub tool_of_its_name : (tool : Tool) → tool_named (tool_name tool) ≡ Some tool
+tool_of_its_name Useradd = refl
+tool_of_its_name Usermod = refl
+tool_of_its_name Userdel = refl
+tool_of_its_name Groupadd = refl
+tool_of_its_name Groupmod = refl
+tool_of_its_name Groupdel = refl
+tool_of_its_name Gpasswd = refl
+tool_of_its_name Chage = refl
+tool_of_its_name Chpasswd = refl
+tool_of_its_name Pwck = refl
+tool_of_its_name Grpck = refl
+tool_of_its_name Getsubids = refl
+
+-- what is found passes the test
+pub found_passes :
+    {X : Type 0} (test : X → Bool) (xs : List X) (x : X)
+    → find test xs ≡ Some x
+    → test x ≡ true
+found_passes test [] x found = cc
+found_passes test (y ∷ ys) x found = elim (cases_Bool (test y)) [
+  | inl passes ↦
+      let same : Some y ≡ Some x = rw passes at found in
+      let e : y ≡ x = cc in sym (ap test e) ∙ passes
+  | inr fails ↦
+      let later : find test ys ≡ Some x = rw fails at found in found_passes test ys x later
+]
+
+-- a word that names a tool is its name
+pub name_of_its_tool :
+    (name : Word) (tool : Tool) → tool_named name ≡ Some tool → name ≡ tool_name tool
+name_of_its_tool name tool found =
+    let same = found_passes (λ tool. bytes_eq (tool_name tool) name) tools tool found in
+    sym ((bytes_eq-Decides (tool_name tool) name).0 same)
+
+-- ---- What is asked for is read
+
+-- the request of a prefix, as many operands as the tool takes, and options that break no rule
+pub asked_with :
+    (tool : Tool) (options : List Given) (operands : List Word) (prefix : Word)
+    → prefix ≢ []
+    → length operands ≡ operands_of tool
+    → broken_rule tool options ≡ None
+    → request_with tool options operands (Some prefix)
+    ≡ Ok (record { tool = tool; prefix = prefix; options = options; operands = operands })
+asked_with tool options operands [] stands many rules = absurd (stands refl)
+asked_with tool options operands (c ∷ prefix) stands many rules =
+    let request : Request =
+    record { tool = tool; prefix = c ∷ prefix; options = options; operands = operands } in
+    let few = nat_lt (length operands) (operands_of tool) in
+    let enough : few ≡ false = false_from_ne_true few
+    (λ less.
+    let below : length operands < operands_of tool =
+    ltb-true (length operands) (operands_of tool) less in omega arith) in
+    ap (λ b. cond b (Err TooFew) (request_by_rules (broken_rule tool options) request)) enough
+    ∙ ap (λ broken. request_by_rules broken request) rules
+
+-- each step of the reading is passed
+pub asked_is_read :
+    (words : List Word) (request : Request) → Asks words request → request_of words ≡ Ok request
+asked_is_read words request asks =
+    let tool = request.tool in
+    let operands = request.operands in
+    let fits : length operands ≤ operands_of tool = omega (arith, asks.operands) in
+    let read = spelled_is_read asks.spelled (is_table tool) (operands_of tool) 1 fits in
+    ap (λ limit. request_by_limit limit words) asks.limits
+    ∙ ap request_within_limits asks.tool
+    ∙ ap (λ named. request_of_tool named asks.arguments) (tool_of_its_name tool)
+    ∙ ap (request_of_arguments tool) read
+    ∙ ap (request_with tool (without_prefix asks.given) operands) asks.prefix
+    ∙ ap (λ options. request_with tool options operands (Some request.prefix)) (sym asks.options)
+    ∙ asked_with tool request.options operands request.prefix asks.prefix_stands asks.operands
+    asks.rules
+
+-- ---- What is read is asked for
+
+-- what is spelled behind the name of a tool, within the limits
+pub record IsSpelt (words : List Word) (tool : Tool) (given : List Given) (operands : List Word) :
+    Type 0 where
+  pub limits : past_limit words ≡ None
+  pub arguments : List Word
+  pub named : words ≡ tool_name tool ∷ arguments
+  pub spelled : Spelled (option_forms tool) arguments given operands
+
+-- with a prefix and the operands, what is read is asked for where no rule is broken
+pub rules_are_kept :
+    (words : List Word) (tool : Tool) (given : List Given) (operands : List Word)
+    (c : ℕ) (prefix : Word) (request : Request)
+    → IsSpelt words tool given operands
+    → length operands ≡ operands_of tool
+    → last_value prefix_letter given ≡ Some (c ∷ prefix)
+    → (broken : Option ℕ)
+    → broken_rule tool (without_prefix given) ≡ broken
+    → request_by_rules broken (record {
+      tool = tool;
+      prefix = c ∷ prefix;
+      options = without_prefix given;
+      operands = operands;
+    })
+    ≡ Ok request
+    → Asks words request
+rules_are_kept words tool given operands c prefix request is many last (Some number) rules read =
+    absurd (cc)
+rules_are_kept words tool given operands c prefix request is many last None rules read =
+    let same : record {
+      tool = tool;
+      prefix = c ∷ prefix;
+      options = without_prefix given;
+      operands = operands;
+    }
+    ≡ request = cc in
+    subst (Asks words) same (record {
+      limits = is.limits;
+      arguments = is.arguments;
+      tool = is.named;
+      given = given;
+      spelled = is.spelled;
+      prefix = last;
+      prefix_stands = λ empty. cc;
+      operands = many;
+      options = refl;
+      rules = rules;
+    })
+
+-- with at most the operands that the tool takes, what is read is asked for
+pub prefix_is_kept :
+    (words : List Word) (tool : Tool) (given : List Given) (operands : List Word)
+    (request : Request)
+    → IsSpelt words tool given operands
+    → length operands ≤ operands_of tool
+    → (prefix : Option Word)
+    → last_value prefix_letter given ≡ prefix
+    → request_with tool (without_prefix given) operands prefix ≡ Ok request
+    → Asks words request
+prefix_is_kept words tool given operands request is fits None last read = absurd (cc)
+prefix_is_kept words tool given operands request is fits (Some []) last read = absurd (cc)
+prefix_is_kept words tool given operands request is fits (Some (c ∷ prefix)) last read =
+    elim (cases_Bool (nat_lt (length operands) (operands_of tool))) [
+      | inl less ↦ absurd (few_operands less)
+      | inr enough ↦
+          rules_are_kept words tool given operands c prefix request is (many enough) last
+          (broken_rule tool (without_prefix given)) refl (rw enough at read)
+    ]
+  where
+    few_operands : nat_lt (length operands) (operands_of tool) ≡ true → ⊥
+    few_operands less = let wrong : Err TooFew ≡ Ok request = rw less at read in cc
+
+    many : nat_lt (length operands) (operands_of tool) ≡ false → length operands ≡ operands_of tool
+    many enough =
+        let above : operands_of tool ≤ length operands =
+        ltb-false (length operands) (operands_of tool) enough in omega arith
+
+-- what the words behind the name give
+pub arguments_are_kept :
+    (words arguments : List Word) (tool : Tool) (request : Request)
+    → past_limit words ≡ None
+    → words ≡ tool_name tool ∷ arguments
+    → (read : Result Arguments WordFault)
+    → IsReading (option_forms tool) arguments (operands_of tool) read
+    → request_of_arguments tool read ≡ Ok request
+    → Asks words request
+arguments_are_kept words arguments tool request limits named (Ok found) reads read =
+    prefix_is_kept words tool found.0 found.1 request
+    (record { limits = limits; arguments = arguments; named = named; spelled = reads.0 })
+    reads.1 (last_value prefix_letter found.0) refl read
+arguments_are_kept words arguments tool request limits named (Err fault) reads read = absurd (cc)
+
+-- what word 0 names
+pub tool_is_kept :
+    (name : Word) (arguments : List Word) (request : Request)
+    → past_limit (name ∷ arguments) ≡ None
+    → (tool : Option Tool)
+    → tool_named name ≡ tool
+    → request_of_tool tool arguments ≡ Ok request
+    → Asks (name ∷ arguments) request
+tool_is_kept name arguments request limits None found read = absurd (cc)
+tool_is_kept name arguments request limits (Some tool) found read =
+    let named = ap (λ word. word ∷ arguments) (name_of_its_tool name tool found) in
+    arguments_are_kept (name ∷ arguments) arguments tool request limits named
+    (read_arguments (option_forms tool) None (operands_of tool) 1 arguments)
+    (read_is_spelled (option_forms tool) (is_table tool) arguments (operands_of tool) 1) read
+
+-- words within the limits
+pub words_are_kept :
+    (words : List Word) (request : Request)
+    → past_limit words ≡ None
+    → request_within_limits words ≡ Ok request
+    → Asks words request
+words_are_kept [] request limits read = absurd (cc)
+words_are_kept (name ∷ arguments) request limits read =
+    tool_is_kept name arguments request limits (tool_named name) refl read
+
+-- words by the first that passes a limit
+pub limits_are_kept :
+    (words : List Word) (request : Request) (limit : Option ℕ)
+    → past_limit words ≡ limit
+    → request_by_limit limit words ≡ Ok request
+    → Asks words request
+limits_are_kept words request (Some place) limits read = absurd (cc)
+limits_are_kept words request None limits read = words_are_kept words request limits read
+
+-- each step that is passed is a condition
+pub read_is_asked :
+    (words : List Word) (request : Request) → request_of words ≡ Ok request → Asks words request
+read_is_asked words request read = limits_are_kept words request (past_limit words) refl read
+
+-- ---- One request or one fault
+
+-- the words ask for a request exactly where it is read of them
+pub asks_iff_read :
+    (words : List Word) (request : Request) → Asks words request ↔ (request_of words ≡ Ok request)
+asks_iff_read words request = (asked_is_read words request, read_is_asked words request)
+
+-- words ask for at most one request
+pub one_request :
+    (words : List Word) (first second : Request)
+    → Asks words first
+    → Asks words second
+    → first ≡ second
+one_request words first second asks_first asks_second =
+    let read_first : request_of words ≡ Ok first = asked_is_read words first asks_first in
+    let read_second : request_of words ≡ Ok second = asked_is_read words second asks_second in cc
+
+-- the fault of what was read
+abbrev pub fault_of : Result Request WordFault → Option WordFault
+fault_of (Ok request) = None
+fault_of (Err first) = Some first
+
+-- the fault of words is that of their reading
+pub fault_is :
+    (words : List Word) (read : Result Request WordFault)
+    → request_of words ≡ read
+    → fault words ≡ fault_of read
+fault_is words (Ok request) same =
+    ap (λ read. elim read [ Ok request ↦ None | Err found ↦ Some found ]) same
+fault_is words (Err first) same =
+    ap (λ read. elim read [ Ok request ↦ None | Err found ↦ Some found ]) same
+
+-- words that ask for a request have no fault
+pub asks_no_fault :
+    (words : List Word) (request : Request) → Asks words request → fault words ≡ None
+asks_no_fault words request asks = fault_is words (Ok request) (asked_is_read words request asks)
+
+-- what was read is a request or a fault
+pub request_or_fault_of :
+    (words : List Word) (read : Result Request WordFault)
+    → request_of words ≡ read
+    → ((request : Request) × Asks words request)
+    ⊎ ((first : WordFault) × (fault words ≡ Some first))
+request_or_fault_of words (Ok request) same = inl (request, read_is_asked words request same)
+request_or_fault_of words (Err first) same = inr (first, fault_is words (Err first) same)
+
+-- every list of words asks for a request or has a fault
+pub request_or_fault :
+    (words : List Word)
+    → ((request : Request) × Asks words request)
+    ⊎ ((first : WordFault) × (fault words ≡ Some first))
+request_or_fault words = request_or_fault_of words (request_of words) refl

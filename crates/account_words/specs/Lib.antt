@@ -1,0 +1,11 @@
+pub mod SubidOwner
+pub mod Dates
+pub mod Options
+pub mod Spelling
+pub mod Words
+pub mod Values
+pub mod Settings
+pub mod Ids
+pub mod FreeRange
+pub mod Request
+pub mod Laws

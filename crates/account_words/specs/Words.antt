@@ -1,0 +1,125 @@
+-- What the words of a command ask for, and the first thing that is wrong with them: the words are
+-- read as getopt_long(3) does, and then by the rules of the tool's manual page.
+use Rattle.std.specs.Prelude.{◌≡◌, ◌≢◌, ℕ, ◌+◌, not, ◌||◌, ◌==◌, nat_le, nat_lt, if◌then◌else◌, Bool, List, [], ◌∷◌, length, filter, find, position, Option, Some, None, option_map, Result, Ok, Err, bytes_eq, codes}
+use Rattle.std.specs.List.{enumerate_from}
+use Rattle.account_words.specs.declared.tool.Tool.{Tool}
+use Rattle.account_words.specs.declared.tool.Tool.TheVariants.{Useradd, Usermod, Userdel, Groupadd, Groupmod, Groupdel, Gpasswd, Chage, Chpasswd, Pwck, Grpck, Getsubids}
+use Rattle.account_words.specs.declared.word_fault.WordFault.{WordFault}
+use Rattle.account_words.specs.declared.word_fault.WordFault.TheVariants.{WordLimit, NoTool, UnknownTool, NoPrefix, TooFew, Clash}
+use Rattle.account_words.specs.Options.{Word, prefix_letter, option_forms, operands_of, Rule, rules_of}
+use Rattle.account_words.specs.declared.given.Given.{Given}
+use Rattle.account_words.specs.Request.{Request, last_value}
+use Rattle.account_words.specs.Spelling.{Spelled, Arguments, read_arguments}
+
+-- the word that names the tool
+abbrev pub tool_name : Tool → List ℕ
+tool_name Useradd = codes "useradd"
+tool_name Usermod = codes "usermod"
+tool_name Userdel = codes "userdel"
+tool_name Groupadd = codes "groupadd"
+tool_name Groupmod = codes "groupmod"
+tool_name Groupdel = codes "groupdel"
+tool_name Gpasswd = codes "gpasswd"
+tool_name Chage = codes "chage"
+tool_name Chpasswd = codes "chpasswd"
+tool_name Pwck = codes "pwck"
+tool_name Grpck = codes "grpck"
+tool_name Getsubids = codes "getsubids"
+
+-- the tools, in the order of the enum
+abbrev pub tools : List Tool
+tools = Useradd ∷ Usermod ∷ Userdel ∷ Groupadd ∷ Groupmod ∷ Groupdel ∷ Gpasswd
+    ∷ Chage ∷ Chpasswd ∷ Pwck ∷ Grpck ∷ Getsubids ∷ []
+
+-- the tool that a word names
+abbrev pub tool_named : Word → Option Tool
+tool_named name = find (λ tool. bytes_eq (tool_name tool) name) tools
+
+-- how many words a command has at most, the tool's name among them; the limits are this profile's
+abbrev pub most_words : ℕ
+most_words = 512
+
+-- how many bytes a word has at most
+abbrev pub longest_word : ℕ
+longest_word = 4096
+
+-- whether the word at a place, from 0, passes a limit
+abbrev pub passes_limit : ℕ × Word → Bool
+passes_limit placed = nat_le most_words placed.0 || nat_lt longest_word (length placed.1)
+
+-- the place of the first word that passes a limit
+abbrev pub past_limit : List Word → Option ℕ
+past_limit words = position passes_limit (enumerate_from 0 words)
+
+-- the options of a request: all that were given but `-P`
+abbrev pub without_prefix : List Given → List Given
+without_prefix options = filter (λ option. not (option.letter == prefix_letter)) options
+
+-- the first rule of the tool that is broken, counted from 1
+abbrev pub broken_rule : Tool → List Given → Option ℕ
+broken_rule tool options =
+    option_map (λ place. place + 1) (position (λ rule. not (rule options)) (rules_of tool))
+
+-- the words ask for this request
+pub record Asks (words : List Word) (request : Request) : Type 0 where
+  -- they keep the limits
+  pub limits : past_limit words ≡ None
+  -- word 0 names the tool, and the others spell its options and operands
+  pub arguments : List Word
+  pub tool : words ≡ tool_name request.tool ∷ arguments
+  pub given : List Given
+  pub spelled : Spelled (option_forms request.tool) arguments given request.operands
+  -- `-P` is given, and its last value isn't empty
+  pub prefix : last_value prefix_letter given ≡ Some request.prefix
+  pub prefix_stands : request.prefix ≢ []
+  -- there are as many operands as the tool takes
+  pub operands : length request.operands ≡ operands_of request.tool
+  -- no rule is broken
+  pub options : request.options ≡ without_prefix given
+  pub rules : broken_rule request.tool request.options ≡ None
+
+-- computed
+
+-- a request, by the first of its rules that is broken
+abbrev pub request_by_rules : Option ℕ → Request → Result Request WordFault
+request_by_rules (Some number) request = Err (Clash number)
+request_by_rules None request = Ok request
+
+-- a request of a tool from its options but `-P`, its operands and the last value of `-P`
+abbrev pub request_with : Tool → List Given → List Word → Option Word → Result Request WordFault
+request_with tool options operands None = Err NoPrefix
+request_with tool options operands (Some []) = Err NoPrefix
+request_with tool options operands (Some (c ∷ prefix)) =
+    if nat_lt (length operands) (operands_of tool) then Err TooFew else
+    request_by_rules (broken_rule tool options)
+    (record { tool = tool; prefix = c ∷ prefix; options = options; operands = operands })
+
+-- a request of a tool from what is read behind its name
+abbrev pub request_of_arguments : Tool → Result Arguments WordFault → Result Request WordFault
+request_of_arguments tool (Ok (given, operands)) =
+    request_with tool (without_prefix given) operands (last_value prefix_letter given)
+request_of_arguments tool (Err fault) = Err fault
+
+-- a request by the tool that word 0 names, and the words behind it
+abbrev pub request_of_tool : Option Tool → List Word → Result Request WordFault
+request_of_tool None words = Err UnknownTool
+request_of_tool (Some tool) words =
+    request_of_arguments tool (read_arguments (option_forms tool) None (operands_of tool) 1 words)
+
+-- a request of words that keep the limits
+abbrev pub request_within_limits : List Word → Result Request WordFault
+request_within_limits [] = Err NoTool
+request_within_limits (name ∷ words) = request_of_tool (tool_named name) words
+
+-- a request by the first word past a limit
+abbrev pub request_by_limit : Option ℕ → List Word → Result Request WordFault
+request_by_limit (Some place) words = Err (WordLimit place)
+request_by_limit None words = request_within_limits words
+
+-- the request that the words ask for, or the first fault
+abbrev pub request_of : List Word → Result Request WordFault
+request_of words = request_by_limit (past_limit words) words
+
+-- the first fault of the words, if there is one
+abbrev pub fault : List Word → Option WordFault
+fault words = elim (request_of words) [ Ok request ↦ None | Err found ↦ Some found ]
