@@ -16,8 +16,8 @@ edited_text-requires c =
     edits-up_to subid_becomes (IsWrittenEdit subid_format) c.args.edits.now c.first_cut-first.result
     c.requires
 
-pub edited_from_cut-2-requires : goal.edited_from_cut-2-requires
-edited_from_cut-2-requires c =
+pub edited_from_cut-requires-2 : goal.edited_from_cut-requires-2
+edited_from_cut-requires-2 c =
     let edits = c.args.edits.now in
     let first = c.first_cut-first.result in
     subst (λ left. AllByRecursion (IsWrittenEdit subid_format) (seen_edits subid_becomes left))
