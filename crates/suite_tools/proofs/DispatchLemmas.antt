@@ -1,10 +1,9 @@
 -- Claims: what a tool gives is that of some tool, on a day that shadow(5) holds (`is-of-tool`); what
 -- is decided by its script, by its report, or by itself, is the decision of the command (`by-script`,
--- `by-report`, `by-itself`). Way: the tool of the request is this one. The tools but userdel and chage print nothing beside
--- their edits (`is-silent`).
+-- `by-report`, `by-itself`). Way: the tool of the request is this one. The tools with a script, but
+-- for userdel and chage, print nothing beside their edits (`silent-useradd` and its like).
 use Rattle.std.proofs.Common.{◌≡◌, ◌≤◌, ℕ, List, inl, inr, refl, sym, subst, arith}
 use Rattle.std.specs.Prelude.{Result, IfOk}
-use Rattle.std.specs.declared.alloc.AllocError.{AllocError}
 use Rattle.std.proofs.lemmas.Bool.{cases_Bool}
 use Rattle.std.proofs.lemmas.Result.{IfOk-weaker}
 use Rattle.acct_text.specs.declared.files.Files.{Files}
@@ -40,23 +39,25 @@ module _ (asking : Asking) (day : ℕ) (files : Files) (defs : Defs) where
   -- a script that this tool gave is one of some tool
   pub is-of-tool :
       (tool : Tool) (script : Result Script ToolFault)
+      → asking.request.tool ≡ tool
       → day ≤ last_day
       → IsHeld defs
       → ActsAs tool script
       → IsOfTool script
-  is-of-tool tool script in_time held acts = record {
-    request = record asking.request { tool = tool };
+  is-of-tool tool script is in_time held acts = record {
+    request = asking.request;
     input = asking.input;
     day = day;
     files = files;
     settings = held.settings;
     in_time = omega arith;
-    acts = acts held.settings held.held;
+    acts = subst (λ (one : Tool). ActsBy (action_as one held.settings) script) (sym is)
+        (acts held.settings held.held);
   }
 
   -- what this tool decides by itself is the command's decision
   pub by-itself :
-      (tool : Tool) (result : Result Decision AllocError)
+      {E : Type 0} (tool : Tool) (result : Result Decision E)
       → asking.request.tool ≡ tool
       → IfOk result (λ decision. (settings : List Setting) → HasSettings defs settings
       → Decides tool files (outcome_of (action_as tool settings) files) decision)
@@ -68,7 +69,7 @@ module _ (asking : Asking) (day : ℕ) (files : Files) (defs : Defs) where
 
   -- so is what is decided by its script, where it prints nothing
   pub by-script :
-      (tool told : Tool) (script : Result Script ToolFault) (result : Result Decision AllocError)
+      {E : Type 0} (tool told : Tool) (script : Result Script ToolFault) (result : Result Decision E)
       → asking.request.tool ≡ tool
       → told ≡ tool
       → ActsAs tool script
@@ -85,7 +86,7 @@ module _ (asking : Asking) (day : ℕ) (files : Files) (defs : Defs) where
 
   -- so is what a tool decides that looks at these very files, and needs no settings
   pub by-report :
-      (tool : Tool) (act : Files → Action) (seen : Files) (result : Result Decision AllocError)
+      {E : Type 0} (tool : Tool) (act : Files → Action) (seen : Files) (result : Result Decision E)
       → asking.request.tool ≡ tool
       → ((settings : List Setting) → action_as tool settings ≡ act files)
       → seen ≡ files

@@ -17,6 +17,10 @@ pub record Asking : Type 0 where
   pub request : Request
   pub input : List ℕ
 
+-- what a command asks by this request, with this input
+abbrev pub asking_with : Request → List ℕ → Asking
+asking_with request input = record { request = request; input = input }
+
 -- the decision is that of the tool on this day, whichever settings the values are those of
 abbrev pub DecidesUnder : Defs → ℕ → Asking → Files → Decision → Type 0
 DecidesUnder defs day asking files decision =

@@ -8,7 +8,7 @@ ghost use Rattle.account_model.specs.Userdel.{userdel};
 ghost use Rattle.tool_answers.specs.Decisions.{Decides};
 ghost use Rattle.login_defs.specs.Held.{HasSettings, IsHeld};
 ghost use Rattle.table_edits.specs.Acting.{ActsBy, IsOfTool};
-ghost use Rattle.suite_tools.specs.Decided.{DecidesUnder, IsSilent};
+ghost use Rattle.suite_tools.specs.Decided.{DecidesUnder, IsSilent, asking_with};
 
 use crate::{Decision, ToolRequest};
 use account_words::Tool;
@@ -64,7 +64,7 @@ fn decide_on(
     requires held { IsHeld defs.now }
     requires in_time { day ≤ last_day }
     ensures { IfOk result
-        (DecidesUnder defs.now day (record { request = asked.now; input = input.now }) tables.now) }
+        (DecidesUnder defs.now day (asking_with asked.now input.now) tables.now) }
 {
     let tool = asked.tool();
     match tool {
