@@ -16,7 +16,6 @@ use command_values::Asked;
 use login_defs::Defs;
 use std::alloc::{AllocError, Global};
 use subid_ranges::Ranges;
-use table_lookups::Tables;
 
 /// The bounds of a new range, and its count.
 #[derive(Clone, Copy)]
