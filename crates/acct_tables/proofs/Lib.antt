@@ -6,7 +6,6 @@ pub mod LinesHere
 pub mod EndedLines
 pub mod OnlyPlace
 pub mod ListLines
-pub mod RenamedRecords
 pub mod RenamingLemmas
 pub mod OrderLemmas
 pub mod RefusalLemmas

@@ -9,3 +9,4 @@ pub mod EditedTexts
 pub mod SeenLines
 pub mod NameIndex
 pub mod TableNames
+pub mod RenamedRecords

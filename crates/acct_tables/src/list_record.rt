@@ -34,7 +34,7 @@ pub trait ListRecord: TableRecord {
 
 impl ListRecord for GroupRecord {
     ghost use Rattle.acct_tables.specs.Lists.{group_holds, group_renamed};
-    ghost use Rattle.acct_tables.proofs.RenamedRecords.{group-written};
+    ghost use Rattle.acct_tables.specs.RenamedRecords.{group-written};
 
     ghost holds = { group_holds };
 
@@ -58,7 +58,7 @@ impl ListRecord for GroupRecord {
 
 impl ListRecord for GshadowRecord {
     ghost use Rattle.acct_tables.specs.Lists.{gshadow_holds, gshadow_renamed};
-    ghost use Rattle.acct_tables.proofs.RenamedRecords.{gshadow-written};
+    ghost use Rattle.acct_tables.specs.RenamedRecords.{gshadow-written};
 
     ghost holds = { gshadow_holds };
 

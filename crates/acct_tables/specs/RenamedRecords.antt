@@ -1,5 +1,6 @@
 -- Claim: a record that a line can hold stays one where a name in its lists is renamed to one that
--- a list can hold (`group-written`, `gshadow-written`). Way: so does each of its lists.
+-- a list can hold (`group-written`, `gshadow-written`). Way: so does each of its lists. It stands among
+-- the definitions, as a trait of the crate cites it.
 use Rattle.std.specs.Prelude.{ℕ, List}
 use Rattle.account_formats.specs.declared.records.GroupRecord.{GroupRecord}
 use Rattle.account_formats.specs.declared.records.GshadowRecord.{GshadowRecord}
