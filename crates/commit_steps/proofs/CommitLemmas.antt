@@ -32,22 +32,27 @@ use Rattle.suite_rules.proofs.KeeperParts.{knows-next}
 use Rattle.suite_rules.proofs.StepLemmas.{Faulted, failed-leads, stands-memory}
 use Rattle.lock_steps.specs.Stands.{KnowsAnything}
 use Rattle.lock_steps.proofs.KeeperLemmas.{keeps-on}
-use Rattle.commit_steps.specs.States.{Change, Walker, changed, new_files, old_files, walk_of}
+use Rattle.commit_steps.specs.States.{Change, Stager, Walker, changed, intent_left, new_files, old_files, walk_of}
 use Rattle.commit_steps.specs.Stands.{HasStagedIntent, Installs, IsDeed, KnowsBackups, StandsUnsure}
+use Rattle.commit_steps.proofs.BackupLemmas.{intent-whole}
 
 -- the call
 abbrev pub commit_call : Call
 commit_call = renames IntentStage Intent
 
--- What the commit leads to.
-module _ (change : Change) where
+-- What the commit leads to, once the whole intent is staged.
+module _ (stager : Stager) (whole : intent_left stager ≡ 0) where
+  -- the change that is committed
+  abbrev change : Change
+  change = stager.change
+
   -- what the session knows before it
   abbrev Knew : Knowledge → Type 0
   Knew = KnowsBackups change (changed change)
 
   -- done, the intent is known, and no table is in place yet
   pub installs-after-commit : (answer : Unit {0}) (stood : Standing) →
-      HasStagedIntent change stood →
+      HasStagedIntent stager stood →
       Installs (walk_of change) (standing_step commit_call (done answer) stood)
   installs-after-commit answer stood held = record {
     carries = record {
@@ -58,7 +63,8 @@ module _ (change : Change) where
       placed = λ table. false;
       knows = knows-next commit_call (done answer) stood change.inputs.keeper.number
           held.keeps.locks.owns
-          ∙ ap (λ (staged : Option Bytes). commits_bytes staged stood.knows) held.staged;
+          ∙ ap (λ (staged : Option Bytes). commits_bytes staged stood.knows)
+          (intent-whole stager whole stood held);
       moved = [];
       lists = refl;
       in_place = All-nil (λ (new : NewTable). false ≡ true);
@@ -83,7 +89,7 @@ module _ (change : Change) where
 
   -- the rules permit it, where the new files are the deed
   pub may-commit : (deeds : SuiteDeeds) (stood : Standing) →
-      HasStagedIntent change stood × IsDeed deeds change stood → Permits deeds stood commit_call
+      HasStagedIntent stager stood × IsDeed deeds change stood → Permits deeds stood commit_call
   may-commit deeds stood (held, deed) =
       let inputs = held.keeps.knows.inputs in
       let keeper : KeeperRule stood =
@@ -102,14 +108,14 @@ module _ (change : Change) where
         };
         new = new_files change;
         is_deed = deed.is_deed;
-        staged = held.staged;
+        staged = intent-whole stager whole stood held;
         backed = all-backed inputs.seen.backed held.keeps.knows.backed
             (deeds.makes_changes deed.command (old_files change) change.inputs.defs
             (new_files change) deed.is_deed);
       })
 
   -- one that failed was called, whatever came of it
-  was-called : (effect : Effect) (stood : Standing) → HasStagedIntent change stood →
+  was-called : (effect : Effect) (stood : Standing) → HasStagedIntent stager stood →
       (standing_step commit_call (failed effect) stood).commit ≡ Unsure
   was-called effect stood held = ap calls_commit held.uncommitted
 
@@ -118,13 +124,13 @@ module _ (change : Change) where
       (before now : Moment) → Narrows before.admits now.admits → (token : Token)
       (answer : Result (Unit {0}) FolderFault)
       (result : Result Walker StageFault) → LeadsTo (walk_of change) at_commit answer result →
-      StandsIn before token (HasStagedIntent change) →
+      StandsIn before token (HasStagedIntent stager) →
       Tells before now token commit_call answer →
       IfErr result (StandsUnsure now.told token)
   commit-unsure before now narrows token (Err Failed) (Err came)
       shown stands tells =
       called now.told (failed-leads before.admits now.admits narrows token commit_call tt
-      (HasStagedIntent change) (λ stood. stood.commit ≡ Unsure) was-called
+      (HasStagedIntent stager) (λ stood. stood.commit ≡ Unsure) was-called
       before.told now.told stands tells)
     where
       called : (told : Option Past) →
@@ -136,9 +142,9 @@ module _ (change : Change) where
   commit-unsure before now narrows token (Err Memory) (Err came)
       shown stands tells =
       uncalled now.told (stands-memory before.admits now.admits narrows token commit_call tt
-      (HasStagedIntent change) before.told now.told stands tells)
+      (HasStagedIntent stager) before.told now.told stands tells)
     where
-      uncalled : (told : Option Past) → IfSome told (Stands now.admits token (HasStagedIntent change)) →
+      uncalled : (told : Option Past) → IfSome told (Stands now.admits token (HasStagedIntent stager)) →
           StandsUnsure told token came
       uncalled None stands = tt
       uncalled (Some past) stands = stands.holds.uncommitted

@@ -6,3 +6,4 @@ pub mod BackupLemmas
 pub mod CommitLemmas
 pub mod PreparedLemmas
 pub mod NextLemmas
+pub mod InstallNextLemmas

@@ -1,31 +1,30 @@
--- Claims: the call of a keeper on its way over the tables is that for the table at its place
--- (`backs-some`, `installs-some`), and with no step left it stages or removes the intent (`backs-none`,
--- `installs-none`). The program's call is that one, and the rules permit it (`next-file`, `next-intent`,
--- `next-backup`, `next-old`, `next-commit`, `next-removal`, `next-table`, `next-new`).
--- Way: the rules by the standing of the state (BackupLemmas, CommitLemmas, CarryLemmas of recovery).
-use Rattle.std.specs.Prelude.{⊤, IfOk, IsSome}
-use Rattle.std.proofs.Common.{◌≡◌, refl, sym, ap, subst, ◌∙◌, ℕ, ◌-◌, ◌*◌, ◌≤◌, Bool, true, false, if◌then◌else◌, length, Option, Some, None, Result, Ok, Err, arith}
+-- Claims: the call of a keeper that backs up is that for the table at its place: its next piece, where
+-- one is left (`backs-on`), and else the next step (`backs-some`); with no step left it stages the intent
+-- (`backs-none`), appends its further pieces (`commits-on`) and commits (`commits-whole`). The program's
+-- call is that one, and the rules permit it (`next-file`, `next-intent`, `next-further`, `next-more`,
+-- `next-backup`, `next-old`, `next-commit`).
+-- Way: the rules by the standing of the state (BackupLemmas, CommitLemmas).
+use Rattle.std.specs.Prelude.{⊤, IsSome, nat_lt}
+use Rattle.std.proofs.Common.{◌≡◌, refl, sym, ap, subst, ◌∙◌, ℕ, ◌-◌, ◌*◌, ◌<◌, ◌≤◌, Bool, true, false, if◌then◌else◌, length, Option, Some, None, arith}
 use Rattle.std.proofs.lemmas.Option.{slice_get_past}
 use Rattle.acct_text.specs.declared.Tab.{Tab}
 use Rattle.acct_text.specs.Bytes.{Bytes}
-use Rattle.acct_outside.specs.declared.Call.{Call as FolderCall}
-use Rattle.acct_outside.specs.declared.Call.TheVariants.{Read, Remove, Rename, Write}
+use Rattle.acct_outside.specs.declared.Call.TheVariants.{Append, Read, Rename, Write}
 use Rattle.acct_outside.specs.declared.Name.TheVariants.{Backup, BackupStage, Intent, IntentStage}
-use Rattle.acct_outside.specs.Calls.{Call, reads, removes, renames, writes}
+use Rattle.acct_outside.specs.Pieces.{piece_at}
+use Rattle.acct_outside.specs.Calls.{Call, appends, reads, renames, writes}
 use Rattle.acct_outside.specs.Contract.{IsName}
-use Rattle.acct_outside.specs.Events.{IsLaterCall, call_of}
 use Rattle.intent_file.specs.Intent.{NewTable, ReadsIntent, intent_text}
-use Rattle.suite_rules.specs.Outcomes.{installs, stages}
+use Rattle.suite_rules.specs.Outcomes.{pieces_left}
 use Rattle.suite_rules.specs.Rules.{free_read}
 use Rattle.lock_steps.specs.NextCall.{IsCallWhere, IsNextCall, next_or}
-use Rattle.recovery.proofs.CarryLemmas.{may-move, may-remove, may-stage}
-use Rattle.commit_steps.specs.NextCall.{MayCommit, backing_call, installing_call, next_table}
-use Rattle.commit_steps.specs.Outcomes.{backup_call, install_call}
-use Rattle.commit_steps.specs.Stands.{BacksUp, HasRead, Installs}
-use Rattle.commit_steps.specs.States.{Change, Reader, Walker, changed, intended, next_name, old_bytes, old_files, steps_left, tables_left}
-use Rattle.commit_steps.proofs.BackupLemmas.{backup-staged, backup-unstaged, may-move-backup, may-stage-backup, may-stage-intent}
+use Rattle.recovery.proofs.CarryLemmas.{some-staged}
+use Rattle.commit_steps.specs.NextCall.{MayCommit, backing_call, backs_up_table, committing_call}
+use Rattle.commit_steps.specs.Outcomes.{backs_up_more, backup_call}
+use Rattle.commit_steps.specs.Stands.{BacksUp, HasRead}
+use Rattle.commit_steps.specs.States.{Reader, Stager, Walker, backup_pieces, changed, has_staged, intended, intent_left, intent_piece, next_name, next_table, old_bytes, old_files, steps_left}
+use Rattle.commit_steps.proofs.BackupLemmas.{backup-staged, backup-unstaged, begun-backup, may-append-backup, may-append-intent, may-move-backup, may-stage-backup, may-stage-intent, old-pieces}
 use Rattle.commit_steps.proofs.CommitLemmas.{may-commit}
-use Rattle.commit_steps.proofs.InstallLemmas.{first-left, install-staged, install-unstaged, none-installs}
 
 -- where no step is left, the place is behind all tables
 behind : (tables place : ℕ) (staged : Bool) →
@@ -37,27 +36,47 @@ module _ (walker : Walker) where
   -- then there is no next table
   pub no-table : steps_left walker ≡ 0 → next_table walker ≡ None
   no-table none = slice_get_past (changed walker.change) walker.place
-      (behind (length (changed walker.change)) walker.place walker.is_staged none)
+      (behind (length (changed walker.change)) walker.place (has_staged walker) none)
 
   -- a keeper that backs up stages the intent
   pub backs-none : steps_left walker ≡ 0 →
-      backing_call walker ≡ writes IntentStage (intent_text (intended walker.change))
-  backs-none none = ap (next_or (writes IntentStage (intent_text (intended walker.change)))
-      (backup_call walker)) (no-table none)
-
-  -- one that installs removes it
-  pub installs-none : steps_left walker ≡ 0 → installing_call walker ≡ removes Intent
-  installs-none none = ap (next_or (removes Intent) (install_call walker)) (no-table none)
+      backing_call walker ≡ writes IntentStage (intent_piece 0 walker.change)
+  backs-none none = ap (next_or (writes IntentStage (intent_piece 0 walker.change))
+      (backs_up_table walker)) (no-table none)
 
   module _ (next : NewTable) (is_next : next_table walker ≡ Some next) where
-    -- with a table at the place it is that of its backup
-    pub backs-some : backing_call walker ≡ backup_call walker next
-    backs-some = ap (next_or (writes IntentStage (intent_text (intended walker.change)))
-        (backup_call walker)) is_next
+    -- with a piece left it is appended
+    pub backs-on : 0 < backup_pieces walker → backing_call walker ≡ backs_up_more walker next
+    backs-on some =
+        ap (next_or (writes IntentStage (intent_piece 0 walker.change)) (backs_up_table walker))
+        is_next
+        ∙ ap (λ (more : Bool). if more then backs_up_more walker next else backup_call walker next)
+        (some-staged (pieces_left walker.staged (old_bytes walker.change next.table))
+        (subst (λ (count : ℕ). 0 < count) (old-pieces walker next is_next) some))
 
-    -- or of its installation
-    pub installs-some : installing_call walker ≡ install_call walker next
-    installs-some = ap (next_or (removes Intent) (install_call walker)) is_next
+    -- with none left it is the next step of its backup
+    pub backs-some : backup_pieces walker ≡ 0 → backing_call walker ≡ backup_call walker next
+    backs-some whole =
+        ap (next_or (writes IntentStage (intent_piece 0 walker.change)) (backs_up_table walker))
+        is_next
+        ∙ ap (λ (count : ℕ).
+        if nat_lt 0 count then backs_up_more walker next else backup_call walker next)
+        (sym (old-pieces walker next is_next) ∙ whole)
+
+module _ (stager : Stager) where
+  -- a keeper with a piece of the intent left appends it
+  pub commits-on : 0 < intent_left stager →
+      committing_call stager ≡ appends IntentStage (intent_piece stager.staged stager.change)
+  commits-on some = ap (λ (more : Bool). if more
+      then appends IntentStage (intent_piece stager.staged stager.change)
+      else renames IntentStage Intent) (some-staged (intent_left stager) some)
+
+  -- with none left it commits
+  pub commits-whole : intent_left stager ≡ 0 →
+      committing_call stager ≡ renames IntentStage Intent
+  commits-whole whole = ap (λ (count : ℕ). if nat_lt 0 count
+      then appends IntentStage (intent_piece stager.staged stager.change)
+      else renames IntentStage Intent) whole
 
 -- ---- The program's calls
 
@@ -75,93 +94,80 @@ next-file reader = record {
   permitted = λ deeds stood held. free_read (next_name reader.next);
 }
 
--- the commit
-pub next-commit : (change : Change) →
-    IsCallWhere ⊤ (MayCommit change) (renames IntentStage Intent) (Rename IntentStage Intent)
-next-commit change = record {
-  names = refl;
-  later = λ has. (tt, tt);
-  permitted = λ deeds stood both. may-commit change deeds stood both;
-}
+module _ (stager : Stager) where
+  -- the commit
+  pub next-commit : intent_left stager ≡ 0 →
+      IsCallWhere ⊤ (MayCommit stager) (committing_call stager) (Rename IntentStage Intent)
+  next-commit whole = subst (λ (one : Call).
+      IsCallWhere ⊤ (MayCommit stager) one (Rename IntentStage Intent))
+      (sym (commits-whole stager whole)) (record {
+        names = refl;
+        later = λ has. (tt, tt);
+        permitted = λ deeds stood both. may-commit stager whole deeds stood both;
+      })
+
+  -- the append of the intent's next piece
+  pub next-further : 0 < intent_left stager → (piece : Bytes) →
+      piece ≡ intent_piece stager.staged stager.change →
+      IsCallWhere ⊤ (MayCommit stager) (committing_call stager) (Append IntentStage piece)
+  next-further some piece is = subst (λ (one : Call).
+      IsCallWhere ⊤ (MayCommit stager) one (Append IntentStage piece))
+      (sym (commits-on stager some)) (record {
+        names = ap (appends IntentStage) is;
+        later = λ has. tt;
+        permitted = λ deeds stood both. may-append-intent stager deeds stood both.0;
+      })
 
 module _ (walker : Walker) where
-  -- the write of the intent, once all tables are backed up
-  pub next-intent : steps_left walker ≡ 0 → (text : Bytes) →
-      text ≡ intent_text (intended walker.change) → ReadsIntent text (intended walker.change) →
-      IsNextCall (BacksUp walker) (backing_call walker) (Write IntentStage text)
-  next-intent none text is reads_it =
-      subst (λ (next : Call). IsNextCall (BacksUp walker) next (Write IntentStage text))
+  -- the write of the intent's first piece, once all tables are backed up
+  pub next-intent : steps_left walker ≡ 0 → (piece : Bytes) →
+      piece ≡ intent_piece 0 walker.change →
+      ReadsIntent (intent_text (intended walker.change)) (intended walker.change) →
+      IsNextCall (BacksUp walker) (backing_call walker) (Write IntentStage piece)
+  next-intent none piece is reads_it =
+      subst (λ (next : Call). IsNextCall (BacksUp walker) next (Write IntentStage piece))
       (sym (backs-none walker none)) (record {
         names = ap (writes IntentStage) is;
         later = λ has. tt;
-        permitted = λ deeds stood held. may-stage-intent walker
-            (subst (λ (one : Bytes). ReadsIntent one (intended walker.change)) is reads_it) deeds
-            stood held;
-      })
-
-  -- the removal of the intent, once all are in place
-  pub next-removal : steps_left walker ≡ 0 →
-      IsNextCall (Installs walker) (installing_call walker) (Remove Intent)
-  next-removal none =
-      subst (λ (next : Call). IsNextCall (Installs walker) next (Remove Intent))
-      (sym (installs-none walker none)) (record {
-        names = refl;
-        later = λ has. tt;
-        permitted = λ deeds stood held. may-remove (intended walker.change)
-            walker.change.inputs.keeper (tables_left walker) stood held.carries deeds
-            (none-installs walker stood held none);
+        permitted = λ deeds stood held. may-stage-intent walker reads_it deeds stood held;
       })
 
   module _ (next : NewTable) (is_next : next_table walker ≡ Some next) where
+    -- the append of the next piece of its old bytes
+    pub next-more : 0 < backup_pieces walker → (piece : Bytes) →
+        piece ≡ piece_at walker.staged (old_bytes walker.change next.table) →
+        IsNextCall (BacksUp walker) (backing_call walker) (Append BackupStage piece)
+    next-more some piece is = subst (λ (one : Call). IsNextCall (BacksUp walker) one
+        (Append BackupStage piece)) (sym (backs-on walker next is_next some)) (record {
+          names = ap (appends BackupStage) is;
+          later = λ has. tt;
+          permitted = λ deeds stood held. may-append-backup walker next is_next
+              (begun-backup walker next is_next some) deeds stood held;
+        })
+
     -- the move of the staged backup
-    pub next-backup : IsSome (old_files walker.change next.table) → walker.is_staged ≡ true →
+    pub next-backup : IsSome (old_files walker.change next.table) → has_staged walker ≡ true →
+        backup_pieces walker ≡ 0 →
         IsNextCall (BacksUp walker) (backing_call walker)
         (Rename BackupStage (Backup next.table))
-    next-backup stands staged = subst (λ (one : Call). IsNextCall (BacksUp walker) one
+    next-backup stands staged whole = subst (λ (one : Call). IsNextCall (BacksUp walker) one
         (Rename BackupStage (Backup next.table)))
-        (sym (backs-some walker next is_next ∙ backup-staged walker next staged)) (record {
+        (sym (backs-some walker next is_next whole ∙ backup-staged walker next staged)) (record {
           names = refl;
           later = λ has. (tt, tt);
           permitted = λ deeds stood held.
-              may-move-backup walker next is_next stands staged stood held deeds;
+              may-move-backup walker next is_next stands staged whole stood held deeds;
         })
 
-    -- the write of its old bytes
-    pub next-old : walker.is_staged ≡ false → (old : Bytes) →
-        old ≡ old_bytes walker.change next.table →
-        IsNextCall (BacksUp walker) (backing_call walker) (Write BackupStage old)
-    next-old unstaged old is = subst (λ (one : Call). IsNextCall (BacksUp walker) one
-        (Write BackupStage old))
-        (sym (backs-some walker next is_next ∙ backup-unstaged walker next unstaged)) (record {
+    -- the write of the first piece of its old bytes
+    pub next-old : has_staged walker ≡ false → backup_pieces walker ≡ 0 → (piece : Bytes) →
+        piece ≡ piece_at 0 (old_bytes walker.change next.table) →
+        IsNextCall (BacksUp walker) (backing_call walker) (Write BackupStage piece)
+    next-old unstaged whole piece is = subst (λ (one : Call). IsNextCall (BacksUp walker) one
+        (Write BackupStage piece))
+        (sym (backs-some walker next is_next whole ∙ backup-unstaged walker next unstaged))
+        (record {
           names = ap (writes BackupStage) is;
           later = λ has. tt;
           permitted = λ deeds stood held. may-stage-backup walker next is_next deeds stood held;
-        })
-
-    -- the move of its staged new bytes
-    pub next-table : walker.is_staged ≡ true → (call : FolderCall) →
-        call_of call ≡ installs next → IsLaterCall call →
-        IsNextCall (Installs walker) (installing_call walker) call
-    next-table staged call is later = subst (λ (one : Call). IsNextCall (Installs walker) one call)
-        (sym (installs-some walker next is_next ∙ install-staged walker next staged)) (record {
-          names = is;
-          later = λ has. later;
-          permitted = λ deeds stood held. may-move (intended walker.change)
-              walker.change.inputs.keeper (tables_left walker) stood held.carries next
-              (first-left walker next is_next) deeds (held.staged staged);
-        })
-
-    -- the write of its new bytes
-    pub next-new : {E : Type 0} → walker.is_staged ≡ false → (named : Result FolderCall E) →
-        IfOk named (λ call. call_of call ≡ stages next) → IfOk named IsLaterCall →
-        IfOk named (IsNextCall (Installs walker) (installing_call walker))
-    next-new unstaged (Err fault) is later = tt
-    next-new unstaged (Ok call) is later =
-        subst (λ (one : Call). IsNextCall (Installs walker) one call)
-        (sym (installs-some walker next is_next ∙ install-unstaged walker next unstaged)) (record {
-          names = is;
-          later = λ has. later;
-          permitted = λ deeds stood held. may-stage (intended walker.change)
-              walker.change.inputs.keeper (tables_left walker) stood held.carries next
-              (first-left walker next is_next) deeds;
         })

@@ -3,7 +3,7 @@
 -- is one at the place. One table more is read, and the others stay (`with_table-same`, `with_table-other`); what was read before is before
 -- the next (`before-after`); and files stay sound with one table more (`sound-on`).
 use Rattle.std.proofs.Common.{◌≡◌, refl, sym, ap, subst, ◌∙◌, ℕ, suc, ◌+◌, ◌-◌, ◌*◌, ◌<◌, ◌≤◌, Bool, true, false, ◌==◌, nat_lt, if◌then◌else◌, List, [], ◌∷◌, length, take, slice_get, Option, Some, None, All, true≢false, arith}
-use Rattle.std.specs.Prelude.{IsSome, IfSome, is_some, is_none}
+use Rattle.std.specs.Prelude.{IsSome, IsSomeAnd, IfSome, is_some, is_none}
 use Rattle.std.proofs.lemmas.Bool.Decides.{nat_tests}
 use Rattle.std.proofs.lemmas.List.{take_all, length-drop}
 use Rattle.std.proofs.lemmas.List.Elements.{All-more, All-nil, All-cons, All-get_or}
@@ -19,7 +19,7 @@ use Rattle.acct_text.specs.Tables.{all_tables, table_place, same_table}
 use Rattle.intent_file.specs.Intent.{NewTable}
 use Rattle.intent_file.specs.ChangedTables.{with_new_table, changed_among}
 use Rattle.suite_rules.proofs.Names.{table-is}
-use Rattle.commit_steps.specs.States.{Change, Walker, AreSound, old_files, new_files, changed, with_table, table_after, is_before, steps_left, tables_left}
+use Rattle.commit_steps.specs.States.{Change, Walker, AreSound, has_staged, old_files, new_files, changed, with_table, table_after, is_before, steps_left, tables_left}
 use Rattle.commit_steps.specs.Outcomes.{is_missing}
 
 -- The tables that differ, where the same are absent before and after.
@@ -85,21 +85,27 @@ behind-all : (tables place : ℕ) (staged : Bool) →
 behind-all tables place true none within = absurd (omega (arith, within refl))
 behind-all tables place false none within = omega arith
 
+-- what is said of one that is there is said of this one
+pub which : {X : Type 0} (found : Option X) (Holds : X → Type 0) → IsSomeAnd found Holds →
+    (next : X) × (found ≡ Some next) × Holds next
+which (Some next) Holds holds = (next, refl, holds)
+which None Holds holds = absurd holds
+
 -- where no step is left, no table is
 pub none-left : (walker : Walker) → steps_left walker ≡ 0 →
-    (walker.is_staged ≡ true → walker.place < length (changed walker.change)) →
+    (has_staged walker ≡ true → walker.place < length (changed walker.change)) →
     length (tables_left walker) ≡ 0
 none-left walker none within =
     let tables = changed walker.change in
-    let behind = behind-all (length tables) walker.place walker.is_staged none within in
+    let behind = behind-all (length tables) walker.place (has_staged walker) none within in
     omega (arith, length-drop walker.place tables, behind)
 
 -- where no step is left, all tables are done
 pub all-done : (walker : Walker) → steps_left walker ≡ 0 →
-    (walker.is_staged ≡ true → walker.place < length (changed walker.change)) →
+    (has_staged walker ≡ true → walker.place < length (changed walker.change)) →
     take walker.place (changed walker.change) ≡ changed walker.change
 all-done walker none within = take_all walker.place (changed walker.change)
-    (behind-all (length (changed walker.change)) walker.place walker.is_staged none within)
+    (behind-all (length (changed walker.change)) walker.place (has_staged walker) none within)
 
 -- a table that is read has its content
 pub with_table-same : (table : Tab) (content : Option Bytes) (files : Files) →

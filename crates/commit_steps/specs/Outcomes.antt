@@ -6,14 +6,15 @@ use Rattle.acct_text.specs.declared.Tab.TheVariants.{Passwd, Group}
 use Rattle.acct_text.specs.Bytes.{Bytes}
 use Rattle.acct_outside.specs.declared.Name.TheVariants.{Backup, BackupStage}
 use Rattle.acct_outside.specs.declared.FolderFault.{FolderFault}
-use Rattle.acct_outside.specs.Calls.{Call, Found, found_absent, found_bytes, found_too_large, writes, renames}
+use Rattle.acct_outside.specs.Pieces.{piece_at}
+use Rattle.acct_outside.specs.Calls.{Call, Found, found_absent, found_bytes, found_too_large, writes, appends, renames}
 use Rattle.intent_file.specs.Intent.{NewTable}
-use Rattle.suite_rules.specs.Outcomes.{before_commit, stages, installs}
+use Rattle.suite_rules.specs.Outcomes.{before_commit, stages, stages_more, installs}
 use Rattle.commit_steps.specs.declared.Loading.{Loading}
 use Rattle.commit_steps.specs.declared.Loading.TheVariants.{More, Done}
 use Rattle.commit_steps.specs.declared.LoadEnd.{LoadEnd}
 use Rattle.commit_steps.specs.declared.LoadEnd.TheVariants.{Fault, TooLarge, NoTable}
-use Rattle.commit_steps.specs.States.{Reader, Walker, next_name, read_on, inputs_of, old_bytes}
+use Rattle.commit_steps.specs.States.{Reader, Walker, next_name, read_on, inputs_of, old_bytes, has_staged}
 
 -- the table is absent, and one without which no tool runs
 abbrev pub is_missing : Tab → Option Bytes → Bool
@@ -45,12 +46,22 @@ Loads reader (Ok found_too_large) (Err (TooLarge name keeper)) =
 Loads reader (Err fault) (Err (Fault came)) = came ≡ before_commit fault
 Loads _ _ _ = ⊥
 
--- the next call of a backup: it stages the old bytes of the table, and then moves them
+-- the next step of a backup: it stages the first piece of the table's old bytes, or moves them all
 abbrev pub backup_call : Walker → NewTable → Call
-backup_call walker next = if walker.is_staged
+backup_call walker next = if has_staged walker
     then renames BackupStage (Backup next.table)
-    else writes BackupStage (old_bytes walker.change next.table)
+    else writes BackupStage (piece_at 0 (old_bytes walker.change next.table))
 
--- the next call of an installation: it stages the new bytes of the table, and then moves them
+-- between the two it appends the further pieces
+abbrev pub backs_up_more : Walker → NewTable → Call
+backs_up_more walker next =
+    appends BackupStage (piece_at walker.staged (old_bytes walker.change next.table))
+
+-- the next step of an installation: it stages the first piece of the table's new bytes, or moves them
+-- all
 abbrev pub install_call : Walker → NewTable → Call
-install_call walker next = if walker.is_staged then installs next else stages next
+install_call walker next = if has_staged walker then installs next else stages next
+
+-- between the two it appends the further pieces
+abbrev pub installs_more : Walker → NewTable → Call
+installs_more walker next = stages_more walker.staged next

@@ -1,16 +1,19 @@
 -- The standing of a session in each state of a commit (docs/ARCHITECTURE.md, "Typed steps"). Each is
 -- found from the session's own events alone.
-use Rattle.std.specs.Prelude.{◌≡◌, ⊤, true, List, slice_get, take, All, Option, Some, None, IfSome, IsSomeAnd}
+use Rattle.std.specs.Prelude.{◌≡◌, ⊤, true, List, take, All, Option, Some, None, IfSome, IsSomeAnd}
+use Rattle.std.specs.List.{concat}
 use Rattle.acct_text.specs.declared.Tab.{Tab}
 use Rattle.acct_text.specs.declared.files.Files.{Files}
 use Rattle.acct_text.specs.Files.{table_of}
 use Rattle.acct_outside.specs.declared.Name.TheVariants.{Table, BackupStage, IntentStage, Defs}
 use Rattle.acct_outside.specs.declared.CommitStage.TheVariants.{Before, Committed}
 use Rattle.acct_outside.specs.declared.StageFault.{StageFault}
+use Rattle.acct_outside.specs.Pieces.{first_pieces}
 use Rattle.acct_outside.specs.Tokens.{Token}
 use Rattle.acct_outside.specs.Calls.{Command}
 use Rattle.acct_outside.specs.Moment.{Past, Moment}
 use Rattle.intent_file.specs.Intent.{NewTable, intent_text, ReadsIntent}
+use Rattle.intent_file.specs.Pieces.{intent_pieces}
 use Rattle.suite_rules.specs.Deeds.{SuiteDeeds}
 use Rattle.suite_rules.specs.Knowledge.{Seen, Knowledge, knows_none}
 use Rattle.suite_rules.specs.Standing.{Standing, standing}
@@ -22,7 +25,7 @@ use Rattle.commit_steps.specs.declared.Loading.{Loading}
 use Rattle.commit_steps.specs.declared.Loading.TheVariants.{More, Done}
 use Rattle.commit_steps.specs.declared.LoadEnd.{LoadEnd}
 use Rattle.commit_steps.specs.declared.LoadEnd.TheVariants.{Fault, TooLarge, NoTable}
-use Rattle.commit_steps.specs.States.{AreSound, Reader, Inputs, Change, Walker, is_before, read_on, new_files, changed, intended, old_bytes, tables_left}
+use Rattle.commit_steps.specs.States.{AreSound, Reader, Inputs, Change, Walker, Stager, has_staged, next_table, is_before, read_on, new_files, changed, intended, old_bytes, tables_left}
 
 -- It knows that no intent stands, and has since seen each table before the next.
 pub record KnowsSome (reader : Reader) (knows : Knowledge) : Type 0 where
@@ -61,22 +64,25 @@ pub record KnowsBackups (change : Change) (tables : List NewTable) (knows : Know
   pub inputs : KnowsInputs change.inputs knows
   pub backed : All (λ new. inputs.seen.backed new.table ≡ true) tables
 
--- It hasn't called its commit. It has backed up the tables before the place, and staged the old bytes
--- of the one at the place where the walker says so.
+-- It hasn't called its commit. It has backed up the tables before the place, and staged as many first
+-- pieces of the old bytes of the one at the place as the walker says.
 pub record BacksUp (walker : Walker) (standing : Standing) : Type 0 where
   pub keeps : Keeps walker.change.inputs.keeper
       (KnowsBackups walker.change (take walker.place (changed walker.change))) standing
   pub uncommitted : standing.commit ≡ Before
-  pub staged : walker.is_staged ≡ true → IsSomeAnd (slice_get (changed walker.change) walker.place)
-      (λ next. standing.staged BackupStage ≡ Some (old_bytes walker.change next.table))
+  pub staged : has_staged walker ≡ true → IsSomeAnd (next_table walker)
+      (λ next. standing.staged BackupStage
+      ≡ Some (first_pieces walker.staged (old_bytes walker.change next.table)))
 
--- It hasn't called its commit. It has backed up each table that differs, and staged the text of the
--- intent, which reads.
-pub record HasStagedIntent (change : Change) (standing : Standing) : Type 0 where
-  pub keeps : Keeps change.inputs.keeper (KnowsBackups change (changed change)) standing
+-- It hasn't called its commit. It has backed up each table that differs, and staged so many first
+-- pieces of the text of the intent, which reads.
+pub record HasStagedIntent (stager : Stager) (standing : Standing) : Type 0 where
+  pub keeps : Keeps stager.change.inputs.keeper
+      (KnowsBackups stager.change (changed stager.change)) standing
   pub uncommitted : standing.commit ≡ Before
-  pub reads_it : ReadsIntent (intent_text (intended change)) (intended change)
-  pub staged : standing.staged IntentStage ≡ Some (intent_text (intended change))
+  pub reads_it : ReadsIntent (intent_text (intended stager.change)) (intended stager.change)
+  pub staged : standing.staged IntentStage
+      ≡ Some (concat (take stager.staged (intent_pieces (intended stager.change))))
 
 -- the new files are the deed of what the session was asked, on the inputs
 pub record IsDeed (deeds : SuiteDeeds) (change : Change) (standing : Standing) : Type 0 where
@@ -91,12 +97,13 @@ StandsUnsure told token fault = IfSome told (λ past.
     (standing token past.history).commit ≡ fault.stage)
 
 -- Its commit was done, and it carries out the intent of the change. The tables that aren't done are
--- left, and the new bytes of the first are staged where the walker says so.
+-- left, and as many first pieces of the first one's new bytes are staged as the walker says.
 pub record Installs (walker : Walker) (standing : Standing) : Type 0 where
   pub carries : Carries (intended walker.change) walker.change.inputs.keeper (tables_left walker)
       standing
   pub committed : standing.commit ≡ Committed
-  pub staged : walker.is_staged ≡ true → HasStagedFirst (tables_left walker) standing
+  pub staged : has_staged walker ≡ true →
+      HasStagedFirst (tables_left walker) walker.staged standing
 
 -- its commit was done, and it knows that no intent stands any more
 pub record HasCleared (keeper : Kept) (standing : Standing) : Type 0 where

@@ -1,6 +1,6 @@
 -- What contracts see of the states of a commit: the keeper, what it has read, the new files, and how
 -- far it has come with the tables that differ (docs/ARCHITECTURE.md, "The commit").
-use Rattle.std.specs.Prelude.{◌≡◌, ◌≤◌, ℕ, ◌+◌, ◌-◌, ◌*◌, nat_lt, Bool, true, false, if◌then◌else◌, List, [], length, drop, Option, Some, None, IsSome, unwrap_or}
+use Rattle.std.specs.Prelude.{◌≡◌, ◌≤◌, ℕ, ◌+◌, ◌-◌, ◌*◌, nat_lt, Bool, true, if◌then◌else◌, List, [], length, slice_get, drop, Option, Some, None, IsSome, option_map, unwrap_or}
 use Rattle.std.specs.Option.{option_or}
 use Rattle.acct_text.specs.declared.Tab.{Tab}
 use Rattle.acct_text.specs.declared.Tab.TheVariants.{Passwd, Shadow, Group, Gshadow, Subuid, Subgid}
@@ -14,6 +14,8 @@ use Rattle.acct_outside.specs.declared.Name.{Name}
 use Rattle.acct_outside.specs.declared.Name.TheVariants.{Table, Defs}
 use Rattle.intent_file.specs.Intent.{NewTable, Intended, listed_in}
 use Rattle.intent_file.specs.ChangedTables.{changed_tables, intent_of}
+use Rattle.intent_file.specs.Pieces.{intent_pieces}
+use Rattle.suite_rules.specs.Outcomes.{pieces_left}
 use Rattle.lock_steps.specs.States.{Kept}
 
 -- a keeper that reads the inputs: it has read the tables before the next one, and all six where
@@ -35,11 +37,16 @@ pub record Change : Type 0 where
   pub new : Files
 
 -- a keeper on its way over the tables that differ: those before the place, from 0, are done, and of
--- the one at the place the bytes may be staged already
+-- the bytes for the one at the place so many first pieces are staged
 pub record Walker : Type 0 where
   pub change : Change
   pub place : ℕ
-  pub is_staged : Bool
+  pub staged : ℕ
+
+-- a keeper that has backed up its tables, and staged so many first pieces of the intent's text
+pub record Stager : Type 0 where
+  pub change : Change
+  pub staged : ℕ
 
 -- no file is read yet
 abbrev pub no_files : Files
@@ -140,18 +147,57 @@ old_bytes change table = unwrap_or (old_files change table) []
 
 -- before the first of the tables
 abbrev pub walk_of : Change → Walker
-walk_of change = record { change = change; place = 0; is_staged = false }
+walk_of change = record { change = change; place = 0; staged = 0 }
 
--- one step on: the bytes of a table are staged, and then moved
+-- a piece of the bytes for the table at the place is staged
+abbrev pub has_staged : Walker → Bool
+has_staged walker = nat_lt 0 walker.staged
+
+-- one step on: the first piece of the bytes for a table is staged, and later all are moved
 abbrev pub step_on : Walker → Walker
-step_on walker = if walker.is_staged
-    then record walker { place = walker.place + 1; is_staged = false }
-    else record walker { is_staged = true }
+step_on walker = if has_staged walker
+    then record walker { place = walker.place + 1; staged = 0 }
+    else record walker { staged = 1 }
 
--- how many steps are left: two for each table, one for that of which the bytes are staged
+-- one piece more is staged
+abbrev pub append_on : Walker → Walker
+append_on walker = record walker { staged = walker.staged + 1 }
+
+-- how many steps are left: two for each table, one for that of which a piece is staged. The appends
+-- aren't counted.
 abbrev pub steps_left : Walker → ℕ
 steps_left walker =
-    2 * (length (changed walker.change) - walker.place) - (if walker.is_staged then 1 else 0)
+    2 * (length (changed walker.change) - walker.place) - (if has_staged walker then 1 else 0)
+
+-- the table at the walker's place, and none once all are done
+abbrev pub next_table : Walker → Option NewTable
+next_table walker = slice_get (changed walker.change) walker.place
+
+-- how many pieces of the old bytes of the table at the place are left to append
+abbrev pub backup_pieces : Walker → ℕ
+backup_pieces walker = unwrap_or (option_map
+    (λ next. pieces_left walker.staged (old_bytes walker.change next.table)) (next_table walker)) 0
+
+-- how many pieces of the new bytes of the table at the place are left to append
+abbrev pub install_pieces : Walker → ℕ
+install_pieces walker = unwrap_or (option_map
+    (λ next. pieces_left walker.staged next.bytes) (next_table walker)) 0
+
+-- the piece of the intent's text at this place, empty past its end
+abbrev pub intent_piece : ℕ → Change → Bytes
+intent_piece place change = unwrap_or (slice_get (intent_pieces (intended change)) place) []
+
+-- how many pieces of the intent's text are left to append
+abbrev pub intent_left : Stager → ℕ
+intent_left stager = length (intent_pieces (intended stager.change)) - stager.staged
+
+-- the first piece of the intent's text is staged
+abbrev pub begun_of : Change → Stager
+begun_of change = record { change = change; staged = 1 }
+
+-- one piece of the intent's text more is staged
+abbrev pub append_intent : Stager → Stager
+append_intent stager = record stager { staged = stager.staged + 1 }
 
 -- the tables that differ and aren't done
 abbrev pub tables_left : Walker → List NewTable

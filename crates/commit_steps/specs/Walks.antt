@@ -1,6 +1,6 @@
 -- What one step of a way over the tables gives: its call, and what it leads to. Backups and
 -- installations go alike, each with calls and a standing of its own.
-use Rattle.std.specs.Prelude.{slice_get, Result}
+use Rattle.std.specs.Prelude.{Result}
 use Rattle.acct_outside.specs.declared.FolderFault.{FolderFault}
 use Rattle.acct_outside.specs.declared.FolderFault.TheVariants.{Failed}
 use Rattle.acct_outside.specs.declared.StageFault.{StageFault}
@@ -11,7 +11,7 @@ use Rattle.intent_file.specs.Intent.{NewTable}
 use Rattle.suite_rules.specs.Standing.{Standing}
 use Rattle.suite_rules.specs.Steps.{TakesNext, own_command}
 use Rattle.suite_rules.specs.Outcomes.{LeadsTo}
-use Rattle.commit_steps.specs.States.{Walker, changed, step_on}
+use Rattle.commit_steps.specs.States.{Walker, append_on, next_table, step_on}
 
 -- the session whose keeper walks
 abbrev pub token_of : Walker → Token
@@ -22,6 +22,15 @@ token_of walker = walker.change.inputs.keeper.token
 abbrev pub WalksOn : (Walker → NewTable → Call) → (Walker → Standing → Type 0)
     → (FolderFault → StageFault) → Walker → Moment → Moment → Result Walker StageFault → Type 0
 WalksOn call_for Holds staged walker before now result =
-    TakesNext before now (token_of walker) (slice_get (changed walker.change) walker.place)
-    (call_for walker) (λ next answer. LeadsTo (step_on walker) staged answer result) Holds
-    own_command (staged Failed) result
+    TakesNext before now (token_of walker) (next_table walker) (call_for walker)
+    (λ next answer. LeadsTo (step_on walker) staged answer result) Holds own_command
+    (staged Failed) result
+
+-- The walker appends a piece for the table at its place: done, it has staged one piece more and stands
+-- so; whatever came, what the session was asked and its commit stay.
+abbrev pub AppendsOn : (Walker → NewTable → Call) → (Walker → Standing → Type 0)
+    → (FolderFault → StageFault) → Walker → Moment → Moment → Result Walker StageFault → Type 0
+AppendsOn call_for Holds staged walker before now result =
+    TakesNext before now (token_of walker) (next_table walker) (call_for walker)
+    (λ next answer. LeadsTo (append_on walker) staged answer result) Holds own_command
+    (staged Failed) result

@@ -1,9 +1,10 @@
-// A change that is ready to be committed: all that its steps write is made.
-ghost use Rattle.std.specs.Prelude.{◌≡◌, Some, IfOk, IsSome};
+// A change that is ready to be committed: all that its steps write is there, and written in pieces.
+ghost use Rattle.std.specs.Prelude.{◌≡◌, length, Some, IfOk, IsSome};
 ghost use Rattle.acct_text.specs.Contents.{IsChange};
 ghost use Rattle.acct_text.specs.Files.{table_of};
 ghost use Rattle.intent_file.specs.Intent.{ReadsIntent, intent_text};
-ghost use Rattle.commit_steps.specs.States.{changed, intended, old_files};
+ghost use Rattle.intent_file.specs.Pieces.{intent_pieces};
+ghost use Rattle.commit_steps.specs.States.{changed, intended, intent_piece, old_files};
 
 use crate::reading::Loaded;
 use acct_outside::Token;
@@ -12,30 +13,30 @@ use intent_file::{Intent, NewTable};
 use std::alloc::{AllocError, Global};
 use std::marker::Model;
 
-/// The inputs, the tables that differ with their new bytes, and the text of the intent that lists
-/// them. The new files aren't held: they are the old ones with these tables in their place.
+/// The inputs, and the intent with the tables that differ and their new bytes. Its text isn't made, as
+/// its pieces are parts of these; nor are the new files held: they are the old ones with these tables
+/// in their place.
 #[derive(Debug, Drop)]
 pub(crate) struct Prepared {
     loaded: Loaded,
-    tables: Vec<NewTable>,
-    text: Bytes,
+    intent: Intent,
 }
 
 impl Model for Prepared {
     ghost use Rattle.std.specs.Prelude.{◌≡◌};
     ghost use Rattle.acct_text.specs.Contents.{IsChange};
-    ghost use Rattle.intent_file.specs.Intent.{ReadsIntent};
-    ghost use Rattle.commit_steps.specs.States.{Change, change_by, changed, intended, new_files, old_files};
+    ghost use Rattle.intent_file.specs.Intent.{ReadsIntent, intent_text};
+    ghost use Rattle.commit_steps.specs.States.{Change, change_by, intended, new_files, old_files};
 
     ghost Value = { Change };
 
-    ghost view = { λ prepared. change_by prepared.tables.items prepared.loaded };
+    ghost view = { λ prepared. change_by prepared.intent.tables prepared.loaded };
 
     ghost invariant = { λ prepared.
-        let change : Change = change_by prepared.tables.items prepared.loaded in
+        let change : Change = change_by prepared.intent.tables prepared.loaded in
         IsChange (old_files change) (new_files change)
-        × (prepared.tables.items ≡ changed change)
-        × ReadsIntent prepared.text (intended change) };
+        × (prepared.intent ≡ intended change)
+        × ReadsIntent (intent_text prepared.intent) prepared.intent };
 }
 
 impl Prepared {
@@ -45,12 +46,7 @@ impl Prepared {
         ensures { IfOk result (λ prepared. prepared ≡ record { inputs = loaded; new = new }) }
     {
         let intent = intent_of(alloc, &loaded, new)?;
-        let text = intent.print(alloc)?;
-        Ok(Prepared {
-            loaded,
-            tables: intent.into_tables(),
-            text,
-        })
+        Ok(Prepared { loaded, intent })
     }
 
     /// The token of its session.
@@ -65,15 +61,25 @@ impl Prepared {
         ensures value { result.now ≡ changed self.now }
         ensures change { IsChange (table_of self.now.inputs.files) (table_of self.now.new) }
     {
-        &self.tables
+        self.intent.tables()
     }
 
-    /// The text of the intent.
-    pub(crate) fn text(&self) -> &Bytes
-        ensures value { result.now ≡ intent_text (intended self.now) }
+    /// How many pieces the text of the intent has.
+    pub(crate) fn intent_pieces(&self) -> usize
+        ensures { result ≡ length (intent_pieces (intended self.now)) }
+    {
+        self.intent.piece_count()
+    }
+
+    /// The piece of the intent's text at the place, from 0, and nothing past its end.
+    pub(crate) fn intent_piece(&self, place: usize) -> &[u8]
+        ensures value { result.now ≡ intent_piece place self.now }
         ensures reads { ReadsIntent (intent_text (intended self.now)) (intended self.now) }
     {
-        &self.text
+        match self.intent.piece(place) {
+            Some(piece) => piece,
+            None => &[],
+        }
     }
 
     /// The bytes that the table had.
@@ -95,12 +101,12 @@ impl Prepared {
     }
 }
 
-/// The intent that leads from what was read to the new files. It lets these go, so that they are gone
-/// when the text is made. The error says that memory ran out.
+/// The intent that leads from what was read to the new files, which it lets go. The error says that memory ran out.
 fn intent_of(alloc: Global, loaded: &Loaded, new: Files) -> Result<Intent, AllocError>
     requires { IsChange (table_of loaded.now.files) (table_of new) }
-    ensures { IfOk result (λ intent.
+    ensures value { IfOk result (λ intent.
         intent ≡ intended (record { inputs = loaded.now; new = new })) }
+    ensures reads { IfOk result (λ intent. ReadsIntent (intent_text intent) intent) }
 {
     Intent::new(alloc, loaded.keeper().number(), loaded.files(), &new)
 }

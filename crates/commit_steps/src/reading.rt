@@ -15,7 +15,8 @@ ghost use Rattle.acct_outside.specs.Contract.{IsWithinLimit, found_result};
 ghost use Rattle.suite_rules.specs.Steps.{StandsIn, own_command, TakesStep};
 ghost use Rattle.suite_rules.specs.Outcomes.{before_commit};
 ghost use Rattle.lock_steps.specs.NextCall.{IsNextCall};
-ghost use Rattle.commit_steps.specs.States.{AreSound, next_name, table_after, with_table, start_of, walk_of};
+ghost use Rattle.intent_file.specs.Intent.{ReadsIntent, intent_text};
+ghost use Rattle.commit_steps.specs.States.{AreSound, intended, next_name, table_after, with_table, start_of, walk_of};
 ghost use Rattle.commit_steps.specs.Stands.{HasRead, StandsEnded, HoldsLoading};
 ghost use Rattle.commit_steps.specs.Outcomes.{Loads, LoadsContent, LoadsTable, is_missing};
 
@@ -259,14 +260,16 @@ impl Loaded {
         &self.keeper
     }
 
-    /// Makes the intent of these new files, and its text. It makes no call of the folder.
+    /// Makes the intent of these new files. It makes no call of the folder.
     ///
     /// A change leaves the same tables absent, none with more than 16,777,216 bytes, and at least
     /// one differs. The error says that memory ran out: the keeper is spent then.
     pub fn prepare(self, alloc: Global, new: Files) -> Result<Backing, AllocError>
         requires { IsChange (table_of self.files) (table_of new) }
-        ensures { IfOk result (λ backing.
+        ensures value { IfOk result (λ backing.
             backing ≡ walk_of (record { inputs = self; new = new })) }
+        ensures reads { IfOk result (λ backing.
+            ReadsIntent (intent_text (intended backing.change)) (intended backing.change)) }
     {
         Ok(Backing::start(Prepared::new(alloc, self, new)?))
     }

@@ -1,36 +1,36 @@
 // The way over the tables that differ, which backups and installations go alike: for each table the
-// bytes are staged, and then moved.
-ghost use Rattle.std.specs.Prelude.{◌≡◌, ◌<◌, ◌≤◌, length, slice_get, IsSome, Some};
-ghost use Rattle.commit_steps.specs.States.{changed, old_files, step_on, steps_left, walk_of};
+// bytes are staged in pieces, and then moved.
+ghost use Rattle.std.specs.Prelude.{◌≡◌, ◌<◌, ◌≤◌, true, length, slice_get, IsSome, Some};
+ghost use Rattle.commit_steps.specs.States.{append_on, changed, has_staged, old_files, step_on, steps_left, walk_of};
 
 use crate::prepared::Prepared;
 use acct_text::Bytes;
 use intent_file::NewTable;
 use std::marker::Model;
 
-/// A change, and how far its tables are done.
+/// A change, and how far its tables are done: those before the place, and so many pieces of the one there.
 #[derive(Debug, Drop)]
 pub(crate) struct Walking {
     prepared: Prepared,
     place: usize,
-    is_staged: bool,
+    staged: usize,
 }
 
 impl Model for Walking {
-    ghost use Rattle.std.specs.Prelude.{◌≡◌, ◌<◌, ◌≤◌, true, length};
-    ghost use Rattle.commit_steps.specs.States.{Walker, changed};
+    ghost use Rattle.std.specs.Prelude.{◌≡◌, ◌<◌, ◌≤◌, nat_lt, true, length};
+    ghost use Rattle.commit_steps.specs.States.{Walker, changed, has_staged};
 
     ghost Value = { Walker };
 
     ghost view = { λ walking. record {
       change = walking.prepared;
       place = walking.place;
-      is_staged = walking.is_staged;
+      staged = walking.staged;
     } };
 
     ghost invariant = { λ walking.
         (walking.place ≤ length (changed walking.prepared))
-        × (walking.is_staged ≡ true → walking.place < length (changed walking.prepared)) };
+        × (nat_lt 0 walking.staged ≡ true → walking.place < length (changed walking.prepared)) };
 }
 
 impl Walking {
@@ -41,7 +41,7 @@ impl Walking {
         Walking {
             prepared,
             place: 0,
-            is_staged: false,
+            staged: 0,
         }
     }
 
@@ -59,19 +59,26 @@ impl Walking {
         self.prepared
     }
 
-    /// Whether the bytes of the next table are staged.
-    pub(crate) fn is_staged(&self) -> bool
-        ensures { result ≡ self.now.is_staged }
+    /// How many first pieces of the next table's bytes are staged.
+    pub(crate) fn staged(&self) -> usize
+        ensures { result ≡ self.now.staged }
     {
-        self.is_staged
+        self.staged
     }
 
-    /// How many steps are left: two for each table, one for that of which the bytes are staged.
+    /// Whether any piece is.
+    pub(crate) fn has_staged(&self) -> bool
+        ensures { result ≡ has_staged self.now }
+    {
+        self.staged > 0
+    }
+
+    /// How many steps are left: two for each table, one for that of which a piece is staged.
     pub(crate) fn left(&self) -> usize
         ensures { result ≡ steps_left self.now }
     {
         let tables = self.prepared.tables().len() - self.place;
-        if self.is_staged {
+        if self.has_staged() {
             2 * tables - 1
         } else {
             2 * tables
@@ -92,10 +99,22 @@ impl Walking {
         requires { 0 < steps_left self }
         ensures { result ≡ step_on self }
     {
-        if self.is_staged {
+        if self.staged > 0 {
             self.place += 1;
+            self.staged = 0;
+        } else {
+            self.staged = 1;
         }
-        self.is_staged = !self.is_staged;
+        self
+    }
+
+    /// One piece more is staged, of so many.
+    pub(crate) fn append_on(mut self, count: usize) -> Self
+        requires begun { has_staged self ≡ true }
+        requires within { self.staged < count }
+        ensures { result ≡ append_on self }
+    {
+        self.staged += 1;
         self
     }
 }

@@ -1,4 +1,5 @@
 pub mod PieceLemmas
+pub mod SizeLemmas
 mod Rows
 pub mod PartsLemmas
 pub mod CursorLemmas

@@ -1,6 +1,6 @@
 -- Claim: the rules permit each call in the standing of its state. The listings, the read and the
 -- verdict are free; the other calls have one rule each, whose premises are parts of the standing.
-use Rattle.std.proofs.Common.{refl, sym, ap, subst, ℕ, ◌+◌, ◌<◌}
+use Rattle.std.proofs.Common.{arith, refl, sym, ap, subst, ℕ, ◌+◌, ◌<◌}
 use Rattle.acct_outside.specs.declared.Name.TheVariants.{FreeStage, Lock}
 use Rattle.acct_outside.specs.Names.{greatest_lock}
 use Rattle.acct_outside.specs.Tokens.{free_text}
@@ -48,7 +48,8 @@ module _ (deeds : SuiteDeeds) (stood : Standing) where
   pub may-stage-free : (keeper : Kept) (Knows : Knowledge → Type 0) → Keeps keeper Knows stood →
       Permits deeds stood (writes FreeStage free_text)
   may-stage-free keeper Knows held = staging_rule FreeStage free_text
-      (record { number = keeper.number; keeps = held.locks.owns }) (record { staging = refl })
+      (record { number = keeper.number; keeps = held.locks.owns })
+      (record { staging = refl; small = omega arith })
 
   -- the move of the free text to the own lock
   pub may-move-free : (freeing : Maker) → HasStagedFree freeing stood →

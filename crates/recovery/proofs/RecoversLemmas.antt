@@ -1,6 +1,6 @@
 -- Claim: each call of a recovery leads its session from the standing of one state to that of the
--- next (`clean-after-read`, `recovers-after-read`, `staged-after-write`, `recovers-after-move`,
--- `clean-after-removal`). Way: a read of the intent concerns no lock, so the session keeps its number
+-- next (`clean-after-read`, `recovers-after-read`, `staged-after-write`, `staged-after-append`,
+-- `recovers-after-move`, `clean-after-removal`). Way: a read of the intent concerns no lock, so the session keeps its number
 -- (`keeps-on`); the other calls carry the intent out (CarryLemmas).
 use Rattle.std.proofs.Common.{◌≡◌, refl, sym, subst, true, false, [], slice_get, Some}
 use Rattle.std.proofs.lemmas.List.Elements.{All-nil}
@@ -9,15 +9,15 @@ use Rattle.acct_outside.specs.declared.Name.TheVariants.{Intent}
 use Rattle.acct_outside.specs.Calls.{Found, reads, removes, done, found_absent, found_bytes}
 use Rattle.intent_file.specs.Intent.{NewTable}
 use Rattle.suite_rules.specs.Standing.{Standing, standing_step}
-use Rattle.suite_rules.specs.Outcomes.{stages, installs}
+use Rattle.suite_rules.specs.Outcomes.{stages, stages_more, installs}
 use Rattle.suite_rules.proofs.KeeperParts.{knows-next}
 use Rattle.lock_steps.specs.States.{Kept}
 use Rattle.lock_steps.specs.Stands.{Keeps, KnowsAnything, KnowsNoneYet}
 use Rattle.lock_steps.proofs.KeeperLemmas.{keeps-on}
-use Rattle.recovery.specs.States.{Recoverer, moved_once}
+use Rattle.recovery.specs.States.{Mover, Recoverer, appended_once, moved_once, mover_of}
 use Rattle.recovery.specs.Stands.{Recovers, HasStagedNext}
 use Rattle.recovery.specs.Outcomes.{ListsAll}
-use Rattle.recovery.proofs.CarryLemmas.{carries-after-write, first-staged, carries-after-move, none-after-removal}
+use Rattle.recovery.proofs.CarryLemmas.{carries-after-append, carries-after-write, first-staged, more-staged, carries-after-move, none-after-removal}
 
 -- What the read of the intent leads to.
 module _ (keeper : Kept) (stood : Standing) (keeps : Keeps keeper KnowsAnything stood) where
@@ -59,9 +59,9 @@ module _ (keeper : Kept) (stood : Standing) (keeps : Keeps keeper KnowsAnything 
 -- What the calls with the next of the tables lead to.
 module _ (recovering : Recoverer) (next : NewTable)
     (is_next : slice_get recovering.left 0 ≡ Some next) (answer : Unit {0}) (stood : Standing) where
-  -- a write of its bytes stages them
+  -- a write of its first piece stages that
   pub staged-after-write : Recovers recovering stood →
-      HasStagedNext recovering (standing_step (stages next) (done answer) stood)
+      HasStagedNext (mover_of 1 recovering) (standing_step (stages next) (done answer) stood)
   staged-after-write held = record {
     recovers = record {
       intent = held.intent;
@@ -72,12 +72,29 @@ module _ (recovering : Recoverer) (next : NewTable)
         is_next answer;
   }
 
+-- What the calls with the pieces of that table lead to.
+module _ (moving : Mover) (next : NewTable) (is_next : slice_get moving.left 0 ≡ Some next)
+    (answer : Unit {0}) (stood : Standing) (held : HasStagedNext moving stood) where
+  -- an append of the next piece stages one more
+  pub staged-after-append :
+      HasStagedNext (appended_once moving)
+      (standing_step (stages_more moving.staged next) (done answer) stood)
+  staged-after-append = record {
+    recovers = record {
+      intent = held.recovers.intent;
+      carries = carries-after-append held.recovers.intent moving.keeper moving.left stood
+          held.recovers.carries next is_next moving.staged answer;
+    };
+    staged = more-staged held.recovers.intent moving.keeper moving.left stood
+        held.recovers.carries next is_next moving.staged held.staged answer;
+  }
+
   -- a move of the staged bytes puts the table in place
-  pub recovers-after-move : HasStagedNext recovering stood →
-      Recovers (moved_once recovering) (standing_step (installs next) (done answer) stood)
-  recovers-after-move held = record {
+  pub recovers-after-move :
+      Recovers (moved_once moving) (standing_step (installs next) (done answer) stood)
+  recovers-after-move = record {
     intent = held.recovers.intent;
-    carries = carries-after-move held.recovers.intent recovering.keeper recovering.left stood
+    carries = carries-after-move held.recovers.intent moving.keeper moving.left stood
         held.recovers.carries next is_next answer;
   }
 

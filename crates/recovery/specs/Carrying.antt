@@ -1,9 +1,10 @@
 -- Carrying out an intent that stands, be it one that the session found or that of its own commit: what
 -- the session then knows of it (docs/ARCHITECTURE.md, "The commit").
-use Rattle.std.specs.Prelude.{◌≡◌, true, Bool, List, ◌++◌, slice_get, All, Some, IsSomeAnd}
+use Rattle.std.specs.Prelude.{◌≡◌, ℕ, true, Bool, List, ◌++◌, slice_get, All, Some, IsSomeAnd}
 use Rattle.acct_text.specs.declared.Tab.{Tab}
 use Rattle.acct_text.specs.Bytes.{Bytes}
 use Rattle.acct_outside.specs.declared.Name.TheVariants.{Staged}
+use Rattle.acct_outside.specs.Pieces.{first_pieces}
 use Rattle.intent_file.specs.Intent.{Intended, NewTable, ReadsIntent}
 use Rattle.suite_rules.specs.Knowledge.{knows_bytes}
 use Rattle.suite_rules.specs.Standing.{Standing}
@@ -23,7 +24,7 @@ pub record Carries (intent : Intended) (keeper : Kept) (left : List NewTable) (s
   pub lists : intent.tables ≡ moved ++ left
   pub in_place : All (λ new. placed new.table ≡ true) moved
 
--- there is a first of these tables, and its bytes are staged
-abbrev pub HasStagedFirst : List NewTable → Standing → Type 0
-HasStagedFirst left standing = IsSomeAnd (slice_get left 0)
-    (λ next. standing.staged (Staged next.table) ≡ Some next.bytes)
+-- there is a first of these tables, and of its bytes so many first pieces are staged
+abbrev pub HasStagedFirst : List NewTable → ℕ → Standing → Type 0
+HasStagedFirst left staged standing = IsSomeAnd (slice_get left 0)
+    (λ next. standing.staged (Staged next.table) ≡ Some (first_pieces staged next.bytes))

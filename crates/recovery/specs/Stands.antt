@@ -11,7 +11,7 @@ use Rattle.recovery.specs.declared.IntentSeen.{IntentSeen}
 use Rattle.recovery.specs.declared.IntentSeen.TheVariants.{Clean, Listed}
 use Rattle.recovery.specs.declared.RecoveryEnd.{RecoveryEnd}
 use Rattle.recovery.specs.declared.RecoveryEnd.TheVariants.{Fault, Damaged, TooLarge}
-use Rattle.recovery.specs.States.{Recoverer}
+use Rattle.recovery.specs.States.{Recoverer, Mover, recoverer_of}
 use Rattle.recovery.specs.Carrying.{Carries, HasStagedFirst}
 
 -- it carries out an intent, of whose tables these are left
@@ -19,10 +19,10 @@ pub record Recovers (recovering : Recoverer) (standing : Standing) : Type 0 wher
   pub intent : Intended
   pub carries : Carries intent recovering.keeper recovering.left standing
 
--- it recovers, and has staged the bytes of the first table that is left
-pub record HasStagedNext (recovering : Recoverer) (standing : Standing) : Type 0 where
-  pub recovers : Recovers recovering standing
-  pub staged : HasStagedFirst recovering.left standing
+-- it recovers, and has staged so many first pieces of the first table that is left
+pub record HasStagedNext (moving : Mover) (standing : Standing) : Type 0 where
+  pub recovers : Recovers (recoverer_of moving) standing
+  pub staged : HasStagedFirst moving.left moving.staged standing
 
 -- after the read of the intent: none stands, or all tables of the one that stands are left
 abbrev pub HoldsSeen : IntentSeen → Standing → Type 0

@@ -6,8 +6,9 @@
 //! 1. `Keeper<Unknown>`: it keeps the lock, and may know nothing of the intent. [`read_intent`] reads
 //!    it. Where none stands, the keeper is clean.
 //! 2. [`Recovering`]: an intent stands and reads. Of the tables that it lists, those that were moved
-//!    are in place, and the others are left. `stage_next` writes the bytes of the first that is left.
-//! 3. [`Moving`]: these bytes are staged. `move_next` moves them to their table, and leads back.
+//!    are in place, and the others are left. `stage_next` writes the first piece of the first of these.
+//! 3. [`Moving`]: some of its pieces are staged. `append_next` puts the next behind them, and once
+//!    none is left `move_next` moves them to their table, and leads back.
 //! 4. `Keeper<Clean>`: once no table is left, `remove_intent` removes the intent.
 //!
 //! Until then the intent stands, so whoever becomes keeper after a death carries it out again. No
@@ -15,7 +16,7 @@
 //! call.
 //!
 //! A session carries out the intent of its own commit by the same calls ([`stage_table`],
-//! [`move_table`], [`remove_intent`]), and knows the same of it (specs/Carrying).
+//! [`append_table`], [`move_table`], [`remove_intent`]), and knows the same of it (specs/Carrying).
 #![tactic(auto)]
 
 mod carrying;
@@ -24,7 +25,10 @@ mod reading;
 mod recovering;
 
 use acct_outside::StageFault;
-pub use carrying::{move_call, move_table, remove_intent, stage_call, stage_table};
+pub use carrying::{
+    append_call, append_table, move_call, move_table, pieces_left, remove_intent, stage_call,
+    stage_table,
+};
 pub use leading::leads;
 use lock_steps::{Clean, Keeper, Unknown};
 pub use reading::read_intent;

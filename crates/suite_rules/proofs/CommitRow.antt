@@ -1,6 +1,6 @@
 -- A whole commit, event by event: `groupadd -P R -g 1500 staff` on an empty passwd and an empty group.
 -- Each history is named for its last step, and lawful by computation.
-use Rattle.std.proofs.Common.{◌≡◌, ◌≢◌, refl, lit≤, true, false, [], ◌∷◌, Some, None}
+use Rattle.std.proofs.Common.{codes, ◌≡◌, ◌≢◌, refl, lit≤, true, false, [], ◌∷◌, Some, None}
 use Rattle.std.specs.Fmt.{digits}
 use Rattle.acct_text.specs.declared.Tab.{Tab}
 use Rattle.acct_text.specs.declared.Tab.TheVariants.{Passwd, Shadow, Group, Gshadow, Subuid, Subgid}
@@ -8,7 +8,7 @@ use Rattle.acct_outside.specs.declared.Name.TheVariants.{Table, Backup, Staged, 
 use Rattle.acct_outside.specs.declared.Created.TheVariants.{Done}
 use Rattle.acct_outside.specs.Tokens.{free_text}
 use Rattle.acct_outside.specs.Folder.{tables}
-use Rattle.acct_outside.specs.Calls.{Call, Answer, begins, lists, reads, creates, writes, renames, removes, answers, done, found_absent, found_bytes}
+use Rattle.acct_outside.specs.Calls.{Call, Answer, begins, lists, reads, creates, writes, appends, renames, removes, answers, done, found_absent, found_bytes}
 use Rattle.acct_outside.specs.History.{Event, History, after}
 use Rattle.suite_rules.specs.Knowledge.{Seen}
 use Rattle.suite_rules.specs.Listing.{new_listing}
@@ -17,8 +17,8 @@ use Rattle.suite_rules.specs.Rules.{CommitRule, HasSeen, moves_backup, answers_c
 use Rattle.suite_rules.specs.Lawful.{Lawful, starts, goes_on}
 use Rattle.suite_rules.specs.Settled.{settled}
 use Rattle.suite_rules.specs.Committed.{committed, folded}
-use Rattle.suite_rules.proofs.Staff.{first, is-folder, staff_line, staff_files, staff_deeds, groupadd_staff, m1, is-token-m1, staff_intent, seen_of, install-lawful, clear-lawful}
-use Rattle.suite_rules.proofs.RowSteps.{list-lawful, read-lawful, write-lawful, free-lawful}
+use Rattle.suite_rules.proofs.Staff.{first, is-folder, staff_line, staff_files, staff_deeds, groupadd_staff, m1, is-token-m1, seen_of, install-lawful, clear-lawful}
+use Rattle.suite_rules.proofs.RowSteps.{list-lawful, read-lawful, write-lawful, append-lawful, free-lawful}
 
 -- a call of the session that was done
 abbrev own : (call : Call) → Answer call → Event
@@ -84,9 +84,18 @@ staged_backup = own (writes BackupStage []) tt ∷ read_settings
 abbrev pub backed_up : History
 backed_up = own (renames BackupStage (Backup Group)) tt ∷ staged_backup
 
--- it writes the intent
+-- it writes the first piece of the intent
+abbrev pub begun_intent : History
+begun_intent =
+    own (writes IntentStage (codes "accounts-intent 1 1 1\ngroup 14\n")) tt ∷ backed_up
+
+-- it appends the bytes of the table
+abbrev pub longer_intent : History
+longer_intent = own (appends IntentStage staff_line) tt ∷ begun_intent
+
+-- it appends the end
 abbrev pub staged_intent : History
-staged_intent = own (writes IntentStage staff_intent) tt ∷ backed_up
+staged_intent = own (appends IntentStage (codes "\nend\n")) tt ∷ longer_intent
 
 -- it commits
 abbrev pub committed_group : History
@@ -296,7 +305,8 @@ read_settings-lawful =
 pub staged_backup-lawful : Lawful staff_deeds first staged_backup
 staged_backup-lawful =
     write-lawful staff_deeds first m1 read_settings read_settings-lawful refl BackupStage []
-    (record { number = 1; keeps = refl }) refl
+    (record { number = 1; keeps = refl })
+    (record { staging = refl; small = lit≤ tt })
 
 -- it moves that to the backup: lawful
 pub backed_up-lawful : Lawful staff_deeds first backed_up
@@ -314,11 +324,26 @@ backed_up-lawful = goes_on _ _ staged_backup-lawful (record {
   gives = refl;
 })
 
--- it writes the intent: lawful
+-- it writes the first piece of the intent: lawful
+begun_intent-lawful : Lawful staff_deeds first begun_intent
+begun_intent-lawful =
+    write-lawful staff_deeds first m1 backed_up backed_up-lawful refl IntentStage _
+    (record { number = 1; keeps = refl })
+    (record { staging = refl; small = lit≤ tt })
+
+-- it appends the bytes of the table: lawful
+longer_intent-lawful : Lawful staff_deeds first longer_intent
+longer_intent-lawful =
+    append-lawful staff_deeds first m1 begun_intent begun_intent-lawful refl IntentStage staff_line
+    (record { number = 1; keeps = refl })
+    (record { rule = record { staging = refl; small = lit≤ tt }; behind = refl }) refl
+
+-- it appends the end: lawful
 pub staged_intent-lawful : Lawful staff_deeds first staged_intent
 staged_intent-lawful =
-    write-lawful staff_deeds first m1 backed_up backed_up-lawful refl IntentStage staff_intent
-    (record { number = 1; keeps = refl }) refl
+    append-lawful staff_deeds first m1 longer_intent longer_intent-lawful refl IntentStage _
+    (record { number = 1; keeps = refl })
+    (record { rule = record { staging = refl; small = lit≤ tt }; behind = refl }) refl
 
 -- it commits: lawful
 pub committed_group-lawful : Lawful staff_deeds first committed_group
@@ -335,7 +360,8 @@ pub staged_group-lawful : Lawful staff_deeds first staged_group
 staged_group-lawful =
     write-lawful staff_deeds first m1 committed_group committed_group-lawful refl
     (Staged Group) staff_line
-    (record { number = 1; keeps = refl }) refl
+    (record { number = 1; keeps = refl })
+    (record { staging = refl; small = lit≤ tt })
 
 -- it moves that to group: lawful
 pub installed_group-lawful : Lawful staff_deeds first installed_group
@@ -353,7 +379,8 @@ cleared-lawful =
 pub staged_free-lawful : Lawful staff_deeds first staged_free
 staged_free-lawful =
     write-lawful staff_deeds first m1 cleared cleared-lawful refl FreeStage free_text
-    (record { number = 1; keeps = refl }) refl
+    (record { number = 1; keeps = refl })
+    (record { staging = refl; small = lit≤ tt })
 
 -- it moves that to its lock: lawful
 pub freed-lawful : Lawful staff_deeds first freed

@@ -316,7 +316,8 @@ module _ (deeds : SuiteDeeds) where
   a_staged_free-lawful : Lawful deeds first a_staged_free
   a_staged_free-lawful =
       write-lawful deeds first a1 a_unlocked a_unlocked-lawful refl FreeStage free_text
-      (record { number = 5; keeps = refl }) refl
+      (record { number = 5; keeps = refl })
+      (record { staging = refl; small = lit≤ tt })
 
   -- a moves that to its lock: lawful
   a_freed-lawful : Lawful deeds first a_freed

@@ -181,7 +181,8 @@ pub staged_again-lawful : Lawful staff_deeds first staged_again
 staged_again-lawful =
     write-lawful staff_deeds first m2 found_intent found_intent-lawful refl
     (Staged Group) staff_line
-    (record { number = 2; keeps = refl }) refl
+    (record { number = 2; keeps = refl })
+    (record { staging = refl; small = lit≤ tt })
 
 -- it moves that to group: lawful
 pub recovered_group-lawful : Lawful staff_deeds first recovered_group
@@ -210,7 +211,8 @@ unlocked_below-lawful = goes_on _ _ cleared_intent-lawful (record {
 pub staged_its_free-lawful : Lawful staff_deeds first staged_its_free
 staged_its_free-lawful =
     write-lawful staff_deeds first m2 unlocked_below unlocked_below-lawful refl FreeStage free_text
-    (record { number = 2; keeps = refl }) refl
+    (record { number = 2; keeps = refl })
+    (record { staging = refl; small = lit≤ tt })
 
 -- it moves that to its lock: lawful
 pub freed_its_lock-lawful : Lawful staff_deeds first freed_its_lock

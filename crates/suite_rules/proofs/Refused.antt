@@ -1,6 +1,6 @@
 -- What the rules refuse: the next event of wrong programs, each after a history of its own, for all
 -- deeds and whatever the first folder.
-use Rattle.std.proofs.Common.{◌≡◌, refl, sym, ap, subst, ◌∙◌, ℕ, Bool, false, [], ◌∷◌, Option, Some, None, codes, true≢false, arith}
+use Rattle.std.proofs.Common.{◌≡◌, refl, sym, ap, subst, ◌∙◌, ℕ, Bool, false, [], ◌∷◌, length, Option, Some, None, codes, true≢false, arith}
 use Rattle.std.specs.Fmt.{digits}
 use Rattle.acct_text.specs.declared.Tab.{Tab}
 use Rattle.acct_text.specs.declared.Tab.TheVariants.{Passwd, Group, Gshadow}
@@ -223,6 +223,16 @@ append_first deeds first next = cases next.keeps.permitted
   where
     cases : Permits deeds (standing m1 read_settings) (appends (Staged Group) staff_line) → ⊥
     cases (append_rule _ _ keeper rule) = true≢false (sym rule.behind)
+
+-- `too_large`: 65,537 bytes are written by one call.
+
+-- the write is refused, whatever the bytes
+too_large : (piece : Bytes) → length piece ≡ 65537 →
+    IsRefused (own (writes (Staged Group) piece) tt) read_settings
+too_large piece size deeds first next = cases next.keeps.permitted
+  where
+    cases : Permits deeds (standing m1 read_settings) (writes (Staged Group) piece) → ⊥
+    cases (staging_rule _ _ keeper rule) = let small = rule.small in omega (arith, small, size)
 
 -- group was staged, and no intent stands
 abbrev staged_without_intent : History

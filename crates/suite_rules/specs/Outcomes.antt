@@ -1,13 +1,15 @@
 -- What the steps that change the account files give by the answer of their one call, and the calls
 -- on one table of an intent (docs/ARCHITECTURE.md, "The commit").
-use Rattle.std.specs.Prelude.{◌≡◌, Result, Ok, Err}
+use Rattle.std.specs.Prelude.{◌≡◌, ℕ, ◌-◌, nat_lt, if◌then◌else◌, Result, Ok, Err}
+use Rattle.acct_text.specs.Bytes.{Bytes}
 use Rattle.acct_outside.specs.declared.Name.TheVariants.{Table, Staged}
 use Rattle.acct_outside.specs.declared.FolderFault.{FolderFault}
 use Rattle.acct_outside.specs.declared.FolderFault.TheVariants.{Failed, Memory}
 use Rattle.acct_outside.specs.declared.CommitStage.{CommitStage}
 use Rattle.acct_outside.specs.declared.CommitStage.TheVariants.{Before, Unsure, Committed}
 use Rattle.acct_outside.specs.declared.StageFault.{StageFault}
-use Rattle.acct_outside.specs.Calls.{Call, writes, renames}
+use Rattle.acct_outside.specs.Pieces.{piece_at, piece_count}
+use Rattle.acct_outside.specs.Calls.{Call, writes, appends, renames}
 use Rattle.intent_file.specs.Intent.{NewTable}
 
 -- a fault of the folder with the stage of the session's own commit
@@ -34,9 +36,17 @@ LeadsTo next staged (Ok answer) (Ok state) = state ≡ next
 LeadsTo next staged (Err fault) (Err came) = came ≡ staged fault
 LeadsTo _ _ _ _ = ⊥
 
--- the call that stages the bytes of a listed table
+-- the call that stages the first piece of the bytes of a listed table
 abbrev pub stages : NewTable → Call
-stages new = writes (Staged new.table) new.bytes
+stages new = writes (Staged new.table) (piece_at 0 new.bytes)
+
+-- the call that stages the piece at this place behind those in front of it
+abbrev pub stages_more : ℕ → NewTable → Call
+stages_more place new = appends (Staged new.table) (piece_at place new.bytes)
+
+-- how many pieces of a text are left to append, once so many are staged; none before its write
+abbrev pub pieces_left : ℕ → Bytes → ℕ
+pieces_left staged text = if nat_lt 0 staged then piece_count text - staged else 0
 
 -- the call that puts the staged bytes of a listed table in place
 abbrev pub installs : NewTable → Call

@@ -1,13 +1,14 @@
 -- The rules: which calls a session may make next, by its life and its standing
 -- (docs/ARCHITECTURE.md, "The rules"). Listings, reads and verdicts are free to every running
 -- session. A call that no rule permits is never allowed.
-use Rattle.std.specs.Prelude.{◌≡◌, ◌≢◌, ℕ, ◌+◌, ◌<◌, Bool, true, Option, Some, IsSome}
+use Rattle.std.specs.Prelude.{◌≡◌, ◌≢◌, ℕ, ◌+◌, ◌<◌, ◌≤◌, Bool, true, length, Option, Some, IsSome}
 use Rattle.acct_text.specs.declared.Tab.{Tab}
 use Rattle.acct_text.specs.Bytes.{Bytes}
 use Rattle.acct_text.specs.Contents.{Contents}
 use Rattle.acct_outside.specs.declared.Name.{Name}
 use Rattle.acct_outside.specs.declared.Name.TheVariants.{Table, Backup, Staged, Intent, IntentStage, BackupStage, FreeStage, Lock, Defs}
 use Rattle.acct_outside.specs.Names.{is_staging, greatest_lock}
+use Rattle.acct_outside.specs.Pieces.{piece_limit}
 use Rattle.acct_outside.specs.Tokens.{Token, free_text}
 use Rattle.acct_outside.specs.Folder.{greatest}
 use Rattle.acct_outside.specs.Calls.{Command, Call, begins, lists, reads, asks, creates, writes, appends, renames, removes, answers}
@@ -37,9 +38,10 @@ pub record KeeperRule (standing : Standing) : Type 0 where
   pub number : ℕ
   pub keeps : standing.own ≡ lock_kept number
 
--- Write and append only at staging names.
+-- Write and append only at staging names, and at most 65,536 bytes in one call.
 pub record StagingRule (name : Name) (piece : Bytes) : Type 0 where
   pub staging : is_staging name ≡ true
+  pub small : length piece ≤ piece_limit
 
 -- Append only at a name at which the session has staged bytes.
 pub record AppendRule (standing : Standing) (name : Name) (piece : Bytes) : Type 0 where

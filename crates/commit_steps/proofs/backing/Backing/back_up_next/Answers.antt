@@ -3,13 +3,14 @@ use Rattle.std.proofs.lemmas.Bool.{cases_Bool}
 use Rattle.std.specs.Prelude.{IsSome}
 use Rattle.acct_outside.specs.declared.FolderFault.TheVariants.{Failed}
 use Rattle.acct_outside.specs.declared.Name.TheVariants.{BackupStage}
+use Rattle.acct_outside.specs.Pieces.{piece_at}
 use Rattle.acct_outside.specs.Calls.{writes}
 use Rattle.acct_outside.specs.Contract.{Tells}
 use Rattle.suite_rules.specs.Outcomes.{LeadsTo, before_commit}
 use Rattle.suite_rules.proofs.StepLemmas.{told-of}
 use Rattle.lock_steps.proofs.OutcomesLemmas.{counts}
 use Rattle.recovery.proofs.LeadsLemmas.{takes-step}
-use Rattle.commit_steps.specs.States.{Change, Walker, changed, old_bytes, old_files, step_on}
+use Rattle.commit_steps.specs.States.{Change, Walker, changed, has_staged, old_bytes, old_files, step_on}
 use Rattle.commit_steps.specs.Stands.{BacksUp}
 use Rattle.commit_steps.specs.Outcomes.{backup_call}
 use Rattle.commit_steps.specs.Walks.{WalksOn, token_of}
@@ -31,20 +32,23 @@ returns g c =
     c.self.view_is c.next.ensures.is_next in
     let stands = subst (λ (walker : Walker). IsSome (old_files walker.change next.table))
     c.self.view_is c.next.ensures.stands in
-    let is_staged = c.is_staged-is_staged.ensures
-    ∙ ap (λ (walker : Walker). walker.is_staged) c.self.view_is in
+    let is_staged = c.has_staged-is_staged.ensures
+    ∙ ap (λ (walker : Walker). has_staged walker) c.self.view_is in
+    let whole = c.requires.whole in
     let shown = subst (λ (walked : Walker). LeadsTo walked before_commit called c.leads.result)
     c.step_on.ensures c.leads.ensures.shown in
-    elim (cases_Bool walker.is_staged) as (λ either.
+    elim (cases_Bool (has_staged walker)) as (λ either.
     WalksOn backup_call BacksUp before_commit walker before now c.leads.result) [
       | inl staged ↦
           let came = c.back_up-called.ensures.moved (is_staged ∙ staged) in
           walks-on backup_call BacksUp before_commit walker next is_next
           (moves_backup_of next) (backup-staged walker next staged) before now c.leads.result
           (takes-step (moves_backup_of next) tt (BacksUp walker) BacksUp (step_on walker)
-          (λ answer stood held. backs-after-move walker next is_next stands staged stood held answer)
+          (λ answer stood held.
+          backs-after-move walker next is_next stands staged whole stood held answer)
           tt (λ result stood held. refl)
-          (λ deeds stood held. may-move-backup walker next is_next stands staged stood held deeds)
+          (λ deeds stood held.
+          may-move-backup walker next is_next stands staged whole stood held deeds)
           before_commit before now came.narrows (token_of walker) called c.leads.result shown
           c.requires.stands
           (told-of before now _ (token_of walker) (moves_backup_of next) called token came.told)
@@ -60,9 +64,10 @@ returns g c =
           (may-stage-backup walker next is_next) before_commit before now came.narrows
           (token_of walker) called c.leads.result shown c.requires.stands
           (subst (λ (change : Change). Tells before now (token_of walker)
-          (writes BackupStage (old_bytes change next.table)) called) change
+          (writes BackupStage (piece_at 0 (old_bytes change next.table))) called) change
           (told-of before now _ (token_of walker)
-          (writes BackupStage (old_bytes c.prepared.result.now next.table)) called token came.told))
+          (writes BackupStage (piece_at 0 (old_bytes c.prepared.result.now next.table))) called token
+          came.told))
           (counts (before_commit Failed) _ _ called c.leads.result c.leads.ensures.failed
           came.faults))
     ]

@@ -1,16 +1,17 @@
 use Rattle.std.proofs.Common.{refl, ap, subst, ◌∙◌}
 use Rattle.acct_outside.specs.declared.Name.TheVariants.{IntentStage}
+use Rattle.acct_text.specs.Bytes.{Bytes}
 use Rattle.acct_outside.specs.Calls.{writes}
+use Rattle.acct_outside.specs.Contract.{Tells}
 use Rattle.intent_file.specs.Intent.{ReadsIntent, intent_text}
 use Rattle.acct_outside.specs.declared.FolderFault.TheVariants.{Failed}
 use Rattle.suite_rules.specs.Outcomes.{LeadsTo, before_commit}
 use Rattle.suite_rules.proofs.StepLemmas.{told-of}
 use Rattle.lock_steps.proofs.OutcomesLemmas.{counts}
 use Rattle.recovery.proofs.LeadsLemmas.{acts-as, takes-step}
-use Rattle.commit_steps.specs.States.{Change, Walker, intended}
+use Rattle.commit_steps.specs.States.{Change, Stager, Walker, intended, intent_piece, begun_of}
 use Rattle.commit_steps.specs.Stands.{BacksUp, HasStagedIntent}
 use Rattle.commit_steps.specs.Walks.{token_of}
-use Rattle.commit_steps.proofs.WalksLemmas.{writes-same}
 use Rattle.commit_steps.proofs.BackupLemmas.{stages_intent, intent-after-write, may-stage-intent}
 use Rattle.commit_steps.proofs.backing.Backing.stage_intent.Goals as goal
 
@@ -31,18 +32,20 @@ returns g c =
     let narrows = c.write-written.ensures.narrows in
     let change = c.into_prepared-prepared.ensures
     ∙ ap (λ (walker : Walker). walker.change) c.self.view_is in
-    let text = c.as_slice-text.ensures ∙ c.text.ensures.value
-    ∙ ap (λ (change : Change). intent_text (intended change)) change in
+    let piece = c.intent_piece-piece.ensures.value
+    ∙ ap (λ (change : Change). intent_piece 0 change) change in
     let reads_it = subst (λ (change : Change).
-    ReadsIntent (intent_text (intended change)) (intended change)) change c.text.ensures.reads in
-    let shown = subst (λ (next : Change). LeadsTo next before_commit written c.leads.result)
-    (c.of.ensures ∙ change) c.leads.ensures.shown in
-    let told = writes-same before now (token_of walker) IntentStage c.as_slice-text.result.now _ written text
-    (told-of before now _ (token_of walker) (writes IntentStage c.as_slice-text.result.now) written
+    ReadsIntent (intent_text (intended change)) (intended change)) change c.intent_piece-piece.ensures.reads in
+    let shown = subst (λ (next : Stager). LeadsTo next before_commit written c.leads.result)
+    (c.of.ensures ∙ ap begun_of change) c.leads.ensures.shown in
+    let told = subst (λ (bytes : Bytes).
+    Tells before now (token_of walker) (writes IntentStage bytes) written) piece
+    (told-of before now _ (token_of walker)
+    (writes IntentStage c.intent_piece-piece.result.now) written
     (c.token.ensures ∙ ap (λ (change : Change). change.inputs.keeper.token) change)
     c.write-written.ensures.told) in
     takes-step (stages_intent walker reads_it) tt (BacksUp walker) HasStagedIntent
-    walker.change (intent-after-write walker reads_it c.requires.left) tt
+    (begun_of walker.change) (intent-after-write walker reads_it c.requires.left) tt
     (λ result stood held. refl) (may-stage-intent walker reads_it)
     before_commit before now narrows (token_of walker) written c.leads.result shown
     c.requires.stands told

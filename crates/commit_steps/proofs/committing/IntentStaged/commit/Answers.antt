@@ -3,7 +3,7 @@ use Rattle.suite_rules.specs.Steps.{asked}
 use Rattle.suite_rules.specs.Outcomes.{LeadsTo, at_commit}
 use Rattle.suite_rules.proofs.StepLemmas.{told-of, makes-call, leaves, stays-lawful, stands-both}
 use Rattle.recovery.proofs.LeadsLemmas.{leads-on}
-use Rattle.commit_steps.specs.States.{Change, Walker, walk_of}
+use Rattle.commit_steps.specs.States.{Stager, Walker, walk_of}
 use Rattle.commit_steps.specs.Stands.{HasStagedIntent, Installs, IsDeed}
 use Rattle.commit_steps.proofs.CommitLemmas.{commit_call, installs-after-commit, may-commit, commit-unsure}
 use Rattle.commit_steps.proofs.committing.IntentStaged.commit.Goals as goal
@@ -12,32 +12,34 @@ pub returns : goal.returns
 returns g c =
     let before = g.F.Folder.moment c.args.folder.now in
     let now = g.F.Folder.moment c.rename-moved.new.self in
-    let change = c.args.self in
+    let stager = c.args.self in
+    let change = stager.change in
+    let whole = c.requires.whole in
     let token = change.inputs.keeper.token in
     let moved = c.rename-moved.result in
     let narrows = c.rename-moved.ensures.narrows in
     let counts = c.rename-moved.ensures.faults in
     let shown = subst (λ (walker : Walker). LeadsTo walker at_commit moved c.commits.result)
-    (c.start.ensures ∙ ap walk_of c.self.view_is) c.commits.ensures.shown in
+    (c.start.ensures ∙ ap (λ (one : Stager). walk_of one.change) c.self.view_is) c.commits.ensures.shown in
     let told = told-of before now _ token commit_call moved
     (c.token-token.ensures
-    ∙ ap (λ (change : Change). change.inputs.keeper.token) c.self.view_is)
+    ∙ ap (λ (one : Stager). one.change.inputs.keeper.token) c.self.view_is)
     c.rename-moved.ensures.told in
     record {
-      call = makes-call before now narrows token commit_call tt (HasStagedIntent change) _
-          moved c.requires told shown;
-      next = leads-on commit_call tt (HasStagedIntent change) Installs (walk_of change)
-          (installs-after-commit change) at_commit before now narrows token moved c.commits.result
-          shown c.requires told;
-      unsure = commit-unsure change before now narrows token moved c.commits.result
-          shown c.requires told;
-      own = leaves before.admits now.admits narrows token commit_call tt (HasStagedIntent change)
-          asked (λ result stood held. refl) moved before.told now.told c.requires told;
+      call = makes-call before now narrows token commit_call tt (HasStagedIntent stager) _
+          moved c.requires.stands told shown;
+      next = leads-on commit_call tt (HasStagedIntent stager) Installs (walk_of change)
+          (installs-after-commit stager whole) at_commit before now narrows token moved c.commits.result
+          shown c.requires.stands told;
+      unsure = commit-unsure stager whole before now narrows token moved c.commits.result
+          shown c.requires.stands told;
+      own = leaves before.admits now.admits narrows token commit_call tt (HasStagedIntent stager)
+          asked (λ result stood held. refl) moved before.told now.told c.requires.stands told;
       lawful = λ deeds deed. stays-lawful deeds before.admits token commit_call tt
-          (λ stood. HasStagedIntent change stood × IsDeed deeds change stood)
-          (may-commit change deeds) moved before.told now.told
-          (stands-both before.admits token (HasStagedIntent change) (IsDeed deeds change)
-          before.told c.requires deed)
+          (λ stood. HasStagedIntent stager stood × IsDeed deeds change stood)
+          (may-commit stager whole deeds) moved before.told now.told
+          (stands-both before.admits token (HasStagedIntent stager) (IsDeed deeds change)
+          before.told c.requires.stands deed)
           told;
       faults = record {
         never_falls = counts.never_falls;

@@ -1,4 +1,4 @@
-use Rattle.std.proofs.Common.{◌≡◌, inl, inr, refl, ap, subst, ◌∙◌, slice_get, Some}
+use Rattle.std.proofs.Common.{◌≡◌, inl, inr, refl, sym, ap, subst, ◌∙◌, slice_get, Some}
 use Rattle.std.proofs.lemmas.Bool.{cases_Bool}
 use Rattle.acct_outside.specs.declared.FolderFault.TheVariants.{Failed}
 use Rattle.suite_rules.specs.Outcomes.{LeadsTo, after_commit, installs, stages}
@@ -6,12 +6,12 @@ use Rattle.suite_rules.proofs.StepLemmas.{told-of}
 use Rattle.lock_steps.proofs.OutcomesLemmas.{counts}
 use Rattle.recovery.proofs.CarryLemmas.{may-move, may-stage}
 use Rattle.recovery.proofs.LeadsLemmas.{takes-step}
-use Rattle.commit_steps.specs.States.{Change, Walker, changed, intended, step_on, tables_left}
+use Rattle.commit_steps.specs.States.{Change, Walker, changed, has_staged, intended, step_on, tables_left}
 use Rattle.commit_steps.specs.Stands.{Installs}
 use Rattle.commit_steps.specs.Outcomes.{install_call}
 use Rattle.commit_steps.specs.Walks.{WalksOn, token_of}
 use Rattle.commit_steps.proofs.WalksLemmas.{walks-on}
-use Rattle.commit_steps.proofs.InstallLemmas.{first-left, install-staged, install-unstaged, installs-after-move, installs-after-write}
+use Rattle.commit_steps.proofs.InstallLemmas.{first-left, install-staged, install-unstaged, installs-after-move, installs-after-write, pieces-are, staged-some}
 use Rattle.commit_steps.proofs.installing.Installing.install_next.Goals as goal
 
 pub returns : goal.returns
@@ -27,11 +27,12 @@ returns g c =
     let is_next = subst (λ (walker : Walker).
     slice_get (changed walker.change) walker.place ≡ Some next)
     c.self.view_is c.next.ensures.is_next in
-    let is_staged = c.is_staged-is_staged.ensures
-    ∙ ap (λ (walker : Walker). walker.is_staged) c.self.view_is in
+    let is_staged = c.has_staged-is_staged.ensures
+    ∙ ap (λ (walker : Walker). has_staged walker) c.self.view_is in
+    let whole = sym (pieces-are walker next is_next) ∙ c.requires.whole in
     let shown = subst (λ (walked : Walker). LeadsTo walked after_commit called c.leads.result)
     c.step_on.ensures c.leads.ensures.shown in
-    elim (cases_Bool walker.is_staged) as (λ either.
+    elim (cases_Bool (has_staged walker)) as (λ either.
     WalksOn install_call Installs after_commit walker before now c.leads.result) [
       | inl staged ↦
           let came = c.install-called.ensures.moved (is_staged ∙ staged) in
@@ -41,7 +42,7 @@ returns g c =
           (installs-after-move walker next is_next staged) tt (λ result stood held. refl)
           (λ deeds stood held. may-move (intended walker.change) walker.change.inputs.keeper
           (tables_left walker) stood held.carries next (first-left walker next is_next) deeds
-          (held.staged staged))
+          walker.staged (staged-some walker staged) whole (held.staged staged))
           after_commit before now came.narrows (token_of walker) called c.leads.result shown
           c.requires.stands
           (told-of before now _ (token_of walker) (installs next) called token came.told)
