@@ -15,15 +15,7 @@ use Rattle.acct_text.specs.Tables.{table_name}
 use Rattle.acct_outside.specs.Names.{greatest_lock, intent_limit}
 use Rattle.intent_file.specs.Intent.{NewTable, Intended, header, table_part, table_parts, end_part, is_within_limit, is_lock_number, ReadsIntent}
 use Rattle.intent_file.proofs.Reading.{at_most_six, allowed_parts}
-
--- the name of a table is short
-name-most : (table : Tab) → length (table_name table) ≤ 7
-name-most Passwd = lit≤ tt
-name-most Shadow = lit≤ tt
-name-most Group = lit≤ tt
-name-most Gshadow = lit≤ tt
-name-most Subuid = lit≤ tt
-name-most Subgid = lit≤ tt
+use Rattle.intent_file.proofs.SizeLemmas.{header-most, name-most}
 
 -- the part of a table has a short line beside its bytes
 part-most : (new : NewTable) → length new.bytes ≤ table_limit → length (table_part new) ≤ 16777234
@@ -55,29 +47,6 @@ parts-most (new ∷ tables) within =
   where
     least : (size : ℕ) → nat_le size table_limit ≡ true → size ≤ table_limit
     least size is = grind (arith, nat_tests)
-
--- the header is short
-header-most : (number count : ℕ) → is_lock_number number ≡ true → count ≤ 6 →
-    length (header number count) ≤ 39
-header-most number count is few =
-    let both = and_parts (nat_le 1 number) (nat_le number greatest_lock) is in
-    let most = least both.1 in
-    let digits : length (decimal number) ≤ 18 =
-    length-decimal-le 18 number (lit≤ tt) (omega (arith, most)) (omega (arith, most)) in
-    let digit : length (decimal count) ≤ 1 =
-    length-decimal-le 1 count (lit≤ tt) (omega (arith, few)) (omega (arith, few)) in
-    let words : length (codes "accounts-intent 1 ") ≡ 18 = refl in
-    let whole : length (header number count) ≡ length (codes "accounts-intent 1 ")
-    + (length (decimal number) + suc (length (decimal count) + 1)) =
-    length-append (codes "accounts-intent 1 ") _
-    ∙ ap (λ (rest : ℕ). length (codes "accounts-intent 1 ") + rest)
-    (length-append (decimal number) _
-    ∙ ap (λ (rest : ℕ). length (decimal number) + suc rest)
-    (length-append (decimal count) (codes "\n"))) in
-    omega (arith, words, whole, digits, digit)
-  where
-    least : nat_le number greatest_lock ≡ true → number ≤ greatest_lock
-    least is_most = grind (arith, nat_tests)
 
 -- the claim
 pub readable-within : (bytes : Bytes) (intent : Intended) → ReadsIntent bytes intent →

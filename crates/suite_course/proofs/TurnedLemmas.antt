@@ -42,6 +42,7 @@ called-within token answer history called = by-counts called.counts
       lower = called.lower;
       counts = counts;
       within = omega (arith, called.within);
+      appended = omega (arith, called.appended);
     }
 
 module _ (deeds : SuiteDeeds) (ours : AreOfTools deeds) where

@@ -1,14 +1,14 @@
 -- Claim: a turn of a session on its way keeps its calls within the bound (`called-then`), and its
 -- backups to the tables that it is to change (`backed-then`); so do its begin (`called-first`), its answer
 -- (`called-last`), and events of others (`called-still`, `within-still`).
--- Way: of a turn's new events one at most is the session's (`own-most`), and one call fewer is
--- left; each new event says itself which table it backs up.
-use Rattle.std.proofs.Common.{◌≡◌, ◌⊎◌, refl, sym, ap, subst, ◌<◌, ◌≤◌, ◌+◌, ◌++◌, [], ◌∷◌, ℕ, Bool, true, false, cond, length, inl, inr, Some, arith}
+-- Way: of a turn's new events one at most is the session's, of the call of its state (`grew-by`), and one
+-- such call fewer is left; each new event says itself which table it backs up.
+use Rattle.std.proofs.Common.{◌≡◌, ◌⊎◌, refl, sym, ap, subst, ◌<◌, ◌≤◌, ◌+◌, ◌∙◌, ◌++◌, [], ◌∷◌, ℕ, Bool, true, false, not, cond, filter, length, inl, inr, Some, arith}
 use Rattle.std.specs.List.{AllByRecursion}
 use Rattle.acct_outside.specs.Tokens.{Token}
-use Rattle.acct_outside.specs.Calls.{Command, begins, done}
-use Rattle.acct_outside.specs.History.{Event, History, is_of, own_events}
-use Rattle.acct_outside.specs.Others.{Admission, ByOthers, none_came, one_came}
+use Rattle.acct_outside.specs.Calls.{Answer as CallAnswer, Call, CallResult, Command, answers, begins, done}
+use Rattle.acct_outside.specs.History.{Event, History, own_events}
+use Rattle.acct_outside.specs.Others.{Admission, ByOthers}
 use Rattle.acct_outside.specs.Moment.{Past}
 use Rattle.acct_outside.specs.Contract.{NeverAdmits}
 use Rattle.suite_rules.proofs.StepLemmas.{Stayed, stayed}
@@ -18,36 +18,68 @@ use Rattle.suite_session.specs.declared.state.State.TheVariants.{Looking, Readin
 use Rattle.suite_session.specs.Runner.{Runner}
 use Rattle.suite_session.specs.Backing.{BackedUpChanges}
 use Rattle.suite_session.specs.Belongs.{of_others}
-use Rattle.suite_session.specs.Bound.{HasCalled, IsWithin}
-use Rattle.suite_session.specs.Counts.{CountsLower, CountsTo, IsToList, Nears}
-use Rattle.suite_session.specs.Grows.{Grows, none_new, others_new, own_new}
-use Rattle.suite_session.specs.Left.{calls_left, most_calls, most_lower}
+use Rattle.suite_session.specs.Bound.{HasCalled, IsWithin, appends_in, others_in}
+use Rattle.suite_session.specs.Counts.{CountsLower, CountsTo, IsToList, LeavesFewer, Nears, appends_by, others_by}
+use Rattle.suite_session.specs.Grows.{Grows}
+use Rattle.suite_session.specs.Left.{appends_left, calls_left, is_append, most_appends, most_calls, most_lower}
+use Rattle.suite_session.specs.NextCall.{state_call}
 use Rattle.suite_session.proofs.BackingLemmas.{NeverBacksUp, own-backed, grows-backed}
 use Rattle.suite_session.proofs.DueLemmas.{met-later}
 use Rattle.suite_session.proofs.GrowsLemmas.{grows-extends, others-extend, others-grow}
 
 -- ---- Own events
 
--- an event is one at most of the session's
-one-own : (own : Bool) (event : Event) (events : History) →
-    length (cond own (event ∷ events) events) ≤ length events + 1
-one-own true event events = omega arith
-one-own false event events = omega arith
+-- an event is an append more where its call is one, and else another call more
+appends-more : (event : Event) (events : History) →
+    appends_in (event ∷ events) ≡ appends_in events + appends_by event.call
+appends-more event events = cases (is_append event.call)
+  where
+    rest : History
+    rest = filter (λ one. is_append one.call) events
 
--- the session's events are at most so many more
-own-most : (admits : Admission) (token : Token) (old : History) → NeverAdmits admits token →
-    (most : ℕ) (new : History) → Grows admits token old most new →
-    length (own_events token new) ≤ length (own_events token old) + most
-own-most admits token old own most _ (none_new _) = omega arith
-own-most admits token old own most _ (others_new _ event new grown admitted) =
-    let none = (stayed admits token own new (event ∷ new)
-    (one_came event new none_came admitted)).same_events in
-    subst (λ (events : History). length events ≤ length (own_events token old) + most) (sym none)
-    (own-most admits token old own most new grown)
-own-most admits token old own _ _ (own_new most event new grown is backs) =
-    let before = own-most admits token old own most new grown in
-    let more = one-own (is_of token event) event (own_events token new) in
-    omega (arith, before, more)
+    cases : (append : Bool) →
+        length (cond append (event ∷ rest) rest) ≡ length rest + cond append 1 0
+    cases true = omega arith
+    cases false = omega arith
+
+others-more : (event : Event) (events : History) →
+    others_in (event ∷ events) ≡ others_in events + others_by event.call
+others-more event events = cases (is_append event.call)
+  where
+    rest : History
+    rest = filter (λ one. not (is_append one.call)) events
+
+    cases : (append : Bool) →
+        length (cond (not append) (event ∷ rest) rest) ≡ length rest + cond append 0 1
+    cases true = omega arith
+    cases false = omega arith
+
+-- the session got one event at most, which is of this call
+abbrev pub OneMade : Past → Past → Token → Call → Type 0 → Type 0
+OneMade was past token call NoMemory =
+    ((result : CallResult (CallAnswer call))
+    × (own_events token past.history
+    ≡ record { token = token; call = call; result = result } ∷ own_events token was.history))
+    ⊎ (NoMemory × (own_events token past.history ≡ own_events token was.history))
+
+-- so its appends and its other calls grew by that call at most
+record GrewBy (was past : Past) (token : Token) (call : Call) : Type 0 where
+  pub appends : appends_in (own_events token past.history)
+      ≤ appends_in (own_events token was.history) + appends_by call
+  pub others : others_in (own_events token past.history)
+      ≤ others_in (own_events token was.history) + others_by call
+
+grew-by : (was past : Past) (token : Token) (call : Call) (NoMemory : Type 0) →
+    OneMade was past token call NoMemory → GrewBy was past token call
+grew-by was past token call NoMemory (inl made) =
+    let event : Event = record { token = token; call = call; result = made.0 } in
+    let appends = ap appends_in made.1 ∙ appends-more event (own_events token was.history) in
+    let others = ap others_in made.1 ∙ others-more event (own_events token was.history) in
+    record { appends = omega (arith, appends); others = omega (arith, others) }
+grew-by was past token call NoMemory (inr none) =
+    let appends = ap appends_in none.1 in
+    let others = ap others_in none.1 in
+    record { appends = omega (arith, appends); others = omega (arith, others) }
 
 -- ---- Lower locks
 
@@ -66,20 +98,22 @@ counts-later token old new newer parts lower (inr shows) = inr (record {
 -- ---- The calls of a session
 
 -- sums of calls
-sums-then : (was now old new lower most : ℕ) → now ≤ was + 1 → new < old → was + old ≤ most + lower →
-    now + new ≤ most + lower
-sums-then was now old new lower most more fewer within = omega (arith, more, fewer, within)
+sums-then : (was now old new by most : ℕ) → now ≤ was + by → new + by ≤ old → was + old ≤ most →
+    now + new ≤ most
+sums-then was now old new by most more fewer within = omega (arith, more, fewer, within)
 
 -- where the second listing is still to come
-sums-near : (was now old new lower : ℕ) → now ≤ was + 1 → new < old → lower ≤ most_lower →
-    was + old ≤ most_calls + lower → now + new ≤ most_calls + most_lower
-sums-near was now old new lower more fewer most within = omega (arith, more, fewer, most, within)
+sums-near : (was now old new by lower : ℕ) → now ≤ was + by → by ≡ 1 → new < old →
+    lower ≤ most_lower → was + old ≤ most_calls + lower → now + new ≤ most_calls + most_lower
+sums-near was now old new by lower more one fewer most within =
+    omega (arith, more, one, fewer, most, within)
 
 -- where the answer alone is left, after so many calls
-sums-answer : (was now old new lower : ℕ) → now ≤ was + 1 → new ≡ 1 → 2 + most_lower ≤ old →
-    lower ≤ most_lower → was + old ≤ most_calls + lower → now + new ≤ most_calls + 0
-sums-answer was now old new lower more one high most within =
-    omega (arith, more, one, high, most, within)
+sums-answer : (was now old new by lower : ℕ) → now ≤ was + by → by ≡ 1 → new ≡ 1 →
+    2 + most_lower ≤ old → lower ≤ most_lower → was + old ≤ most_calls + lower →
+    now + new ≤ most_calls + 0
+sums-answer was now old new by lower more one last high most within =
+    omega (arith, more, one, last, high, most, within)
 
 -- where it showed so many lower locks
 sums-listed : (was now old new lower shown : ℕ) → now ≤ was + 1 →
@@ -88,24 +122,31 @@ sums-listed : (was now old new lower shown : ℕ) → now ≤ was + 1 →
 sums-listed was now old new lower shown more fewer most within =
     omega (arith, more, fewer, most, within)
 
+-- appends where none comes
+sums-same : (was now old new by most : ℕ) → now ≤ was + by → by ≡ 0 → new ≤ old →
+    was + old ≤ most → now + new ≤ most
+sums-same was now old new by most more none fewer within = omega (arith, more, none, fewer, within)
+
 sums-first : (now new lower : ℕ) → now ≡ 1 → new + 1 ≤ most_calls + lower →
     now + new ≤ most_calls + lower
 sums-first now new lower only fewer = omega (arith, only, fewer)
 
-sums-last : (was now lower most : ℕ) → now ≤ was + 1 → was + 1 ≤ most + lower → now ≤ most + lower
-sums-last was now lower most more within = omega (arith, more, within)
+sums-last : (was now by most : ℕ) → now ≤ was + by → was + by ≤ most → now ≤ most
+sums-last was now by most more within = omega (arith, more, within)
 
 -- a session whose begin is its only event has called that
 pub called-first : (token : Token) (command : Command) (state : State) (history : History)
     (lower : ℕ) → own_events token history
     ≡ record { token = token; call = begins command; result = done tt } ∷ [] →
     lower ≤ most_lower → IsToList state ⊎ CountsLower token history lower →
-    calls_left state + 1 ≤ most_calls + lower → HasCalled token state history
-called-first token command state history lower only most counts fewer = record {
+    calls_left state + 1 ≤ most_calls + lower → appends_left state ≤ most_appends →
+    HasCalled token state history
+called-first token command state history lower only most counts fewer few = record {
   lower = lower;
   most = most;
   counts = counts;
-  within = sums-first _ _ lower (ap (λ (events : History). length events) only) fewer;
+  within = sums-first _ _ lower (ap others_in only) fewer;
+  appended = (let none = ap appends_in only in omega (arith, none, few));
 }
 
 -- and has backed up nothing
@@ -128,11 +169,6 @@ module _ (admits : Admission) (runner : Runner) (was past : Past)
   longer : (newer : History) × (past.history ≡ newer ++ was.history)
   longer = grows-extends admits runner.token was.history 1 past.history grown
 
-  -- by one event of the session at most
-  one-more : length (own_events runner.token past.history)
-      ≤ length (own_events runner.token was.history) + 1
-  one-more = own-most admits runner.token was.history own 1 past.history grown
-
   -- the lower locks that are counted in one state are so in the next
   counted-on : (state next : State) (lower : ℕ) → (IsToList state → ⊥) →
       IsToList state ⊎ CountsLower runner.token was.history lower →
@@ -141,62 +177,91 @@ module _ (admits : Admission) (runner : Runner) (was past : Past)
   counted-on state next lower listed (inr counts) =
       inr (counts-later runner.token was.history past.history longer.0 longer.1 lower counts)
 
-  -- before the second listing a turn leads on towards it, or to the answer
-  nears-then : (next state : State) → 2 + most_lower ≤ calls_left state → Nears state next →
-      HasCalled runner.token state was.history → HasCalled runner.token next past.history
-  nears-then next state high nears called = by-next nears.next
-    where
-      by-next : IsToList next ⊎ (calls_left next ≡ 1) →
-          HasCalled runner.token next past.history
-      by-next (inl is) = record {
-        lower = most_lower;
-        most = omega arith;
-        counts = inl is;
-        within = sums-near _ _ _ _ called.lower one-more nears.fewer called.most called.within;
-      }
-      by-next (inr one) = record {
-        lower = 0;
-        most = omega arith;
-        counts = inr (inl refl);
-        within = sums-answer _ _ _ _ called.lower one-more one high called.most called.within;
-      }
+  module _ (call : Call) (grew : GrewBy was past runner.token call) where
+    -- before the second listing a turn leads on towards it, or to the answer
+    nears-then : (next state : State) → others_by call ≡ 1 → appends_by call ≡ 0 →
+        2 + most_lower ≤ calls_left state → Nears state next →
+        HasCalled runner.token state was.history → HasCalled runner.token next past.history
+    nears-then next state one none high nears called = by-next nears.next
+      where
+        by-next : IsToList next ⊎ (calls_left next ≡ 1) →
+            HasCalled runner.token next past.history
+        by-next (inl is) = record {
+          lower = most_lower;
+          most = omega arith;
+          counts = inl is;
+          within = sums-near _ _ _ _ _ called.lower grew.others one nears.fewer called.most
+              called.within;
+          appended = sums-same _ _ _ _ _ most_appends grew.appends none nears.appends
+              called.appended;
+        }
+        by-next (inr last) = record {
+          lower = 0;
+          most = omega arith;
+          counts = inr (inl refl);
+          within = sums-answer _ _ _ _ _ called.lower grew.others one last high called.most
+              called.within;
+          appended = sums-same _ _ _ _ _ most_appends grew.appends none nears.appends
+              called.appended;
+        }
 
-  -- after it a turn leaves a call fewer
-  fewer-then : (next state : State) → (IsToList state → ⊥) →
-      calls_left next < calls_left state → HasCalled runner.token state was.history →
-      HasCalled runner.token next past.history
-  fewer-then next state listed fewer called = record {
-    lower = called.lower;
-    most = called.most;
-    counts = counted-on state next called.lower listed called.counts;
-    within = sums-then _ _ _ _ _ _ one-more fewer called.within;
-  }
+    -- after it a turn leaves a call fewer
+    fewer-then : (next state : State) → state_call state ≡ call → (IsToList state → ⊥) →
+        LeavesFewer state next → HasCalled runner.token state was.history →
+        HasCalled runner.token next past.history
+    fewer-then next state called_is listed fewer called = record {
+      lower = called.lower;
+      most = called.most;
+      counts = counted-on state next called.lower listed called.counts;
+      within = sums-then _ _ _ _ (others_by call) _ grew.others
+          (subst (λ (one : Call). calls_left next + others_by one ≤ calls_left state) called_is
+          fewer.calls) called.within;
+      appended = sums-then _ _ _ _ (appends_by call) _ grew.appends
+          (subst (λ (one : Call). appends_left next + appends_by one ≤ appends_left state)
+          called_is fewer.appends) called.appended;
+    }
 
   -- so its calls are within the bound after the next turn
-  pub called-then : (next state : State) → CountsTo (Some past) runner state next →
-      HasCalled runner.token state was.history → HasCalled runner.token next past.history
-  called-then next (Looking looking) counts called =
-      nears-then next (Looking looking) (omega arith) counts called
-  called-then next (Reading seen) counts called =
-      nears-then next (Reading seen) (omega arith) counts called
-  called-then next (Asking asking) counts called =
-      nears-then next (Asking asking) (omega arith) counts called
-  called-then next (Claiming judged) counts called =
-      nears-then next (Claiming judged) (omega arith) counts called
-  called-then next (Confirming claimed) counts called = record {
-    lower = counts.lower;
-    most = counts.most;
-    counts = inr counts.counts;
-    within = sums-listed _ _ _ _ called.lower counts.lower one-more counts.fewer called.most
-        called.within;
-  }
-  called-then next state counts called = fewer-then next state (λ is. is) counts called
+  pub called-then : (next state : State) (NoMemory : Type 0) →
+      OneMade was past runner.token (state_call state) NoMemory →
+      CountsTo (Some past) runner state next → HasCalled runner.token state was.history →
+      HasCalled runner.token next past.history
+  called-then next (Looking looking) NoMemory made counts called =
+      nears-then (state_call (Looking looking)) (grew-by was past runner.token _ NoMemory made) next (Looking looking) refl refl
+      (omega arith) counts called
+  called-then next (Reading seen) NoMemory made counts called =
+      nears-then (state_call (Reading seen)) (grew-by was past runner.token _ NoMemory made) next (Reading seen) refl refl
+      (omega arith) counts called
+  called-then next (Asking asking) NoMemory made counts called =
+      nears-then (state_call (Asking asking)) (grew-by was past runner.token _ NoMemory made) next (Asking asking) refl refl
+      (omega arith) counts called
+  called-then next (Claiming judged) NoMemory made counts called =
+      nears-then (state_call (Claiming judged)) (grew-by was past runner.token _ NoMemory made) next (Claiming judged) refl refl
+      (omega arith) counts called
+  called-then next (Confirming claimed) NoMemory made counts called =
+      let grew = grew-by was past runner.token (state_call (Confirming claimed)) NoMemory made in
+      record {
+        lower = counts.lower;
+        most = counts.most;
+        counts = inr counts.counts;
+        within = sums-listed _ _ _ _ called.lower counts.lower grew.others counts.fewer called.most
+            called.within;
+        appended = sums-same _ _ _ _ _ most_appends grew.appends refl counts.appends
+            called.appended;
+      }
+  called-then next state NoMemory made counts called =
+      fewer-then (state_call state) (grew-by was past runner.token _ NoMemory made) next state refl
+      (λ is. is) counts called
 
   -- and with its answer
-  pub called-last : (given : Answer) → HasCalled runner.token (Answering given) was.history →
-      IsWithin runner.token past.history
-  called-last given called = by-counts called.counts
+  pub called-last : (given : Answer) (status : ℕ) (NoMemory : Type 0) →
+      OneMade was past runner.token (answers status) NoMemory →
+      HasCalled runner.token (Answering given) was.history → IsWithin runner.token past.history
+  called-last given status NoMemory made called = by-counts called.counts
     where
+      grew : GrewBy was past runner.token (answers status)
+      grew = grew-by was past runner.token (answers status) NoMemory made
+
       by-counts : ⊥ ⊎ CountsLower runner.token was.history called.lower →
           IsWithin runner.token past.history
       by-counts (inl never) = absurd never
@@ -204,7 +269,8 @@ module _ (admits : Admission) (runner : Runner) (was past : Past)
         lower = called.lower;
         counts = counts-later runner.token was.history past.history longer.0 longer.1
             called.lower counts;
-        within = sums-last _ _ _ _ one-more called.within;
+        within = sums-last _ _ _ _ grew.others called.within;
+        appended = sums-last _ _ _ _ grew.appends called.appended;
       }
 
 -- ---- After events of others
@@ -240,8 +306,10 @@ module _ (token : Token) (old new : History) (came : ByOthers (of_others token) 
     lower = called.lower;
     most = called.most;
     counts = counts-still called.counts;
-    within = subst (λ (events : History). length events + calls_left state ≤ most_calls + called.lower)
+    within = subst (λ (events : History). others_in events + calls_left state ≤ most_calls + called.lower)
         (sym others-leave.same_events) called.within;
+    appended = subst (λ (events : History). appends_in events + appends_left state ≤ most_appends)
+        (sym others-leave.same_events) called.appended;
   }
 
   pub within-still : IsWithin token old → IsWithin token new
@@ -249,6 +317,8 @@ module _ (token : Token) (old new : History) (came : ByOthers (of_others token) 
     lower = called.lower;
     counts = counts-later token old new longer-by-others.0 longer-by-others.1 called.lower
         called.counts;
-    within = subst (λ (events : History). length events ≤ most_calls + called.lower)
+    within = subst (λ (events : History). others_in events ≤ most_calls + called.lower)
         (sym others-leave.same_events) called.within;
+    appended = subst (λ (events : History). appends_in events ≤ most_appends)
+        (sym others-leave.same_events) called.appended;
   }

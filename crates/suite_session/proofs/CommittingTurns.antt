@@ -1,9 +1,9 @@
--- Claims: each step on the way to a commit leads to the next state of the change (`backs-on`,
--- `stages-intent`), the commit to the installation with its answer (`commits-stands`), and each step after
--- it to the next with the answer still due (`installs-on`, `clears`).
+-- Claims: each call on the way to a commit leads to the next state of the change (`backs-to`,
+-- `stages-intent`, `adds-intent`), the commit to the installation with its answer (`commits-stands`), and
+-- each call after it to the next with the answer still due (`installs-to`, `clears`).
 -- Way: the typed step gives the standing. Just before the commit the session is a clean keeper that
 -- has seen the inputs, and this stays an earlier moment of each longer history.
-use Rattle.std.proofs.Common.{◌≡◌, [], refl, sym, ap, subst, ◌∙◌, slice_get, Option, Some, None, IfSome, Result, Ok, Err}
+use Rattle.std.proofs.Common.{◌≡◌, [], refl, sym, ap, subst, ◌∙◌, Option, Some, None, IfSome, Result, Ok, Err}
 use Rattle.acct_text.specs.Bytes.{Bytes}
 use Rattle.acct_text.specs.Contents.{Contents}
 use Rattle.acct_text.specs.Files.{table_of}
@@ -16,7 +16,6 @@ use Rattle.acct_outside.specs.declared.Name.TheVariants.{Intent, IntentStage}
 use Rattle.acct_outside.specs.Tokens.{Token}
 use Rattle.acct_outside.specs.Calls.{Command, Call, Answer, CallResult, renames}
 use Rattle.acct_outside.specs.Contract.{MayAnswer}
-use Rattle.intent_file.specs.Intent.{NewTable}
 use Rattle.suite_rules.specs.Deeds.{SuiteDeeds}
 use Rattle.suite_rules.specs.Knowledge.{nothing_seen}
 use Rattle.suite_rules.specs.Standing.{Standing, standing_step}
@@ -25,9 +24,8 @@ use Rattle.suite_rules.specs.Outcomes.{LeadsTo, at_commit, before_commit}
 use Rattle.suite_rules.proofs.StepLemmas.{stands-left, stands-weaker}
 use Rattle.lock_steps.specs.States.{Kept}
 use Rattle.lock_steps.specs.Stands.{Keeps, KnowsAnything}
-use Rattle.commit_steps.specs.States.{Change, Walker, changed, step_on, walk_of}
+use Rattle.commit_steps.specs.States.{Change, Stager, Walker, append_intent, begun_of, walk_of}
 use Rattle.commit_steps.specs.Stands.{BacksUp, HasStagedIntent, HasCleared, Installs, IsDeed, StandsUnsure}
-use Rattle.commit_steps.specs.Outcomes.{backup_call}
 use Rattle.commit_steps.specs.Walks.{token_of}
 use Rattle.suite_answers.specs.declared.cause.Cause.TheVariants.{Changed}
 use Rattle.suite_answers.specs.declared.answer.Answer.{Answer as FinalAnswer}
@@ -51,7 +49,6 @@ use Rattle.suite_session.proofs.TurnLemmas.{HasMetNow, goes-on, extended, told-l
 use Rattle.suite_session.proofs.LeadsLemmas.{leads-on, leads-fault}
 use Rattle.suite_session.proofs.DueLemmas.{earlier-stays}
 use Rattle.suite_session.proofs.GrowsLemmas.{grew-extends, tells-grow}
-use Rattle.suite_session.proofs.WalkingLemmas.{backup-calls, backup-quiet, step-change}
 
 -- ---- A fault of the commit
 
@@ -86,38 +83,39 @@ commit-ended next (Ok answer) fault shown = absurd shown
 module _ (before now : Moment) (runner : Runner) (answer : FinalAnswer) where
   module _ (walker : Walker)
       (stood : StandsChanging before runner walker.change (BacksUp walker) answer) where
-    -- a step of the backups
-    pub backs-on : (next : NewTable) →
-        slice_get (changed walker.change) walker.place ≡ Some next → (walked : Walker) →
-        MakesCall before now (token_of walker)
-        (backup_call walker next)
-        (λ result. LeadsTo (step_on walker) before_commit result (Ok walked)) →
+    -- a call for the backups, which leads on and keeps the change
+    pub backs-to : (call : Call)
+        (of_turn : IsTurnCall (Runs runner Before (BacksUp walker)) call)
+        (quiet : (result : CallResult (Answer call)) (one : Standing) →
+        own_command (standing_step call result one) ≡ own_command one) (on walked : Walker) →
+        on.change ≡ walker.change →
+        MakesCall before now (token_of walker) call
+        (λ result. LeadsTo on before_commit result (Ok walked)) →
         StandsIn now (token_of walker) (BacksUp walked) →
         StandsChanging now runner walked.change (BacksUp walked) answer
-    backs-on next place_is walked made stands =
-        let is = leads-on (step_on walker) before_commit made.answer walked made.shown in
-        let change = ap (λ (one : Walker). one.change) is ∙ step-change walker in
+    backs-to call of_turn quiet on walked keeps made stands =
+        let is = leads-on on before_commit made.answer walked made.shown in
+        let change = ap (λ (one : Walker). one.change) is ∙ keeps in
         record {
           same = ap (λ (one : Change). one.inputs.keeper.token) change ∙ stood.same;
           stands = goes-on before now runner Before (BacksUp walker) stood.stands
-              (token_of walker) stood.same (backup_call walker next)
-              (backup-calls runner answer walker next stood.of_change place_is) _
-              (backup-quiet walker next) made (BacksUp walked) stands;
+              (token_of walker) stood.same call of_turn _ quiet made (BacksUp walked) stands;
           of_change = subst (λ (one : Change). IsOfChange runner one answer) (sym change)
               stood.of_change;
         }
 
-    -- the write of the intent
+    -- the write of the intent's first piece
     pub stages-intent : (call : Call)
         (of_turn : IsTurnCall (Runs runner Before (BacksUp walker)) call)
         (quiet : (result : CallResult (Answer call)) (one : Standing) →
-        own_command (standing_step call result one) ≡ own_command one) (staged : Change) →
+        own_command (standing_step call result one) ≡ own_command one) (staged : Stager) →
         MakesCall before now (token_of walker) call
-        (λ result. LeadsTo walker.change before_commit result (Ok staged)) →
+        (λ result. LeadsTo (begun_of walker.change) before_commit result (Ok staged)) →
         StandsIn now (token_of walker) (HasStagedIntent staged) →
-        StandsChanging now runner staged (HasStagedIntent staged) answer
+        StandsChanging now runner staged.change (HasStagedIntent staged) answer
     stages-intent call of_turn quiet staged made stands =
-        let change = leads-on walker.change before_commit made.answer staged made.shown in
+        let is = leads-on (begun_of walker.change) before_commit made.answer staged made.shown in
+        let change = ap (λ (one : Stager). one.change) is in
         record {
           same = ap (λ (one : Change). one.inputs.keeper.token) change ∙ stood.same;
           stands = goes-on before now runner Before (BacksUp walker) stood.stands
@@ -127,8 +125,33 @@ module _ (before now : Moment) (runner : Runner) (answer : FinalAnswer) where
               stood.of_change;
         }
 
-  module _ (change : Change)
-      (stood : StandsChanging before runner change (HasStagedIntent change) answer) where
+  module _ (stager : Stager)
+      (stood : StandsChanging before runner stager.change (HasStagedIntent stager) answer) where
+    -- the change whose intent is staged
+    abbrev change : Change
+    change = stager.change
+
+    -- an append of a further piece of the intent
+    pub adds-intent : (call : Call)
+        (of_turn : IsTurnCall (Runs runner Before (HasStagedIntent stager)) call)
+        (quiet : (result : CallResult (Answer call)) (one : Standing) →
+        own_command (standing_step call result one) ≡ own_command one) (staged : Stager) →
+        MakesCall before now change.inputs.keeper.token call
+        (λ result. LeadsTo (append_intent stager) before_commit result (Ok staged)) →
+        StandsIn now change.inputs.keeper.token (HasStagedIntent staged) →
+        StandsChanging now runner staged.change (HasStagedIntent staged) answer
+    adds-intent call of_turn quiet staged made stands =
+        let is = leads-on (append_intent stager) before_commit made.answer staged made.shown in
+        let same = ap (λ (one : Stager). one.change) is in
+        record {
+          same = ap (λ (one : Change). one.inputs.keeper.token) same ∙ stood.same;
+          stands = goes-on before now runner Before (HasStagedIntent stager) stood.stands
+              change.inputs.keeper.token stood.same call of_turn _ quiet made
+              (HasStagedIntent staged) stands;
+          of_change = subst (λ (one : Change). IsOfChange runner one answer) (sym same)
+              stood.of_change;
+        }
+
     -- the answer is that of a change
     is-changed : answer.outcome.cause ≡ Changed
     is-changed = stood.of_change.is_answer.has_cause
@@ -137,7 +160,7 @@ module _ (before now : Moment) (runner : Runner) (answer : FinalAnswer) where
     -- just before its commit it was a clean keeper that had seen all
     answered-all : (was : Past) →
         StandsWhere before.admits (Some was) runner.token
-        (Runs runner Before (HasStagedIntent change)) →
+        (Runs runner Before (HasStagedIntent stager)) →
         AnsweredAll runner answer was.history
     answered-all was stands =
         let held = stands.holds.holds in
@@ -166,7 +189,7 @@ module _ (before now : Moment) (runner : Runner) (answer : FinalAnswer) where
         StandsIn before change.inputs.keeper.token (IsDeed deeds change)
     is-deed deeds ours =
         stands-weaker before.admits change.inputs.keeper.token
-        (Runs runner Before (HasStagedIntent change)) (IsDeed deeds change)
+        (Runs runner Before (HasStagedIntent stager)) (IsDeed deeds change)
         (λ one runs. record {
           command = runner.asked.command;
           is_asked = runs.asked;
@@ -176,7 +199,7 @@ module _ (before now : Moment) (runner : Runner) (answer : FinalAnswer) where
         })
         before.told
         (subst (λ (token : Token). StandsIn before token
-        (Runs runner Before (HasStagedIntent change))) (sym stood.same) stood.stands)
+        (Runs runner Before (HasStagedIntent stager))) (sym stood.same) stood.stands)
 
     module _ (Shows : Result (Unit {0}) FolderFault → Type 0)
         (made : MakesCall before now
@@ -200,7 +223,7 @@ module _ (before now : Moment) (runner : Runner) (answer : FinalAnswer) where
       -- once its commit was done, the answer is due
       committed-due : (Holds : Standing → Type 0) (was told : Option Past) →
           StandsWhere before.admits was runner.token
-          (Runs runner Before (HasStagedIntent change)) →
+          (Runs runner Before (HasStagedIntent stager)) →
           StandsWhere now.admits told runner.token (Runs runner Committed Holds) →
           Extends was told → IfSome told (IsDue runner answer)
       committed-due Holds None None held stands extends = tt
@@ -231,7 +254,7 @@ module _ (before now : Moment) (runner : Runner) (answer : FinalAnswer) where
           })
           now.told
           (stands-left asked_of (Some runner.asked.command)
-          (Runs runner Before (HasStagedIntent change)) (Installs walked)
+          (Runs runner Before (HasStagedIntent stager)) (Installs walked)
           (λ one runs. runs.asked) before.admits now.admits runner.token before.told now.told
           stood.stands left-asked
           (subst (λ (token : Token). StandsIn now token (Installs walked))
@@ -256,7 +279,7 @@ module _ (before now : Moment) (runner : Runner) (answer : FinalAnswer) where
           IsTold runner.asked.request.tool (cause_of_fault fault.stage fault.fault) given →
           (was told : Option Past) →
           StandsWhere before.admits was runner.token
-          (Runs runner Before (HasStagedIntent change)) →
+          (Runs runner Before (HasStagedIntent stager)) →
           StandsUnsure told runner.token fault → LeavesWhere asked_of runner.token was told →
           IfSome told (λ past.
           IsMetAs runner.token past.history (cause_of_fault fault.stage fault.fault)) →
@@ -330,17 +353,16 @@ module _ (before now : Moment) (runner : Runner) (answer : FinalAnswer) where
             (token_of walker) stood.same call of_turn Shows quiet made);
       }
 
-      -- a step of the installation
-      pub installs-on : (walked : Walker) → walked ≡ step_on walker →
+      -- a call of the installation, which leads on and keeps the change
+      pub installs-to : (on walked : Walker) → on.change ≡ walker.change → walked ≡ on →
           StandsIn now (token_of walker) (Installs walked) →
           StandsInstalling now runner walked answer
-      installs-on walked is next =
+      installs-to on walked keeps is next =
           let stands = goes-on before now runner Committed (Installs walker) stood.stands
           (token_of walker) stood.same call of_turn Shows quiet made (Installs walked) next in
           record {
             same = ap token_of is
-                ∙ (ap (λ (one : Change). one.inputs.keeper.token) (step-change walker)
-                ∙ stood.same);
+                ∙ (ap (λ (one : Change). one.inputs.keeper.token) keeps ∙ stood.same);
             stands = stands;
             changed = stood.changed;
             gives = gives-still (Installs walked) stands;

@@ -1,5 +1,6 @@
 pub mod Parts
 pub mod AnswerLemmas
+pub mod AppendsLemmas
 pub mod BackingLemmas
 pub mod BeginTurns
 mod BelongingTurns
@@ -7,6 +8,7 @@ pub mod BelongsLemmas
 mod BoundLemmas
 mod CallsLemmas
 mod CauseLemmas
+mod CommitCalls
 mod CommittingTurns
 mod WalkingLemmas
 pub mod DueLemmas

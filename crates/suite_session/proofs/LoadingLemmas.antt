@@ -49,6 +49,15 @@ done-keeper reader inputs (Ok (found_bytes bytes)) shown = ap (λ (one : Inputs)
 done-keeper reader inputs (Ok found_too_large) shown = absurd shown
 done-keeper reader inputs (Err fault) shown = absurd shown
 
+pub done-files : (reader : Reader) (inputs : Inputs) (answer : Result Found FolderFault) →
+    Loads reader answer (Ok (Done inputs)) → inputs.files ≡ reader.files
+done-files reader inputs (Ok found_absent) shown = ap (λ (one : Inputs). one.files)
+    (content-done reader inputs reader.next None shown)
+done-files reader inputs (Ok (found_bytes bytes)) shown = ap (λ (one : Inputs). one.files)
+    (content-done reader inputs reader.next (Some bytes) shown)
+done-files reader inputs (Ok found_too_large) shown = absurd shown
+done-files reader inputs (Err fault) shown = absurd shown
+
 -- of one that finds no table
 content-missing : (reader : Reader) (missing : Tab) (kept : Kept) (next : Option Tab) →
     LoadsContent reader next None (Err (NoTable missing kept)) →

@@ -28,7 +28,8 @@ use Rattle.commit_steps.specs.declared.Loading.{Loading as Loaded}
 use Rattle.commit_steps.specs.declared.Loading.TheVariants.{More, Done}
 use Rattle.commit_steps.specs.declared.LoadEnd.{LoadEnd}
 use Rattle.commit_steps.specs.declared.LoadEnd.TheVariants.{Fault, TooLarge, NoTable}
-use Rattle.commit_steps.specs.States.{AreSound, Reader, Inputs, Walker, next_name, walk_of}
+use Rattle.commit_steps.specs.States.{intended, AreSound, Reader, Inputs, Walker, next_name, walk_of}
+use Rattle.intent_file.specs.Intent.{ReadsIntent, intent_text}
 use Rattle.commit_steps.specs.Stands.{BacksUp, HasRead, HasLoaded, HasMissed, StandsLoading, StandsEnded}
 use Rattle.commit_steps.specs.Outcomes.{Loads, LoadsContent, is_missing}
 use Rattle.commit_steps.proofs.BackupLemmas.{starts-backing}
@@ -50,7 +51,7 @@ use Rattle.suite_session.specs.Deeds.{is_change}
 use Rattle.suite_session.specs.Due.{ShowsLarge, IsShown, IsDue}
 use Rattle.suite_session.specs.Loading.{DecidesOn, DecidesTo, EndsAt, LoadsTo}
 use Rattle.suite_session.specs.Locking.{cause_of_fault}
-use Rattle.suite_session.specs.Stands.{IsOutside, LeavesWith, StandsAs, StandsChanging, StandsUnlocking, TellsOutside}
+use Rattle.suite_session.specs.Stands.{IsOfChange, IsOutside, LeavesWith, StandsAs, StandsChanging, StandsUnlocking, TellsOutside}
 use Rattle.suite_session.specs.Causes.{Met}
 use Rattle.suite_session.proofs.CauseLemmas.{answers-fault, fault-failed, fault-plain, fault-stage, leaves-fault}
 use Rattle.suite_session.proofs.LeavingLemmas.{clean-known, fault-stopped}
@@ -411,10 +412,12 @@ pub of-change : (runner : Runner) (inputs : Inputs) (new : Files) (answer : Fina
     Asks runner.asked.command.words runner.asked.request →
     DecidesOn runner.asked inputs.files inputs.defs (Changes new answer) → (walker : Walker) →
     walker ≡ walk_of (record { inputs = inputs; new = new }) →
+    ReadsIntent (intent_text (intended walker.change)) (intended walker.change) →
     DecidesTo runner inputs (BackingUp walker answer)
-of-change runner inputs new answer asks decides walker is =
-    subst (λ (one : Walker). DecidesTo runner inputs (BackingUp one answer)) (sym is) (
-      refl,
-      refl,
-      record { asks = asks; is_answer = decides.0; is_change = decides.1 },
-    )
+of-change runner inputs new answer asks decides walker is small = (
+  is ∙ ap (λ (one : Walker). walk_of one.change) (sym is),
+  ap (λ (one : Walker). one.change.inputs) is,
+  subst (λ (one : Walker). IsOfChange runner one.change answer) (sym is)
+      (record { asks = asks; is_answer = decides.0; is_change = decides.1 }),
+  small,
+)

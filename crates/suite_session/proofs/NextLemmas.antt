@@ -114,17 +114,17 @@ module _ (now : Moment) (runner : Runner) where
       next-ready (BackingUp walker answer) may way =
           going Before (BacksUp walker) (BackingUp walker answer)
           (λ stood runs. runs.holds) may (led (BackingUp walker answer) refl way).stands
-      next-ready (Committing change answer) may way =
-          let stands = led (Committing change answer) refl way in
-          going Before (HasStagedIntent change) (Committing change answer)
+      next-ready (Committing stager answer) may way =
+          let stands = led (Committing stager answer) refl way in
+          going Before (HasStagedIntent stager) (Committing stager answer)
           (λ stood runs. (
             runs.holds,
             record {
               command = runner.asked.command;
               is_asked = runs.asked;
               is_deed = ap (λ (deed : Command → Contents → Option Bytes → Option Contents).
-                  deed runner.asked.command (table_of change.inputs.files) change.inputs.defs)
-                  ours.is_deed ∙ made-deed runner answer change stands.of_change;
+                  deed runner.asked.command (table_of stager.change.inputs.files) stager.change.inputs.defs)
+                  ours.is_deed ∙ made-deed runner answer stager.change stands.of_change;
             },
           )) may stands.stands
       next-ready (Installing walker answer) may way =

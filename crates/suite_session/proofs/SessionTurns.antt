@@ -1,7 +1,7 @@
 -- Claim: a step leads on to a state to which the session's events lead (`steps-to`); and the answer of a
 -- session is its last event, which the rules permit (`answers-turn`).
 -- Way: an answer leaves the session's standing, as an event of its own after those of others.
-use Rattle.std.proofs.Common.{◌≡◌, refl, sym, ap, subst, ◌∙◌, ◌+◌, ℕ, ◌<◌, ◌≤◌, Bool, true, false, inl, Option, Some, None, IfSome, Result, Ok, arith}
+use Rattle.std.proofs.Common.{◌≡◌, refl, sym, ap, subst, ◌∙◌, ◌+◌, ℕ, ◌<◌, ◌≤◌, Bool, true, false, cond, inl, Option, Some, None, IfSome, Result, Ok, arith}
 use Rattle.acct_outside.specs.declared.streams.SinkFault.{SinkFault}
 use Rattle.acct_outside.specs.Calls.{Call, answers, done}
 use Rattle.acct_outside.specs.History.{own_events}
@@ -28,12 +28,12 @@ use Rattle.suite_session.specs.Answers.{after_streams, Says}
 use Rattle.suite_session.specs.Deeds.{AreOfTools}
 use Rattle.suite_session.specs.Due.{IsDue}
 use Rattle.suite_session.specs.Belongs.{CameTo, IsLedTo, IsOnItsWay}
-use Rattle.suite_session.specs.Counts.{CountsTo}
+use Rattle.suite_session.specs.Counts.{CountsTo, LeavesFewer, appends_by, others_by}
 use Rattle.suite_session.specs.Grows.{Grew}
-use Rattle.suite_session.specs.Left.{calls_left, most_lower}
+use Rattle.suite_session.specs.Left.{appends_left, calls_left, is_append, most_lower}
 use Rattle.suite_session.specs.NextCall.{state_call}
 use Rattle.suite_session.specs.Turning.{TakesTurn, GaveLeft, HasAnswered, StepsTo}
-use Rattle.suite_session.specs.Stands.{HasLeft, MakesOne, IsStopped, StaysTold, TurnsTo}
+use Rattle.suite_session.specs.Stands.{FindsNoMemory, HasLeft, MakesOne, IsStopped, StaysTold, TurnsTo}
 use Rattle.suite_session.specs.Telling.{DropsNothing, MayFollow, Tells as CauseTells}
 use Rattle.suite_session.proofs.TellingLemmas.{tells-others, tells-own}
 use Rattle.suite_session.proofs.LeavingLemmas.{left-same}
@@ -53,18 +53,20 @@ listed-fewer new old lower fewer most = omega (arith, fewer, most)
 -- a turn of a session that came to a state leads on to the next
 came-on : (admits : Admission) (runner : Runner) (old new : State) (was told : Option Past) →
     CountsTo told runner old new →
+    MakesOne was told runner.token (state_call old) (FindsNoMemory new) →
     Grew admits runner.token 1 was told → IfSome was (λ past. NeverAdmits admits runner.token) →
     StaysTold was told runner.token old new → IfSome was (CameTo runner old) →
     IfSome told (CameTo runner new)
-came-on admits runner old new None None counts grew own stays came = tt
-came-on admits runner old new (Some was) (Some past) counts grew own stays came = record {
+came-on admits runner old new None None counts one grew own stays came = tt
+came-on admits runner old new (Some was) (Some past) counts one grew own stays came = record {
   named = came.named;
   remembers = stays.1 came.remembers;
-  called = called-then admits runner was past own grew.1 new old counts came.called;
+  called = called-then admits runner was past own grew.1 new old (FindsNoMemory new) one.1 counts
+      came.called;
   backed = backed-then admits runner was past own grew.1 came.backed;
 }
-came-on admits runner old new None (Some past) counts grew own stays came = absurd grew
-came-on admits runner old new (Some was) None counts grew own stays came = tt
+came-on admits runner old new None (Some past) counts one grew own stays came = absurd grew
+came-on admits runner old new (Some was) None counts one grew own stays came = tt
 
 -- a turn of a session whose events led to a state leads to the next
 pub steps-to : (before now : Moment) (runner : Runner) (old new : State) →
@@ -76,8 +78,8 @@ steps-to before now runner old new led made =
       turns = record {
         stands = record {
           stands = turns.stands;
-          came = came-on before.admits runner old new before.told now.told made.counts turns.grew
-              (state-own before runner old led.stands) made.turns.remembers led.came;
+          came = came-on before.admits runner old new before.told now.told made.counts
+              made.turns.makes_one turns.grew (state-own before runner old led.stands) made.turns.remembers led.came;
         };
         grew = turns.grew;
         lawful = turns.lawful;
@@ -88,16 +90,41 @@ steps-to before now runner old new led made =
       makes_one = made.turns.makes_one;
     }
 
+-- a call is an append or another
+one-call : (call : Call) → others_by call + appends_by call ≡ 1
+one-call call = cases (is_append call)
+  where
+    cases : (append : Bool) → cond append 0 1 + cond append 1 0 ≡ 1
+    cases true = refl
+    cases false = refl
+
+-- sums of both
+both-fewer : (new old more less : ℕ) → new < old → more ≤ less → new + more < old + less
+both-fewer new old more less fewer few = omega (arith, fewer, few)
+
+call-fewer : (old new : State) → LeavesFewer old new →
+    calls_left new + appends_left new < calls_left old + appends_left old
+call-fewer old new counts =
+    let one = one-call (state_call old) in
+    let calls = counts.calls in
+    let appends = counts.appends in
+    omega (arith, one, calls, appends)
+
 -- and leaves fewer calls
 pub turn-fewer : (told : Option Past) (runner : Runner) (old new : State) →
-    CountsTo told runner old new → calls_left new < calls_left old
-turn-fewer told runner (Looking looking) new counts = counts.fewer
-turn-fewer told runner (Reading seen) new counts = counts.fewer
-turn-fewer told runner (Asking asking) new counts = counts.fewer
-turn-fewer told runner (Claiming judged) new counts = counts.fewer
+    CountsTo told runner old new →
+    calls_left new + appends_left new < calls_left old + appends_left old
+turn-fewer told runner (Looking looking) new counts =
+    both-fewer _ _ _ _ counts.fewer counts.appends
+turn-fewer told runner (Reading seen) new counts =
+    both-fewer _ _ _ _ counts.fewer counts.appends
+turn-fewer told runner (Asking asking) new counts =
+    both-fewer _ _ _ _ counts.fewer counts.appends
+turn-fewer told runner (Claiming judged) new counts =
+    both-fewer _ _ _ _ counts.fewer counts.appends
 turn-fewer told runner (Confirming claimed) new counts =
-    listed-fewer _ _ _ counts.fewer counts.most
-turn-fewer told runner old new counts = counts
+    both-fewer _ _ _ _ (listed-fewer _ _ _ counts.fewer counts.most) counts.appends
+turn-fewer told runner old new counts = call-fewer old new counts
 
 -- ---- The answer
 
@@ -169,7 +196,8 @@ module _ (before now : Moment) (runner : Runner) (status : ℕ) where
           left = λ goes_on. left-same runner.token answer.outcome.cause was past
               (ap (λ (one : Standing). one.own) step.next_standing)
               (ap (λ (one : Standing). one.listing) step.next_standing) knows (left goes_on);
-          within = called-last before.admits runner was past may.own grew.1 answer came.called;
+          within = called-last before.admits runner was past may.own grew.1 answer status ⊥
+              (inl (_, step.next_events)) came.called;
           backed = backed-then before.admits runner was past may.own grew.1 came.backed;
         };
       }

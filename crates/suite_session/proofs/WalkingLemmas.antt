@@ -2,21 +2,27 @@
 -- (`install-calls`); it neither commits (`backup-quiet`, `install-quiet`) nor shows anything that a session
 -- meets (`backup-shows`, `install-shows`); and each step leaves fewer (`fewer-steps`, `changed-most`).
 -- Way: a table is staged first and then moved, so by whether it is staged.
-use Rattle.std.proofs.Common.{◌≡◌, [], refl, sym, ◌∙◌, ◌≤◌, ◌<◌, ◌+◌, ◌∷◌, ℕ, Bool, true, false, List, length, slice_get, if◌then◌else◌, Option, Some, None, IfSome, arith, rules}
+use Rattle.std.proofs.Common.{◌≡◌, inl, inr, [], refl, sym, ap, subst, ◌∙◌, ◌≤◌, ◌<◌, ◌+◌, ◌-◌, ◌*◌, ◌∷◌, ℕ, Bool, true, false, List, length, slice_get, if◌then◌else◌, Option, Some, None, IfSome, arith, rules}
+use Rattle.std.specs.Prelude.{option_map, unwrap_or}
+use Rattle.std.proofs.lemmas.Bool.{cases_Bool}
 use Rattle.std.proofs.lemmas.Option.{slice_get-get_or}
 use Rattle.acct_text.specs.declared.Tab.{Tab}
 use Rattle.acct_text.specs.declared.Tab.TheVariants.{Passwd}
 use Rattle.acct_text.specs.Bytes.{Bytes}
 use Rattle.acct_text.specs.Contents.{Contents, same_content}
-use Rattle.acct_outside.specs.Calls.{Answer, CallResult}
+use Rattle.acct_outside.specs.declared.Name.TheVariants.{Backup, BackupStage}
+use Rattle.acct_outside.specs.Calls.{Answer, CallResult, renames, writes}
+use Rattle.acct_outside.specs.Pieces.{piece_at}
 use Rattle.acct_outside.specs.declared.CommitStage.TheVariants.{Before}
 use Rattle.intent_file.specs.Intent.{NewTable}
 use Rattle.intent_file.specs.ChangedTables.{with_new_table, changed_among}
 use Rattle.suite_rules.specs.Standing.{Standing, standing_step}
 use Rattle.suite_rules.specs.Steps.{own_command}
-use Rattle.commit_steps.specs.States.{Change, Walker, changed, step_on, steps_left}
+use Rattle.suite_rules.specs.Outcomes.{installs, stages}
+use Rattle.commit_steps.specs.States.{Walker, changed, has_staged, old_bytes, step_on, steps_left}
 use Rattle.commit_steps.specs.Stands.{BacksUp}
 use Rattle.commit_steps.specs.Outcomes.{backup_call, install_call}
+use Rattle.commit_steps.proofs.InstallLemmas.{step-staged, step-unstaged}
 use Rattle.commit_steps.proofs.TablesLemmas.{place-within}
 use Rattle.suite_answers.specs.declared.answer.Answer.{Answer as FinalAnswer}
 use Rattle.suite_session.specs.Runner.{Runner}
@@ -32,10 +38,11 @@ pub backup-calls : (runner : Runner) (answer : FinalAnswer) (walker : Walker) (n
     IsOfChange runner walker.change answer →
     slice_get (changed walker.change) walker.place ≡ Some next →
     IsTurnCall (Runs runner Before (BacksUp walker)) (backup_call walker next)
-backup-calls runner answer walker next of_change is = cases walker.is_staged
+backup-calls runner answer walker next of_change is = cases (has_staged walker)
   where
     cases : (staged : Bool) → IsTurnCall (Runs runner Before (BacksUp walker))
-        (backup_call (record walker { is_staged = staged }) next)
+        (if staged then renames BackupStage (Backup next.table)
+        else writes BackupStage (piece_at 0 (old_bytes walker.change next.table)))
     cases true = λ stood runs. is-to-change runner answer walker.change of_change walker.place next
         is stood (record {
           holds = runs.holds.keeps.knows.inputs;
@@ -48,51 +55,54 @@ backup-calls runner answer walker next of_change is = cases walker.is_staged
 pub backup-quiet : (walker : Walker) (next : NewTable)
     (result : CallResult (Answer (backup_call walker next))) (stood : Standing) →
     own_command (standing_step (backup_call walker next) result stood) ≡ own_command stood
-backup-quiet walker next = cases walker.is_staged
+backup-quiet walker next = cases (has_staged walker)
   where
     cases : (staged : Bool)
-        (result : CallResult (Answer (backup_call (record walker { is_staged = staged }) next)))
+        (result : CallResult (Answer (if staged then renames BackupStage (Backup next.table)
+        else writes BackupStage (piece_at 0 (old_bytes walker.change next.table)))))
         (stood : Standing) →
-        own_command (standing_step (backup_call (record walker { is_staged = staged }) next)
+        own_command (standing_step (if staged then renames BackupStage (Backup next.table)
+        else writes BackupStage (piece_at 0 (old_bytes walker.change next.table)))
         result stood) ≡ own_command stood
     cases true result stood = refl
     cases false result stood = refl
 
 -- nor does its answer show anything
 pub backup-shows : (walker : Walker) (next : NewTable) → IsQuiet (backup_call walker next)
-backup-shows walker next = cases walker.is_staged
+backup-shows walker next = cases (has_staged walker)
   where
-    cases : (staged : Bool) → IsQuiet (backup_call (record walker { is_staged = staged }) next)
+    cases : (staged : Bool) → IsQuiet (if staged then renames BackupStage (Backup next.table)
+        else writes BackupStage (piece_at 0 (old_bytes walker.change next.table)))
     cases true given stood met shows = shows
     cases false given stood met shows = shows
 
 -- nor does one of an installation, which backs up nothing
 pub install-calls : (Stood : Standing → Type 0) (walker : Walker) (next : NewTable) →
     IsTurnCall Stood (install_call walker next)
-install-calls Stood walker next = cases walker.is_staged
+install-calls Stood walker next = cases (has_staged walker)
   where
     cases : (staged : Bool) →
-        IsTurnCall Stood (install_call (record walker { is_staged = staged }) next)
+        IsTurnCall Stood (if staged then installs next else stages next)
     cases true = tt
     cases false = tt
 
 pub install-quiet : (walker : Walker) (next : NewTable)
     (result : CallResult (Answer (install_call walker next))) (stood : Standing) →
     own_command (standing_step (install_call walker next) result stood) ≡ own_command stood
-install-quiet walker next = cases walker.is_staged
+install-quiet walker next = cases (has_staged walker)
   where
     cases : (staged : Bool)
-        (result : CallResult (Answer (install_call (record walker { is_staged = staged }) next)))
+        (result : CallResult (Answer (if staged then installs next else stages next)))
         (stood : Standing) →
-        own_command (standing_step (install_call (record walker { is_staged = staged }) next)
+        own_command (standing_step (if staged then installs next else stages next)
         result stood) ≡ own_command stood
     cases true result stood = refl
     cases false result stood = refl
 
 pub install-shows : (walker : Walker) (next : NewTable) → IsQuiet (install_call walker next)
-install-shows walker next = cases walker.is_staged
+install-shows walker next = cases (has_staged walker)
   where
-    cases : (staged : Bool) → IsQuiet (install_call (record walker { is_staged = staged }) next)
+    cases : (staged : Bool) → IsQuiet (if staged then installs next else stages next)
     cases true given stood met shows = shows
     cases false given stood met shows = shows
 
@@ -101,7 +111,7 @@ next-there : (walker : Walker) → 0 < steps_left walker →
     slice_get (changed walker.change) walker.place ≡ None → ⊥
 next-there walker some is = absurd (cc (sym is
     ∙ slice_get-get_or (changed walker.change) walker.place (record { table = Passwd; bytes = [] })
-    (place-within (length (changed walker.change)) walker.place walker.is_staged some)))
+    (place-within (length (changed walker.change)) walker.place (has_staged walker) some)))
 
 -- so what holds of the one there holds of a table
 pub at-place : {P : NewTable → Type 0} (walker : Walker) → 0 < steps_left walker →
@@ -114,6 +124,13 @@ at-place {P} walker some holds = cases (slice_get (changed walker.change) walker
         (next : NewTable) × P next × (slice_get (changed walker.change) walker.place ≡ Some next)
     cases (Some next) is holds = (next, holds, is)
     cases None is holds = absurd (next-there walker some is)
+
+-- where a piece is left to append, there is one too
+pub at-piece : {P : NewTable → Type 0} (left : NewTable → ℕ) (found : Option NewTable) →
+    0 < unwrap_or (option_map left found) 0 → IfSome found P →
+    (next : NewTable) × P next × (found ≡ Some next)
+at-piece left None some holds = absurd (omega (arith, some))
+at-piece left (Some next) some holds = (next, holds, refl)
 
 -- ---- Each step leaves fewer
 
@@ -134,18 +151,42 @@ changed-most (table ∷ tables) old new =
     omega (arith, more)
 
 -- a step on leaves fewer
-pub fewer-steps : (change : Change) (place : ℕ) (staged : Bool) →
-    0 < steps_left (record { change = change; place = place; is_staged = staged }) →
-    steps_left (step_on (record { change = change; place = place; is_staged = staged }))
-    < steps_left (record { change = change; place = place; is_staged = staged })
-fewer-steps change place true some = omega (arith, some)
-fewer-steps change place false some = omega (arith, some)
+pub fewer-steps : (walker : Walker) → 0 < steps_left walker →
+    steps_left (step_on walker) < steps_left walker
+fewer-steps walker some = elim (cases_Bool (has_staged walker)) [
+  | inl staged ↦
+      subst (λ (one : Walker). steps_left one < steps_left walker) (sym (step-staged walker staged))
+      (less true staged some)
+  | inr unstaged ↦
+      subst (λ (one : Walker). steps_left one < steps_left walker)
+      (sym (step-unstaged walker unstaged)) (less false unstaged some)
+]
+  where
+    -- the steps once the table at the place is moved, or its first piece is staged
+    then-left : Bool → ℕ
+    then-left true = 2 * (length (changed walker.change) - (walker.place + 1)) - 0
+    then-left false = 2 * (length (changed walker.change) - walker.place) - 1
+
+    less : (staged : Bool) → has_staged walker ≡ staged → 0 < steps_left walker →
+        then-left staged < steps_left walker
+    less true is left = subst (λ (one : Bool).
+        then-left true < 2 * (length (changed walker.change) - walker.place) - (if one then 1 else 0))
+        (sym is) (omega (
+          arith,
+          subst (λ (one : Bool).
+              0 < 2 * (length (changed walker.change) - walker.place) - (if one then 1 else 0)) is left,
+        ))
+    less false is left = subst (λ (one : Bool).
+        then-left false < 2 * (length (changed walker.change) - walker.place) - (if one then 1 else 0))
+        (sym is) (omega (
+          arith,
+          subst (λ (one : Bool).
+              0 < 2 * (length (changed walker.change) - walker.place) - (if one then 1 else 0)) is left,
+        ))
 
 -- a step on keeps the change
 pub step-change : (walker : Walker) → (step_on walker).change ≡ walker.change
-step-change walker = cases walker.is_staged
-  where
-    cases : (staged : Bool) →
-        (step_on (record walker { is_staged = staged })).change ≡ walker.change
-    cases true = refl
-    cases false = refl
+step-change walker = elim (cases_Bool (has_staged walker)) [
+  | inl staged ↦ ap (λ (one : Walker). one.change) (step-staged walker staged)
+  | inr unstaged ↦ ap (λ (one : Walker). one.change) (step-unstaged walker unstaged)
+]

@@ -1,20 +1,29 @@
 -- How many events a session makes: at most most_calls, and one for each lower lock that its second
--- listing showed.
-use Rattle.std.specs.Prelude.{◌⊎◌, ◌+◌, ◌≤◌, ℕ, length}
+-- listing showed; and appends, one for each piece of a text behind its first, and most_appends at most.
+use Rattle.std.specs.Prelude.{◌⊎◌, ◌+◌, ◌≤◌, ℕ, filter, length, not}
 use Rattle.acct_outside.specs.Tokens.{Token}
 use Rattle.acct_outside.specs.History.{History, own_events}
 use Rattle.acct_outside.specs.Others.{Admission}
 use Rattle.suite_session.specs.declared.state.State.{State}
 use Rattle.suite_session.specs.Counts.{CountsLower, IsToList}
 use Rattle.suite_session.specs.Grows.{Grows}
-use Rattle.suite_session.specs.Left.{most_calls, most_lower, calls_left}
+use Rattle.suite_session.specs.Left.{appends_left, calls_left, is_append, most_appends, most_calls, most_lower}
 
--- the session's events are at most most_calls, and one for each lower lock that its second listing
--- showed
+-- how many of the events are appends
+abbrev pub appends_in : History → ℕ
+appends_in events = length (filter (λ event. is_append event.call) events)
+
+-- how many are other calls
+abbrev pub others_in : History → ℕ
+others_in events = length (filter (λ event. not (is_append event.call)) events)
+
+-- the session's events but appends are at most most_calls, and one for each lower lock that its second
+-- listing showed; its appends are at most most_appends
 pub record IsWithin (token : Token) (history : History) : Type 0 where
   pub lower : ℕ
   pub counts : CountsLower token history lower
-  pub within : length (own_events token history) ≤ most_calls + lower
+  pub within : others_in (own_events token history) ≤ most_calls + lower
+  pub appended : appends_in (own_events token history) ≤ most_appends
 
 -- the new events of the history were admitted from others or are the session's, and these are within
 -- the bound
@@ -29,4 +38,5 @@ pub record HasCalled (token : Token) (state : State) (history : History) : Type 
   pub lower : ℕ
   pub most : lower ≤ most_lower
   pub counts : IsToList state ⊎ CountsLower token history lower
-  pub within : length (own_events token history) + calls_left state ≤ most_calls + lower
+  pub within : others_in (own_events token history) + calls_left state ≤ most_calls + lower
+  pub appended : appends_in (own_events token history) + appends_left state ≤ most_appends

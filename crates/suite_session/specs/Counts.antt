@@ -1,9 +1,9 @@
--- What each turn leaves of the calls that a session makes at most: one fewer, and as many more as the
--- second listing shows lower locks.
-use Rattle.std.specs.Prelude.{◌≡◌, ◌⊎◌, ⊤, ◌+◌, ◌<◌, ◌≤◌, ℕ, List, nat_lt, filter, length, Option, IfSome}
+-- What each turn leaves of the calls that a session makes at most: an append fewer where it makes one, and
+-- else another call fewer, with as many more as the second listing shows lower locks.
+use Rattle.std.specs.Prelude.{◌≡◌, ◌⊎◌, ⊤, ◌+◌, ◌<◌, ◌≤◌, ℕ, if◌then◌else◌, List, nat_lt, filter, length, Option, IfSome}
 use Rattle.acct_outside.specs.Tokens.{Token}
 use Rattle.acct_outside.specs.Folder.{greatest}
-use Rattle.acct_outside.specs.Calls.{lists}
+use Rattle.acct_outside.specs.Calls.{Call, lists}
 use Rattle.acct_outside.specs.History.{History}
 use Rattle.acct_outside.specs.Moment.{Past}
 use Rattle.lock_steps.specs.Stands.{HasMade}
@@ -11,7 +11,8 @@ use Rattle.suite_session.specs.declared.state.State.{State}
 use Rattle.suite_session.specs.declared.state.State.TheVariants.{Looking, Reading, Asking, Claiming, Confirming}
 use Rattle.suite_session.specs.Runner.{Runner}
 use Rattle.suite_session.specs.Causes.{Met}
-use Rattle.suite_session.specs.Left.{calls_left, most_lower}
+use Rattle.suite_session.specs.Left.{appends_left, calls_left, is_append, most_lower}
+use Rattle.suite_session.specs.NextCall.{state_call}
 
 -- the session listed the locks once its create was done, its own was the greatest, and there were so
 -- many lower ones
@@ -35,10 +36,24 @@ IsToList (Claiming judged) = ⊤
 IsToList (Confirming claimed) = ⊤
 IsToList state = ⊥
 
+-- the appends that a call makes: one or none
+abbrev pub appends_by : Call → ℕ
+appends_by call = if is_append call then 1 else 0
+
+-- the other calls that it is: none or one
+abbrev pub others_by : Call → ℕ
+others_by call = if is_append call then 0 else 1
+
+-- a turn leaves an append fewer where its call is one, and else another call fewer
+pub record LeavesFewer (old new : State) : Type 0 where
+  pub calls : calls_left new + others_by (state_call old) ≤ calls_left old
+  pub appends : appends_left new + appends_by (state_call old) ≤ appends_left old
+
 -- before that listing a turn leaves a call fewer; it leads on towards the listing, or the answer alone is
 -- left
 pub record Nears (old new : State) : Type 0 where
   pub fewer : calls_left new < calls_left old
+  pub appends : appends_left new ≤ appends_left old
   pub next : IsToList new ⊎ (calls_left new ≡ 1)
 
 -- the listing leaves a call fewer, with the lower locks that it shows, and no others
@@ -47,12 +62,14 @@ pub record Listed (told : Option Past) (runner : Runner) (old new : State) : Typ
   pub most : lower ≤ most_lower
   pub counts : IfSome told (λ past. CountsLower runner.token past.history lower)
   pub fewer : calls_left new + most_lower < calls_left old + lower
+  pub appends : appends_left new ≤ appends_left old
 
--- what a turn leaves of the calls: one fewer, after the second listing with the lower locks that it shows
+-- what a turn leaves of the calls: one fewer, after the second listing with the lower locks that it shows.
+-- The calls up to that listing are no appends.
 abbrev pub CountsTo : Option Past → Runner → State → State → Type 0
 CountsTo told runner (Looking looking) new = Nears (Looking looking) new
 CountsTo told runner (Reading seen) new = Nears (Reading seen) new
 CountsTo told runner (Asking asking) new = Nears (Asking asking) new
 CountsTo told runner (Claiming judged) new = Nears (Claiming judged) new
 CountsTo told runner (Confirming claimed) new = Listed told runner (Confirming claimed) new
-CountsTo told runner old new = calls_left new < calls_left old
+CountsTo told runner old new = LeavesFewer old new

@@ -5,11 +5,12 @@ use Rattle.acct_text.specs.declared.files.Files.{Files}
 use Rattle.acct_outside.specs.declared.CommitStage.TheVariants.{Before}
 use Rattle.account_words.specs.declared.tool.Tool.{Tool}
 use Rattle.account_model.specs.Answer.{Changed as ChangedTo}
+use Rattle.intent_file.specs.Intent.{ReadsIntent, intent_text}
 use Rattle.commit_steps.specs.declared.Loading.{Loading as Loaded}
 use Rattle.commit_steps.specs.declared.Loading.TheVariants.{More, Done}
 use Rattle.commit_steps.specs.declared.LoadEnd.{LoadEnd}
 use Rattle.commit_steps.specs.declared.LoadEnd.TheVariants.{Fault, TooLarge, NoTable}
-use Rattle.commit_steps.specs.States.{Inputs, walk_of}
+use Rattle.commit_steps.specs.States.{Inputs, intended, walk_of}
 use Rattle.suite_answers.specs.declared.cause.Which.TheVariants.{File}
 use Rattle.suite_answers.specs.declared.cause.Cause.TheVariants.{TooLarge as IsTooLarge, NoTable as HasNoTable}
 use Rattle.suite_session.specs.declared.tools.Decided.{Decided}
@@ -30,12 +31,13 @@ DecidesOn asked files defs (Changes new given) = IsAnswerOn asked files defs giv
 DecidesOn asked files defs (Stay given) = IsAnswerOn asked files defs given
     × (is_change (answer_on asked files defs).cause ≡ false)
 
--- The state after the tool decided on the inputs: a change is backed up, any other answer leaves;
--- or there was no memory.
+-- The state after the tool decided on the inputs: a change is backed up, whose intent reads, any other
+-- answer leaves; or there was no memory.
 abbrev pub DecidesTo : Runner → Inputs → State → Type 0
 DecidesTo runner inputs (BackingUp walker answer) =
     (walker ≡ walk_of walker.change) × (walker.change.inputs ≡ inputs)
     × IsOfChange runner walker.change answer
+    × ReadsIntent (intent_text (intended walker.change)) (intended walker.change)
 DecidesTo runner inputs (Unlocking keeper answer) = (keeper ≡ inputs.keeper)
     × IsAnswerOn runner.asked inputs.files inputs.defs answer
     × (is_change (answer_on runner.asked inputs.files inputs.defs).cause ≡ false)

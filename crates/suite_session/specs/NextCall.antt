@@ -2,7 +2,7 @@
 use Rattle.std.specs.Prelude.{◌≡◌, ⊤, ◌+◌, ◌<◌, Option, Some, None, option_map}
 use Rattle.acct_outside.specs.declared.Call.{Call as FolderCall}
 use Rattle.acct_outside.specs.declared.Call.TheVariants.{Begin}
-use Rattle.acct_outside.specs.declared.Name.TheVariants.{FreeStage, Intent, IntentStage, Lock}
+use Rattle.acct_outside.specs.declared.Name.TheVariants.{FreeStage, Intent, Lock}
 use Rattle.acct_outside.specs.Calls.{Call, answers, asks, begins, creates, lists, reads, removes, renames}
 use Rattle.acct_outside.specs.Events.{call_of}
 use Rattle.suite_rules.specs.Deeds.{SuiteDeeds}
@@ -12,7 +12,7 @@ use Rattle.lock_steps.specs.NextCall.{unlocking_call}
 use Rattle.lock_steps.specs.Stands.{HasJudged, HasLooked, HasMade, HasNoLock, HasReadHeld, HasStagedFree, Keeps, KnowsAnything, WasOvertaken}
 use Rattle.recovery.specs.NextCall.{moving_call, recovering_call}
 use Rattle.recovery.specs.Stands.{HasStagedNext, Recovers}
-use Rattle.commit_steps.specs.NextCall.{MayCommit, backing_call, installing_call}
+use Rattle.commit_steps.specs.NextCall.{MayCommit, backing_call, committing_call, installing_call}
 use Rattle.commit_steps.specs.Stands.{BacksUp, HasRead, Installs}
 use Rattle.commit_steps.specs.States.{next_name}
 use Rattle.suite_session.specs.declared.state.State.{State}
@@ -33,7 +33,7 @@ state_call (Recovering recovering) = recovering_call recovering
 state_call (Moving moving) = moving_call moving
 state_call (Loading reader) = reads (next_name reader.next)
 state_call (BackingUp walker answer) = backing_call walker
-state_call (Committing change answer) = renames IntentStage Intent
+state_call (Committing stager answer) = committing_call stager
 state_call (Installing walker answer) = installing_call walker
 state_call (Unlocking keeper answer) = unlocking_call keeper
 state_call (Freeing freeing answer) = renames FreeStage (Lock freeing.number)
@@ -52,7 +52,7 @@ IsReady (Recovering recovering) deeds = Recovers recovering
 IsReady (Moving moving) deeds = HasStagedNext moving
 IsReady (Loading reader) deeds = HasRead reader
 IsReady (BackingUp walker answer) deeds = BacksUp walker
-IsReady (Committing change answer) deeds = MayCommit change deeds
+IsReady (Committing stager answer) deeds = MayCommit stager deeds
 IsReady (Installing walker answer) deeds = Installs walker
 IsReady (Unlocking keeper answer) deeds = Keeps keeper KnowsAnything
 IsReady (Freeing freeing answer) deeds = HasStagedFree freeing

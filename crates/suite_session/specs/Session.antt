@@ -11,7 +11,7 @@ use Rattle.suite_session.specs.declared.state.State.TheVariants.{Answering}
 use Rattle.suite_session.specs.declared.session.Phase.{Phase}
 use Rattle.suite_session.specs.declared.session.Phase.TheVariants.{Waiting, Begun, Over, Unbegun}
 use Rattle.suite_session.specs.Answers.{after_fault}
-use Rattle.suite_session.specs.Left.{most_calls, most_lower, calls_left}
+use Rattle.suite_session.specs.Left.{appends_left, calls_left, most_appends, most_calls, most_lower}
 use Rattle.suite_session.specs.Stands.{IsMemory}
 
 -- the session hasn't begun, and was asked this by words that ask for something
@@ -54,8 +54,8 @@ outcome_of (Unbegun tool answer) = Some answer.outcome
 
 -- the calls that a session has left at most
 abbrev pub phase_left : Phase → ℕ
-phase_left (Waiting asked) = most_calls + most_lower
-phase_left (Begun runner state) = calls_left state
+phase_left (Waiting asked) = most_calls + most_lower + most_appends
+phase_left (Begun runner state) = calls_left state + appends_left state
 phase_left (Over runner answer) = 0
 phase_left (Unbegun tool answer) = 0
 

@@ -171,8 +171,8 @@ StandsAs now runner (Loading reader) =
     (reader.keeper.token ≡ runner.token) × At now runner Before (HasRead reader)
 StandsAs now runner (BackingUp walker answer) =
     StandsChanging now runner walker.change (BacksUp walker) answer
-StandsAs now runner (Committing change answer) =
-    StandsChanging now runner change (HasStagedIntent change) answer
+StandsAs now runner (Committing stager answer) =
+    StandsChanging now runner stager.change (HasStagedIntent stager) answer
 StandsAs now runner (Installing walker answer) = StandsInstalling now runner walker answer
 StandsAs now runner (Unlocking keeper answer) = StandsUnlocking now runner keeper answer
 StandsAs now runner (Freeing freeing answer) = StandsFreeing now runner freeing answer

@@ -3,8 +3,10 @@
 // 1. It backs up the tables that differ, and stages the intent (`back_up`).
 // 2. It moves the intent to its name: this is the commit (`commit`).
 // 3. It puts the tables in place, and removes the intent (`install`).
+//
+// What is staged goes out in pieces: in each of the three a further piece comes before the next step.
 ghost use Rattle.std.specs.Prelude.{◌≡◌, ◌<◌};
-ghost use Rattle.commit_steps.specs.States.{steps_left};
+ghost use Rattle.commit_steps.specs.States.{backup_pieces, install_pieces, intent_left, steps_left};
 ghost use Rattle.suite_session.specs.Stands.{StandsAs};
 ghost use Rattle.suite_session.specs.Turning.{TakesTurn};
 
@@ -16,7 +18,8 @@ use commit_steps::{Backing, Installing, IntentStaged};
 use std::alloc::Global;
 use suite_answers::Answer;
 
-/// Stages or moves the next backup, or stages the intent once no table is left.
+/// Appends a further piece of the next backup; where none is left, stages its first piece or moves it, or
+/// stages the intent once no table is left.
 pub(crate) fn back_up<F: Folder>(
     alloc: Global,
     runner: &Runner,
@@ -25,6 +28,28 @@ pub(crate) fn back_up<F: Folder>(
     folder: &mut F,
 ) -> State
     requires { StandsAs (F.moment folder.old) runner.now (State.BackingUp backing answer) }
+    ensures { TakesTurn (F.moment folder.old) (F.moment folder.new) runner.now
+        (State.BackingUp backing answer) result }
+{
+    if backing.pieces() == 0 {
+        return back_up_table(alloc, runner, backing, answer, folder);
+    }
+    match backing.append_next(folder) {
+        Ok(backing) => State::BackingUp(backing, answer),
+        Err(fault) => given_up(alloc, runner, answer, fault.stage, fault.fault),
+    }
+}
+
+/// Stages the first piece of the next backup or moves it, or stages the intent once no table is left.
+fn back_up_table<F: Folder>(
+    alloc: Global,
+    runner: &Runner,
+    backing: Backing,
+    answer: Answer,
+    folder: &mut F,
+) -> State
+    requires whole { backup_pieces backing ≡ 0 }
+    requires stands { StandsAs (F.moment folder.old) runner.now (State.BackingUp backing answer) }
     ensures { TakesTurn (F.moment folder.old) (F.moment folder.new) runner.now
         (State.BackingUp backing answer) result }
 {
@@ -37,7 +62,7 @@ pub(crate) fn back_up<F: Folder>(
     }
 }
 
-/// Stages the intent.
+/// Stages the first piece of the intent.
 fn stage_intent<F: Folder>(
     alloc: Global,
     runner: &Runner,
@@ -46,6 +71,7 @@ fn stage_intent<F: Folder>(
     folder: &mut F,
 ) -> State
     requires left { steps_left backing ≡ 0 }
+    requires whole { backup_pieces backing ≡ 0 }
     requires stands { StandsAs (F.moment folder.old) runner.now (State.BackingUp backing answer) }
     ensures { TakesTurn (F.moment folder.old) (F.moment folder.new) runner.now
         (State.BackingUp backing answer) result }
@@ -56,7 +82,7 @@ fn stage_intent<F: Folder>(
     }
 }
 
-/// Moves the intent to its name: done, the change stands.
+/// Appends a further piece of the intent; where none is left, moves it to its name.
 pub(crate) fn commit<F: Folder>(
     alloc: Global,
     runner: &Runner,
@@ -68,13 +94,36 @@ pub(crate) fn commit<F: Folder>(
     ensures { TakesTurn (F.moment folder.old) (F.moment folder.new) runner.now
         (State.Committing staged answer) result }
 {
+    if staged.pieces() == 0 {
+        return commit_intent(alloc, runner, staged, answer, folder);
+    }
+    match staged.append_intent(folder) {
+        Ok(staged) => State::Committing(staged, answer),
+        Err(fault) => given_up(alloc, runner, answer, fault.stage, fault.fault),
+    }
+}
+
+/// Moves the intent to its name: done, the change stands.
+fn commit_intent<F: Folder>(
+    alloc: Global,
+    runner: &Runner,
+    staged: IntentStaged,
+    answer: Answer,
+    folder: &mut F,
+) -> State
+    requires whole { intent_left staged ≡ 0 }
+    requires stands { StandsAs (F.moment folder.old) runner.now (State.Committing staged answer) }
+    ensures { TakesTurn (F.moment folder.old) (F.moment folder.new) runner.now
+        (State.Committing staged answer) result }
+{
     match staged.commit(folder) {
         Ok(installing) => State::Installing(installing, answer),
         Err(fault) => given_up(alloc, runner, answer, fault.stage, fault.fault),
     }
 }
 
-/// Stages or moves the next table, or removes the intent once no table is left.
+/// Appends a further piece of the next table; where none is left, stages its first piece or moves it, or
+/// removes the intent once no table is left.
 pub(crate) fn install<F: Folder>(
     alloc: Global,
     runner: &Runner,
@@ -83,6 +132,29 @@ pub(crate) fn install<F: Folder>(
     folder: &mut F,
 ) -> State
     requires { StandsAs (F.moment folder.old) runner.now (State.Installing installing answer) }
+    ensures { TakesTurn (F.moment folder.old) (F.moment folder.new) runner.now
+        (State.Installing installing answer) result }
+{
+    if installing.pieces() == 0 {
+        return install_table(alloc, runner, installing, answer, folder);
+    }
+    match installing.append_next(folder) {
+        Ok(installing) => State::Installing(installing, answer),
+        Err(fault) => given_up(alloc, runner, answer, fault.stage, fault.fault),
+    }
+}
+
+/// Stages the first piece of the next table or moves it, or removes the intent once no table is left.
+fn install_table<F: Folder>(
+    alloc: Global,
+    runner: &Runner,
+    installing: Installing,
+    answer: Answer,
+    folder: &mut F,
+) -> State
+    requires whole { install_pieces installing ≡ 0 }
+    requires stands { StandsAs (F.moment folder.old) runner.now
+        (State.Installing installing answer) }
     ensures { TakesTurn (F.moment folder.old) (F.moment folder.new) runner.now
         (State.Installing installing answer) result }
 {
@@ -104,6 +176,7 @@ fn clear<F: Folder>(
     folder: &mut F,
 ) -> State
     requires left { steps_left installing ≡ 0 }
+    requires whole { install_pieces installing ≡ 0 }
     requires stands { StandsAs (F.moment folder.old) runner.now
         (State.Installing installing answer) }
     ensures { TakesTurn (F.moment folder.old) (F.moment folder.new) runner.now

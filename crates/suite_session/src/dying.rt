@@ -12,7 +12,7 @@ use crate::state::State;
 use crate::tools::Tools;
 use crate::turning::asks_once;
 use acct_outside::{CommitStage, Effect, MemoryFolder};
-use std::alloc::AllocError;
+use std::alloc::{AllocError, Global};
 use std::mem;
 
 impl<T: Tools> Session<T> {
@@ -38,7 +38,7 @@ impl<T: Tools> Session<T> {
             return Ok(());
         }
         if let Phase::Begun(runner, state) = &self.phase {
-            return die_in(runner, state, folder, effect);
+            return die_in(self.alloc, runner, state, folder, effect);
         }
         Ok(())
     }
@@ -46,6 +46,7 @@ impl<T: Tools> Session<T> {
 
 /// Lets a session that has begun die within the call of its state.
 fn die_in(
+    alloc: Global,
     runner: &Runner,
     state: &State,
     folder: &mut MemoryFolder,
@@ -61,6 +62,6 @@ fn die_in(
         (Phase.Begun runner.now state.now) (Phase.Begun runner.now state.now) }
 {
     asks_once(&runner.asked);
-    let call = state.next_call()?;
+    let call = state.next_call(alloc)?;
     folder.die(&runner.token, call, effect)
 }

@@ -10,11 +10,11 @@ use crate::session::{Phase, Session};
 use crate::state::State;
 use crate::tools::Tools;
 use acct_outside::{Call, Name, Token};
-use std::alloc::AllocError;
+use std::alloc::{AllocError, Global};
 
 impl State {
     /// The call of the folder that it makes next. The error says that memory ran out for its bytes.
-    pub(crate) fn next_call(&self) -> Result<Call, AllocError>
+    pub(crate) fn next_call(&self, alloc: Global) -> Result<Call, AllocError>
         ensures { IfOk result
             (IsCallWhere (HasLock self.now) (IsReady self.now) (state_call self.now)) }
     {
@@ -26,12 +26,12 @@ impl State {
             State::Confirming(claimed) => Ok(claimed.next_call()),
             State::Withdrawing(loser) => Ok(loser.next_call()),
             State::ReadingIntent(_) => Ok(Call::Read(Name::Intent)),
-            State::Recovering(recovering) => recovering.next_call(),
-            State::Moving(moving) => Ok(moving.next_call()),
+            State::Recovering(recovering) => recovering.next_call(alloc),
+            State::Moving(moving) => moving.next_call(alloc),
             State::Loading(loader) => Ok(loader.next_call()),
-            State::BackingUp(backing, _) => backing.next_call(),
-            State::Committing(staged, _) => Ok(staged.next_call()),
-            State::Installing(installing, _) => installing.next_call(),
+            State::BackingUp(backing, _) => backing.next_call(alloc),
+            State::Committing(staged, _) => staged.next_call(alloc),
+            State::Installing(installing, _) => installing.next_call(alloc),
             State::Unlocking(keeper, _) => keeper.unlocking_call(),
             State::Freeing(freeing, _) => Ok(freeing.next_call()),
             State::Answering(answer) => Ok(Call::Answered(answer.outcome.status)),
@@ -50,7 +50,7 @@ impl<T: Tools> Session<T> {
     {
         match &self.phase {
             Phase::Waiting(_) => Ok(Some(Call::Begin)),
-            Phase::Begun(_, state) => Ok(Some(state.next_call()?)),
+            Phase::Begun(_, state) => Ok(Some(state.next_call(self.alloc)?)),
             _ => Ok(None),
         }
     }

@@ -1,5 +1,6 @@
 // The turns in which a keeper reads the intent, and carries out one that another session left.
 ghost use Rattle.std.specs.Prelude.{◌≡◌, ◌<◌, length};
+ghost use Rattle.recovery.specs.States.{moving_pieces};
 ghost use Rattle.suite_session.specs.Locking.{cause_of_fault};
 ghost use Rattle.suite_session.specs.Recovering.{after_intent, Refuses};
 ghost use Rattle.suite_session.specs.Stands.{AnswersWith, StandsAs};
@@ -62,7 +63,7 @@ fn refused(alloc: Global, runner: &Runner, end: RecoveryEnd) -> State
     }
 }
 
-/// Stages a table that the intent lists, or removes the intent once none is left.
+/// Stages the first piece of a table that the intent lists, or removes the intent once none is left.
 pub(crate) fn recover<F: Folder>(
     alloc: Global,
     runner: &Runner,
@@ -100,7 +101,7 @@ fn remove_intent<F: Folder>(
     }
 }
 
-/// Moves the staged table to its place.
+/// Appends a further piece of the staged table; where none is left, moves it to its place.
 pub(crate) fn move_table<F: Folder>(
     alloc: Global,
     runner: &Runner,
@@ -108,6 +109,22 @@ pub(crate) fn move_table<F: Folder>(
     folder: &mut F,
 ) -> State
     requires { StandsAs (F.moment folder.old) runner.now (State.Moving moving) }
+    ensures { TakesTurn (F.moment folder.old) (F.moment folder.new) runner.now
+        (State.Moving moving) result }
+{
+    if moving.pieces() == 0 {
+        return move_whole(alloc, runner, moving, folder);
+    }
+    match moving.append_next(folder) {
+        Ok(moving) => State::Moving(moving),
+        Err(fault) => stopped(alloc, runner, fault),
+    }
+}
+
+/// Moves the staged table to its place.
+fn move_whole<F: Folder>(alloc: Global, runner: &Runner, moving: Moving, folder: &mut F) -> State
+    requires whole { moving_pieces moving ≡ 0 }
+    requires stands { StandsAs (F.moment folder.old) runner.now (State.Moving moving) }
     ensures { TakesTurn (F.moment folder.old) (F.moment folder.new) runner.now
         (State.Moving moving) result }
 {

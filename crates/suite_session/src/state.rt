@@ -31,17 +31,18 @@ pub(crate) enum State {
     Withdrawing(Loser),
     /// It reads the intent.
     ReadingIntent(Keeper<Unknown>),
-    /// It stages a table that the intent lists, or removes the intent once none is left.
+    /// It stages the first piece of a table that the intent lists, or removes the intent once none is
+    /// left.
     Recovering(Recovering),
-    /// It moves the staged table to its place.
+    /// It appends a further piece of that table, or moves it to its place once all are staged.
     Moving(Moving),
     /// It reads the next table, or login.defs. Once all are read, the tool decides.
     Loading(Loader),
-    /// It stages or moves the next backup, or stages the intent once all are moved.
+    /// It stages a piece of the next backup or moves it, or stages the intent once all are moved.
     BackingUp(Backing, Answer),
-    /// It moves the intent to its name: the commit.
+    /// It appends a further piece of the intent, or moves it to its name: the commit.
     Committing(IntentStaged, Answer),
-    /// It stages or moves the next table, or removes the intent once all are moved.
+    /// It stages a piece of the next table or moves it, or removes the intent once all are moved.
     Installing(Installing, Answer),
     /// It removes a lower lock, or stages the free text once none is left.
     Unlocking(Keeper<Unknown>, Answer),

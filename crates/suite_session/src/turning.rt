@@ -1,10 +1,10 @@
 // The one turn of a session: its begin, a step, or its answer.
-ghost use Rattle.std.specs.Prelude.{◌≡◌, ◌<◌, None, Ok, IfOk, IsSome};
+ghost use Rattle.std.specs.Prelude.{◌≡◌, ◌+◌, ◌<◌, None, Ok, IfOk, IsSome};
 ghost use Rattle.account_words.specs.Words.{request_of};
 ghost use Rattle.suite_session.specs.Answers.{IsTold};
 ghost use Rattle.suite_session.specs.Locking.{cause_of_fault};
 ghost use Rattle.suite_session.specs.Belongs.{Belongs};
-ghost use Rattle.suite_session.specs.Left.{calls_left};
+ghost use Rattle.suite_session.specs.Left.{appends_left, calls_left};
 ghost use Rattle.suite_session.specs.Session.{answer_of, given_in, outcome_of, phase_left};
 ghost use Rattle.suite_session.specs.Stands.{StandsAs};
 ghost use Rattle.suite_session.specs.Turning.{IsFirst, SessionTurns, TakesTurn};
@@ -49,7 +49,7 @@ fn stepped<T: Tools, F: Folder>(
     requires { Belongs (F.moment folder.old) (Phase.Begun runner state) }
     ensures turns { SessionTurns (F.moment folder.old) (F.moment folder.new)
         (Phase.Begun runner state) result }
-    ensures nearer { given_in state ≡ None → phase_left result < calls_left state }
+    ensures nearer { given_in state ≡ None → phase_left result < calls_left state + appends_left state }
     ensures ends { IsSome (given_in state) → IsSome (outcome_of result) }
 {
     match state {

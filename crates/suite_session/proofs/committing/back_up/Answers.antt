@@ -1,74 +1,84 @@
-use Rattle.std.proofs.Common.{sym, ap, ◌∙◌, Err}
+use Rattle.std.proofs.Common.{refl, sym, ap, ◌∙◌, Err}
 use Rattle.acct_outside.specs.declared.CommitStage.TheVariants.{Before}
-use Rattle.commit_steps.specs.States.{step_on}
+use Rattle.suite_rules.specs.Outcomes.{before_commit, pieces_left}
+use Rattle.commit_steps.specs.States.{append_on, next_table, old_bytes}
 use Rattle.commit_steps.specs.Walks.{token_of}
 use Rattle.commit_steps.specs.Stands.{BacksUp}
-use Rattle.commit_steps.specs.Outcomes.{backup_call}
-use Rattle.suite_rules.specs.Outcomes.{before_commit}
+use Rattle.commit_steps.specs.Outcomes.{backs_up_more}
+use Rattle.commit_steps.proofs.NextLemmas.{backs-on}
 use Rattle.suite_session.specs.declared.state.State.TheVariants.{BackingUp}
-use Rattle.commit_steps.proofs.NextLemmas.{backs-some}
 use Rattle.suite_session.proofs.TurnLemmas.{turns, faults}
 use Rattle.suite_session.proofs.CauseLemmas.{fault-outside}
 use Rattle.suite_session.proofs.LeadsLemmas.{leads-on, leads-stage, leads-failed}
-use Rattle.suite_session.proofs.CommittingTurns.{backs-on}
-use Rattle.suite_session.proofs.WalkingLemmas.{at-place, backup-shows, backup-calls, backup-quiet}
+use Rattle.suite_session.proofs.CommittingTurns.{backs-to}
+use Rattle.suite_session.proofs.WalkingLemmas.{at-piece}
 use Rattle.suite_session.proofs.MeetingLemmas.{quiet-on, leads-done, leads-ended}
-use Rattle.suite_session.proofs.CallsLemmas.{answers-fewer, backed-calls, backing-some, some-left}
+use Rattle.suite_session.proofs.CallsLemmas.{answers-append, backing-some, some-left}
+use Rattle.suite_session.proofs.CommitCalls.{backed-more, backing-appends}
 use Rattle.suite_session.proofs.committing.back_up.Goals as goal
+
+pub back_up_table-requires : goal.back_up_table-requires
+back_up_table-requires g c =
+    record { whole = sym c.pieces.ensures ∙ c.if-pieces-eq0.true; stands = c.requires }
+
+pub append_next-requires-clause-pieces : goal.append_next-requires-clause-pieces
+append_next-requires-clause-pieces g c = some-left _ _ c.pieces.ensures c.if-pieces-eq0.false
 
 pub returns-in-Ok : goal.returns-in-Ok
 returns-in-Ok g c = record {
   turns =
       let before = g.F.Folder.moment c.args.folder.now in
-      let now = g.F.Folder.moment c.back_up_next.new.folder in
-      let shown = at-place c.args.backing (some-left _ _ c.left.ensures c.if-left-eq0.false) c.in-Ok.ensures.call in
-      let done = leads-done (step_on c.args.backing) before_commit _ c.in-Ok.backing shown.1.shown
-      in
-      turns before now c.args.runner.now Before (BacksUp c.args.backing)
-      c.requires.stands (token_of c.args.backing) c.requires.same
-      (backup_call c.args.backing shown.0) (backup-calls c.args.runner.now c.args.answer
-      c.args.backing shown.0 c.requires.of_change shown.2) _
-      (backup-quiet c.args.backing shown.0) shown.1
-      c.back_up_next.ensures.lawful c.back_up_next.ensures.faults.never_falls
-      (BackingUp c.args.backing c.args.answer) (BackingUp c.in-Ok.backing c.args.answer)
-      (backs-some c.args.backing shown.0 shown.2)
-      (quiet-on (backup_call c.args.backing shown.0) (backup-shows c.args.backing shown.0)
-      shown.1.answer
-      done.0 _ _ done.1)
+      let now = g.F.Folder.moment c.append_next.new.folder in
+      let walker = c.args.backing in
+      let some = some-left _ _ c.pieces.ensures c.if-pieces-eq0.false in
+      let shown = at-piece (λ one. pieces_left walker.staged (old_bytes walker.change one.table))
+      (next_table walker) some c.in-Ok.ensures.call in
+      let done = leads-done (append_on walker) before_commit _ c.in-Ok.backing shown.1.shown in
+      turns before now c.args.runner.now Before (BacksUp walker) c.requires.stands (token_of walker)
+      c.requires.same (backs_up_more walker shown.0) tt _ (λ result stood. refl) shown.1
+      c.append_next.ensures.lawful c.append_next.ensures.faults.never_falls
+      (BackingUp walker c.args.answer) (BackingUp c.in-Ok.backing c.args.answer)
+      (backs-on walker shown.0 shown.2 some)
+      (quiet-on (backs_up_more walker shown.0) (λ given one met shows. shows) shown.1.answer done.0
+      _ _ done.1)
       (λ met none. absurd none)
-      (backs-on before now c.args.runner.now c.args.answer c.args.backing c.requires shown.0
-      shown.2 c.in-Ok.backing shown.1 c.in-Ok.ensures.next)
+      (backs-to before now c.args.runner.now c.args.answer walker c.requires
+      (backs_up_more walker shown.0) tt (λ result stood. refl) (append_on walker) c.in-Ok.backing
+      refl shown.1 c.in-Ok.ensures.next)
       (λ fault. fault);
   counts =
-      let shown = at-place c.args.backing (some-left _ _ c.left.ensures c.if-left-eq0.false) c.in-Ok.ensures.call in
-      backed-calls c.args.backing c.in-Ok.backing c.args.answer
-      (leads-on (step_on c.args.backing) before_commit shown.1.answer c.in-Ok.backing shown.1.shown)
-      (some-left _ _ c.left.ensures c.if-left-eq0.false);
+      let walker = c.args.backing in
+      let some = some-left _ _ c.pieces.ensures c.if-pieces-eq0.false in
+      let shown = at-piece (λ one. pieces_left walker.staged (old_bytes walker.change one.table))
+      (next_table walker) some c.in-Ok.ensures.call in
+      backed-more walker c.in-Ok.backing c.args.answer shown.0 shown.2
+      (leads-on (append_on walker) before_commit shown.1.answer c.in-Ok.backing shown.1.shown) some;
 }
 
 pub returns-in-Err : goal.returns-in-Err
 returns-in-Err g c = record {
   turns =
       let before = g.F.Folder.moment c.args.folder.now in
-      let now = g.F.Folder.moment c.back_up_next.new.folder in
-      let shown = at-place c.args.backing (some-left _ _ c.left.ensures c.if-left-eq0.false) c.in-Err.ensures.call in
+      let now = g.F.Folder.moment c.append_next.new.folder in
+      let walker = c.args.backing in
+      let some = some-left _ _ c.pieces.ensures c.if-pieces-eq0.false in
+      let shown = at-piece (λ one. pieces_left walker.staged (old_bytes walker.change one.table))
+      (next_table walker) some c.in-Err.ensures.call in
       let fault = c.in-Err.fault in
-      let stage = leads-stage (step_on c.args.backing) Before shown.1.answer fault shown.1.shown in
-      faults before now c.args.runner.now Before (BacksUp c.args.backing)
-      c.requires.stands (token_of c.args.backing) c.requires.same
-      (backup_call c.args.backing shown.0) (backup-calls c.args.runner.now c.args.answer
-      c.args.backing shown.0 c.requires.of_change shown.2) _
-      (backup-quiet c.args.backing shown.0) shown.1
-      c.back_up_next.ensures.lawful c.back_up_next.ensures.faults.never_falls
-      (BackingUp c.args.backing c.args.answer) c.given_up.result
-      (backs-some c.args.backing shown.0 shown.2)
+      let stage = leads-stage (append_on walker) Before shown.1.answer fault shown.1.shown in
+      faults before now c.args.runner.now Before (BacksUp walker) c.requires.stands
+      (token_of walker) c.requires.same (backs_up_more walker shown.0) tt _ (λ result stood. refl)
+      shown.1
+      c.append_next.ensures.lawful c.append_next.ensures.faults.never_falls
+      (BackingUp walker c.args.answer) c.given_up.result (backs-on walker shown.0 shown.2 some)
       (λ met none. absurd none) fault.stage fault.fault
-      (leads-ended (step_on c.args.backing) Before _ fault shown.1.shown) c.given_up.ensures
-      (sym stage)
-      (λ failed. c.back_up_next.ensures.faults.failed (c.in-Err.is ∙ ap Err
-      (leads-failed (step_on c.args.backing) Before _ fault shown.1.shown
+      (leads-ended (append_on walker) Before _ fault shown.1.shown) c.given_up.ensures (sym stage)
+      (λ failed. c.append_next.ensures.faults.failed (c.in-Err.is ∙ ap Err
+      (leads-failed (append_on walker) Before _ fault shown.1.shown
       (fault-outside fault.stage fault.fault failed))));
   counts =
-      answers-fewer _ _ c.given_up.result c.given_up.ensures _
-      (backing-some c.args.backing c.args.answer);
+      let walker = c.args.backing in
+      let some = some-left _ _ c.pieces.ensures c.if-pieces-eq0.false in
+      answers-append _ _ c.given_up.result c.given_up.ensures (BackingUp walker c.args.answer)
+      (backing-some walker c.args.answer) some (backing-appends walker c.args.answer some);
 }

@@ -8,13 +8,14 @@ use Rattle.commit_steps.specs.Walks.{token_of}
 use Rattle.commit_steps.specs.Stands.{Installs}
 use Rattle.suite_session.specs.declared.state.State.TheVariants.{Installing, Unlocking}
 use Rattle.suite_session.specs.Stands.{Turns}
-use Rattle.commit_steps.proofs.NextLemmas.{installs-none}
+use Rattle.commit_steps.proofs.InstallNextLemmas.{installs-none}
 use Rattle.suite_session.proofs.TurnLemmas.{turns, faults}
 use Rattle.suite_session.proofs.CauseLemmas.{fault-outside}
 use Rattle.suite_session.proofs.LeadsLemmas.{leads-on, leads-stage, leads-failed}
 use Rattle.suite_session.proofs.CommittingTurns.{clears}
 use Rattle.suite_session.proofs.MeetingLemmas.{quiet-on, leads-done, leads-ended}
-use Rattle.suite_session.proofs.CallsLemmas.{answers-fewer, cleared-calls, installing-some}
+use Rattle.suite_session.proofs.CallsLemmas.{answers-fewer, installing-some}
+use Rattle.suite_session.proofs.CommitCalls.{cleared-calls}
 use Rattle.suite_session.proofs.committing.clear.Goals as goal
 
 pub returns-in-Ok : goal.returns-in-Ok
@@ -46,7 +47,7 @@ returns-in-Ok g c = record {
       cleared-calls c.args.installing c.forget.result c.args.answer
       (c.forget.ensures ∙ (c.release.ensures
       ∙ leads-on c.args.installing.change.inputs.keeper after_commit c.in-Ok.ensures.call.answer
-      c.in-Ok.cleared c.in-Ok.ensures.call.shown));
+      c.in-Ok.cleared c.in-Ok.ensures.call.shown)) c.requires.whole;
 }
 
 pub returns-in-Err : goal.returns-in-Err
@@ -74,5 +75,5 @@ returns-in-Err g c = record {
       (fault-outside fault.stage fault.fault failed))));
   counts =
       answers-fewer _ _ c.given_up.result c.given_up.ensures _
-      (installing-some c.args.installing c.args.answer);
+      (installing-some c.args.installing c.args.answer) c.requires.whole;
 }

@@ -1,107 +1,82 @@
-use Rattle.std.proofs.Common.{ap, ◌∙◌, Err}
-use Rattle.suite_rules.specs.Outcomes.{at_commit}
-use Rattle.commit_steps.specs.States.{walk_of}
-use Rattle.suite_session.specs.Locking.{cause_of_fault}
-use Rattle.suite_session.proofs.CauseLemmas.{answers-fault}
-use Rattle.suite_session.proofs.LeadsLemmas.{leads-on}
-use Rattle.suite_session.proofs.CommittingTurns.{is-deed, commit-grew, commits-stands, unsure-stands, commit-ended, commit-failed}
-use Rattle.suite_session.proofs.MeetingLemmas.{fault-ends, leads-done, quiet-on}
-use Rattle.suite_session.proofs.OwnCallLemmas.{fault-met, makes-one, stays-told}
-use Rattle.acct_outside.specs.declared.Name.TheVariants.{Intent, IntentStage}
-use Rattle.acct_outside.specs.Calls.{renames}
+use Rattle.std.proofs.Common.{refl, sym, ap, ◌∙◌, Err}
 use Rattle.acct_outside.specs.declared.CommitStage.TheVariants.{Before}
+use Rattle.acct_outside.specs.declared.Name.TheVariants.{IntentStage}
+use Rattle.acct_outside.specs.Calls.{appends}
+use Rattle.suite_rules.specs.Outcomes.{before_commit}
+use Rattle.commit_steps.specs.States.{append_intent, intent_piece}
 use Rattle.commit_steps.specs.Stands.{HasStagedIntent}
-use Rattle.suite_session.specs.declared.state.State.TheVariants.{Committing, Installing}
-use Rattle.suite_session.proofs.CallsLemmas.{answers-fewer, committed-calls, committing-some}
+use Rattle.commit_steps.proofs.NextLemmas.{commits-on}
+use Rattle.suite_session.specs.declared.state.State.TheVariants.{Committing}
+use Rattle.suite_session.proofs.TurnLemmas.{turns, faults}
+use Rattle.suite_session.proofs.CauseLemmas.{fault-outside}
+use Rattle.suite_session.proofs.LeadsLemmas.{leads-on, leads-stage, leads-failed}
+use Rattle.suite_session.proofs.CommittingTurns.{adds-intent}
+use Rattle.suite_session.proofs.MeetingLemmas.{quiet-on, leads-done, leads-ended}
+use Rattle.suite_session.proofs.CallsLemmas.{answers-append, committing-some, some-left}
+use Rattle.suite_session.proofs.CommitCalls.{committing-appends, staged-more}
 use Rattle.suite_session.proofs.committing.commit.Goals as goal
+
+pub commit_intent-requires : goal.commit_intent-requires
+commit_intent-requires g c =
+    record { whole = sym c.pieces.ensures ∙ c.if-pieces-eq0.true; stands = c.requires }
+
+pub append_intent-requires-clause-pieces : goal.append_intent-requires-clause-pieces
+append_intent-requires-clause-pieces g c = some-left _ _ c.pieces.ensures c.if-pieces-eq0.false
 
 pub returns-in-Ok : goal.returns-in-Ok
 returns-in-Ok g c = record {
   turns =
       let before = g.F.Folder.moment c.args.folder.now in
-      let now = g.F.Folder.moment c.commit.new.folder in
-      let done = leads-done (walk_of c.args.staged) at_commit _ c.in-Ok.installing
+      let now = g.F.Folder.moment c.append_intent.new.folder in
+      let stager = c.args.staged in
+      let some = some-left _ _ c.pieces.ensures c.if-pieces-eq0.false in
+      let call = appends IntentStage (intent_piece stager.staged stager.change) in
+      let done = leads-done (append_intent stager) before_commit _ c.in-Ok.staged
       c.in-Ok.ensures.call.shown in
-      let meets = quiet-on (renames IntentStage Intent) (λ given one met shows. shows)
-      c.in-Ok.ensures.call.answer done.0 (HasStagedIntent c.args.staged)
-      (Installing c.in-Ok.installing c.args.answer) done.1 in
-      record {
-        turns = record {
-          stands = commits-stands before now c.args.runner.now c.args.answer c.args.staged
-              c.requires _
-              c.in-Ok.ensures.call c.commit.ensures.own c.in-Ok.installing
-              (leads-on (walk_of c.args.staged) at_commit c.in-Ok.ensures.call.answer
-              c.in-Ok.installing c.in-Ok.ensures.call.shown) c.in-Ok.ensures.next;
-          grew = commit-grew before now c.args.runner.now c.args.answer c.args.staged c.requires _
-              c.in-Ok.ensures.call c.commit.ensures.own;
-          lawful = λ deeds ours. c.commit.ensures.lawful deeds
-              (is-deed before now c.args.runner.now c.args.answer c.args.staged c.requires deeds
-              ours);
-          narrows = c.in-Ok.ensures.call.narrows;
-          never_falls = c.commit.ensures.faults.never_falls;
-          risen = λ fault. absurd fault;
-        };
-        makes_one = makes-one before now c.args.runner.now Before
-            (HasStagedIntent c.args.staged) c.requires.stands _ c.requires.same
-            (renames IntentStage Intent) tt _ c.in-Ok.ensures.call
-            (Committing c.args.staged c.args.answer) (Installing c.in-Ok.installing c.args.answer)
-            meets;
-        remembers = stays-told before now c.args.runner.now Before
-            (HasStagedIntent c.args.staged) c.requires.stands _ c.requires.same
-            (renames IntentStage Intent) tt _ c.in-Ok.ensures.call
-            (Committing c.args.staged c.args.answer) (Installing c.in-Ok.installing c.args.answer)
-            meets
-            (λ met none. absurd none);
-      };
+      turns before now c.args.runner.now Before (HasStagedIntent stager) c.requires.stands
+      stager.change.inputs.keeper.token c.requires.same call tt _ (λ result stood. refl)
+      c.in-Ok.ensures.call
+      c.append_intent.ensures.lawful c.append_intent.ensures.faults.never_falls
+      (Committing stager c.args.answer) (Committing c.in-Ok.staged c.args.answer)
+      (commits-on stager some)
+      (quiet-on call (λ given one met shows. shows) c.in-Ok.ensures.call.answer done.0 _ _ done.1)
+      (λ met none. absurd none)
+      (adds-intent before now c.args.runner.now c.args.answer stager c.requires call tt
+      (λ result stood. refl) c.in-Ok.staged c.in-Ok.ensures.call c.in-Ok.ensures.next)
+      (λ fault. fault);
   counts =
-      committed-calls c.args.staged c.in-Ok.installing c.args.answer
-      (leads-on (walk_of c.args.staged) at_commit c.in-Ok.ensures.call.answer
-      c.in-Ok.installing c.in-Ok.ensures.call.shown);
+      let stager = c.args.staged in
+      let some = some-left _ _ c.pieces.ensures c.if-pieces-eq0.false in
+      staged-more stager c.in-Ok.staged c.args.answer
+      (leads-on (append_intent stager) before_commit _ c.in-Ok.staged c.in-Ok.ensures.call.shown)
+      some;
 }
 
 pub returns-in-Err : goal.returns-in-Err
 returns-in-Err g c = record {
   turns =
       let before = g.F.Folder.moment c.args.folder.now in
-      let now = g.F.Folder.moment c.commit.new.folder in
+      let now = g.F.Folder.moment c.append_intent.new.folder in
+      let stager = c.args.staged in
+      let some = some-left _ _ c.pieces.ensures c.if-pieces-eq0.false in
+      let call = appends IntentStage (intent_piece stager.staged stager.change) in
       let fault = c.in-Err.fault in
-      let tool = c.args.runner.now.asked.request.tool in
-      let is = commit-ended (walk_of c.args.staged) _ fault c.in-Err.ensures.call.shown in
-      let meets = fault-ends tool fault.stage fault.fault c.given_up.result c.given_up.ensures
-      (renames IntentStage Intent) c.in-Err.ensures.call.answer (HasStagedIntent c.args.staged) is
-      in
-      record {
-        turns = record {
-          stands = unsure-stands before now c.args.runner.now c.args.answer c.args.staged c.requires
-              _
-              c.in-Err.ensures.call c.commit.ensures.own fault c.given_up.result c.given_up.ensures
-              c.in-Err.ensures.unsure
-              (fault-met before now c.args.runner.now Before
-              (HasStagedIntent c.args.staged) c.requires.stands _ c.requires.same
-              (renames IntentStage Intent) tt _ c.in-Err.ensures.call fault.stage fault.fault is);
-          grew = commit-grew before now c.args.runner.now c.args.answer c.args.staged c.requires _
-              c.in-Err.ensures.call c.commit.ensures.own;
-          lawful = λ deeds ours. c.commit.ensures.lawful deeds
-              (is-deed before now c.args.runner.now c.args.answer c.args.staged c.requires deeds
-              ours);
-          narrows = c.in-Err.ensures.call.narrows;
-          never_falls = c.commit.ensures.faults.never_falls;
-          risen = λ told. c.commit.ensures.faults.failed (c.in-Err.is
-              ∙ ap Err (commit-failed (walk_of c.args.staged) c.in-Err.ensures.call.answer fault
-              c.in-Err.ensures.call.shown (answers-fault tool
-              (cause_of_fault fault.stage fault.fault) c.given_up.result c.given_up.ensures told)));
-        };
-        makes_one = makes-one before now c.args.runner.now Before
-            (HasStagedIntent c.args.staged) c.requires.stands _ c.requires.same
-            (renames IntentStage Intent) tt _ c.in-Err.ensures.call
-            (Committing c.args.staged c.args.answer) c.given_up.result meets;
-        remembers = stays-told before now c.args.runner.now Before
-            (HasStagedIntent c.args.staged) c.requires.stands _ c.requires.same
-            (renames IntentStage Intent) tt _ c.in-Err.ensures.call
-            (Committing c.args.staged c.args.answer) c.given_up.result meets
-            (λ met none. absurd none);
-      };
+      let stage = leads-stage (append_intent stager) Before c.in-Err.ensures.call.answer fault
+      c.in-Err.ensures.call.shown in
+      faults before now c.args.runner.now Before (HasStagedIntent stager) c.requires.stands
+      stager.change.inputs.keeper.token c.requires.same call tt _ (λ result stood. refl)
+      c.in-Err.ensures.call
+      c.append_intent.ensures.lawful c.append_intent.ensures.faults.never_falls
+      (Committing stager c.args.answer) c.given_up.result (commits-on stager some)
+      (λ met none. absurd none) fault.stage fault.fault
+      (leads-ended (append_intent stager) Before _ fault c.in-Err.ensures.call.shown)
+      c.given_up.ensures (sym stage)
+      (λ failed. c.append_intent.ensures.faults.failed (c.in-Err.is ∙ ap Err
+      (leads-failed (append_intent stager) Before _ fault c.in-Err.ensures.call.shown
+      (fault-outside fault.stage fault.fault failed))));
   counts =
-      answers-fewer _ _ c.given_up.result c.given_up.ensures _
-      (committing-some c.args.staged c.args.answer);
+      let stager = c.args.staged in
+      let some = some-left _ _ c.pieces.ensures c.if-pieces-eq0.false in
+      answers-append _ _ c.given_up.result c.given_up.ensures (Committing stager c.args.answer)
+      (committing-some stager c.args.answer) some (committing-appends stager c.args.answer some);
 }

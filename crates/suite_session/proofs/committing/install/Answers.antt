@@ -1,76 +1,86 @@
-use Rattle.std.proofs.Common.{sym, ap, ◌∙◌, Err}
+use Rattle.std.proofs.Common.{refl, sym, ap, ◌∙◌, Err}
 use Rattle.acct_outside.specs.declared.CommitStage.TheVariants.{Committed}
-use Rattle.commit_steps.specs.States.{step_on}
+use Rattle.suite_rules.specs.Outcomes.{after_commit, pieces_left}
+use Rattle.commit_steps.specs.States.{append_on, next_table}
 use Rattle.commit_steps.specs.Walks.{token_of}
 use Rattle.commit_steps.specs.Stands.{Installs}
-use Rattle.commit_steps.specs.Outcomes.{install_call}
-use Rattle.suite_rules.specs.Outcomes.{after_commit}
+use Rattle.commit_steps.specs.Outcomes.{installs_more}
+use Rattle.commit_steps.proofs.InstallNextLemmas.{adds-on}
 use Rattle.suite_session.specs.declared.state.State.TheVariants.{Installing}
-use Rattle.commit_steps.proofs.NextLemmas.{installs-some}
 use Rattle.suite_session.proofs.TurnLemmas.{turns, faults}
 use Rattle.suite_session.proofs.CauseLemmas.{fault-outside}
 use Rattle.suite_session.proofs.LeadsLemmas.{leads-on, leads-stage, leads-failed}
-use Rattle.suite_session.proofs.CommittingTurns.{installs-on}
-use Rattle.suite_session.proofs.WalkingLemmas.{at-place, install-shows, install-calls, install-quiet}
+use Rattle.suite_session.proofs.CommittingTurns.{installs-to}
+use Rattle.suite_session.proofs.WalkingLemmas.{at-piece}
 use Rattle.suite_session.proofs.MeetingLemmas.{quiet-on, leads-done, leads-ended}
-use Rattle.suite_session.proofs.CallsLemmas.{answers-fewer, installed-calls, installing-some, some-left}
+use Rattle.suite_session.proofs.CallsLemmas.{answers-append, installing-some, some-left}
+use Rattle.suite_session.proofs.CommitCalls.{installed-more, installing-appends}
 use Rattle.suite_session.proofs.committing.install.Goals as goal
+
+pub install_table-requires : goal.install_table-requires
+install_table-requires g c =
+    record { whole = sym c.pieces.ensures ∙ c.if-pieces-eq0.true; stands = c.requires }
+
+pub append_next-requires-clause-pieces : goal.append_next-requires-clause-pieces
+append_next-requires-clause-pieces g c = some-left _ _ c.pieces.ensures c.if-pieces-eq0.false
 
 pub returns-in-Ok : goal.returns-in-Ok
 returns-in-Ok g c = record {
   turns =
       let before = g.F.Folder.moment c.args.folder.now in
-      let now = g.F.Folder.moment c.install_next.new.folder in
-      let shown = at-place c.args.installing (some-left _ _ c.left.ensures c.if-left-eq0.false) c.in-Ok.ensures.call in
-      let done = leads-done (step_on c.args.installing) after_commit _ c.in-Ok.installing
-      shown.1.shown in
-      turns before now c.args.runner.now Committed (Installs c.args.installing)
-      c.requires.stands (token_of c.args.installing) c.requires.same
-      (install_call c.args.installing shown.0) (install-calls _ c.args.installing shown.0) _
-      (install-quiet c.args.installing shown.0) shown.1
-      c.install_next.ensures.lawful c.install_next.ensures.faults.never_falls
-      (Installing c.args.installing c.args.answer) (Installing c.in-Ok.installing c.args.answer)
-      (installs-some c.args.installing shown.0 shown.2)
-      (quiet-on (install_call c.args.installing shown.0) (install-shows c.args.installing shown.0)
-      shown.1.answer done.0 _ _ done.1)
+      let now = g.F.Folder.moment c.append_next.new.folder in
+      let walker = c.args.installing in
+      let some = some-left _ _ c.pieces.ensures c.if-pieces-eq0.false in
+      let shown = at-piece (λ one. pieces_left walker.staged one.bytes)
+      (next_table walker) some c.in-Ok.ensures.call in
+      let done = leads-done (append_on walker) after_commit _ c.in-Ok.installing shown.1.shown in
+      turns before now c.args.runner.now Committed (Installs walker) c.requires.stands (token_of walker)
+      c.requires.same (installs_more walker shown.0) tt _ (λ result stood. refl) shown.1
+      c.append_next.ensures.lawful c.append_next.ensures.faults.never_falls
+      (Installing walker c.args.answer) (Installing c.in-Ok.installing c.args.answer)
+      (adds-on walker shown.0 shown.2 some)
+      (quiet-on (installs_more walker shown.0) (λ given one met shows. shows) shown.1.answer done.0
+      _ _ done.1)
       (λ met none. absurd none)
-      (installs-on before now c.args.runner.now c.args.answer c.args.installing c.requires
-      (install_call c.args.installing shown.0) (install-calls _ c.args.installing shown.0) _
-      (install-quiet c.args.installing shown.0) shown.1 c.in-Ok.installing
-      (leads-on (step_on c.args.installing) after_commit shown.1.answer c.in-Ok.installing
-      shown.1.shown) c.in-Ok.ensures.next)
+      (installs-to before now c.args.runner.now c.args.answer walker c.requires
+      (installs_more walker shown.0) tt _ (λ result stood. refl) shown.1 (append_on walker)
+      c.in-Ok.installing refl
+      (leads-on (append_on walker) after_commit shown.1.answer c.in-Ok.installing shown.1.shown)
+      c.in-Ok.ensures.next)
       (λ fault. fault);
   counts =
-      let shown = at-place c.args.installing (some-left _ _ c.left.ensures c.if-left-eq0.false) c.in-Ok.ensures.call in
-      installed-calls c.args.installing c.in-Ok.installing c.args.answer
-      (leads-on (step_on c.args.installing) after_commit shown.1.answer c.in-Ok.installing
-      shown.1.shown)
-      (some-left _ _ c.left.ensures c.if-left-eq0.false);
+      let walker = c.args.installing in
+      let some = some-left _ _ c.pieces.ensures c.if-pieces-eq0.false in
+      let shown = at-piece (λ one. pieces_left walker.staged one.bytes)
+      (next_table walker) some c.in-Ok.ensures.call in
+      installed-more walker c.in-Ok.installing c.args.answer shown.0 shown.2
+      (leads-on (append_on walker) after_commit shown.1.answer c.in-Ok.installing shown.1.shown) some;
 }
 
 pub returns-in-Err : goal.returns-in-Err
 returns-in-Err g c = record {
   turns =
       let before = g.F.Folder.moment c.args.folder.now in
-      let now = g.F.Folder.moment c.install_next.new.folder in
-      let shown = at-place c.args.installing (some-left _ _ c.left.ensures c.if-left-eq0.false) c.in-Err.ensures.call in
+      let now = g.F.Folder.moment c.append_next.new.folder in
+      let walker = c.args.installing in
+      let some = some-left _ _ c.pieces.ensures c.if-pieces-eq0.false in
+      let shown = at-piece (λ one. pieces_left walker.staged one.bytes)
+      (next_table walker) some c.in-Err.ensures.call in
       let fault = c.in-Err.fault in
-      let stage = leads-stage (step_on c.args.installing) Committed shown.1.answer fault
-      shown.1.shown in
-      faults before now c.args.runner.now Committed (Installs c.args.installing)
-      c.requires.stands (token_of c.args.installing) c.requires.same
-      (install_call c.args.installing shown.0) (install-calls _ c.args.installing shown.0) _
-      (install-quiet c.args.installing shown.0) shown.1
-      c.install_next.ensures.lawful c.install_next.ensures.faults.never_falls
-      (Installing c.args.installing c.args.answer) c.given_up.result
-      (installs-some c.args.installing shown.0 shown.2)
+      let stage = leads-stage (append_on walker) Committed shown.1.answer fault shown.1.shown in
+      faults before now c.args.runner.now Committed (Installs walker) c.requires.stands
+      (token_of walker) c.requires.same (installs_more walker shown.0) tt _ (λ result stood. refl)
+      shown.1
+      c.append_next.ensures.lawful c.append_next.ensures.faults.never_falls
+      (Installing walker c.args.answer) c.given_up.result (adds-on walker shown.0 shown.2 some)
       (λ met none. absurd none) fault.stage fault.fault
-      (leads-ended (step_on c.args.installing) Committed _ fault shown.1.shown) c.given_up.ensures
-      (sym stage)
-      (λ failed. c.install_next.ensures.faults.failed (c.in-Err.is ∙ ap Err
-      (leads-failed (step_on c.args.installing) Committed _ fault shown.1.shown
+      (leads-ended (append_on walker) Committed _ fault shown.1.shown) c.given_up.ensures (sym stage)
+      (λ failed. c.append_next.ensures.faults.failed (c.in-Err.is ∙ ap Err
+      (leads-failed (append_on walker) Committed _ fault shown.1.shown
       (fault-outside fault.stage fault.fault failed))));
   counts =
-      answers-fewer _ _ c.given_up.result c.given_up.ensures _
-      (installing-some c.args.installing c.args.answer);
+      let walker = c.args.installing in
+      let some = some-left _ _ c.pieces.ensures c.if-pieces-eq0.false in
+      answers-append _ _ c.given_up.result c.given_up.ensures (Installing walker c.args.answer)
+      (installing-some walker c.args.answer) some (installing-appends walker c.args.answer some);
 }

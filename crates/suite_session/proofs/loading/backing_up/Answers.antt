@@ -14,4 +14,4 @@ returns-in-Ok c =
     ap (λ (one : Runner). one.asked) c.runner.view_is in
     of-change c.args.runner.now c.args.loaded c.args.new c.args.answer
     (subst (λ (one : Question). Asks one.command.words one.request) asked c.tool.ensures.asks)
-    c.requires c.in-Ok.backing c.in-Ok.ensures
+    c.requires c.in-Ok.backing c.in-Ok.ensures.value c.in-Ok.ensures.reads

@@ -6,7 +6,7 @@ use Rattle.commit_steps.specs.Stands.{HasRead}
 use Rattle.suite_session.proofs.TurnLemmas.{turn-made, turns}
 use Rattle.suite_session.proofs.LoadingTurns.{load-on, load-ends, loads-stands, loads-quiet, ended-stands, ended-failed}
 use Rattle.suite_session.specs.declared.state.State.TheVariants.{Loading}
-use Rattle.suite_session.proofs.CallsLemmas.{ended-calls, loads-calls}
+use Rattle.suite_session.proofs.CommitCalls.{ended-calls, loads-calls}
 use Rattle.suite_session.proofs.loading.load.Goals as goal
 
 pub returns-in-Ok : goal.returns-in-Ok
@@ -29,7 +29,8 @@ returns-in-Ok g c = record {
       (loads-quiet c.args.runner.now c.in-Ok.loading c.after_load.result c.after_load.ensures);
   counts =
       loads-calls c.args.runner.now c.args.loader c.in-Ok.loading c.after_load.result
-      c.in-Ok.ensures.step.call.answer c.after_load.ensures c.in-Ok.ensures.step.call.shown;
+      c.in-Ok.ensures.step.call.answer c.is_sound.ensures c.after_load.ensures
+      c.in-Ok.ensures.step.call.shown;
 }
 
 pub returns-in-Err : goal.returns-in-Err

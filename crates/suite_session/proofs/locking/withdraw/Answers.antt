@@ -49,5 +49,5 @@ returns g c = record {
       (sym (end-stage c.withdraw.result))
       (λ fault. c.withdraw.ensures.faults.failed (ap Err (end-failed c.withdraw.result fault)));
   counts =
-      answers-fewer _ _ c.stopped.result c.stopped.ensures _ (search (arith, rules));
+      answers-fewer _ _ c.stopped.result c.stopped.ensures _ (search (arith, rules)) refl;
 }

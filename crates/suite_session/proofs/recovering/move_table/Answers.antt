@@ -1,75 +1,86 @@
-use Rattle.std.proofs.Common.{refl, sym, ap, ◌∙◌, Err}
-use Rattle.acct_outside.specs.declared.Name.TheVariants.{Intent}
-use Rattle.acct_outside.specs.Calls.{removes}
-use Rattle.suite_rules.specs.Outcomes.{installs, before_commit}
-use Rattle.lock_steps.specs.NextCall.{next_or}
-use Rattle.recovery.specs.States.{Recoverer, moved_once}
-use Rattle.recovery.specs.Stands.{Recovers, HasStagedNext}
-use Rattle.suite_session.specs.declared.state.State.TheVariants.{Moving, Recovering}
+use Rattle.std.proofs.Common.{◌<◌, refl, sym, ap, subst, ◌∙◌, length, Err}
+use Rattle.acct_outside.specs.declared.CommitStage.TheVariants.{Before}
+use Rattle.suite_rules.specs.Outcomes.{before_commit, stages_more}
+use Rattle.recovery.specs.States.{Mover, appended_once}
+use Rattle.recovery.specs.Stands.{HasStagedNext}
+use Rattle.recovery.proofs.NextLemmas.{moves-on}
+use Rattle.suite_session.specs.declared.state.State.TheVariants.{Moving}
 use Rattle.suite_session.proofs.TurnLemmas.{may-step, goes-on, turns, faults}
 use Rattle.suite_session.proofs.CauseLemmas.{fault-outside}
 use Rattle.suite_session.proofs.RecoveringTurns.{some-next}
 use Rattle.suite_session.proofs.LeadsLemmas.{leads-on, leads-stage, leads-failed}
-use Rattle.acct_outside.specs.declared.CommitStage.TheVariants.{Before}
 use Rattle.suite_session.proofs.MeetingLemmas.{quiet-on, leads-done, leads-ended}
-use Rattle.suite_session.proofs.CallsLemmas.{answers-fewer, moved-calls, moving-some}
+use Rattle.suite_session.proofs.CallsLemmas.{added-calls, answers-append, moving-appends, moving-some, some-left}
 use Rattle.suite_session.proofs.recovering.move_table.Goals as goal
 
-pub move_next-requires : goal.move_next-requires
-move_next-requires g c =
+pub move_whole-requires : goal.move_whole-requires
+move_whole-requires g c =
+    record { whole = sym c.pieces.ensures ∙ c.if-pieces-eq0.true; stands = c.requires }
+
+pub append_next-requires : goal.append_next-requires
+append_next-requires g c =
     let before = g.F.Folder.moment c.args.folder.now in
-    may-step before c.args.runner.now Before (HasStagedNext c.args.moving)
-    (c.args.moving.keeper.token) (c.requires.0) (c.requires.2)
+    record {
+      left = some-left _ _ c.pieces.ensures c.if-pieces-eq0.false;
+      stands = may-step before c.args.runner.now Before (HasStagedNext c.args.moving)
+          (c.args.moving.keeper.token) (c.requires.0) (c.requires.2);
+    }
 
 pub returns-in-Ok : goal.returns-in-Ok
 returns-in-Ok g c = record {
   turns =
       let before = g.F.Folder.moment c.args.folder.now in
-      let now = g.F.Folder.moment c.move_next.new.folder in
-      let shown = some-next c.args.moving.left c.requires.1 c.in-Ok.ensures.call in
-      let is = leads-on (moved_once c.args.moving) before_commit _ c.in-Ok.recovering shown.1.shown
-      in
-      let done = leads-done (moved_once c.args.moving) before_commit _ c.in-Ok.recovering
-      shown.1.shown in
-      turns before now c.args.runner.now Before (HasStagedNext c.args.moving) c.requires.2
-      c.args.moving.keeper.token c.requires.0 (installs shown.0) tt _ (λ result stood. refl) shown.1
-      c.move_next.ensures.lawful c.move_next.ensures.faults.never_falls (Moving c.args.moving)
-      (Recovering c.in-Ok.recovering) (ap (next_or (removes Intent) installs) shown.2)
-      (quiet-on (installs shown.0) (λ given one met shows. shows) shown.1.answer done.0 _ _
-      done.1)
+      let now = g.F.Folder.moment c.append_next.new.folder in
+      let moving = c.args.moving in
+      let some = some-left _ _ c.pieces.ensures c.if-pieces-eq0.false in
+      let shown = some-next moving.left c.requires.1 c.in-Ok.ensures.call in
+      let call = stages_more moving.staged shown.0 in
+      let is = leads-on (appended_once moving) before_commit _ c.in-Ok.moving shown.1.shown in
+      let done = leads-done (appended_once moving) before_commit _ c.in-Ok.moving shown.1.shown in
+      turns before now c.args.runner.now Before (HasStagedNext moving) c.requires.2
+      moving.keeper.token c.requires.0 call tt _ (λ result stood. refl) shown.1
+      c.append_next.ensures.lawful c.append_next.ensures.faults.never_falls (Moving moving)
+      (Moving c.in-Ok.moving) (moves-on moving shown.0 shown.2 some)
+      (quiet-on call (λ given one met shows. shows) shown.1.answer done.0 _ _ done.1)
       (λ met none. absurd none) (
-        ap (λ (one : Recoverer). one.keeper.token) is ∙ c.requires.0,
-        goes-on before now c.args.runner.now Before (HasStagedNext c.args.moving)
-            c.requires.2
-            c.args.moving.keeper.token c.requires.0 (installs shown.0) tt _ (λ result stood. refl)
-            shown.1
-            (Recovers c.in-Ok.recovering) c.in-Ok.ensures.next,
+        ap (λ (one : Mover). one.keeper.token) is ∙ c.requires.0,
+        subst (λ (one : Mover). 0 < length one.left) (sym is) c.requires.1,
+        goes-on before now c.args.runner.now Before (HasStagedNext moving) c.requires.2
+            moving.keeper.token c.requires.0 call tt _ (λ result stood. refl) shown.1
+            (HasStagedNext c.in-Ok.moving) c.in-Ok.ensures.next,
       )
       (λ fault. fault);
   counts =
-      let shown = some-next c.args.moving.left c.requires.1 c.in-Ok.ensures.call in
-      moved-calls c.args.moving c.in-Ok.recovering
-      (leads-on (moved_once c.args.moving) before_commit _ c.in-Ok.recovering shown.1.shown)
-      c.requires.1;
+      let moving = c.args.moving in
+      let some = some-left _ _ c.pieces.ensures c.if-pieces-eq0.false in
+      let shown = some-next moving.left c.requires.1 c.in-Ok.ensures.call in
+      added-calls moving c.in-Ok.moving
+      (leads-on (appended_once moving) before_commit _ c.in-Ok.moving shown.1.shown) some;
 }
 
 pub returns-in-Err : goal.returns-in-Err
 returns-in-Err g c = record {
   turns =
       let before = g.F.Folder.moment c.args.folder.now in
-      let now = g.F.Folder.moment c.move_next.new.folder in
-      let shown = some-next c.args.moving.left c.requires.1 c.in-Err.ensures.call in
+      let now = g.F.Folder.moment c.append_next.new.folder in
+      let moving = c.args.moving in
+      let some = some-left _ _ c.pieces.ensures c.if-pieces-eq0.false in
+      let shown = some-next moving.left c.requires.1 c.in-Err.ensures.call in
+      let call = stages_more moving.staged shown.0 in
       let fault = c.in-Err.fault in
-      faults before now c.args.runner.now Before (HasStagedNext c.args.moving) c.requires.2
-      c.args.moving.keeper.token c.requires.0 (installs shown.0) tt _ (λ result stood. refl) shown.1
-      c.move_next.ensures.lawful c.move_next.ensures.faults.never_falls (Moving c.args.moving)
-      c.stopped.result (ap (next_or (removes Intent) installs) shown.2)
+      faults before now c.args.runner.now Before (HasStagedNext moving) c.requires.2
+      moving.keeper.token c.requires.0 call tt _ (λ result stood. refl) shown.1
+      c.append_next.ensures.lawful c.append_next.ensures.faults.never_falls (Moving moving)
+      c.stopped.result (moves-on moving shown.0 shown.2 some)
       (λ met none. absurd none) fault.stage fault.fault
-      (leads-ended (moved_once c.args.moving) Before _ fault shown.1.shown) c.stopped.ensures
-      (sym (leads-stage (moved_once c.args.moving) Before _ fault shown.1.shown))
-      (λ failed. c.move_next.ensures.faults.failed (c.in-Err.is ∙ ap Err
-      (leads-failed (moved_once c.args.moving) Before _ fault shown.1.shown
+      (leads-ended (appended_once moving) Before _ fault shown.1.shown) c.stopped.ensures
+      (sym (leads-stage (appended_once moving) Before _ fault shown.1.shown))
+      (λ failed. c.append_next.ensures.faults.failed (c.in-Err.is ∙ ap Err
+      (leads-failed (appended_once moving) Before _ fault shown.1.shown
       (fault-outside fault.stage fault.fault failed))));
   counts =
-      answers-fewer _ _ c.stopped.result c.stopped.ensures _ (moving-some c.args.moving);
+      let moving = c.args.moving in
+      let some = some-left _ _ c.pieces.ensures c.if-pieces-eq0.false in
+      answers-append _ _ c.stopped.result c.stopped.ensures (Moving moving) (moving-some moving) some
+      (moving-appends moving some);
 }

@@ -3,7 +3,7 @@ use Rattle.acct_outside.specs.declared.Name.TheVariants.{Intent}
 use Rattle.acct_outside.specs.Calls.{removes}
 use Rattle.suite_rules.specs.Outcomes.{stages, before_commit}
 use Rattle.lock_steps.specs.NextCall.{next_or}
-use Rattle.recovery.specs.States.{Recoverer}
+use Rattle.recovery.specs.States.{Mover, mover_of}
 use Rattle.recovery.specs.Stands.{Recovers, HasStagedNext}
 use Rattle.suite_session.specs.declared.state.State.TheVariants.{Recovering, Moving}
 use Rattle.suite_session.proofs.TurnLemmas.{may-step, goes-on, turns, faults}
@@ -27,8 +27,8 @@ returns-in-Ok g c = record {
       let before = g.F.Folder.moment c.args.folder.now in
       let now = g.F.Folder.moment c.stage_next.new.folder in
       let shown = some-next c.args.recovering.left (some-left _ _ c.left.ensures c.if-left-eq0.false) c.in-Ok.ensures.call in
-      let is = leads-on c.args.recovering before_commit _ c.in-Ok.moving shown.1.shown in
-      let done = leads-done c.args.recovering before_commit _ c.in-Ok.moving shown.1.shown in
+      let is = leads-on (mover_of 1 c.args.recovering) before_commit _ c.in-Ok.moving shown.1.shown in
+      let done = leads-done (mover_of 1 c.args.recovering) before_commit _ c.in-Ok.moving shown.1.shown in
       turns before now c.args.runner.now Before (Recovers c.args.recovering)
       c.requires.1
       c.args.recovering.keeper.token c.requires.0 (stages shown.0) tt _ (λ result stood. refl)
@@ -39,8 +39,8 @@ returns-in-Ok g c = record {
       (quiet-on (stages shown.0) (λ given one met shows. shows) shown.1.answer done.0 _ _
       done.1)
       (λ met none. absurd none) (
-        ap (λ (one : Recoverer). one.keeper.token) is ∙ c.requires.0,
-        subst (λ (one : Recoverer). 0 < length one.left) (sym is) (some-left _ _ c.left.ensures c.if-left-eq0.false),
+        ap (λ (one : Mover). one.keeper.token) is ∙ c.requires.0,
+        subst (λ (one : Mover). 0 < length one.left) (sym is) (some-left _ _ c.left.ensures c.if-left-eq0.false),
         goes-on before now c.args.runner.now Before (Recovers c.args.recovering)
             c.requires.1
             c.args.recovering.keeper.token c.requires.0 (stages shown.0) tt _ (λ result stood. refl)
@@ -51,7 +51,7 @@ returns-in-Ok g c = record {
   counts =
       let shown = some-next c.args.recovering.left (some-left _ _ c.left.ensures c.if-left-eq0.false) c.in-Ok.ensures.call in
       staged-calls c.args.recovering c.in-Ok.moving
-      (leads-on c.args.recovering before_commit _ c.in-Ok.moving shown.1.shown);
+      (leads-on (mover_of 1 c.args.recovering) before_commit _ c.in-Ok.moving shown.1.shown);
 }
 
 pub returns-in-Err : goal.returns-in-Err
@@ -69,11 +69,12 @@ returns-in-Err g c = record {
       (Recovering c.args.recovering) c.stopped.result
       (ap (next_or (removes Intent) stages) shown.2)
       (λ met none. absurd none) fault.stage fault.fault
-      (leads-ended c.args.recovering Before _ fault shown.1.shown) c.stopped.ensures
-      (sym (leads-stage c.args.recovering Before _ fault shown.1.shown))
+      (leads-ended (mover_of 1 c.args.recovering) Before _ fault shown.1.shown) c.stopped.ensures
+      (sym (leads-stage (mover_of 1 c.args.recovering) Before _ fault shown.1.shown))
       (λ failed. c.stage_next.ensures.faults.failed (c.in-Err.is ∙ ap Err
-      (leads-failed c.args.recovering Before _ fault shown.1.shown
+      (leads-failed (mover_of 1 c.args.recovering) Before _ fault shown.1.shown
       (fault-outside fault.stage fault.fault failed))));
   counts =
-      answers-fewer _ _ c.stopped.result c.stopped.ensures _ (recovering-some c.args.recovering);
+      answers-fewer _ _ c.stopped.result c.stopped.ensures _ (recovering-some c.args.recovering)
+      refl;
 }

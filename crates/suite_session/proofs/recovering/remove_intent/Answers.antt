@@ -84,5 +84,6 @@ returns-in-Err g c = record {
       (leads-failed c.args.recovering.keeper Before _ fault c.in-Err.ensures.call.shown
       (fault-outside fault.stage fault.fault failed))));
   counts =
-      answers-fewer _ _ c.stopped.result c.stopped.ensures _ (recovering-some c.args.recovering);
+      answers-fewer _ _ c.stopped.result c.stopped.ensures _ (recovering-some c.args.recovering)
+      refl;
 }

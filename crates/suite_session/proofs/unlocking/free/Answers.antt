@@ -7,7 +7,7 @@ use Rattle.suite_session.proofs.UnlockingTurns.{frees, out-follows}
 use Rattle.suite_session.proofs.MeetingLemmas.{locks-ended}
 use Rattle.suite_answers.specs.Reasons.{stage_of}
 use Rattle.suite_session.specs.declared.state.State.TheVariants.{Freeing}
-use Rattle.suite_session.proofs.CallsLemmas.{answers-fewer}
+use Rattle.suite_session.proofs.CallsLemmas.{answers-fewer, other-fewer}
 use Rattle.suite_session.proofs.unlocking.free.Goals as goal
 
 pub move_free-requires : goal.move_free-requires
@@ -24,7 +24,7 @@ returns-in-Ok g c = record {
       frees before now c.args.runner.now c.args.answer c.args.freeing c.requires
       _ c.in-Ok.ensures.call c.in-Ok.ensures.next
       c.move_free.ensures.left c.move_free.ensures.lawful c.move_free.ensures.faults.never_falls;
-  counts = omega arith;
+  counts = other-fewer _ _ refl (omega arith) (omega arith);
 }
 
 pub returns-in-Err : goal.returns-in-Err
@@ -44,5 +44,5 @@ returns-in-Err g c = record {
       (locks-ended _ _ _ c.in-Err.ensures.call.shown) c.replaced.ensures refl
       (λ failed. c.move_free.ensures.faults.failed (c.in-Err.is ∙ ap Err failed));
   counts =
-      answers-fewer _ _ c.replaced.result c.replaced.ensures _ (search (arith, rules));
+      answers-fewer _ _ c.replaced.result c.replaced.ensures _ (search (arith, rules)) refl;
 }

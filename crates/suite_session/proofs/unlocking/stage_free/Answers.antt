@@ -1,4 +1,4 @@
-use Rattle.std.proofs.Common.{refl, ap, ◌∙◌, Err}
+use Rattle.std.proofs.Common.{arith, refl, ap, ◌∙◌, Err}
 use Rattle.acct_outside.specs.declared.Name.TheVariants.{FreeStage}
 use Rattle.acct_outside.specs.Tokens.{free_text}
 use Rattle.acct_outside.specs.Calls.{writes}
@@ -9,7 +9,7 @@ use Rattle.suite_session.proofs.UnlockingTurns.{stages, out-follows}
 use Rattle.suite_session.proofs.MeetingLemmas.{locks-ended}
 use Rattle.suite_answers.specs.Reasons.{stage_of}
 use Rattle.suite_session.specs.declared.state.State.TheVariants.{Unlocking}
-use Rattle.suite_session.proofs.CallsLemmas.{answers-fewer, unlocking-more, unlocking-some}
+use Rattle.suite_session.proofs.CallsLemmas.{answers-fewer, unlocking-more, unlocking-some, other-fewer}
 use Rattle.suite_session.proofs.unlocking.stage_free.Goals as goal
 
 pub stage_free-requires-clause-stands : goal.stage_free-requires-clause-stands
@@ -27,7 +27,7 @@ returns-in-Ok g c = record {
       c.in-Ok.freeing (unlocks-none c.args.keeper c.requires.left) c.in-Ok.ensures.call c.in-Ok.ensures.next
       c.stage_free.ensures.left c.stage_free.ensures.lawful c.stage_free.ensures.faults.never_falls;
   counts =
-      unlocking-more c.args.keeper c.args.answer;
+      other-fewer _ _ refl (unlocking-more c.args.keeper c.args.answer) (omega arith);
 }
 
 pub returns-in-Err : goal.returns-in-Err
@@ -49,5 +49,5 @@ returns-in-Err g c = record {
       (λ failed. c.stage_free.ensures.faults.failed (c.in-Err.is ∙ ap Err failed));
   counts =
       answers-fewer _ _ c.replaced.result c.replaced.ensures _
-      (unlocking-some c.args.keeper c.args.answer);
+      (unlocking-some c.args.keeper c.args.answer) refl;
 }

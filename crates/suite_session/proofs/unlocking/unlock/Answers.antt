@@ -53,5 +53,5 @@ returns-in-Err g c = record {
       (λ failed. c.clean_next.ensures.faults.failed (c.in-Err.is ∙ ap Err failed));
   counts =
       answers-fewer _ _ c.replaced.result c.replaced.ensures _
-      (unlocking-some c.args.keeper c.args.answer);
+      (unlocking-some c.args.keeper c.args.answer) refl;
 }

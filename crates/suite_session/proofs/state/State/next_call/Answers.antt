@@ -1,7 +1,7 @@
 use Rattle.std.proofs.Common.{refl}
 use Rattle.acct_outside.specs.declared.Name.TheVariants.{Intent}
 use Rattle.suite_rules.specs.Rules.{answer_rule, free_read}
-use Rattle.suite_session.specs.declared.state.State.TheVariants.{Reading, Asking, Claiming, Withdrawing, ReadingIntent, Recovering, Moving, Loading, BackingUp, Installing, Unlocking, Freeing, Answering}
+use Rattle.suite_session.specs.declared.state.State.TheVariants.{Reading, Asking, Claiming, Withdrawing, ReadingIntent, Recovering, Moving, Loading, BackingUp, Committing, Installing, Unlocking, Freeing, Answering}
 use Rattle.suite_session.proofs.NextLemmas.{of-state, of-state-ok}
 use Rattle.suite_session.proofs.state.State.next_call.Goals as goal
 
@@ -34,8 +34,8 @@ returns-in-Recovering c = of-state-ok c.args.self.now (Recovering c.in-Recoverin
     c.in-Recovering.is c.next_call-in-Recovering.ensures
 
 pub returns-in-Moving : goal.returns-in-Moving
-returns-in-Moving c = of-state c.args.self.now (Moving c.in-Moving.moving) c.in-Moving.is
-    c.next_call-in-Moving.ensures
+returns-in-Moving c = of-state-ok c.args.self.now (Moving c.in-Moving.moving)
+    c.next_call-in-Moving.result c.in-Moving.is c.next_call-in-Moving.ensures
 
 pub returns-in-Loading : goal.returns-in-Loading
 returns-in-Loading c = of-state c.args.self.now (Loading c.in-Loading.loader) c.in-Loading.is
@@ -44,6 +44,10 @@ returns-in-Loading c = of-state c.args.self.now (Loading c.in-Loading.loader) c.
 pub returns-in-BackingUp : goal.returns-in-BackingUp
 returns-in-BackingUp c = of-state-ok c.args.self.now (BackingUp c.in-BackingUp.backing _) c.next_call-in-BackingUp.result
     c.in-BackingUp.is c.next_call-in-BackingUp.ensures
+
+pub returns-in-Committing : goal.returns-in-Committing
+returns-in-Committing c = of-state-ok c.args.self.now (Committing c.in-Committing.staged _)
+    c.next_call-in-Committing.result c.in-Committing.is c.next_call-in-Committing.ensures
 
 pub returns-in-Installing : goal.returns-in-Installing
 returns-in-Installing c = of-state-ok c.args.self.now (Installing c.in-Installing.installing _) c.next_call-in-Installing.result
