@@ -12,9 +12,9 @@ const STAFF: &[u8] = b"groupadd -P R -g 1500 staff";
 const Q: &[u8] = b"groupadd -P R q";
 
 // The calls of a groupadd in a folder without locks: its answer is the last, and this one the commit.
-const COMMIT: usize = 16;
+const COMMIT: usize = 18;
 
-const ANSWER: usize = 22;
+const ANSWER: usize = 24;
 
 // What the call does within which the session dies.
 #[derive(Clone, Copy, PartialEq, Eq)]

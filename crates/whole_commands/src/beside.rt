@@ -233,7 +233,7 @@ fn of_two_that_saw_no_lock_one_makes_the_first(rt: HostRuntime) -> Result<(), Fa
 // The second comes once the first has made its lock, once it is keeper, or before that frees it.
 #[test]
 fn a_session_that_runs_holds_its_lock(rt: HostRuntime) -> Result<(), Fail> {
-    for calls in [4, 5, 22] {
+    for calls in [4, 5, 24] {
         let mut folder = folder(rt.alloc(), b"free\n")?;
         let told = told_among(rt.alloc(), &mut folder, STAFF, &[after(calls, WHEEL)])?;
         assert_eq!(rt;

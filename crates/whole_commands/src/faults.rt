@@ -18,7 +18,7 @@ fn after_fault(alloc: Global, call: u64, effect: Effect) -> Result<Bytes, AllocE
 }
 
 // The calls from the first to the last of a stage: each fails once with nothing done, and once with
-// all done. Call 16 is the commit.
+// all done. Calls 16 and 17 append to the staged intent, and 18 is the commit.
 #[test]
 fn a_fault_is_told_by_its_stage(rt: HostRuntime) -> Result<(), Fail> {
     let alloc = rt.alloc();
@@ -27,9 +27,9 @@ fn a_fault_is_told_by_its_stage(rt: HostRuntime) -> Result<(), Fail> {
     let done = b"10 groupadd: folder fault in the commit\n0 staff:!:1500:\nq:!:1501:\n".as_slice();
     let after = b"10 groupadd: folder fault after the commit\n0 staff:!:1500:\nq:!:1501:\n";
     let cases = [
-        (1, 15, before, before),
-        (16, 16, undone, done),
-        (17, 21, after, after),
+        (1, 17, before, before),
+        (18, 18, undone, done),
+        (19, 23, after, after),
     ];
     for (first, last, with_nothing, with_all) in cases {
         for call in first..last + 1 {

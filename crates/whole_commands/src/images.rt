@@ -24,6 +24,32 @@ pub fn image(alloc: Global) -> Result<Contents, AllocError>
     Ok(files)
 }
 
+/// The same with this behind the text of each table.
+pub(crate) fn image_with(alloc: Global, behind: &[u8]) -> Result<Contents, AllocError>
+    ensures { IfOk result (λ files. All (λ file. IsName file.0) files.items) }
+{
+    let mut files = Vec::new(alloc);
+    put_both(&mut files, Name::Table(Tab::Passwd), PASSWD, behind)?;
+    put_both(&mut files, Name::Table(Tab::Shadow), SHADOW, behind)?;
+    put_both(&mut files, Name::Table(Tab::Group), GROUP, behind)?;
+    put_both(&mut files, Name::Table(Tab::Gshadow), GSHADOW, behind)?;
+    put_both(&mut files, Name::Table(Tab::Subuid), SUBIDS, behind)?;
+    put_both(&mut files, Name::Table(Tab::Subgid), SUBIDS, behind)?;
+    put(&mut files, Name::Defs, SETTINGS)?;
+    Ok(files)
+}
+
+// Puts a file of this text, and of what is behind it, among the others.
+fn put_both(files: &mut Contents, name: Name, text: &[u8], behind: &[u8]) -> Result<(), AllocError>
+    requires name { IsName name }
+    requires names { All (λ file. IsName file.0) files.old.items }
+    ensures { OnOk result (All (λ file. IsName file.0) files.new.items) }
+{
+    let mut both = Bytes::of(*files.allocator(), text)?;
+    both.push(behind)?;
+    put(files, name, both.as_slice())
+}
+
 /// The tables passwd and group, both empty.
 pub fn no_accounts(alloc: Global) -> Result<Contents, AllocError>
     ensures { IfOk result (λ files. All (λ file. IsName file.0) files.items) }

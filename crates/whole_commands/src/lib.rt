@@ -14,6 +14,8 @@ mod images;
 mod inputs;
 #[cfg(test)]
 mod limits;
+#[cfg(test)]
+mod pieces;
 mod play;
 #[cfg(test)]
 mod rehearsals;
