@@ -3,8 +3,7 @@
 // statuses.
 
 ghost use Rattle.std.specs.Prelude.{◌≡◌, true};
-ghost use Rattle.account_words.specs.Options.{option_forms};
-ghost use Rattle.suite_main.specs.HelpTexts.{tells_options};
+ghost use Rattle.suite_main.specs.HelpTexts.{helps_with, names_tools};
 
 mod chage;
 mod chpasswd;
@@ -25,7 +24,10 @@ use account_words::Tool;
 pub(crate) const VERSION: &str = "accounts 0.2.0\n";
 
 /// The tools, and what holds for all of them, in lines of at most 80 columns.
-pub(crate) const HELP: &str = "\
+pub(crate) fn text_of_suite() -> &'static str
+    ensures { names_tools result.now ≡ true }
+{
+    "\
 Usage: accounts TOOL -P DIR [options] [operand]
        accounts TOOL --help
        accounts rehearse SEED COUNT
@@ -60,12 +62,13 @@ Exit status, where no tool has answered:
        bytes, one that is not UTF-8, or rehearse without SEED and COUNT
   100  want of memory
   102  the output or the message can't be written
-";
+"
+}
 
-/// The text of a tool, in lines of at most 80 columns. It lists the options by which the tool's words
-/// are read.
+/// The text of a tool: its use, and the options by which the tool's words are read, in lines of at most
+/// 80 columns.
 pub(crate) fn text_of(tool: Tool) -> &'static str
-    ensures { tells_options (option_forms tool) result.now ≡ true }
+    ensures { helps_with tool result.now ≡ true }
 {
     match tool {
         Tool::Useradd => useradd::text(),
@@ -80,41 +83,5 @@ pub(crate) fn text_of(tool: Tool) -> &'static str
         Tool::Pwck => pwck::text(),
         Tool::Grpck => grpck::text(),
         Tool::Getsubids => getsubids::text(),
-    }
-}
-
-#[cfg(test)]
-mod tests {
-    use super::*;
-    use std::test::Fail;
-
-    // How many columns a line has at most.
-    const COLUMNS: usize = 80;
-
-    #[test]
-    fn each_text_begins_with_the_use_of_its_tool(rt: HostRuntime) -> Result<(), Fail> {
-        for tool in Tool::all() {
-            let begin = format!(in rt.alloc(); "Usage: accounts {} -P DIR ", tool.name())?;
-            assert!(rt; text_of(tool).starts_with(begin.as_str()));
-        }
-        Ok(())
-    }
-
-    #[test]
-    fn each_line_fits_its_columns(rt: HostRuntime) -> Result<(), Fail> {
-        assert!(rt; HELP.lines().all(|line| line.len() <= COLUMNS));
-        for tool in Tool::all() {
-            assert!(rt; text_of(tool).lines().all(|line| line.len() <= COLUMNS));
-        }
-        Ok(())
-    }
-
-    #[test]
-    fn the_list_names_each_tool(rt: HostRuntime) -> Result<(), Fail> {
-        for tool in Tool::all() {
-            let begin = format!(in rt.alloc(); "  {} ", tool.name())?;
-            assert!(rt; HELP.lines().any(|line| line.starts_with(begin.as_str())));
-        }
-        Ok(())
     }
 }

@@ -11,7 +11,7 @@ mod words;
 
 use acct_outside::Sink;
 use acct_text::Word;
-use help::{HELP, VERSION, text_of};
+use help::{VERSION, text_of, text_of_suite};
 use program::{Ended, run_program};
 use real_folder::{RealClock, RealFolder, RealSink, RealSource, SystemError};
 use std::alloc::{AllocError, Global};
@@ -49,7 +49,7 @@ fn answer<
     E: Write + Drop,
 >(rt: &R, words: &[Word], out: &mut RealSink<O>, err: &mut RealSink<E>) -> u8 {
     match request_of(words) {
-        Request::Help => tell(out, HELP, 0),
+        Request::Help => tell(out, text_of_suite(), 0),
         Request::ToolHelp(tool) => tell(out, text_of(tool), 0),
         Request::Version => tell(out, VERSION, 0),
         Request::Suite => run(rt, words, out, err).unwrap_or(NO_MEMORY),

@@ -1,12 +1,15 @@
 //! Whole commands over a folder in memory, as tests and transcripts play them: what each tells, and
 //! what it leaves in the files. The tests here are those of many runs: a fault or a death at each
-//! call, and commands beside others; single commands are shown by `transcripts`.
+//! call, and commands beside others; and of one command on a disk. Single commands are shown by
+//! `transcripts`.
 #![tactic(auto)]
 
 #[cfg(test)]
 mod beside;
 #[cfg(test)]
 mod deaths;
+#[cfg(test)]
+mod disk;
 #[cfg(test)]
 mod faults;
 mod images;

@@ -140,7 +140,7 @@ pub fn text_at(folder: &MemoryFolder, name: Name) -> &[u8] {
 }
 
 // The words of a command, cut at blanks. What stands between two `'` is one word.
-fn words_of(alloc: Global, command: &[u8]) -> Result<Vec<Word>, AllocError> {
+pub(crate) fn words_of(alloc: Global, command: &[u8]) -> Result<Vec<Word>, AllocError> {
     let mut words = Vec::new(alloc);
     let mut is_quoted = false;
     for part in command.split(|byte| *byte == b'\'') {

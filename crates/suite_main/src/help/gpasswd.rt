@@ -1,12 +1,11 @@
 // What `accounts gpasswd --help` prints (gpasswd(1)).
 ghost use Rattle.std.specs.Prelude.{◌≡◌, true};
 ghost use Rattle.account_words.specs.declared.tool.Tool.TheVariants.{Gpasswd};
-ghost use Rattle.account_words.specs.Options.{option_forms};
-ghost use Rattle.suite_main.specs.HelpTexts.{tells_options};
+ghost use Rattle.suite_main.specs.HelpTexts.{helps_with};
 
-/// The text, with the options of gpasswd and no others.
+/// The text: the use of gpasswd, and its options and no others, in lines of at most 80 columns.
 pub(crate) fn text() -> &'static str
-    ensures { tells_options (option_forms Gpasswd) result.now ≡ true }
+    ensures { helps_with Gpasswd result.now ≡ true }
 {
     "\
 Usage: accounts gpasswd -P DIR option GROUP

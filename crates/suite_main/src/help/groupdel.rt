@@ -1,12 +1,11 @@
 // What `accounts groupdel --help` prints (groupdel(8)).
 ghost use Rattle.std.specs.Prelude.{◌≡◌, true};
 ghost use Rattle.account_words.specs.declared.tool.Tool.TheVariants.{Groupdel};
-ghost use Rattle.account_words.specs.Options.{option_forms};
-ghost use Rattle.suite_main.specs.HelpTexts.{tells_options};
+ghost use Rattle.suite_main.specs.HelpTexts.{helps_with};
 
-/// The text, with the options of groupdel and no others.
+/// The text: the use of groupdel, and its options and no others, in lines of at most 80 columns.
 pub(crate) fn text() -> &'static str
-    ensures { tells_options (option_forms Groupdel) result.now ≡ true }
+    ensures { helps_with Groupdel result.now ≡ true }
 {
     "\
 Usage: accounts groupdel -P DIR [options] GROUP

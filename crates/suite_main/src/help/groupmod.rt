@@ -1,12 +1,11 @@
 // What `accounts groupmod --help` prints (groupmod(8)).
 ghost use Rattle.std.specs.Prelude.{◌≡◌, true};
 ghost use Rattle.account_words.specs.declared.tool.Tool.TheVariants.{Groupmod};
-ghost use Rattle.account_words.specs.Options.{option_forms};
-ghost use Rattle.suite_main.specs.HelpTexts.{tells_options};
+ghost use Rattle.suite_main.specs.HelpTexts.{helps_with};
 
-/// The text, with the options of groupmod and no others.
+/// The text: the use of groupmod, and its options and no others, in lines of at most 80 columns.
 pub(crate) fn text() -> &'static str
-    ensures { tells_options (option_forms Groupmod) result.now ≡ true }
+    ensures { helps_with Groupmod result.now ≡ true }
 {
     "\
 Usage: accounts groupmod -P DIR [options] GROUP

@@ -1,12 +1,11 @@
 // What `accounts grpck --help` prints (grpck(8)).
 ghost use Rattle.std.specs.Prelude.{◌≡◌, true};
 ghost use Rattle.account_words.specs.declared.tool.Tool.TheVariants.{Grpck};
-ghost use Rattle.account_words.specs.Options.{option_forms};
-ghost use Rattle.suite_main.specs.HelpTexts.{tells_options};
+ghost use Rattle.suite_main.specs.HelpTexts.{helps_with};
 
-/// The text, with the options of grpck and no others.
+/// The text: the use of grpck, and its options and no others, in lines of at most 80 columns.
 pub(crate) fn text() -> &'static str
-    ensures { tells_options (option_forms Grpck) result.now ≡ true }
+    ensures { helps_with Grpck result.now ≡ true }
 {
     "\
 Usage: accounts grpck -P DIR option
