@@ -37,12 +37,13 @@ after_answer cause was = record {
   changed = if is_change cause then was.changed + 1 else was.changed;
 }
 
--- words leave what their answer leaves; those that ask for nothing leave all as it was
+-- a request leaves what its answer leaves; words that ask for nothing leave all as it was
 abbrev pub after_read : Result Request WordFault → Reached → Reached
 after_read (Ok request) was =
     after_answer (answer request [] rehearsal_day was.files None).cause was
 after_read (Err fault) was = was
 
+-- words leave what their request leaves
 abbrev pub after_words : List Word → Reached → Reached
 after_words words was = after_read (request_of words) was
 

@@ -51,13 +51,14 @@ status_of tells_use = 2
 status_of (lacks_memory asked) = 100
 status_of lacks_memory_for_use = 100
 
--- its texts for the two streams
+-- what the output stream gets: the summary, or nothing
 abbrev pub out_text : Ending → Bytes
 out_text (sums_up asked) = summary_of asked
 out_text tells_use = []
 out_text (lacks_memory asked) = summary_of asked
 out_text lacks_memory_for_use = []
 
+-- what the error stream gets: how the mode is called, that there is no memory, or nothing
 abbrev pub err_text : Ending → Bytes
 err_text (sums_up asked) = []
 err_text tells_use = usage_line

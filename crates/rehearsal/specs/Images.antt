@@ -1,5 +1,5 @@
 -- The tables between two commands, and the folder in which a command finds them.
-use Rattle.std.specs.Prelude.{◌≡◌, ℕ, ◌+◌, Bool, true, if◌then◌else◌, List, [], map, Some, None, is_some, unwrap_or}
+use Rattle.std.specs.Prelude.{◌≡◌, ℕ, ◌+◌, Bool, true, if◌then◌else◌, List, [], map, None, is_some, unwrap_or}
 use Rattle.acct_text.specs.Bytes.{Bytes}
 use Rattle.acct_text.specs.declared.Tab.{Tab}
 use Rattle.acct_text.specs.declared.files.Files.{Files}
@@ -11,7 +11,6 @@ use Rattle.acct_outside.specs.Logged.{folder_after}
 use Rattle.acct_outside.specs.Moment.{Past}
 use Rattle.account_words.specs.Options.{Word}
 use Rattle.suite_clients.specs.Alone.{files_at}
-use Rattle.rehearsal.specs.declared.course.Reached.{Reached}
 use Rattle.rehearsal.specs.Course.{after_words}
 
 -- all six tables stand

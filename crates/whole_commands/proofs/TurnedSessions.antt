@@ -1,6 +1,6 @@
 -- Claims: a session that hasn't begun belongs to each folder (`waiting-belongs`), apart from each other
 -- session (`waiting-apart`). Way: it has no token.
-use Rattle.std.proofs.Common.{◌≡◌, None, Some, Option}
+use Rattle.std.proofs.Common.{◌≡◌, None, Some}
 use Rattle.acct_outside.specs.Moment.{Moment}
 use Rattle.suite_session.specs.declared.session.Phase.{Phase}
 use Rattle.suite_session.specs.declared.session.Phase.TheVariants.{Waiting, Begun, Over, Unbegun}
