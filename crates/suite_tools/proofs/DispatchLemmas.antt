@@ -50,7 +50,7 @@ module _ (asking : Asking) (day : ℕ) (files : Files) (defs : Defs) where
     day = day;
     files = files;
     settings = held.settings;
-    in_time = omega arith;
+    in_time = omega (arith, in_time);
     acts = subst (λ (one : Tool). ActsBy (action_as one held.settings) script) (sym is)
         (acts held.settings held.held);
   }
