@@ -11,6 +11,7 @@ use acct_outside::{Effect, MemoryFolder, Mishap, Name};
 use acct_text::{Bytes, Tab};
 use std::alloc::{AllocError, Global};
 use std::test::Fail;
+use suite_answers::WordFault;
 
 const STAFF: &[u8] = b"groupadd -P R -g 1500 staff";
 
@@ -87,25 +88,44 @@ fn changed(alloc: Global) -> Result<Bytes, AllocError> {
     tables(alloc, &folder)
 }
 
-// The calls of the change up to its first write, and at most: 57, 12 appends for the backups and the
-// tables, and 18 for the intent.
-const FIRST: usize = 12;
-
-const CALLS: usize = 87;
-
-#[test]
-fn a_death_between_two_pieces_leaves_all_tables_or_none(rt: HostRuntime) -> Result<(), Fail> {
-    let alloc = rt.alloc();
+// The first number of calls in the range after which a death of the change leaves some tables new and some
+// old, once the next command is done; 0 where none does.
+fn first_torn(alloc: Global, from: usize, to: usize) -> Result<usize, WordFault> {
     let old = tables(alloc, &large_folder(alloc)?)?;
     let new = changed(alloc)?;
-    for calls in FIRST..CALLS {
+    for calls in from..to {
         let mut folder = large_folder(alloc)?;
         die_after(alloc, &mut folder, CHANGE, calls)?;
         let next = told(alloc, &mut folder, b"groupadd -P R -f sudo")?;
-        assert_eq!(rt; next.as_slice(), b"0 ".as_slice(), "{calls}");
         let now = tables(alloc, &folder)?;
         let is_whole = now.as_slice() == old.as_slice() || now.as_slice() == new.as_slice();
-        assert!(rt; is_whole, "{calls}");
+        if next.as_slice() != b"0 ".as_slice() || !is_whole {
+            return Ok(calls);
+        }
     }
+    Ok(0)
+}
+
+// The change makes its first write after 12 calls. Its backups take 18, an append each among them, and its
+// intent 19.
+#[test]
+fn a_death_in_a_backup_leaves_the_tables(rt: HostRuntime) -> Result<(), Fail> {
+    let torn = first_torn(rt.alloc(), 12, 30)?;
+    assert_eq!(rt; torn, 0);
+    Ok(())
+}
+
+#[test]
+fn a_death_in_an_intent_leaves_the_tables(rt: HostRuntime) -> Result<(), Fail> {
+    let torn = first_torn(rt.alloc(), 30, 50)?;
+    assert_eq!(rt; torn, 0);
+    Ok(())
+}
+
+// It makes 87 calls at most.
+#[test]
+fn a_death_in_an_installation_leaves_all_tables_or_none(rt: HostRuntime) -> Result<(), Fail> {
+    let torn = first_torn(rt.alloc(), 50, 87)?;
+    assert_eq!(rt; torn, 0);
     Ok(())
 }
