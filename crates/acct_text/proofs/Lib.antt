@@ -8,3 +8,4 @@ pub mod PieceTexts
 pub mod LinePlaces
 pub mod Digits
 pub mod Rows
+pub mod FilesLemmas

@@ -1,7 +1,7 @@
 // The files of the six tables.
 ghost use Rattle.std.specs.Prelude.{◌≡◌, IfOk};
 ghost use Rattle.std.specs.Option.{option_copied};
-ghost use Rattle.acct_text.specs.Files.{table_of};
+ghost use Rattle.acct_text.specs.Files.{no_files, table_of, with_table};
 
 use crate::{Bytes, Tab};
 use std::alloc::{AllocError, Global};
@@ -24,6 +24,34 @@ pub struct Files {
 }
 
 impl Files {
+    /// Files of which each is absent.
+    pub fn none() -> Self
+        ensures { result ≡ no_files }
+    {
+        Files {
+            passwd: None,
+            shadow: None,
+            group: None,
+            gshadow: None,
+            subuid: None,
+            subgid: None,
+        }
+    }
+
+    /// Puts these bytes in the place of the table's, None where it is absent.
+    pub fn put(&mut self, table: Tab, content: Option<Bytes>)
+        ensures { self.new ≡ with_table table content self.old }
+    {
+        match table {
+            Tab::Passwd => self.passwd = content,
+            Tab::Shadow => self.shadow = content,
+            Tab::Group => self.group = content,
+            Tab::Gshadow => self.gshadow = content,
+            Tab::Subuid => self.subuid = content,
+            Tab::Subgid => self.subgid = content,
+        }
+    }
+
     /// Second files with the same bytes, of which the same are absent.
     pub fn copy(&self, alloc: Global) -> Result<Self, AllocError>
         ensures { IfOk result (λ files. files ≡ self.now) }
