@@ -5,9 +5,10 @@ use Rattle.acct_text.specs.declared.Tab.{Tab}
 use Rattle.acct_text.specs.Bytes.{Bytes}
 use Rattle.acct_outside.specs.declared.Name.{Name}
 use Rattle.acct_outside.specs.declared.Name.TheVariants.{Table, Backup, Intent, Lock}
-use Rattle.acct_outside.specs.Names.{is_staging}
+use Rattle.acct_outside.specs.Names.{is_staging, name_limit}
 use Rattle.acct_outside.specs.Tokens.{Token, held_text}
 use Rattle.acct_outside.specs.Folder.{Folder, IsFolder, greatest, top}
+use Rattle.acct_outside.specs.Calls.{Found, found_within}
 use Rattle.acct_outside.specs.History.{History, after}
 use Rattle.acct_outside.specs.Life.{life, running, is_running}
 use Rattle.acct_outside.specs.declared.CommitStage.TheVariants.{Before}
@@ -61,6 +62,16 @@ JudgedLockHolds first history = (token : Token) (listing : Listing) →
     made_number (standing token history).own ≡ None →
     (greatest listing.numbers < top (after first history))
     ⊎ IsHeldByNone history (greatest listing.numbers)
+
+-- where a session that hasn't made a lock has judged the greatest lock of its listing, what it watched
+-- since then stands, or a greater one does
+abbrev pub ReportViewHolds : Folder → History → Type 0
+ReportViewHolds first history = (token : Token) (listing : Listing) →
+    (standing token history).listing ≡ Some listing → listing.is_judged ≡ true →
+    made_number (standing token history).own ≡ None →
+    (greatest listing.numbers < top (after first history))
+    ⊎ ((name : Name) (found : Found) → listing.watched name ≡ Some found →
+       found ≡ found_within (name_limit name) ((after first history).file name))
 
 -- no intent stands, what was seen stands, and each backed table has its bytes as backup
 pub record NoneStands (folder : Folder) (seen : Seen) : Type 0 where
@@ -124,6 +135,7 @@ pub record Invariant (deeds : SuiteDeeds) (first : Folder) (history : History) :
   pub own_lock : OwnLockHolds first history
   pub judged_lock : JudgedLockHolds first history
   pub keeper_view : KeeperViewHolds first history
+  pub report_view : ReportViewHolds first history
   pub settled_is_fold : SettledIsFold deeds first history
   pub backups_kept : AreBackups deeds first history
 

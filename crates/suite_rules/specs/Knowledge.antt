@@ -45,6 +45,11 @@ is_input (Table table) = true
 is_input Defs = true
 is_input _ = false
 
+-- the files on which the settled files and an answer on them depend
+abbrev pub is_watched : Name → Bool
+is_watched Intent = true
+is_watched name = is_input name
+
 -- what a read found, where it found all
 abbrev pub whole_content : Found → Option (Option Bytes)
 whole_content found_absent = Some None

@@ -1,22 +1,25 @@
 -- The laws of lawful histories, for any deeds, first folder and history.
-use Rattle.std.specs.Prelude.{◌≡◌, ℕ, ◌≤◌, [], ◌++◌, Option, Some, IsSome}
+use Rattle.std.specs.Prelude.{◌≡◌, ℕ, ◌+◌, ◌≤◌, [], ◌++◌, Option, Some, None, IsSome}
 use Rattle.acct_text.specs.declared.Tab.{Tab}
 use Rattle.acct_text.specs.Bytes.{Bytes}
 use Rattle.acct_outside.specs.declared.Name.TheVariants.{Table, Lock, Defs}
+use Rattle.acct_outside.specs.Names.{name_limit}
 use Rattle.acct_outside.specs.Tokens.{Token}
 use Rattle.acct_outside.specs.Folder.{Folder, top, settings_file}
-use Rattle.acct_outside.specs.Calls.{Command, Call, Answer, CallResult, Effect, begins, done, failed, died}
+use Rattle.acct_outside.specs.Calls.{Command, Call, Answer, CallResult, Effect, Found, found_within, begins, done, failed, died}
 use Rattle.acct_outside.specs.History.{History, after, own_events}
 use Rattle.acct_outside.specs.Life.{life}
 use Rattle.acct_outside.specs.Gives.{GivesResult}
 use Rattle.acct_outside.specs.declared.CommitStage.TheVariants.{Before, Committed}
+use Rattle.intent_file.specs.Intent.{listed_in}
 use Rattle.suite_rules.specs.Deeds.{SuiteDeeds}
 use Rattle.suite_rules.specs.OwnLock.{lock_kept, kept_number}
 use Rattle.suite_rules.specs.Knowledge.{Seen, knows_none}
+use Rattle.suite_rules.specs.Shown.{Shown, ShowsIntent}
 use Rattle.suite_rules.specs.Standing.{standing}
-use Rattle.suite_rules.specs.Rules.{HasSeen}
+use Rattle.suite_rules.specs.Rules.{HasSeen, HasShown}
 use Rattle.suite_rules.specs.Lawful.{IsNext, Lawful}
-use Rattle.suite_rules.specs.Settled.{settled}
+use Rattle.suite_rules.specs.Settled.{settled, listed_by}
 use Rattle.suite_rules.specs.Committed.{commitment_of, Rises, committed, commitments_of, place, folded}
 use Rattle.suite_rules.specs.Backups.{AreBackups}
 use Rattle.suite_rules.specs.Invariant.{RunsAsKeeper, IsActiveKeeper}
@@ -119,6 +122,35 @@ pub record PlacesStay : Type 0 where
       Lawful deeds first history → (token : Token) (number : ℕ) (seen : Seen) →
       HasLooked history token number seen → (all : HasSeen (standing token history).command seen) →
       (all.files ≡ folded deeds first (place number (committed history)))
+      × (all.defs ≡ settings_file first)
+
+-- What a session has shown under a lock was found at one moment: the fold of all that was committed under
+-- its number and lower ones, where the intent that it found lists a table or the table was found itself,
+-- and the first login.defs. That place stays, whatever was committed since.
+pub record ReportsHold : Type 0 where
+  pub listed : (deeds : SuiteDeeds) (first : Folder) (history : History) →
+      Lawful deeds first history → (token : Token) (shown : Shown) →
+      (standing token history).shown ≡ Some shown →
+      (intent : Option Bytes) → ShowsIntent shown intent → (table : Tab) (new : Bytes) →
+      listed_in (listed_by intent) table ≡ Some new →
+      folded deeds first (place (shown.number + 1) (committed history)) table ≡ Some new
+  pub unlisted : (deeds : SuiteDeeds) (first : Folder) (history : History) →
+      Lawful deeds first history → (token : Token) (shown : Shown) →
+      (standing token history).shown ≡ Some shown →
+      (intent : Option Bytes) → ShowsIntent shown intent → (table : Tab) (found : Found) →
+      listed_in (listed_by intent) table ≡ None → shown.file (Table table) ≡ Some found →
+      found ≡ found_within (name_limit (Table table))
+      (folded deeds first (place (shown.number + 1) (committed history)) table)
+  pub settings : (deeds : SuiteDeeds) (first : Folder) (history : History) →
+      Lawful deeds first history → (token : Token) (shown : Shown) →
+      (standing token history).shown ≡ Some shown →
+      (found : Found) → shown.file Defs ≡ Some found →
+      found ≡ found_within (name_limit Defs) (settings_file first)
+  pub whole : (deeds : SuiteDeeds) (first : Folder) (history : History) →
+      Lawful deeds first history → (token : Token) (shown : Shown) →
+      (standing token history).shown ≡ Some shown →
+      (all : HasShown (standing token history).command shown) →
+      (all.files ≡ folded deeds first (place (shown.number + 1) (committed history)))
       × (all.defs ≡ settings_file first)
 
 -- A session that hasn't called its commit has committed nothing; one whose commit was done has

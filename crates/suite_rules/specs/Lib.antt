@@ -1,7 +1,8 @@
 pub mod Deeds
 pub mod OwnLock
-pub mod Listing
 pub mod Knowledge
+pub mod Listing
+pub mod Shown
 pub mod Standing
 pub mod Rules
 pub mod Lawful

@@ -1,7 +1,7 @@
 -- The rules: which calls a session may make next, by its life and its standing
 -- (docs/ARCHITECTURE.md, "The rules"). Listings, reads and verdicts are free to every running
 -- session. A call that no rule permits is never allowed.
-use Rattle.std.specs.Prelude.{◌≡◌, ◌≢◌, ℕ, ◌+◌, ◌<◌, ◌≤◌, Bool, true, length, Option, Some, IsSome}
+use Rattle.std.specs.Prelude.{◌≡◌, ◌≢◌, ℕ, ◌+◌, ◌<◌, ◌≤◌, Bool, true, length, Option, Some, None, IsSome}
 use Rattle.acct_text.specs.declared.Tab.{Tab}
 use Rattle.acct_text.specs.Bytes.{Bytes}
 use Rattle.acct_text.specs.Contents.{Contents}
@@ -19,8 +19,10 @@ use Rattle.intent_file.specs.ChangedTables.{changed_tables}
 use Rattle.suite_rules.specs.Deeds.{SuiteDeeds}
 use Rattle.suite_rules.specs.OwnLock.{lock_uncalled, lock_kept, made_number}
 use Rattle.suite_rules.specs.Listing.{Listing}
+use Rattle.suite_rules.specs.Shown.{Shown, whole_at, ShowsIntent}
 use Rattle.suite_rules.specs.Knowledge.{Seen, knows_none, knows_bytes}
 use Rattle.suite_rules.specs.Standing.{Standing}
+use Rattle.suite_rules.specs.Settled.{listed_by}
 
 -- Create at most once, only one above the greatest lock of the last listing, only where that is
 -- judged, and below the greatest number of a lock.
@@ -128,11 +130,36 @@ pub record AnswersSame (deeds : SuiteDeeds) (standing : Standing) : Type 0 where
   pub has_seen : HasSeen standing.command seen
   pub same : deeds.answers_same has_seen.command has_seen.files has_seen.defs ≡ true
 
+-- The session was asked this, and has shown these six files and this login.defs: the intent, which is
+-- absent or reads, each table that it doesn't list, and login.defs; a listed table is the intent's.
+pub record HasShown (asked : Option Command) (shown : Shown) : Type 0 where
+  pub command : Command
+  pub intent : Option Bytes
+  pub files : Contents
+  pub defs : Option Bytes
+  pub is_asked : asked ≡ Some command
+  pub shows_intent : ShowsIntent shown intent
+  pub listed : (table : Tab) (new : Bytes) → listed_in (listed_by intent) table ≡ Some new →
+      files table ≡ Some new
+  pub unlisted : (table : Tab) → listed_in (listed_by intent) table ≡ None →
+      whole_at shown (Table table) ≡ Some (files table)
+  pub settings : whole_at shown Defs ≡ Some defs
+
+-- the session took no lock, has shown all seven files, and its answer on them has status 0 and isn't
+-- Changed
+pub record AnswersShown (deeds : SuiteDeeds) (standing : Standing) : Type 0 where
+  pub uncalled : standing.own ≡ lock_uncalled
+  pub shown : Shown
+  pub shows : standing.shown ≡ Some shown
+  pub has_shown : HasShown standing.command shown
+  pub same : deeds.answers_same has_shown.command has_shown.files has_shown.defs ≡ true
+
 -- Answer with status 0 only after the own commit was done, or where nothing was to change.
 pub data AnswerRule (deeds : SuiteDeeds) (standing : Standing) (status : ℕ) : Type 0 where
   answers_refusal : status ≢ 0 → AnswerRule deeds standing status
   answers_changed : standing.commit ≡ Committed → AnswerRule deeds standing status
   answers_same : AnswersSame deeds standing → AnswerRule deeds standing status
+  answers_shown : AnswersShown deeds standing → AnswerRule deeds standing status
 
 -- The standing permits the call, each by its rule. A begin has the rule of lives alone.
 pub data Permits (deeds : SuiteDeeds) (standing : Standing) : Call → Type 0 where

@@ -1,4 +1,4 @@
--- The standing of a session: all that its own events tell, in six parts. Each part has its own
+-- The standing of a session: all that its own events tell, in seven parts. Each part has its own
 -- step; the events of other sessions change none.
 use Rattle.std.specs.Prelude.{if◌then◌else◌, [], ◌∷◌, Option, Some, None}
 use Rattle.acct_text.specs.Bytes.{Bytes}
@@ -13,6 +13,7 @@ use Rattle.acct_outside.specs.declared.CommitStage.{CommitStage}
 use Rattle.acct_outside.specs.declared.CommitStage.TheVariants.{Before, Unsure, Committed}
 use Rattle.suite_rules.specs.OwnLock.{OwnLock, lock_uncalled, is_keeper, own_step}
 use Rattle.suite_rules.specs.Listing.{Listing, listing_step}
+use Rattle.suite_rules.specs.Shown.{Shown, shown_step}
 use Rattle.suite_rules.specs.Knowledge.{Stages, Knowledge, knows_nothing, knows_step}
 
 -- the standing of a session
@@ -21,6 +22,8 @@ pub record Standing : Type 0 where
   pub command : Option Command
   -- its last listing of the locks, none before its first
   pub listing : Option Listing
+  -- what its last two listings confirmed, without a lock of its own
+  pub shown : Option Shown
   -- how far it is with its own lock
   pub own : OwnLock
   -- what it knows of the intent, by its events as keeper alone
@@ -41,6 +44,7 @@ abbrev pub no_standing : Standing
 no_standing = record {
   command = None;
   listing = None;
+  shown = None;
   own = lock_uncalled;
   knows = knows_nothing;
   staged = nothing_staged;
@@ -89,6 +93,7 @@ standing_step call result standing =
     record {
       command = command_step call result standing.command;
       listing = listing_step standing.own call result standing.listing;
+      shown = shown_step standing.own standing.listing call result standing.shown;
       own = own;
       knows = keeper_part standing.own own
           knows_nothing (knows_step standing.staged call result standing.knows) standing.knows;
