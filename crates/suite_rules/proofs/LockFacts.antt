@@ -17,7 +17,7 @@ use Rattle.suite_rules.specs.Standing.{Standing, standing}
 use Rattle.suite_rules.specs.Rules.{UnlockRule, unlocks_below, unlocks_own}
 use Rattle.suite_rules.proofs.Numbers.{number-is, number-differs, greatest-with, greatest-without, greatest-stands, has-with, has-without, with-all, with-ascends}
 use Rattle.suite_rules.proofs.Effects.{SameLocks, WithLock, WithoutLock}
-use Rattle.suite_rules.proofs.LockSteps.{LockStep, lock_quiet, lock_listed, lock_read, lock_told, lock_tried, lock_created, lock_given_up, lock_removed}
+use Rattle.suite_rules.proofs.LockSteps.{LockStep, lock_quiet, lock_listed, lock_read, lock_watched, lock_told, lock_tried, lock_created, lock_given_up, lock_removed}
 
 -- a moment of a history: the folder, and each session's life and standing
 pub record World : Type 0 where
@@ -206,6 +206,7 @@ module _ (past now : World) (token : Token) (facts : LockFacts past) where
       cases (lock_quiet locks own listing) = locks_stay locks
       cases (lock_listed locks own listing) = locks_stay locks
       cases (lock_read number text stands locks own listing) = locks_stay locks
+      cases (lock_watched name found finds locks own listing) = locks_stay locks
       cases (lock_told asked verdict given locks own listing) = locks_stay locks
       cases (lock_tried locks own listing) = locks_stay locks
       cases (lock_created number rule absent added own listing) =

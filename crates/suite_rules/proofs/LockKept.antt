@@ -17,7 +17,7 @@ use Rattle.suite_rules.proofs.Numbers.{number-is, number-same, number-differs, g
 use Rattle.suite_rules.proofs.Names.{else-is, then-is}
 use Rattle.suite_rules.proofs.Sessions.{each}
 use Rattle.suite_rules.proofs.Effects.{SameLocks}
-use Rattle.suite_rules.proofs.LockSteps.{LockStep, lock_quiet, lock_listed, lock_read, lock_told, lock_tried, lock_created, lock_given_up, lock_removed}
+use Rattle.suite_rules.proofs.LockSteps.{LockStep, lock_quiet, lock_listed, lock_read, lock_watched, lock_told, lock_tried, lock_created, lock_given_up, lock_removed}
 use Rattle.suite_rules.proofs.LockOrigins.{CreatedNow, ListingOrigin, listed_now, known_before, text_now, told_now, NumberBefore, held-made, number-origin, unmade-before, listing-origin}
 use Rattle.suite_rules.proofs.LockFacts.{World, Moves, HeldByOrPast, LockFacts, absent-below, removed-below, top-rises}
 
@@ -235,6 +235,7 @@ module _ (past now : World) (token : Token) (facts : LockFacts past)
       cases (lock_quiet locks own listing) = stay locks
       cases (lock_listed locks own listing) = stay locks
       cases (lock_read lock read stood locks own listing) = stay locks
+      cases (lock_watched name found finds locks own listing) = stay locks
       cases (lock_told asked verdict given locks own listing) = stay locks
       cases (lock_tried locks own listing) = stay locks
       cases (lock_created lock rule absent added own listing) = at (number == lock) refl

@@ -1,22 +1,43 @@
 -- Where the lock, the keeper and the listing of a session come from: what it has after an event it
 -- had before, or the event made it (`number-origin`, `kept-origin`, `listing-origin`).
-use Rattle.std.proofs.Common.{◌≡◌, refl, sym, ap, subst, ◌∙◌, ◌⊎◌, inl, inr, ℕ, Bool, true, false, ◌==◌, if◌then◌else◌, Option, Some, None, option_map, IsNone}
+use Rattle.std.proofs.Common.{◌≡◌, refl, sym, ap, subst, ◌∙◌, ◌⊎◌, inl, inr, ℕ, Bool, true, false, ◌&&◌, ◌==◌, if◌then◌else◌, Option, Some, None, option_map, IsNone}
 use Rattle.acct_text.specs.Bytes.{Bytes}
+use Rattle.acct_outside.specs.declared.Name.{Name}
 use Rattle.acct_outside.specs.declared.Name.TheVariants.{Lock}
 use Rattle.acct_outside.specs.declared.Verdict.{Verdict}
 use Rattle.acct_outside.specs.declared.Verdict.TheVariants.{Alive, Dead}
 use Rattle.acct_outside.specs.Tokens.{Token, held_text}
 use Rattle.acct_outside.specs.Folder.{Folder, greatest, top}
+use Rattle.acct_outside.specs.Calls.{Found}
 use Rattle.acct_outside.specs.History.{History}
 use Rattle.acct_outside.specs.Gives.{GivesVerdict}
 use Rattle.acct_outside.specs.Life.{is_running}
 use Rattle.suite_rules.specs.OwnLock.{OwnLock, lock_uncalled, lock_called, lock_unsure, lock_made, lock_kept, lock_freed, made_number, held_number, kept_number, has_called_create, makes, confirm_step}
-use Rattle.suite_rules.specs.Listing.{Listing, new_listing, with_text, text_step, verdict_step, before_create, with_removed}
+use Rattle.suite_rules.specs.Knowledge.{is_watched}
+use Rattle.suite_rules.specs.Listing.{Listing, new_listing, with_text, text_step, verdict_step, before_create, with_removed, watched_with, watch_step}
 use Rattle.suite_rules.specs.Standing.{Standing}
 use Rattle.suite_rules.specs.Rules.{CreateRule}
 use Rattle.suite_rules.proofs.Numbers.{number-is, number-differs}
 use Rattle.suite_rules.proofs.Effects.{SameLocks, WithLock}
-use Rattle.suite_rules.proofs.LockSteps.{LockStep, lock_quiet, lock_listed, lock_read, lock_told, lock_tried, lock_created, lock_given_up, lock_removed}
+use Rattle.suite_rules.proofs.LockSteps.{LockStep, lock_quiet, lock_listed, lock_read, lock_watched, lock_told, lock_tried, lock_created, lock_given_up, lock_removed}
+
+-- a listing with what was watched now, where it was
+abbrev watched_where : Bool → Name → Found → Listing → Listing
+watched_where watches name found one =
+    if watches then record one { watched = watched_with name found one.watched } else one
+
+-- what was watched leaves the numbers of a listing, its texts and whether it is judged
+watch-leaves : (name : Name) (found : Found) (one : Listing) →
+    ((watch_step name found one).numbers ≡ one.numbers)
+    × ((watch_step name found one).texts ≡ one.texts)
+    × ((watch_step name found one).is_judged ≡ one.is_judged)
+watch-leaves name found one = cases (is_watched name && one.is_judged)
+  where
+    cases : (watches : Bool) → ((watched_where watches name found one).numbers ≡ one.numbers)
+        × ((watched_where watches name found one).texts ≡ one.texts)
+        × ((watched_where watches name found one).is_judged ≡ one.is_judged)
+    cases true = (refl, refl, refl)
+    cases false = (refl, refl, refl)
 
 -- a lock that is held was made
 pub held-made : (own : OwnLock) (number : ℕ) → held_number own ≡ Some number →
@@ -174,6 +195,8 @@ module _ (history : History) (token : Token) (before after : Folder)
       (ap held_number own ∙ confirm-held (top before) standing.own)
   number-origin (lock_read lock text stands locks own listing) number =
       same-number number (ap made_number own) (ap held_number own)
+  number-origin (lock_watched name found finds locks own listing) number =
+      same-number number (ap made_number own) (ap held_number own)
   number-origin (lock_told asked verdict given locks own listing) number =
       same-number number (ap made_number own) (ap held_number own)
   number-origin (lock_tried locks own listing) number =
@@ -208,6 +231,8 @@ module _ (history : History) (token : Token) (before after : Folder)
   made-stays (lock_listed locks own listing) number is =
       ap made_number own ∙ (confirm-made (top before) standing.own ∙ is)
   made-stays (lock_read lock text stands locks own listing) number is = ap made_number own ∙ is
+  made-stays (lock_watched name found finds locks own listing) number is =
+      ap made_number own ∙ is
   made-stays (lock_told asked verdict given locks own listing) number is =
       ap made_number own ∙ is
   made-stays (lock_tried locks own listing) number is =
@@ -240,6 +265,7 @@ module _ (history : History) (token : Token) (before after : Folder)
             inr (record { made = now.0; is_top = now.1; locks = locks; keeps = is })
       ]
   kept-origin (lock_read lock text stands locks own listing) number is = inl (sym own ∙ is)
+  kept-origin (lock_watched name found finds locks own listing) number is = inl (sym own ∙ is)
   kept-origin (lock_told asked verdict given locks own listing) number is = inl (sym own ∙ is)
   kept-origin (lock_tried locks own listing) number is =
       inl (tried-kept standing.own number (sym own ∙ is))
@@ -266,6 +292,8 @@ module _ (history : History) (token : Token) (before after : Folder)
       ]
   kept-number-origin (lock_read lock text stands locks own listing) number is =
       inl (sym (ap kept_number own) ∙ is)
+  kept-number-origin (lock_watched name found finds locks own listing) number is =
+      inl (sym (ap kept_number own) ∙ is)
   kept-number-origin (lock_told asked verdict given locks own listing) number is =
       inl (sym (ap kept_number own) ∙ is)
   kept-number-origin (lock_tried locks own listing) number is =
@@ -288,6 +316,8 @@ module _ (history : History) (token : Token) (before after : Folder)
   kept-number-stays (lock_listed locks own listing) number is =
       ap kept_number own ∙ confirm-stays (top before) standing.own number is
   kept-number-stays (lock_read lock text stands locks own listing) number is =
+      ap kept_number own ∙ is
+  kept-number-stays (lock_watched name found finds locks own listing) number is =
       ap kept_number own ∙ is
   kept-number-stays (lock_told asked verdict given locks own listing) number is =
       ap kept_number own ∙ is
@@ -353,6 +383,8 @@ module _ (history : History) (token : Token) (before after : Folder)
       cases old known false differs new =
           known_before old known (ap (λ (one : Listing). one.numbers) new)
           (ap (λ (one : Listing). one.texts) new) (ap (λ (one : Listing). one.is_judged) new)
+  listing-origin (lock_watched name found finds locks own same) listing is =
+      noted-listing (watch_step name found) (watch-leaves name found) listing same is
   listing-origin (lock_told asked verdict given locks own same) listing is =
       let old = map-origin (verdict_step asked verdict) standing.listing listing (sym same ∙ is) in
       cases verdict given old.0 old.1 old.2

@@ -1,5 +1,5 @@
 -- What one lawful event does to the locks, and to what its session knows of them (`lock-step`): one
--- of eight changes, read off the call, its rule and its result.
+-- of nine changes, read off the call, its rule and its result.
 use Rattle.std.proofs.Common.{◌≡◌, refl, sym, ap, ◌⊎◌, inl, inr, ℕ, List, Option, Some, None, option_map, IsSome, IsNone, true≢false}
 use Rattle.acct_text.specs.Bytes.{Bytes}
 use Rattle.acct_outside.specs.declared.Name.{Name}
@@ -9,12 +9,12 @@ use Rattle.acct_outside.specs.declared.Created.TheVariants.{Done, Exists}
 use Rattle.acct_outside.specs.Names.{name_limit}
 use Rattle.acct_outside.specs.Tokens.{Token, held_text}
 use Rattle.acct_outside.specs.Folder.{Folder, greatest, top}
-use Rattle.acct_outside.specs.Calls.{Call, Answer, CallResult, Found, lists, reads, asks, creates, writes, appends, renames, removes, done, failed, died, happened, nothing, left, found_absent, found_bytes, found_too_large, effect_of, changed_by}
+use Rattle.acct_outside.specs.Calls.{Call, Answer, CallResult, Found, found_within, lists, reads, asks, creates, writes, appends, renames, removes, done, failed, died, happened, nothing, left, found_bytes, effect_of, changed_by}
 use Rattle.acct_outside.specs.History.{History}
 use Rattle.acct_outside.specs.Gives.{GivesVerdict, GivesEffect, GivesResult}
 use Rattle.suite_rules.specs.Deeds.{SuiteDeeds}
 use Rattle.suite_rules.specs.OwnLock.{lock_called, lock_unsure, lock_made, lock_kept, lock_freed, held_number, has_called_create, makes, confirm_step, freed_at}
-use Rattle.suite_rules.specs.Listing.{new_listing, text_step, verdict_step, before_create, with_removed}
+use Rattle.suite_rules.specs.Listing.{new_listing, text_step, verdict_step, before_create, with_removed, watch_step}
 use Rattle.suite_rules.specs.Standing.{Standing, standing_step}
 use Rattle.suite_rules.specs.Rules.{CreateRule, UnlockRule, moves_backup, moves_free, Permits, free_begin, free_listing, free_read, free_verdict, create_rule, staging_rule, append_rule, commit_rule, install_rule, clear_rule, move_rule, unlock_rule, answer_rule}
 use Rattle.suite_rules.proofs.Numbers.{number-same}
@@ -35,6 +35,12 @@ pub data LockStep (history : History) (token : Token) (before after : Folder)
   lock_read : (number : ℕ) (text : Bytes) → before.file (Lock number) ≡ Some text →
       SameLocks before after → later.own ≡ standing.own →
       later.listing ≡ option_map (text_step number text) standing.listing →
+      LockStep history token before after standing later
+  -- a read of another file, or of a lock without a text
+  lock_watched : (name : Name) (found : Found) →
+      found ≡ found_within (name_limit name) (before.file name) → SameLocks before after →
+      later.own ≡ standing.own →
+      later.listing ≡ option_map (watch_step name found) standing.listing →
       LockStep history token before after standing later
   -- a verdict
   lock_told : (asked : Token) (verdict : Verdict) → GivesVerdict history asked verdict →
@@ -87,9 +93,7 @@ module _ (deeds : SuiteDeeds) (history : History) (token : Token) (folder : Fold
       lock_read number text
       (bytes-stand (name_limit (Lock number)) (folder.file (Lock number)) text gives)
       (locks-same folder) refl refl
-  read-step (Lock number) (done found_absent) gives = lock_quiet (locks-same folder) refl refl
-  read-step (Lock number) (done found_too_large) gives = lock_quiet (locks-same folder) refl refl
-  read-step _ (done found) gives = lock_quiet (locks-same folder) refl refl
+  read-step name (done found) gives = lock_watched name found gives (locks-same folder) refl refl
   read-step _ (failed effect) gives = lock_quiet (locks-same folder) refl refl
   read-step _ (died effect) gives = lock_quiet (locks-same folder) refl refl
 

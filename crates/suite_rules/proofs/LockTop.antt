@@ -9,7 +9,7 @@ use Rattle.suite_rules.specs.OwnLock.{lock_kept, made_number, held_number}
 use Rattle.suite_rules.specs.Standing.{Standing}
 use Rattle.suite_rules.proofs.Numbers.{number-is, number-differs, greatest-with, greatest-without}
 use Rattle.suite_rules.proofs.Sessions.{each}
-use Rattle.suite_rules.proofs.LockSteps.{LockStep, lock_quiet, lock_listed, lock_read, lock_told, lock_tried, lock_created, lock_given_up, lock_removed}
+use Rattle.suite_rules.proofs.LockSteps.{LockStep, lock_quiet, lock_listed, lock_read, lock_watched, lock_told, lock_tried, lock_created, lock_given_up, lock_removed}
 use Rattle.suite_rules.proofs.LockOrigins.{CreatedNow, KeptNow, kept-origin}
 use Rattle.suite_rules.proofs.LockFacts.{World, Moves, HeldByOrPast, LockFacts, removed-below, folder-change, folder-after}
 use Rattle.suite_rules.proofs.LockKept.{other-runs, holder-ran, listed-most, made-most, made-once, own-text, read-lock, judged-lock}
@@ -27,6 +27,7 @@ module _ (past now : World) (token : Token) (facts : LockFacts past)
       cases (lock_quiet locks own listing) = inl (ap greatest locks.numbers)
       cases (lock_listed locks own listing) = inl (ap greatest locks.numbers)
       cases (lock_read number text stands locks own listing) = inl (ap greatest locks.numbers)
+      cases (lock_watched name found finds locks own listing) = inl (ap greatest locks.numbers)
       cases (lock_told asked verdict given locks own listing) = inl (ap greatest locks.numbers)
       cases (lock_tried locks own listing) = inl (ap greatest locks.numbers)
       cases (lock_created number rule absent added own listing) =

@@ -15,7 +15,7 @@ use Rattle.acct_outside.specs.Calls.{Command, Call, Answer, begins, lists, reads
 use Rattle.acct_outside.specs.History.{Event, History, after}
 use Rattle.suite_rules.specs.Deeds.{SuiteDeeds}
 use Rattle.suite_rules.specs.OwnLock.{lock_made, lock_kept}
-use Rattle.suite_rules.specs.Listing.{new_listing}
+use Rattle.suite_rules.specs.Listing.{new_listing, nothing_watched}
 use Rattle.suite_rules.specs.Standing.{standing}
 use Rattle.suite_rules.specs.Rules.{unlocks_below, unlocks_own, free_begin, create_rule, unlock_rule}
 use Rattle.suite_rules.specs.Lawful.{Lawful, starts, goes_on}
@@ -283,6 +283,7 @@ module _ (deeds : SuiteDeeds) where
           numbers = 4 ∷ [];
           texts = codes "held z\n" ∷ [];
           is_judged = true;
+          watched = nothing_watched;
           follows_create = false;
           removed = [];
         };
@@ -361,6 +362,7 @@ module _ (deeds : SuiteDeeds) where
           numbers = 5 ∷ [];
           texts = free_text ∷ [];
           is_judged = true;
+          watched = nothing_watched;
           follows_create = false;
           removed = [];
         };
@@ -400,6 +402,7 @@ module _ (deeds : SuiteDeeds) where
           numbers = 4 ∷ [];
           texts = codes "held z\n" ∷ [];
           is_judged = true;
+          watched = nothing_watched;
           follows_create = false;
           removed = [];
         };

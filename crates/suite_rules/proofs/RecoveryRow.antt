@@ -10,6 +10,7 @@ use Rattle.acct_outside.specs.declared.Verdict.TheVariants.{Dead}
 use Rattle.acct_outside.specs.Tokens.{free_text}
 use Rattle.acct_outside.specs.Calls.{Call, Answer, begins, lists, reads, asks, creates, writes, renames, removes, answers, done, died, happened, found_bytes}
 use Rattle.acct_outside.specs.History.{Event, History, after}
+use Rattle.suite_rules.specs.Listing.{nothing_watched}
 use Rattle.suite_rules.specs.Rules.{unlocks_below, free_begin, create_rule, commit_rule, unlock_rule}
 use Rattle.suite_rules.specs.Lawful.{Lawful, goes_on}
 use Rattle.suite_rules.specs.Settled.{settled}
@@ -152,6 +153,7 @@ created_above-lawful = goes_on _ _ told_dead-lawful (record {
         numbers = 1 ∷ [];
         texts = codes "held m1\n" ∷ [];
         is_judged = true;
+        watched = nothing_watched;
         follows_create = false;
         removed = [];
       };

@@ -14,10 +14,11 @@ use Rattle.acct_outside.specs.History.{Event, History}
 use Rattle.intent_file.specs.Intent.{Intended, ReadsIntent, listed_in}
 use Rattle.suite_rules.proofs.Intents.{one-intent}
 use Rattle.suite_rules.specs.Deeds.{SuiteDeeds}
+use Rattle.suite_rules.specs.OwnLock.{lock_uncalled, lock_kept}
 use Rattle.suite_rules.specs.Listing.{Listing}
 use Rattle.suite_rules.specs.Knowledge.{Knowledge, knows_bytes, table_with}
 use Rattle.suite_rules.specs.Standing.{Standing, standing}
-use Rattle.suite_rules.specs.Rules.{ClearRule, CommitRule, KeeperRule, unlocks_below, unlocks_own, answers_refusal, answers_changed, answers_same, Permits, create_rule, staging_rule, append_rule, commit_rule, install_rule, clear_rule, move_rule, unlock_rule, answer_rule}
+use Rattle.suite_rules.specs.Rules.{ClearRule, CommitRule, KeeperRule, unlocks_below, unlocks_own, answers_refusal, answers_changed, answers_same, answers_shown, Permits, create_rule, staging_rule, append_rule, commit_rule, install_rule, clear_rule, move_rule, unlock_rule, answer_rule}
 use Rattle.suite_rules.specs.Lawful.{IsNext}
 use Rattle.suite_rules.proofs.Staff.{m1, staff_line, staff_intent, staff_intended, staff-reads, seen_of}
 use Rattle.suite_rules.proofs.CommitRow.{begun, became_keeper, read_passwd, read_settings}
@@ -196,6 +197,8 @@ early_success deeds first next = cases next.keeps.permitted
         let seen = ap (λ (knows : Knowledge). (seen_of knows).file (Table Group)) same.knows in
         let group = same.has_seen.each_table Group in
         cc
+    cases (answer_rule _ (answers_shown shows)) =
+        let uncalled : lock_kept 1 ≡ lock_uncalled = shows.uncalled in cc
 
 -- `in_place`: a table is written in place, or moved there without an intent.
 

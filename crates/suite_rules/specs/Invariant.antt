@@ -71,7 +71,7 @@ ReportViewHolds first history = (token : Token) (listing : Listing) →
     made_number (standing token history).own ≡ None →
     (greatest listing.numbers < top (after first history))
     ⊎ ((name : Name) (found : Found) → listing.watched name ≡ Some found →
-       found ≡ found_within (name_limit name) ((after first history).file name))
+    found ≡ found_within (name_limit name) ((after first history).file name))
 
 -- no intent stands, what was seen stands, and each backed table has its bytes as backup
 pub record NoneStands (folder : Folder) (seen : Seen) : Type 0 where
@@ -135,7 +135,6 @@ pub record Invariant (deeds : SuiteDeeds) (first : Folder) (history : History) :
   pub own_lock : OwnLockHolds first history
   pub judged_lock : JudgedLockHolds first history
   pub keeper_view : KeeperViewHolds first history
-  pub report_view : ReportViewHolds first history
   pub settled_is_fold : SettledIsFold deeds first history
   pub backups_kept : AreBackups deeds first history
 
