@@ -15,7 +15,7 @@ use acct_text::{Bytes, Files, TABLE_LIMIT, Tab};
 use login_defs::{Defs, DefsFault};
 use std::alloc::{AllocError, Global};
 use suite_answers::{Answer, Cause, Outcome, Which};
-use suite_session::{Asked, Decided, Tools};
+use suite_session::{Decided, Question, Tools};
 use suite_tools::{Decision, Output, ToolRequest};
 
 /// The twelve tools of the suite, as one.
@@ -25,7 +25,7 @@ pub struct Suite;
 impl Tools for Suite {
     fn decide(
         alloc: Global,
-        asked: &Asked,
+        asked: &Question,
         files: &Files,
         defs: Option<&Bytes>,
     ) -> Result<Decided, AllocError> {
@@ -40,7 +40,7 @@ impl Tools for Suite {
 }
 
 /// The answer to a settings file with this fault.
-fn bad_setting(alloc: Global, asked: &Asked, fault: DefsFault) -> Result<Decided, AllocError>
+fn bad_setting(alloc: Global, asked: &Question, fault: DefsFault) -> Result<Decided, AllocError>
     ensures { IfOk result (λ decided. decided ≡ Decided.Stay
         (given_for asked.now.request.tool (Cause.BadSetting (bad_line fault)))) }
 {
@@ -64,7 +64,7 @@ fn settings_in(defs: Option<&Bytes>) -> Result<Defs, DefsFault>
 /// What the tool that is asked for decides on the files, by the settings.
 fn decide_tool(
     alloc: Global,
-    asked: &Asked,
+    asked: &Question,
     files: &Files,
     settings: &Defs,
 ) -> Result<Decision, AllocError>
@@ -76,7 +76,7 @@ fn decide_tool(
 }
 
 /// The answer to what the tool decides.
-fn answer_to(alloc: Global, asked: &Asked, decision: Decision) -> Result<Decided, AllocError>
+fn answer_to(alloc: Global, asked: &Question, decision: Decision) -> Result<Decided, AllocError>
     ensures { IfOk result (AnswersDecision asked.now decision) }
 {
     match decision {
@@ -89,7 +89,12 @@ fn answer_to(alloc: Global, asked: &Asked, decision: Decision) -> Result<Decided
 }
 
 /// The answer to a change, of which each table must keep its limit.
-fn change(alloc: Global, asked: &Asked, new: Files, output: Output) -> Result<Decided, AllocError>
+fn change(
+    alloc: Global,
+    asked: &Question,
+    new: Files,
+    output: Output,
+) -> Result<Decided, AllocError>
     ensures { IfOk result (AnswersDecision asked.now (Decision.Change new output)) }
 {
     match large_table(&new) {

@@ -21,7 +21,7 @@ mod turning;
 mod unlocking;
 
 pub use laws::belonging_stays;
-pub use runner::{Asked, memory_answer};
+pub use runner::{Question, memory_answer};
 pub use session::{Session, outcome_after};
 pub use suite_answers::{Answer, Cause, Outcome, Which};
 pub use tools::{Decided, Tools};

@@ -17,7 +17,7 @@ const MEMORY_STATUS: u8 = 100;
 
 /// What a session was asked: its words with what they ask for, its input, and the day.
 #[derive(Drop)]
-pub struct Asked {
+pub struct Question {
     pub(crate) words: Vec<Word>,
     pub(crate) parsed: Parsed,
     pub(crate) input: Bytes,
@@ -25,11 +25,11 @@ pub struct Asked {
     pub(crate) day: u32,
 }
 
-impl Model for Asked {
+impl Model for Question {
     ghost use Rattle.option_words.specs.Parsed.{request_in};
-    ghost use Rattle.suite_session.specs.Runner.{Question, IsPosed, question};
+    ghost use Rattle.suite_session.specs.Runner.{Question as Posed, IsPosed, question};
 
-    ghost Value = { Question };
+    ghost Value = { Posed };
 
     ghost view = { λ asked. record {
       command = record { words = asked.words.items; input = asked.input; day = asked.day };
@@ -44,7 +44,7 @@ impl Model for Asked {
 #[derive(Drop)]
 pub(crate) struct Runner {
     pub(crate) token: Token,
-    pub(crate) asked: Asked,
+    pub(crate) asked: Question,
 }
 
 impl Model for Runner {
@@ -55,7 +55,7 @@ impl Model for Runner {
     ghost view = { λ runner. record { token = runner.token; asked = runner.asked } };
 }
 
-impl Asked {
+impl Question {
     /// What the words ask for.
     pub fn parsed(&self) -> &Parsed
         ensures { request_in result.now ≡ self.now.request }

@@ -9,7 +9,7 @@ ghost use Rattle.suite_session.specs.Session.{IsStarted, IsToPut, answer_of, out
 ghost use Rattle.suite_session.specs.Turning.{KeepsOthers, SessionTurns};
 ghost use Rattle.suite_session.specs.Answers.{after_fault, left_by, status_left};
 
-use crate::runner::{Asked, Runner, copy_words, memory_answer};
+use crate::runner::{Question, Runner, copy_words, memory_answer};
 use crate::state::State;
 use crate::tools::Tools;
 use crate::turning::turned;
@@ -25,7 +25,7 @@ use suite_answers::{Answer, Cause, Outcome};
 #[derive(Drop)]
 pub(crate) enum Phase {
     /// It hasn't begun.
-    Waiting(Asked),
+    Waiting(Question),
     /// It has begun, and stands in a state.
     Begun(Runner, State),
     /// It has answered.
@@ -91,7 +91,7 @@ impl<T: Tools> Session<T> {
     {
         Ok(Session {
             alloc,
-            phase: Phase::Waiting(Asked {
+            phase: Phase::Waiting(Question {
                 words: copy_words(alloc, words)?,
                 parsed,
                 input,

@@ -7,7 +7,7 @@ ghost use Rattle.acct_text.specs.Files.{table_of};
 ghost use Rattle.acct_text.specs.Limits.{table_limit};
 ghost use Rattle.suite_session.specs.Loading.{DecidesOn};
 
-use crate::runner::Asked;
+use crate::runner::Question;
 use acct_text::{Bytes, Files};
 use std::alloc::{AllocError, Global};
 use suite_answers::Answer;
@@ -27,7 +27,7 @@ pub trait Tools {
     /// out.
     fn decide(
         alloc: Global,
-        asked: &Asked,
+        asked: &Question,
         files: &Files,
         defs: Option<&Bytes>,
     ) -> Result<Decided, AllocError>

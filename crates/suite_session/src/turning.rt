@@ -13,7 +13,7 @@ use crate::committing::{back_up, commit, install};
 use crate::loading::load;
 use crate::locking::{ask, cause_of_fault, claim, confirm, look, read, withdraw};
 use crate::recovering::{move_table, read_intent, recover};
-use crate::runner::{Asked, Runner};
+use crate::runner::{Question, Runner};
 use crate::session::Phase;
 use crate::state::State;
 use crate::tools::Tools;
@@ -62,7 +62,7 @@ fn stepped<T: Tools, F: Folder>(
 }
 
 /// Begins the session.
-fn begin<F: Folder>(alloc: Global, asked: Asked, folder: &mut F) -> Phase
+fn begin<F: Folder>(alloc: Global, asked: Question, folder: &mut F) -> Phase
     ensures turns { SessionTurns (F.moment folder.old) (F.moment folder.new) (Phase.Waiting asked)
         result }
     ensures nearer { phase_left result < phase_left (Phase.Waiting asked) }
@@ -78,7 +78,7 @@ fn begin<F: Folder>(alloc: Global, asked: Asked, folder: &mut F) -> Phase
 }
 
 /// The answer where the begin gave no token.
-fn unbegun(alloc: Global, asked: Asked, fault: FolderFault) -> Answer
+fn unbegun(alloc: Global, asked: Question, fault: FolderFault) -> Answer
     ensures { IsTold asked.request.tool (cause_of_fault CommitStage.Before fault) result }
 {
     let answer = asked.tell(alloc, cause_of_fault(CommitStage::Before, fault));
@@ -145,7 +145,7 @@ fn answered<F: Folder>(runner: Runner, answer: Answer, folder: &mut F) -> Phase
 }
 
 /// A law: the words of what was asked have one reading, which is its request.
-pub(crate) fn asks_once(asked: &Asked)
+pub(crate) fn asks_once(asked: &Question)
     ensures { request_of asked.now.command.words ≡ Ok asked.now.request }
 {
     words_have_one_reading();
