@@ -1,8 +1,9 @@
 -- What a command asks for: a tool, its options without `-P`, and its operands. Options are named by
 -- a text of one letter, such as `codes "g"`.
-use Rattle.std.specs.Prelude.{ℕ, Bool, List, [], ◌∷◌, ◌==◌, filter, filter_map, is_some, find, Option, slice_index}
+use Rattle.std.specs.Prelude.{ℕ, Bool, true, false, List, [], ◌∷◌, ◌==◌, filter, filter_map, is_some, find, Option, slice_index, codes}
 use Rattle.account_words.specs.declared.given.Given.{Given}
 use Rattle.account_words.specs.declared.tool.Tool.{Tool}
+use Rattle.account_words.specs.declared.tool.Tool.TheVariants.{Chage, Pwck, Grpck, Getsubids}
 use Rattle.account_formats.specs.Text.{last_of}
 
 -- a command: the tool, the folder whose `etc` it works on, the options in the order in which they
@@ -38,3 +39,16 @@ value_of letter request = last_value (slice_index letter 0) request.options
 -- the operand: a name, and nothing for a tool that takes none
 abbrev pub operand : Request → List ℕ
 operand request = elim request.operands [ [] ↦ [] | name ∷ rest ↦ name ]
+
+-- the command only shows what stands: `pwck -r`, `grpck -r`, `getsubids` and `chage -l` (pwck(8),
+-- grpck(8), getsubids(1), chage(1))
+abbrev pub reports : Tool → Request → Bool
+reports Pwck request = has_option (codes "r") request
+reports Grpck request = has_option (codes "r") request
+reports Getsubids request = true
+reports Chage request = has_option (codes "l") request
+reports tool request = false
+
+-- it is such a command
+abbrev pub is_report : Request → Bool
+is_report request = reports request.tool request

@@ -14,15 +14,6 @@ use Rattle.command_values.specs.Forms.{form_refusal, test_of}
 use Rattle.command_values.specs.Options.{value_at}
 use Rattle.command_values.specs.declared.form.Form.{Form}
 
--- one is found exactly where one passes
-pub is_some-find :
-    {X : Type 0} (test : X → Bool) (xs : List X) → list_any test xs ≡ is_some (find test xs)
-is_some-find test [] = refl
-is_some-find test (x ∷ xs) = elim (cases_Bool (test x)) [
-  | inl passes ↦ rw passes refl
-  | inr fails ↦ rw fails (is_some-find test xs)
-]
-
 -- the values of a letter among options
 abbrev pub values_in : ℕ → List Given → List (List ℕ)
 values_in letter options =

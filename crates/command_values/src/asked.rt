@@ -1,7 +1,6 @@
 // What a command asks for: the words of its options and its operand (the manual page of each tool).
-ghost use Rattle.std.specs.Prelude.{◌≡◌, ◌==◌, ◌∷◌, [], IfOk};
+ghost use Rattle.std.specs.Prelude.{◌≡◌, ◌∷◌, [], IfOk};
 ghost use Rattle.std.specs.Option.{option_copied};
-ghost use Rattle.std.specs.List.{list_any};
 ghost use Rattle.account_words.specs.Request.{Request, has_option, value_of, values_of, operand};
 ghost use Rattle.account_words.specs.Values.{given_id, text_value};
 ghost use Rattle.account_model.specs.NewAccount.{kind_of};
@@ -66,7 +65,7 @@ impl Asked<'_> {
     pub fn has(&self, letter: u8) -> bool
         ensures { result ≡ has_option (letter ∷ []) self.now }
     {
-        has_letter(self.options(), letter)
+        self.parsed.options.has(letter)
     }
 
     /// The value of the option, of a repeated one the last; none where it isn't given.
@@ -150,11 +149,4 @@ pub(crate) fn value_at(option: &Given, letter: u8) -> Option<&[u8]>
         Some(value) if option.letter == letter => Some(value.as_slice()),
         _ => None,
     }
-}
-
-// Whether an option has the letter.
-fn has_letter(options: &[Given], letter: u8) -> bool
-    ensures { result ≡ list_any (λ option. option.letter == letter) options.now }
-{
-    options.iter().any(|option| option.letter == letter)
 }

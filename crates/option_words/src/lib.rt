@@ -9,6 +9,7 @@ mod forms;
 mod meaning;
 mod parsed;
 mod reading;
+mod report;
 mod rules;
 mod words;
 

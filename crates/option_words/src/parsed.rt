@@ -1,6 +1,7 @@
 // What the words of a command ask for, and the options that it gives.
-ghost use Rattle.std.specs.Prelude.{◌≡◌, ◌↔◌, [], ◌∷◌, ◌++◌, List, length, IsTrue, OnOk, OnErr, slice_get};
+ghost use Rattle.std.specs.Prelude.{◌≡◌, ◌==◌, ◌↔◌, [], ◌∷◌, ◌++◌, List, length, find, is_some, IsTrue, OnOk, OnErr, slice_get};
 ghost use Rattle.std.specs.Option.{option_copied};
+ghost use Rattle.std.specs.List.{list_any};
 ghost use Rattle.account_words.specs.declared.given.Given.{Given};
 
 use account_words::{Given, Tool};
@@ -60,6 +61,13 @@ impl Options {
         self.options.get(place)
     }
 
+    /// Whether an option of this letter is given.
+    pub fn has(&self, letter: u8) -> bool
+        ensures { result ≡ is_some (find (λ option. option.letter == letter) self.now) }
+    {
+        has_letter(self.options.as_slice(), letter)
+    }
+
     /// The options as a slice, to go over them in order.
     pub fn as_slice(&self) -> &[Given]
         ensures { result.now ≡ self.now }
@@ -79,4 +87,11 @@ pub struct Parsed {
     pub options: Options,
     /// The user or the group, or nothing for a tool that takes neither.
     pub operands: Names,
+}
+
+// Whether an option has the letter.
+fn has_letter(options: &[Given], letter: u8) -> bool
+    ensures { result ≡ list_any (λ option. option.letter == letter) options.now }
+{
+    options.iter().any(|option| option.letter == letter)
 }
