@@ -16,6 +16,7 @@
 //! | `! CALL happened`, `! CALL nothing` | the call of the folder of this number, from 1, fails |
 //! | `> TEXT` | a line of the input of the next command |
 //! | `% CALLS COMMAND` | a command makes so many calls and dies within the next |
+//! | `& CALLS COMMAND` | a command runs whole once the next command has made so many more calls |
 //! | `$ COMMAND` | a command; `$ ls` lists the names that stand, and `$ cat NAME` shows one |
 //!
 //! All else is what a command showed: its status with what it prints, and a line for each line of a

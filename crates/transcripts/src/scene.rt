@@ -8,7 +8,7 @@ use acct_outside::{Effect, MemoryFolder, Mishap, Token};
 use acct_text::{Bytes, read_decimal};
 use std::alloc::{AllocError, Global};
 use std::mem;
-use whole_commands::{Contents, IMAGE, die_after, push_done, put};
+use whole_commands::{Between, Contents, IMAGE, die_after, push_done, push_done_among, put};
 
 /// A folder in the making, until a command runs in it.
 #[derive(Drop)]
@@ -22,6 +22,8 @@ pub(crate) struct Scene {
     plan: Vec<Mishap>,
     /// The input of the next command.
     input: Bytes,
+    /// The commands that run between the calls of the next.
+    others: Vec<Between>,
     /// The folder, once a command ran in it.
     folder: Option<MemoryFolder>,
 }
@@ -42,6 +44,7 @@ impl Scene {
             alive: Vec::new(alloc),
             plan: Vec::new(alloc),
             input: Bytes::new(alloc),
+            others: Vec::new(alloc),
             folder: None,
         }
     }
@@ -89,6 +92,7 @@ impl Scene {
             [b'@', b' ', token @ ..] => self.let_live(token),
             [b'!', b' ', mishap @ ..] => self.plan(mishap),
             [b'%', b' ', death @ ..] => self.die(death),
+            [b'&', b' ', other @ ..] => self.let_run(other),
             _ => Ok(false),
         }
     }
@@ -178,27 +182,36 @@ impl Scene {
 
     /// Lets a command make so many calls of the folder, and die within the next.
     fn die(&mut self, death: &[u8]) -> Result<bool, AllocError> {
-        let Some(place) = death.iter().position(|byte| *byte == b' ') else {
-            return Ok(false);
-        };
-        let Ok(calls) = read_decimal(&death[..place], 1000) else {
+        let Some((calls, command)) = counted(death) else {
             return Ok(false);
         };
         self.make()?;
         match &mut self.folder {
-            Some(folder) => {
-                Ok(die_after(self.alloc, folder, &death[place + 1..], calls as usize).is_ok())
-            }
+            Some(folder) => Ok(die_after(self.alloc, folder, command, calls).is_ok()),
             None => Ok(false),
         }
+    }
+
+    /// Lets a command run whole once the next one has made so many more calls.
+    fn let_run(&mut self, other: &[u8]) -> Result<bool, AllocError> {
+        let Some((calls, command)) = counted(other) else {
+            return Ok(false);
+        };
+        let command = Bytes::of(self.alloc, command)?;
+        self.others.push(Between { calls, command })?;
+        Ok(true)
     }
 
     /// Shows what a command tells and does.
     fn show(&mut self, command: &[u8], shown: &mut Bytes) -> Result<(), AllocError> {
         self.make()?;
         let input = mem::replace(&mut self.input, Bytes::new(self.alloc));
+        let others = mem::replace(&mut self.others, Vec::new(self.alloc));
         match &mut self.folder {
-            Some(folder) => show_in(self.alloc, folder, command, input.as_slice(), shown),
+            Some(folder) if others.is_empty() => {
+                show_in(self.alloc, folder, command, input.as_slice(), shown)
+            }
+            Some(folder) => push_done_among(self.alloc, shown, folder, command, others.as_slice()),
             None => Ok(()),
         }
     }
@@ -213,6 +226,13 @@ impl Scene {
         }
         Ok(())
     }
+}
+
+/// A number of calls, below 1000, with the command behind it.
+fn counted(text: &[u8]) -> Option<(usize, &[u8])> {
+    let place = text.iter().position(|byte| *byte == b' ')?;
+    let calls = read_decimal(&text[..place], 1000).ok()?;
+    Some((calls as usize, &text[place + 1..]))
 }
 
 /// The files by their names; a text that is no name has none.

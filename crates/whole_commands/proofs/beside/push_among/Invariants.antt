@@ -1,6 +1,6 @@
 use Rattle.acct_outside.specs.Memory.{moment_of}
 use Rattle.suite_session.specs.Belongs.{Belongs}
-use Rattle.whole_commands.proofs.beside.told_among.Given as goal
+use Rattle.whole_commands.proofs.beside.push_among.Given as goal
 
 -- the session belongs to the folder
 abbrev pub invariant-loop-other : goal.invariant-loop-other
