@@ -9,3 +9,4 @@ pub mod LinePlaces
 pub mod Digits
 pub mod Rows
 pub mod FilesLemmas
+pub mod ChangedTablesLemmas

@@ -35,6 +35,22 @@ impl Bytes {
         })
     }
 
+    /// A list without bytes, with room for so many: as long as it has no more, a `push` moves nothing.
+    pub fn with_room(alloc: Global, room: usize) -> Result<Self, AllocError>
+        ensures { IfOk result (λ bytes. bytes ≡ []) }
+    {
+        Ok(Bytes {
+            bytes: Vec::with_capacity(alloc, room)?,
+        })
+    }
+
+    /// A list of these bytes, which aren't copied.
+    pub fn of_vec(bytes: Vec<u8>) -> Self
+        ensures { result ≡ bytes.items }
+    {
+        Bytes { bytes }
+    }
+
     /// Adds a piece at the end. At `AllocError` the list is as before.
     pub fn push(&mut self, piece: &[u8]) -> Result<(), AllocError>
         ensures ok { OnOk result (self.new ≡ self.old ++ piece.now) }

@@ -11,6 +11,7 @@ mod files;
 mod laws;
 mod limits;
 mod names;
+mod new_tables;
 mod numbers;
 mod pieces;
 mod tables;
@@ -21,6 +22,7 @@ pub use files::Files;
 pub use laws::{one_cut_into_lines, one_cut_into_pieces, one_number};
 pub use limits::{LAST_DAY, TABLE_LIMIT};
 pub use names::Names;
+pub use new_tables::{NewTable, NewTables};
 pub use numbers::{NumberFault, push_decimal, read_decimal};
 pub use pieces::{Piece, pair, triple};
 

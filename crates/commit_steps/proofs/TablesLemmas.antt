@@ -17,7 +17,7 @@ use Rattle.acct_text.specs.Contents.{Contents, same_content, IsChange}
 use Rattle.acct_text.specs.Files.{table_of}
 use Rattle.acct_text.specs.Tables.{all_tables, table_place, same_table}
 use Rattle.intent_file.specs.Intent.{NewTable}
-use Rattle.intent_file.specs.ChangedTables.{with_new_table, changed_among}
+use Rattle.acct_text.specs.ChangedTables.{with_new_table, changed_among}
 use Rattle.suite_rules.proofs.Names.{table-is}
 use Rattle.commit_steps.specs.States.{Change, Walker, AreSound, has_staged, old_files, new_files, changed, with_table, table_after, is_before, steps_left, tables_left}
 use Rattle.commit_steps.specs.Outcomes.{is_missing}

@@ -12,8 +12,8 @@ use Rattle.acct_text.specs.Files.{table_of}
 use Rattle.acct_text.specs.Tables.{table_place}
 use Rattle.acct_outside.specs.declared.Name.{Name}
 use Rattle.acct_outside.specs.declared.Name.TheVariants.{Table, Defs}
-use Rattle.intent_file.specs.Intent.{NewTable, Intended, listed_in}
-use Rattle.intent_file.specs.ChangedTables.{changed_tables, intent_of}
+use Rattle.intent_file.specs.Intent.{NewTable, Intended, intent_of, listed_in}
+use Rattle.acct_text.specs.ChangedTables.{changed_tables}
 use Rattle.intent_file.specs.Pieces.{intent_pieces}
 use Rattle.suite_rules.specs.Outcomes.{pieces_left}
 use Rattle.lock_steps.specs.States.{Kept}

@@ -13,8 +13,9 @@ use Rattle.acct_text.specs.Bytes.{Bytes}
 use Rattle.acct_text.specs.Limits.{table_limit}
 use Rattle.acct_text.specs.Tables.{all_tables, table_place}
 use Rattle.acct_text.specs.Contents.{Contents, same_content, IsChange}
-use Rattle.intent_file.specs.ChangedTables.{with_new_table, changed_among, changed_bytes, changed_tables, intent_of}
-use Rattle.intent_file.specs.Intent.{NewTable, is_in_order, is_within_limit, is_lock_number, is_allowed}
+use Rattle.acct_text.specs.ChangedTables.{with_new_table, changed_among, changed_bytes, changed_tables}
+use Rattle.acct_text.proofs.ChangedTablesLemmas.{changed_among-cons, with_new_table-append}
+use Rattle.intent_file.specs.Intent.{NewTable, intent_of, is_in_order, is_within_limit, is_lock_number, is_allowed}
 
 -- the same content is one
 content_is : (old new : Option Bytes) → same_content old new ≡ true → new ≡ old
@@ -22,23 +23,6 @@ content_is None None same = refl
 content_is (Some b) (Some c) same = ap (λ (x : Bytes). Some x) (sym ((bytes_eq-Decides b c).0 same))
 content_is None (Some c) same = absurd (true≢false (sym same))
 content_is (Some b) None same = absurd (true≢false (sym same))
-
--- one table more is listed where its bytes differ
-pub changed_among-cons :
-    (table : Tab) (tables : List Tab) (old new : Contents)
-    → changed_among (table ∷ tables) old new
-    ≡ with_new_table table (changed_bytes (old table) (new table)) (changed_among tables old new)
-changed_among-cons table tables old new = by_test (same_content (old table) (new table))
-  where
-    rest : List NewTable
-    rest = changed_among tables old new
-
-    by_test :
-        (is_same : Bool)
-        → (if is_same then rest else with_new_table table (new table) rest)
-        ≡ with_new_table table (if is_same then None else new table) rest
-    by_test true = refl
-    by_test false = refl
 
 -- each table has the place or a later one, and they are in order
 abbrev is_from : ℕ → List NewTable → Bool
@@ -220,13 +204,6 @@ changed-allowed number old new is_lock change =
     ) refl
 
 -- Going over all tables.
-
--- one table more is listed before others
-with_new_table-append :
-    (table : Tab) (bytes : Option Bytes) (news : List NewTable)
-    → with_new_table table bytes [] ++ news ≡ with_new_table table bytes news
-with_new_table-append table None news = refl
-with_new_table-append table (Some bytes) news = refl
 
 module _ (all : List Tab) (old new : Contents) (place : ℕ) (default : Tab) where
   -- the table at the place

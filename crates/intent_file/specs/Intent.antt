@@ -9,7 +9,9 @@ use Rattle.acct_text.specs.Bytes.{Bytes, newline, blank}
 use Rattle.acct_text.specs.Limits.{table_limit}
 use Rattle.acct_text.specs.Tables.{table_place, same_table, table_name}
 use Rattle.acct_outside.specs.Names.{greatest_lock}
-use Rattle.intent_file.specs.declared.NewTable.{NewTable as Listed}
+use Rattle.acct_text.specs.declared.new_tables.NewTable.{NewTable as Listed}
+use Rattle.acct_text.specs.ChangedTables.{changed_tables}
+use Rattle.acct_text.specs.Contents.{Contents}
 
 -- a table with its new bytes, as the program holds it
 abbrev pub NewTable : Type 0
@@ -19,6 +21,10 @@ NewTable = Listed
 pub record Intended : Type 0 where
   pub number : ℕ
   pub tables : List NewTable
+
+-- the intent of a change of the old files to the new ones, under the lock of this number
+abbrev pub intent_of : ℕ → Contents → Contents → Intended
+intent_of number old new = record { number = number; tables = changed_tables old new }
 
 -- `accounts-intent 1 N COUNT` on a line: the number of the lock, and how many tables follow
 abbrev pub header : ℕ → ℕ → Bytes

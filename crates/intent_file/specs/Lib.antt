@@ -1,5 +1,4 @@
 pub mod Intent
-pub mod ChangedTables
 pub mod Parts
 pub mod Cursor
 pub mod Pieces

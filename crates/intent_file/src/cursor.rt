@@ -9,9 +9,9 @@ ghost use Rattle.acct_text.specs.Tables.{table_name, all_tables};
 ghost use Rattle.intent_file.specs.Cursor.{Takes, TakesTables, TellsLack, ReadsAs, HasLeadingZero, zero_digit, IsBetween, HasLength, word_part, number_part, name_part, comes_behind};
 ghost use Rattle.intent_file.specs.Parts.{IsHeader, IsNext, header_part};
 
-use crate::{IntentFault, NewTable};
+use crate::IntentFault;
 use acct_outside::GREATEST_LOCK;
-use acct_text::{Bytes, TABLE_LIMIT, Tab, cut_once, read_decimal};
+use acct_text::{Bytes, NewTable, TABLE_LIMIT, Tab, cut_once, read_decimal};
 use std::alloc::{AllocError, Global};
 use std::marker::Model;
 
@@ -32,7 +32,7 @@ pub struct TablePart<'text> {
 }
 
 impl<'text> Model for TablePart<'text> {
-    ghost use Rattle.intent_file.specs.declared.NewTable.{NewTable};
+    ghost use Rattle.acct_text.specs.declared.new_tables.NewTable.{NewTable};
 
     ghost Value = { NewTable };
 

@@ -4,16 +4,16 @@ ghost use Rattle.std.specs.Option.{option_copied};
 ghost use Rattle.acct_text.specs.Contents.{IsChange};
 ghost use Rattle.acct_text.specs.Tables.{same_table};
 ghost use Rattle.acct_text.specs.Files.{table_of};
-ghost use Rattle.intent_file.specs.ChangedTables.{changed_bytes, intent_of};
-ghost use Rattle.intent_file.specs.Intent.{ReadsIntent, header, intent_text, is_lock_number, listed_in, table_part};
+ghost use Rattle.acct_text.specs.ChangedTables.{changed_bytes};
+ghost use Rattle.intent_file.specs.Intent.{ReadsIntent, header, intent_of, intent_text, is_allowed, is_lock_number, listed_in, table_part};
 ghost use Rattle.acct_outside.specs.Pieces.{pieces_of};
 ghost use Rattle.intent_file.specs.Parts.{TellsFault};
 ghost use Rattle.intent_file.specs.Pieces.{intent_pieces, lines_around, table_line};
 
+use crate::IntentFault;
 use crate::cursor::Cursor;
-use crate::{IntentFault, NewTable};
 use acct_outside::{piece_at, piece_count};
-use acct_text::{Bytes, Files, Tab, push_decimal};
+use acct_text::{Bytes, Files, NewTable, Tab, push_decimal};
 use std::alloc::{AllocError, Global};
 use std::marker::Model;
 
@@ -61,6 +61,19 @@ impl Intent {
                 tables.push(NewTable { table, bytes })?;
             }
         }
+        Intent::of(alloc, number, tables)
+    }
+
+    /// The intent of these tables, which are at least one, in the fixed order and within their limit,
+    /// under a lock's number. It keeps their bytes, and copies none.
+    ///
+    /// The error says that memory ran out.
+    pub fn of(alloc: Global, number: u64, tables: Vec<NewTable>) -> Result<Self, AllocError>
+        requires { IsTrue (is_allowed (record { number = number; tables = tables.items })) }
+        ensures value { IfOk result (λ intent.
+            intent ≡ record { number = number; tables = tables.items }) }
+        ensures reads { IfOk result (λ intent. ReadsIntent (intent_text intent) intent) }
+    {
         let lines = lines_of(alloc, number, &tables)?;
         Ok(Intent {
             number,
@@ -132,12 +145,7 @@ impl Intent {
         if !cursor.is_at_end() {
             return Err(IntentFault::Part(header.count + 1));
         }
-        let lines = lines_of(alloc, header.number, &tables)?;
-        Ok(Intent {
-            number: header.number,
-            tables,
-            lines,
-        })
+        Ok(Intent::of(alloc, header.number, tables)?)
     }
 
     /// The tables that the intent lists, in the fixed order.

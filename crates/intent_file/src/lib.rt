@@ -7,31 +7,10 @@ ghost use Rattle.intent_file.specs.Pieces.{IntentInPieces};
 mod cursor;
 mod intent;
 
-use acct_text::{Bytes, Tab};
+pub use acct_text::NewTable;
 pub use intent::Intent;
 use std::alloc::{AllocError, AllocFailed};
 use thiserror::Error;
-
-/// A table with its new bytes, as an intent lists it.
-#[derive(Debug, Drop)]
-pub struct NewTable {
-    /// Which of the six tables it is.
-    pub table: Tab,
-    /// All of its bytes, in an intent at most 16,777,216.
-    pub bytes: Bytes,
-}
-
-impl NewTable {
-    ghost use Rattle.std.specs.Prelude.{◌≡◌};
-    ghost use Rattle.acct_text.specs.Tables.{same_table};
-
-    /// Whether these are the bytes of that table.
-    fn is_for(&self, table: Tab) -> bool
-        ensures { result ≡ same_table self.now.table table }
-    {
-        self.table == table
-    }
-}
 
 /// Why a text couldn't be read as an intent.
 #[derive(Clone, Copy, Debug, PartialEq, Eq, Error)]

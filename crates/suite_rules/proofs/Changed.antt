@@ -12,7 +12,7 @@ use Rattle.acct_text.specs.Tables.{all_tables, table_place, same_table}
 use Rattle.acct_text.specs.Contents.{Contents, same_content, IsChange}
 use Rattle.acct_outside.specs.Names.{greatest_lock}
 use Rattle.intent_file.specs.Intent.{NewTable, intent_text, is_in_order, is_within_limit, is_lock_number, ReadsIntent, listed_in}
-use Rattle.intent_file.specs.ChangedTables.{with_new_table, changed_among, changed_tables}
+use Rattle.acct_text.specs.ChangedTables.{with_new_table, changed_among, changed_tables}
 use Rattle.suite_rules.proofs.Names.{table-is, table-same, table-turned}
 
 -- the same by the test, so the same

@@ -14,7 +14,7 @@ use Rattle.acct_outside.specs.Folder.{Folder}
 use Rattle.acct_outside.specs.Life.{Life, running}
 use Rattle.intent_file.specs.Intent.{Intended, intent_text, ReadsIntent, listed_in}
 use Rattle.suite_rules.proofs.Intents.{intent-read}
-use Rattle.intent_file.specs.ChangedTables.{changed_tables}
+use Rattle.acct_text.specs.ChangedTables.{changed_tables}
 use Rattle.suite_rules.specs.Deeds.{SuiteDeeds}
 use Rattle.suite_rules.specs.OwnLock.{made_number}
 use Rattle.suite_rules.specs.Standing.{Standing}

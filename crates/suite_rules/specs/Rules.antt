@@ -15,7 +15,7 @@ use Rattle.acct_outside.specs.Calls.{Command, Call, begins, lists, reads, asks, 
 use Rattle.acct_outside.specs.Life.{Life, MayCall}
 use Rattle.acct_outside.specs.declared.CommitStage.TheVariants.{Before, Committed}
 use Rattle.intent_file.specs.Intent.{Intended, intent_text, ReadsIntent, listed_in}
-use Rattle.intent_file.specs.ChangedTables.{changed_tables}
+use Rattle.acct_text.specs.ChangedTables.{changed_tables}
 use Rattle.suite_rules.specs.Deeds.{SuiteDeeds}
 use Rattle.suite_rules.specs.OwnLock.{lock_uncalled, lock_kept, made_number}
 use Rattle.suite_rules.specs.Listing.{Listing}

@@ -25,7 +25,7 @@ use Rattle.account_words.specs.declared.word_fault.WordFault.{WordFault}
 use Rattle.account_words.specs.Request.{Request}
 use Rattle.account_words.proofs.AsksLaws.{asks_iff_read}
 use Rattle.intent_file.specs.Intent.{NewTable}
-use Rattle.intent_file.specs.ChangedTables.{with_new_table, changed_among}
+use Rattle.acct_text.specs.ChangedTables.{with_new_table, changed_among}
 use Rattle.suite_rules.specs.Standing.{Standing, standing}
 use Rattle.suite_rules.specs.Steps.{Stands}
 use Rattle.suite_rules.proofs.StepLemmas.{IsNoAnswer, stayed}

@@ -16,7 +16,7 @@ use Rattle.acct_outside.specs.declared.FolderFault.{FolderFault}
 use Rattle.acct_outside.specs.Calls.{Found}
 use Rattle.account_words.specs.declared.tool.Tool.{Tool}
 use Rattle.acct_text.specs.Bytes.{Bytes}
-use Rattle.intent_file.specs.ChangedTables.{changed_among, with_new_table}
+use Rattle.acct_text.specs.ChangedTables.{changed_among, with_new_table}
 use Rattle.intent_file.specs.Intent.{NewTable}
 use Rattle.intent_file.proofs.SizeLemmas.{pieces-most}
 use Rattle.lock_steps.specs.States.{Kept}

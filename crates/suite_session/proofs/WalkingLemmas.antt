@@ -15,7 +15,7 @@ use Rattle.acct_outside.specs.Calls.{Answer, CallResult, renames, writes}
 use Rattle.acct_outside.specs.Pieces.{piece_at}
 use Rattle.acct_outside.specs.declared.CommitStage.TheVariants.{Before}
 use Rattle.intent_file.specs.Intent.{NewTable}
-use Rattle.intent_file.specs.ChangedTables.{with_new_table, changed_among}
+use Rattle.acct_text.specs.ChangedTables.{with_new_table, changed_among}
 use Rattle.suite_rules.specs.Standing.{Standing, standing_step}
 use Rattle.suite_rules.specs.Steps.{own_command}
 use Rattle.suite_rules.specs.Outcomes.{installs, stages}

@@ -1,11 +1,11 @@
-use Rattle.std.proofs.Common.{◌++◌, ◌∙◌, [], Some, refl, sym, ap, ap₂, List, drop, length, get_or, arith, append-nil}
+use Rattle.std.proofs.Common.{◌++◌, ◌∙◌, [], Some, sym, ap, ap₂, List, drop, length, get_or, arith, append-nil}
+use Rattle.std.proofs.lemmas.Result.{IfOk-weaker}
 use Rattle.acct_text.specs.declared.Tab.{Tab}
 use Rattle.acct_text.specs.declared.Tab.TheVariants.{Passwd}
 use Rattle.acct_text.specs.Bytes.{Bytes}
 use Rattle.acct_text.specs.Files.{table_of}
-use Rattle.intent_file.specs.ChangedTables.{changed_among, changed_tables, with_new_table}
-use Rattle.intent_file.specs.Intent.{NewTable, header, is_allowed}
-use Rattle.intent_file.specs.Pieces.{lines_around}
+use Rattle.acct_text.specs.ChangedTables.{changed_among, changed_tables, with_new_table}
+use Rattle.intent_file.specs.Intent.{NewTable, is_allowed}
 use Rattle.intent_file.proofs.ChangedTablesLemmas.{changed-step, changed-end, changed-allowed}
 use Rattle.intent_file.proofs.intent.Intent.new.Goals as goal
 use Rattle.intent_file.proofs.intent.Intent.new.Goals.{in-Some+in_ok-bytes+in_ok-push, in_default}
@@ -36,19 +36,16 @@ tables-preserved c =
           ∙ ap (λ o. c.tables.tables.items ++ with_new_table table o []) w.in_default.ensures))
     ]
 
-pub invariant_of-result : goal.invariant_of-result
-invariant_of-result c =
+pub of-requires-2 : goal.of-requires-2
+of-requires-2 c =
     let old = table_of c.args.old.now in
     let new = table_of c.args.new.now in
     let size = ap length c.all-table-items.ensures in
     let all = changed-end c.all-table-items.result old new c.tables.table-index
-    c.tables.tables.items (changed_tables old new) (omega arith) c.tables.invariant in (
-      ap (λ (tables : List NewTable). is_allowed
-          (record { number = c.args.number; tables = tables })) all
-          ∙ changed-allowed c.args.number old new c.requires.number c.requires.change,
-      c.in_ok-lines.ensures ∙ ap (λ (tables : List NewTable).
-          lines_around (header c.args.number (length tables)) tables) c.deref.ensures.value,
-    )
+    c.tables.tables.items (changed_tables old new) (omega arith) c.tables.invariant in
+    ap (λ (tables : List NewTable). is_allowed
+    (record { number = c.args.number; tables = tables })) all
+    ∙ changed-allowed c.args.number old new c.requires.number c.requires.change
 
 pub returns-clause-value : goal.returns-clause-value
 returns-clause-value c =
@@ -57,9 +54,6 @@ returns-clause-value c =
     let size = ap length c.all-table-items.ensures in
     let all = changed-end c.all-table-items.result old new c.tables.table-index
     c.tables.tables.items (changed_tables old new) (omega arith) c.tables.invariant in
-    ap (λ (tables : List NewTable). record { number = c.args.number; tables = tables }) all
-
-pub returns-clause-reads : goal.returns-clause-reads
-returns-clause-reads c =
-    let invariant = invariant_of-result c in
-    record { allowed = invariant.0; text = refl }
+    IfOk-weaker c.of-2.result _ _ (λ intent is. is
+    ∙ ap (λ (tables : List NewTable). record { number = c.args.number; tables = tables }) all)
+    c.of-2.ensures.value

@@ -1,6 +1,6 @@
 use Rattle.std.proofs.Common.{◌≡◌, ◌++◌, drop}
 use Rattle.acct_text.specs.Files.{table_of}
-use Rattle.intent_file.specs.ChangedTables.{changed_among, changed_tables}
+use Rattle.acct_text.specs.ChangedTables.{changed_among, changed_tables}
 use Rattle.intent_file.proofs.intent.Intent.new.Given as goal
 
 -- the tables so far, and those that are to come

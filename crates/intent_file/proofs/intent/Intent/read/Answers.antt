@@ -1,10 +1,9 @@
-use Rattle.std.proofs.Common.{◌≡◌, ◌∙◌, ap, List, length, Option, Some, refl, sym, subst, true≢false}
+use Rattle.std.proofs.Common.{◌≡◌, Option, Some, refl, sym, subst, true≢false}
 use Rattle.acct_text.specs.Bytes.{Bytes}
 use Rattle.intent_file.specs.declared.IntentFault.TheVariants.{Part}
 use Rattle.intent_file.specs.declared.cursor.Header.{Header}
 use Rattle.intent_file.specs.Cursor.{Takes}
-use Rattle.intent_file.specs.Intent.{NewTable, header}
-use Rattle.intent_file.specs.Pieces.{lines_around}
+use Rattle.intent_file.specs.Intent.{ReadsIntent}
 use Rattle.intent_file.specs.Parts.{BeginsWith, BeginsWithNone, IsHeader, header_part, no_header, TellsFault}
 use Rattle.intent_file.proofs.IntentLemmas.{lack-fault, end-fault, read-allowed, reads-intent, told-fault, missing-fault}
 use Rattle.intent_file.proofs.intent.Intent.read.Goals as goal
@@ -49,20 +48,18 @@ returns-then-not-is_at_end-clause-damaged c =
     c.in_ok-tables.tables.items c.tables.new.self c.in_ok-tables.ensures.taken
     (λ is_end. true≢false (sym (c.if-not-is_at_end.ensures.1 is_end)))
 
-pub invariant_of-result : goal.invariant_of-result
-invariant_of-result c =
+pub of-requires : goal.of-requires
+of-requires c =
     let begins = header-begins c.args.text.now c.new-cursor.result c.header.new.self c.header.result
-    c.in_ok-header.header c.new-cursor.ensures c.in_ok-header.ensures.ok_part c.header.ensures in (
-      read-allowed c.args.text.now c.header.new.self c.in_ok-header.header begins
-          c.in_ok-tables.tables.items c.tables.new.self c.in_ok-tables.ensures.taken,
-      c.in_ok-lines.ensures ∙ ap (λ (tables : List NewTable).
-          lines_around (header c.in_ok-header.header.number (length tables)) tables) c.deref.ensures.value,
-    )
+    c.in_ok-header.header c.new-cursor.ensures c.in_ok-header.ensures.ok_part c.header.ensures in
+    read-allowed c.args.text.now c.header.new.self c.in_ok-header.header begins
+    c.in_ok-tables.tables.items c.tables.new.self c.in_ok-tables.ensures.taken
 
 pub returns-clause-read : goal.returns-clause-read
 returns-clause-read c =
     let begins = header-begins c.args.text.now c.new-cursor.result c.header.new.self c.header.result
     c.in_ok-header.header c.new-cursor.ensures c.in_ok-header.ensures.ok_part c.header.ensures in
-    reads-intent c.args.text.now c.header.new.self c.in_ok-header.header begins
+    subst (ReadsIntent c.args.text.now) (sym c.in_ok-of.ensures.value)
+    (reads-intent c.args.text.now c.header.new.self c.in_ok-header.header begins
     c.in_ok-tables.tables.items c.tables.new.self c.in_ok-tables.ensures.taken
-    (c.if-not-is_at_end.ensures.0 refl)
+    (c.if-not-is_at_end.ensures.0 refl))

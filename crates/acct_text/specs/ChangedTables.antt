@@ -1,10 +1,10 @@
--- The tables in which new files differ from old ones, as an intent lists them.
-use Rattle.std.specs.Prelude.{ℕ, List, [], ◌∷◌, Option, Some, None, if◌then◌else◌}
+-- The tables in which new files differ from old ones, as a command decides and an intent lists them.
+use Rattle.std.specs.Prelude.{List, [], ◌∷◌, Option, Some, None, if◌then◌else◌}
 use Rattle.acct_text.specs.declared.Tab.{Tab}
+use Rattle.acct_text.specs.declared.new_tables.NewTable.{NewTable}
 use Rattle.acct_text.specs.Bytes.{Bytes}
 use Rattle.acct_text.specs.Tables.{all_tables}
 use Rattle.acct_text.specs.Contents.{Contents, same_content}
-use Rattle.intent_file.specs.Intent.{NewTable, Intended}
 
 -- the new bytes of one table, where they differ from the old
 abbrev pub changed_bytes : Option Bytes → Option Bytes → Option Bytes
@@ -26,7 +26,3 @@ changed_among (table ∷ tables) old new =
 -- the tables that differ, in the fixed order, with their new bytes
 abbrev pub changed_tables : Contents → Contents → List NewTable
 changed_tables old new = changed_among all_tables old new
-
--- the intent of a change of the old files to the new ones, under the lock of this number
-abbrev pub intent_of : ℕ → Contents → Contents → Intended
-intent_of number old new = record { number = number; tables = changed_tables old new }
