@@ -50,7 +50,7 @@ and-true : (one two : Bool) → one ≡ true → two ≡ true → (one && two) �
 and-true one two holds too = rw (holds, too) refl
 
 -- each part holds
-and-parts : (one two : Bool) → (one && two) ≡ true → (one ≡ true) × (two ≡ true)
+pub and-parts : (one two : Bool) → (one && two) ≡ true → (one ≡ true) × (two ≡ true)
 and-parts true two is = (refl, is)
 and-parts false two is = absurd (true≢false (sym is))
 

@@ -23,7 +23,9 @@ pub mod Commitments
 pub mod Settles
 pub mod Places
 pub mod Once
+mod Watching
 pub mod Whole
+mod Reports
 mod RowSteps
 mod Staff
 mod CommitRow

@@ -307,7 +307,7 @@ module _ (past now : World) (token : Token) (facts : LockFacts past)
           lock-stays number (held_text holder) stands freed
 
   -- what is known of the holders of a number up to the greatest stays so
-  held-stays : (P : Token → Type 0) (number : ℕ) → number ≤ top past.folder →
+  pub held-stays : (P : Token → Type 0) (number : ℕ) → number ≤ top past.folder →
       HeldByOrPast P past number → HeldByOrPast P now number
   held-stays P number most (inl below) = inl (stays-below number below)
   held-stays P number most (inr held) = cases (origin number)

@@ -22,7 +22,7 @@ use Rattle.suite_rules.proofs.Effects.{SameLocks, WithLock}
 use Rattle.suite_rules.proofs.LockSteps.{LockStep, lock_quiet, lock_listed, lock_read, lock_watched, lock_told, lock_tried, lock_created, lock_given_up, lock_removed}
 
 -- a listing with what was watched now, where it was
-abbrev watched_where : Bool → Name → Found → Listing → Listing
+abbrev pub watched_where : Bool → Name → Found → Listing → Listing
 watched_where watches name found one =
     if watches then record one { watched = watched_with name found one.watched } else one
 
@@ -171,7 +171,7 @@ pub data ListingOrigin (history : History) (before : Folder) (standing : Standin
       ListingOrigin history before standing listing
 
 -- what a step of an optional value comes from
-map-origin : {A : Type 0} (step : A → A) (old : Option A) (new : A) →
+pub map-origin : {A : Type 0} (step : A → A) (old : Option A) (new : A) →
     option_map step old ≡ Some new → (before : A) × (old ≡ Some before) × (new ≡ step before)
 map-origin step None new is = absurd (cc)
 map-origin step (Some before) new is = (before, refl, cc)

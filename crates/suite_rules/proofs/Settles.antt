@@ -69,7 +69,7 @@ done-keeps deeds history token (begins command) answer keeps = keeps
 done-keeps deeds history token _ answer keeps = keeps
 
 -- what an event did to the files, also a begin that gave no token
-effect-of : (deeds : SuiteDeeds) (history : History) (token : Token) (folder : Folder) (call : Call)
+pub effect-of : (deeds : SuiteDeeds) (history : History) (token : Token) (folder : Folder) (call : Call)
     (result : CallResult (Answer call)) → KeepsRulesOrNone deeds history token call result →
     GivesResult folder history token call result →
     FileEffect deeds token folder (changed_by token call (effect_of call result) folder)
@@ -143,7 +143,7 @@ event-commits deeds history token call result keeps =
 module _ (deeds : SuiteDeeds) (token : Token) (before after : Folder) (life : Life)
     (standing : Standing) where
   -- only an active keeper changes files
-  effect-others : (list : List Commitment) →
+  pub effect-others : (list : List Commitment) →
       FileEffect deeds token before after life standing list →
       SameFiles before after ⊎ (KeeperRule standing × (life ≡ running))
   effect-others _ (files_stay same) = inl same

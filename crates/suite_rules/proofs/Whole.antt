@@ -22,6 +22,7 @@ use Rattle.suite_rules.proofs.LockFacts.{moment, LockFacts, absent-below, top-ri
 use Rattle.suite_rules.proofs.Keepers.{own-step, event-moves, lock-facts, never-falls, ever-made}
 use Rattle.suite_rules.proofs.Commitments.{each-all, each-follows}
 use Rattle.suite_rules.proofs.Settles.{Committer, FileFacts, file-facts, above-committed}
+use Rattle.suite_rules.proofs.Watching.{report-view}
 
 module _ (deeds : SuiteDeeds) (first : Folder) where
   -- a lock that stood and doesn't stand now lies below the greatest
@@ -147,7 +148,7 @@ module _ (deeds : SuiteDeeds) (first : Folder) where
     )
 
     -- the committed numbers are at most the greatest
-    at-most-top : (one : Commitment) → Committer history one →
+    pub at-most-top : (one : Commitment) → Committer history one →
         one.number ≤ top (after first history)
     at-most-top one committer =
         (locks.made_most one.token one.number
@@ -175,6 +176,7 @@ invariant deeds first history lawful = record {
   own_lock = own-lock deeds first history lawful;
   judged_lock = (lock-facts deeds first history lawful).judged_lock;
   keeper_view = keeper-view deeds first history lawful;
+  report_view = report-view deeds first history lawful;
   settled_is_fold = settled-is-fold deeds first history lawful;
   backups_kept = (file-facts deeds first history lawful).backups;
 }

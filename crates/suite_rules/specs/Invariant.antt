@@ -1,5 +1,5 @@
--- The invariant, which each lawful event keeps. Its first three parts make the keeper one; with
--- the fourth they keep the settled files and the backups.
+-- The invariant, which each lawful event keeps. Its first four parts make the keeper one; with the
+-- fifth and the sixth they keep what sessions know, the settled files and the backups.
 use Rattle.std.specs.Prelude.{◌≡◌, ◌⊎◌, ℕ, ◌<◌, ◌≤◌, Bool, true, ◌++◌, All, Option, Some, None, IsSome, IsNone}
 use Rattle.acct_text.specs.declared.Tab.{Tab}
 use Rattle.acct_text.specs.Bytes.{Bytes}
@@ -135,6 +135,7 @@ pub record Invariant (deeds : SuiteDeeds) (first : Folder) (history : History) :
   pub own_lock : OwnLockHolds first history
   pub judged_lock : JudgedLockHolds first history
   pub keeper_view : KeeperViewHolds first history
+  pub report_view : ReportViewHolds first history
   pub settled_is_fold : SettledIsFold deeds first history
   pub backups_kept : AreBackups deeds first history
 

@@ -124,10 +124,16 @@ pub record PlacesStay : Type 0 where
       (all.files ≡ folded deeds first (place number (committed history)))
       × (all.defs ≡ settings_file first)
 
--- What a session has shown under a lock was found at one moment: the fold of all that was committed under
--- its number and lower ones, where the intent that it found lists a table or the table was found itself,
--- and the first login.defs. That place stays, whatever was committed since.
+-- What a session has shown under a lock was found at one moment. A table that the found intent lists
+-- has these bytes in the fold of all that was committed under that lock's number and lower ones;
+-- another was found with its content of that fold, and login.defs as the first one. That place stays,
+-- whatever was committed since.
 pub record ReportsHold : Type 0 where
+  pub stays : (deeds : SuiteDeeds) (first : Folder) (newer older : History) →
+      Lawful deeds first (newer ++ older) → (token : Token) (shown : Shown) →
+      (standing token older).shown ≡ Some shown →
+      place (shown.number + 1) (committed (newer ++ older))
+      ≡ place (shown.number + 1) (committed older)
   pub listed : (deeds : SuiteDeeds) (first : Folder) (history : History) →
       Lawful deeds first history → (token : Token) (shown : Shown) →
       (standing token history).shown ≡ Some shown →

@@ -8,7 +8,7 @@
 
 ghost use Rattle.suite_rules.specs.Deeds.{SuiteDeeds};
 ghost use Rattle.suite_rules.specs.Invariant.{InvariantHolds};
-ghost use Rattle.suite_rules.specs.Laws.{CommittedOnce, LawfulCut, LawfulSettles, OneKeeper, OwnStanding, PlacesStay};
+ghost use Rattle.suite_rules.specs.Laws.{CommittedOnce, LawfulCut, LawfulSettles, OneKeeper, OwnStanding, PlacesStay, ReportsHold};
 
 /// What a suite of tools does to the six account files.
 ///
@@ -50,13 +50,19 @@ pub fn places_stay()
     ensures { PlacesStay }
 {}
 
+/// What a session without a lock has found between two listings with the same greatest lock, which it
+/// had judged, is what was committed under that lock's number and lower ones; that stays so.
+pub fn reports_hold()
+    ensures { ReportsHold }
+{}
+
 /// A session commits at most once, and has committed what it was asked once its commit was done.
 pub fn committed_once()
     ensures { CommittedOnce }
 {}
 
 /// What stands in the folder of every lawful history: its locks, those of running sessions, what
-/// the keeper knows, the fold and the backups.
+/// the keeper knows, what sessions without a lock have found, the fold and the backups.
 pub fn invariant()
     ensures { InvariantHolds }
 {}
