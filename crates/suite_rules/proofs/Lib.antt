@@ -25,7 +25,7 @@ pub mod Places
 pub mod Once
 mod Watching
 pub mod Whole
-mod Reports
+pub mod Reports
 mod RowSteps
 mod Staff
 mod CommitRow
