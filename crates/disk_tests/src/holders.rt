@@ -160,6 +160,10 @@ fn takes_over(
         judged_by(rt, folder, own, own)? == Verdict::Dead,
         "the holder is dead",
     )?;
+    is_so(
+        folder.create(&token(rt, own)?, 2)? == Created::Done,
+        "the next lock is made",
+    )?;
     Ok(())
 }
 

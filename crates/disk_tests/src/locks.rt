@@ -74,8 +74,8 @@ fn a_lock_holds_its_token_for_all_to_read(rt: HostRuntime) -> Result<(), Fail> {
 fn creates_for_all(rt: &HostRuntime, folder: &mut RealFolder<HostRuntime>) -> Result<(), Fail> {
     drop(begun(rt, folder)?);
     is_so(
-        own_files(rt, "out/created/etc")? == 1,
-        "the session has a file",
+        own_files(rt, "out/created/etc")? == 0,
+        "a session that has begun has no file",
     )?;
     is_so(
         created(rt, folder, "me")? == Created::Done,
@@ -115,18 +115,15 @@ fn what_is_left_over_goes_with_the_next_lock(rt: HostRuntime) -> Result<(), Fail
     Ok(())
 }
 
+// A session that makes its lock has its file locked.
 #[test]
 fn what_a_session_holds_is_not_left_over(rt: HostRuntime) -> Result<(), Fail> {
-    let mut running = image(&rt, "out/running")?;
-    keeps_its_own(&rt, &mut running)
-}
-
-fn keeps_its_own(rt: &HostRuntime, running: &mut RealFolder<HostRuntime>) -> Result<(), Fail> {
-    let own = begun(rt, running)?;
-    pass_through(rt, "out/running")?;
-    is_so(own_files(rt, "out/running/etc")? == 1, "the file is left")?;
-    running.answered(&own, 0);
-    is_so(own_files(rt, "out/running/etc")? == 0, "the file is gone")?;
+    drop(image(&rt, "out/running")?);
+    let own = File::create(&rt, "out/running/etc/accounts.held+running")?;
+    own.lock()?;
+    pass_through(&rt, "out/running")?;
+    assert_eq!(rt; own_files(&rt, "out/running/etc")?, 1);
+    drop(own);
     Ok(())
 }
 

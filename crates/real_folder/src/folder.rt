@@ -11,7 +11,7 @@ ghost use Rattle.real_folder.specs.Paths.{path_at};
 use crate::faults::{Faults, SystemError, about};
 use crate::files;
 use crate::files::Links;
-use crate::lock_file::{LockFile, remove_left_over};
+use crate::lock_file::{Hold, LockFile, hold_in, remove_left_over};
 use crate::names::{lock_number, own_path, path_of};
 use crate::process::{locked_token, own_identity};
 use crate::staged_file::StagedFile;
@@ -31,7 +31,9 @@ pub struct RealFolder<R: Files<File = File> + AllocGlobal + Clone + Drop> {
     rt: R,
     /// The path of DIR/etc, empty until `enter` named it.
     etc: String,
-    /// The file of the session's lock, from its begin on.
+    /// How the session's lock is held, as its token tells.
+    hold: Hold,
+    /// The file of the session's lock, from its create on.
     lock_file: Option<LockFile>,
     /// The staging file that the session wrote last, until it is renamed.
     staged: Option<StagedFile>,
@@ -48,6 +50,7 @@ impl<R: Files<File = File> + AllocGlobal + Clone + Drop> RealFolder<R> {
         RealFolder {
             rt,
             etc,
+            hold: Hold::Kernel,
             lock_file: None,
             staged: None,
             judged,
@@ -109,23 +112,17 @@ impl<R: Files<File = File> + AllocGlobal + Clone + Drop> RealFolder<R> {
         }
     }
 
-    /// Claims the file of the session's lock, and gives its token. Where the file system has no locks
-    /// the token says so, and the file is made with the lock.
-    ///
-    /// An error of the claim is about the folder, where a file is to be made.
-    fn claim_token(&mut self) -> Result<Token, SystemError>
+    /// The token of the session, which tells how the folder's file system lets it hold a lock. No file is
+    /// made: that is left to the create of the lock.
+    fn own_token(&mut self) -> Result<Token, SystemError>
         ensures { self.new.faults.count ≡ self.old.faults.count }
     {
         let alloc = self.rt.alloc();
+        self.hold = self.at(self.etc.as_str(), hold_in(&self.rt, self.etc.as_str()))?;
         let identity = own_identity(&self.rt)?;
-        let locked = locked_token(alloc, identity.as_str())?;
-        let own = own_path(alloc, self.etc.as_str(), locked.as_str())?;
-        let (locked, unlocked) = (token_of(alloc, &locked)?, token_of(alloc, &identity)?);
-        let claimed = LockFile::claimed(&self.rt, own);
-        self.lock_file = self.at(self.etc.as_str(), claimed)?;
-        match self.lock_file {
-            Some(_) => Ok(locked),
-            None => Ok(unlocked),
+        match self.hold {
+            Hold::Kernel => token_of(alloc, &locked_token(alloc, identity.as_str())?),
+            Hold::Text => token_of(alloc, &identity),
         }
     }
 
@@ -160,14 +157,11 @@ impl<R: Files<File = File> + AllocGlobal + Clone + Drop> RealFolder<R> {
         self.at(etc, files::sync_folder(&self.rt, etc))
     }
 
-    /// Makes a lock of the file that was claimed, or of one that only its text keeps.
+    /// Claims a file and makes a lock of it.
     fn make_lock(&mut self, own: String, lock: &str, text: &[u8]) -> Result<Created, SystemError>
         ensures { self.new.faults.count ≡ self.old.faults.count }
     {
-        let mut file = match self.lock_file.take() {
-            Some(file) => file,
-            None => self.at(lock, LockFile::unlocked(&self.rt, own))?,
-        };
+        let mut file = self.at(lock, LockFile::claimed(&self.rt, own, self.hold))?;
         let placed = self.at(lock, file.place(&self.rt, lock, text));
         self.lock_file = Some(file);
         placed

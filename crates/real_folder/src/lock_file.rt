@@ -1,4 +1,4 @@
-// The file of a lock (docs/LOCK.md, "How a lock is made"):
+// The file of a lock (docs/LOCK.md, "How a lock is made"), which the create of the lock makes:
 //
 // 1. claimed: it is made under a name that no other session uses, and the kernel locks it (flock(2));
 // 2. filled: it holds its whole text, on the disk;
@@ -8,7 +8,7 @@
 use crate::files;
 use crate::names::is_own_name;
 use acct_outside::{Created, LOCK_LIMIT};
-use std::fs::{File, Permissions};
+use std::fs::{File, Permissions, TryLockError};
 use std::io::{ErrorKind, Read};
 use std::os::unix::fs::{MetadataExt, PermissionsExt};
 use std::rt::Files;
@@ -30,6 +30,15 @@ pub(crate) enum Hold {
     Kernel,
     /// It hasn't: the file system has no such locks, and the text of the lock alone tells its holder.
     Text,
+}
+
+/// How a lock is held in a folder: whether the kernel locks the folder itself, shared and for this moment,
+/// tells whether it locks files there. So nothing is made or written, and who may only read can ask.
+pub(crate) fn hold_in<R: Files<File = File>>(rt: &R, etc: &str) -> io::Result<Hold> {
+    match File::open(rt, etc)?.try_lock_shared() {
+        Ok(()) | Err(TryLockError::WouldBlock) => Ok(Hold::Kernel),
+        Err(TryLockError::Error(_)) => Ok(Hold::Text),
+    }
 }
 
 /// The file of a session's lock, open until the session ends.
@@ -70,29 +79,37 @@ fn stands_at<R: Files>(rt: &R, file: &File, path: &str) -> io::Result<bool> {
     }
 }
 
-impl LockFile {
-    /// Claims a file under the session's own name, and none where the file system has no locks.
-    pub(crate) fn claimed<R: Files<File = File>>(rt: &R, own: String) -> io::Result<Option<Self>> {
-        let claimed = match claim(rt, own.as_str()) {
-            // A process that had the number and the start of this one was stopped and left it.
-            Err(e) if e.kind() == ErrorKind::AlreadyExists => {
-                remove_unheld(rt, own.as_str())?;
-                claim(rt, own.as_str())?
-            }
-            claimed => claimed?,
-        };
-        Ok(claimed.map(|file| LockFile {
-            file,
-            hold: Hold::Kernel,
-            own: Some(own),
-        }))
+/// Claims a file as `claim` does, in place of one that a process left which had the number and the start of
+/// this one and was stopped.
+fn claim_own<R: Files<File = File>>(rt: &R, own: &str) -> io::Result<Option<File>> {
+    match claim(rt, own) {
+        Err(e) if e.kind() == ErrorKind::AlreadyExists => {
+            remove_unheld(rt, own)?;
+            claim(rt, own)
+        }
+        claimed => claimed,
     }
+}
 
-    /// Makes a file under the session's own name that nothing but its text will keep.
-    pub(crate) fn unlocked<R: Files<File = File>>(rt: &R, own: String) -> io::Result<Self> {
+impl LockFile {
+    /// Claims a file under the session's own name. Where the kernel locks no file nothing but its text will
+    /// keep it.
+    pub(crate) fn claimed<R: Files<File = File>>(
+        rt: &R,
+        own: String,
+        hold: Hold,
+    ) -> io::Result<Self> {
+        let locked = match hold {
+            Hold::Kernel => claim_own(rt, own.as_str())?,
+            Hold::Text => None,
+        };
+        let (file, hold) = match locked {
+            Some(file) => (file, Hold::Kernel),
+            None => (files::make(rt, own.as_str(), CLAIM_MODE)?, Hold::Text),
+        };
         Ok(LockFile {
-            file: files::make(rt, own.as_str(), CLAIM_MODE)?,
-            hold: Hold::Text,
+            file,
+            hold,
             own: Some(own),
         })
     }

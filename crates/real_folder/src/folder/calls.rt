@@ -18,7 +18,7 @@ impl<R: Files<File = File> + AllocGlobal + Clone + Drop> Folder for RealFolder<R
     }
 
     fn begin(&mut self, _words: &[Word], _input: &Bytes, _day: u32) -> Result<Token, FolderFault> {
-        let token = self.claim_token();
+        let token = self.own_token();
         self.answer_look(token)
     }
 
