@@ -28,11 +28,10 @@ use Rattle.suite_rules.specs.Standing.{Standing, standing_step}
 use Rattle.suite_rules.specs.Rules.{HasSeen}
 use Rattle.suite_rules.specs.Steps.{StandsIn}
 use Rattle.suite_rules.proofs.Names.{table-is}
-use Rattle.suite_rules.proofs.KeeperParts.{knows-next}
 use Rattle.suite_rules.proofs.StepLemmas.{told-of, read-tells, stands-done}
 use Rattle.lock_steps.specs.States.{Kept}
 use Rattle.lock_steps.specs.Stands.{Keeps, KnowsNone}
-use Rattle.lock_steps.proofs.KeeperLemmas.{keeps-on}
+use Rattle.lock_steps.proofs.KeeperLemmas.{IsAside, keeps-aside, keeps-on}
 use Rattle.commit_steps.specs.declared.Loading.{Loading}
 use Rattle.commit_steps.specs.declared.Loading.TheVariants.{More, Done}
 use Rattle.commit_steps.specs.declared.LoadEnd.{LoadEnd}
@@ -140,17 +139,15 @@ module _ (keeper : Kept) (files : Files) where
       HasRead (at next) stood →
       Keeps keeper KnowsNone (standing_step (reads (next_name next)) (done found) stood)
   clean-after-read next found stood held =
-      keeps-on keeper (KnowsSome (at next)) KnowsNone stood
-      (standing_step (reads (next_name next)) (done found) stood) refl (aside next) held.keeps (
+      keeps-aside keeper KnowsNone (KnowsSome (at next)) (reads (next_name next)) (aside next)
+      (done found) stood (
         seeing (next_name next) found held.keeps.knows.seen,
-        knows-next (reads (next_name next)) (done found) stood keeper.number held.keeps.locks.owns
-            ∙ input-seen next found stood.knows held.keeps.knows.seen held.keeps.knows.clean,
-      )
+        input-seen next found stood.knows held.keeps.knows.seen held.keeps.knows.clean,
+      ) held.keeps
     where
-      aside : (next : Option Tab) →
-          (standing_step (reads (next_name next)) (done found) stood).listing ≡ stood.listing
-      aside None = refl
-      aside (Some table) = refl
+      aside : (one : Option Tab) → IsAside (reads (next_name one))
+      aside None = tt
+      aside (Some table) = tt
 
   -- what it saw of a table, it has read
   reads-on : (table : Tab) (content : Option Bytes) (found : Found) →
@@ -158,16 +155,14 @@ module _ (keeper : Kept) (files : Files) where
       HasRead (read_on (at (Some table)) table content)
       (standing_step (reads (Table table)) (done found) stood)
   reads-on table content found whole stood held = record {
-    keeps = keeps-on keeper (KnowsSome (at (Some table)))
-        (KnowsSome (read_on (at (Some table)) table content)) stood
-        (standing_step (reads (Table table)) (done found) stood) refl refl held.keeps
+    keeps = keeps-aside keeper (KnowsSome (read_on (at (Some table)) table content))
+        (KnowsSome (at (Some table))) (reads (Table table)) tt (done found) stood
         (record {
           seen = seeing (Table table) found seen;
-          clean = knows-next (reads (Table table)) (done found) stood keeper.number
-              held.keeps.locks.owns
-              ∙ input-seen (Some table) found stood.knows seen held.keeps.knows.clean;
+          clean = input-seen (Some table) found stood.knows seen held.keeps.knows.clean;
           tables = λ other before. rw whole (cases other before (same_table other table) refl);
-        });
+        })
+        held.keeps;
     uncommitted = held.uncommitted;
   }
     where
@@ -194,15 +189,15 @@ module _ (keeper : Kept) (files : Files) where
       (stood : Standing) → HasRead (at None) stood →
       HasLoaded (inputs_of (at None) content) (standing_step (reads Defs) (done found) stood)
   loads-all content found whole stood held = record {
-    keeps = keeps-on keeper (KnowsSome (at None)) (KnowsInputs (inputs_of (at None) content))
-        stood (standing_step (reads Defs) (done found) stood) refl refl held.keeps
+    keeps = keeps-aside keeper (KnowsInputs (inputs_of (at None) content)) (KnowsSome (at None))
+        (reads Defs) tt (done found) stood
         (record {
           seen = seeing Defs found held.keeps.knows.seen;
-          clean = knows-next (reads Defs) (done found) stood keeper.number held.keeps.locks.owns
-              ∙ input-seen None found stood.knows held.keeps.knows.seen held.keeps.knows.clean;
+          clean = input-seen None found stood.knows held.keeps.knows.seen held.keeps.knows.clean;
           each_table = λ table. rw whole (held.keeps.knows.tables table refl);
           settings = rw whole refl;
-        });
+        })
+        held.keeps;
     uncommitted = held.uncommitted;
   }
 

@@ -1,7 +1,7 @@
 -- Claim: each call of a recovery leads its session from the standing of one state to that of the
 -- next (`clean-after-read`, `recovers-after-read`, `staged-after-write`, `staged-after-append`,
 -- `recovers-after-move`, `clean-after-removal`). Way: a read of the intent concerns no lock, so the session keeps its number
--- (`keeps-on`); the other calls carry the intent out (CarryLemmas).
+-- (`keeps-aside`); the other calls carry the intent out (CarryLemmas).
 use Rattle.std.proofs.Common.{◌≡◌, refl, sym, subst, true, false, [], slice_get, Some}
 use Rattle.std.proofs.lemmas.List.Elements.{All-nil}
 use Rattle.acct_text.specs.Bytes.{Bytes}
@@ -13,7 +13,7 @@ use Rattle.suite_rules.specs.Outcomes.{stages, stages_more, installs}
 use Rattle.suite_rules.proofs.KeeperParts.{knows-next}
 use Rattle.lock_steps.specs.States.{Kept}
 use Rattle.lock_steps.specs.Stands.{Keeps, KnowsAnything, KnowsNoneYet}
-use Rattle.lock_steps.proofs.KeeperLemmas.{keeps-on}
+use Rattle.lock_steps.proofs.KeeperLemmas.{keeps-aside}
 use Rattle.recovery.specs.States.{Mover, Recoverer, appended_once, moved_once, mover_of}
 use Rattle.recovery.specs.Stands.{Recovers, HasStagedNext}
 use Rattle.recovery.specs.Outcomes.{ListsAll}
@@ -24,15 +24,14 @@ module _ (keeper : Kept) (stood : Standing) (keeps : Keeps keeper KnowsAnything 
   -- whatever it found, the session keeps its number
   pub keeps-after-read : (found : Found) →
       Keeps keeper KnowsAnything (standing_step (reads Intent) (done found) stood)
-  keeps-after-read found = keeps-on keeper KnowsAnything KnowsAnything stood
-      (standing_step (reads Intent) (done found) stood) refl refl keeps tt
+  keeps-after-read found = keeps-aside keeper KnowsAnything KnowsAnything (reads Intent) tt
+      (done found) stood tt keeps
 
   -- absent, it knows that none stands
   pub clean-after-read :
       Keeps keeper KnowsNoneYet (standing_step (reads Intent) (done found_absent) stood)
-  clean-after-read = keeps-on keeper KnowsAnything KnowsNoneYet stood
-      (standing_step (reads Intent) (done found_absent) stood) refl refl keeps
-      (knows-next (reads Intent) (done found_absent) stood keeper.number keeps.locks.owns)
+  clean-after-read = keeps-aside keeper KnowsNoneYet KnowsAnything (reads Intent) tt
+      (done found_absent) stood refl keeps
 
   -- bytes that read as an intent are known, with all of its tables left
   pub recovers-after-read : (bytes : Bytes) (recovering : Recoverer) →
