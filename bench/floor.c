@@ -1,7 +1,8 @@
 // The calls, bytes and syncs of one command on DIR/etc, and nothing else: what the disk and the kernel
 // cost. It takes the lock, reads login.defs and the six tables, changes those that are named by a copy
-// of their last line, as a commit does (docs/OPERATING.md), and frees the lock; given DIR alone it only
-// reads. bench/run sets its time beside that of the program. usage: floor DIR [lock [TABLE..]]
+// of their last line, as a commit does (docs/OPERATING.md), and frees the lock; as a report it reads them
+// between two listings, without a lock; given DIR alone it only reads. bench/run sets its time beside that
+// of the program. usage: floor DIR [report | lock [TABLE..]]
 #define _GNU_SOURCE
 #include <dirent.h>
 #include <fcntl.h>
@@ -103,17 +104,24 @@ static const char *with(const char *name, const char *end) {
     return joined;
 }
 
-static int take_lock(void) {
-    char own[64];
+// The token, which tells whether the kernel locks files in the folder.
+static void begin(void) {
+    char namespace[64];
+    int file = openat(folder, ".", O_RDONLY | O_CLOEXEC);
+    must(file >= 0 && flock(file, LOCK_SH | LOCK_NB) == 0, "folder");
+    close(file);
     load(AT_FDCWD, "/proc/sys/kernel/random/boot_id", 0);
     load(AT_FDCWD, "/proc/self/stat", 0);
-    readlink("/proc/self/ns/pid", own, sizeof own);
+    must(readlink("/proc/self/ns/pid", namespace, sizeof namespace) > 0, "/proc");
+}
+
+static int take_lock(void) {
+    char own[64];
     snprintf(own, sizeof own, "accounts.held+%d", getpid());
     struct stat about;
     int file = openat(folder, own, O_WRONLY | O_CREAT | O_EXCL | O_CLOEXEC, 0600);
     must(file >= 0 && fchmod(file, 0600) == 0 && flock(file, LOCK_EX) == 0, own);
     must(fstat(file, &about) == 0 && fstatat(folder, own, &about, AT_SYMLINK_NOFOLLOW) == 0, own);
-    list();
     must(fchmod(file, 0644) == 0, own);
     put(file, "held 00000000-0000-0000-0000-000000000000.10000.100000.4026531836.flock\n", 72);
     must(fsync(file) == 0, own);
@@ -124,6 +132,7 @@ static int take_lock(void) {
 }
 
 static void read_all(void) {
+    load(folder, "accounts.intent", AT_SYMLINK_NOFOLLOW);
     for (int i = 0; i < TABLES; i++)
         tables[i] = load(folder, names[i], AT_SYMLINK_NOFOLLOW);
     load(folder, "login.defs", 0);
@@ -207,8 +216,14 @@ int main(int count, char **words) {
         read_all();
         return 0;
     }
+    begin();
+    list();
+    if (strcmp(words[2], "report") == 0) {
+        read_all();
+        list();
+        return 0;
+    }
     int lock = take_lock();
-    load(folder, "accounts.intent", AT_SYMLINK_NOFOLLOW);
     read_all();
     for (int i = 0; i < TABLES; i++)
         for (int word = 3; word < count; word++)
