@@ -4,6 +4,7 @@ use Rattle.account_formats.specs.Records.{passwd_format, shadow_format, group_fo
 use Rattle.account_formats.specs.RecordEdits.{IsWrittenEdit}
 use Rattle.account_formats.specs.Tables.{Script}
 
+-- each edit of each table prints only such records
 pub record IsWrittenScript (script : Script) : Type 0 where
   pub passwd : AllByRecursion (IsWrittenEdit passwd_format) script.passwd
   pub shadow : AllByRecursion (IsWrittenEdit shadow_format) script.shadow

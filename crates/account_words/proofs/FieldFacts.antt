@@ -1,7 +1,7 @@
 -- What a text passes when a test of specs/Names or specs/Values passes it: it can stand in a field of a line
 -- (`is_field-is`, `valid-name`), or in a list (`valid-listed`, `list-no_comma`).
 use Rattle.std.proofs.Common.{◌≡◌, ◌≢◌, ℕ, ◌<◌, Bool, true, false, ◌&&◌, ◌||◌, not, List, [], ◌∷◌, ◌++◌, length, refl, sym, ◌∙◌, ap, arith, inl, inr}
-use Rattle.std.specs.Prelude.{nat_le, bytes_eq, cond, filter, ◌==◌}
+use Rattle.std.specs.Prelude.{nat_le, bytes_eq, ◌==◌}
 use Rattle.std.specs.List.{list_all, AllByRecursion}
 use Rattle.std.proofs.lemmas.Bool.{eq-eqb, and_parts, true≢false}
 use Rattle.std.proofs.lemmas.Bool.Decides.{eqb_tells}

@@ -2,10 +2,12 @@ pub mod SubidLaws
 pub mod DateTextLaws
 pub mod DatesLaws
 pub mod AsksLaws
+pub mod LineWordsLaws
 pub mod ReadIsSpelled
 pub mod SpelledIsRead
 pub mod DateRows
 pub mod WordRows
+mod LineRows
 mod SettingRows
 pub mod Sets
 pub mod IdsLaws

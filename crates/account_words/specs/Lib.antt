@@ -3,6 +3,7 @@ pub mod Dates
 pub mod Options
 pub mod Spelling
 pub mod Words
+pub mod LineWords
 pub mod Values
 pub mod Settings
 pub mod Ids

@@ -5,6 +5,8 @@ use Rattle.std.specs.Prelude.{ℕ, Bool, true, false, not, ◌&&◌, ◌||◌, �
 use Rattle.std.specs.List.{list_any, list_all}
 use Rattle.std.specs.Str.{byte}
 use Rattle.account_words.specs.declared.given.Given.{Given}
+use Rattle.account_words.specs.declared.words_of.WordsOf.{WordsOf}
+use Rattle.account_words.specs.declared.words_of.WordsOf.TheVariants.{Command, Line}
 use Rattle.account_words.specs.declared.tool.Tool.{Tool}
 use Rattle.account_words.specs.declared.tool.Tool.TheVariants.{Useradd, Usermod, Userdel, Groupadd, Groupmod, Groupdel, Gpasswd, Chage, Chpasswd, Pwck, Grpck, Getsubids}
 use Rattle.acct_text.specs.Bytes.{Bytes}
@@ -123,6 +125,11 @@ prefix_letter = byte "P"
 -- all options of a tool: each takes `-P`
 abbrev pub option_forms : Tool → List OptionForm
 option_forms tool = with_value "P" "prefix" ∷ own_options tool
+
+-- the options that such words may give: `-P` is unknown in a line of a batch
+abbrev pub options_for : WordsOf → Tool → List OptionForm
+options_for Command tool = option_forms tool
+options_for Line tool = own_options tool
 
 -- how many operands a tool takes: the user or the group, or none (its manual page, "SYNOPSIS")
 abbrev pub operands_of : Tool → ℕ

@@ -157,10 +157,11 @@ name_reading_with value None = Err UnknownOption
 name_reading_with value (Some form) =
     if form.takes_value then complete (as_value form.letter value) else Err UnexpectedValue
 
--- the name before the first `=` of a text, and the value behind it
+-- the name before the first `=` of a text
 abbrev pub name_part : Word → Word
 name_part text = before_first (λ c. c == equals_sign) text
 
+-- the value behind it
 abbrev pub value_part : Word → Word
 value_part text = after_first (λ c. c == equals_sign) text
 

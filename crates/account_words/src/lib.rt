@@ -12,6 +12,7 @@ mod subid_laws;
 mod tool;
 mod word_fault;
 mod word_laws;
+mod words_of;
 
 pub use date_laws::{days_are_counted, days_have_dates};
 pub use given::Given;
@@ -21,3 +22,4 @@ pub use subid_laws::ranges_are_cut;
 pub use tool::Tool;
 pub use word_fault::WordFault;
 pub use word_laws::words_have_one_reading;
+pub use words_of::WordsOf;
