@@ -13,11 +13,12 @@ use Rattle.account_words.specs.declared.given.Given.{Given}
 use Rattle.account_words.specs.declared.word_fault.WordFault.{WordFault}
 use Rattle.account_words.specs.declared.word_fault.WordFault.TheVariants.{UnknownOption, MissingValue, TooMany, Memory}
 use Rattle.account_words.specs.declared.tool.Tool.{Tool}
+use Rattle.account_words.specs.declared.words_of.WordsOf.{WordsOf}
 use Rattle.account_formats.specs.Text.{last_of, has_byte, equals_sign}
-use Rattle.account_words.specs.Options.{Word, OptionForm, prefix_letter, as_flag, as_value, option_forms, operands_of}
+use Rattle.account_words.specs.Options.{Word, OptionForm, prefix_letter, as_flag, as_value, options_for, operands_of}
 use Rattle.account_words.specs.Request.{Request, last_value}
 use Rattle.account_words.specs.Spelling.{form_of_letter, form_of_name, WordReading, complete, waits_for_value, flag_before, value_behind, letter_reading, letters_reading, name_reading, name_reading_with, name_part, value_part, long_reading, Meaning, is_an_operand, has_options, word_meaning, Arguments, with_options, with_operand, read_word, read_arguments}
-use Rattle.account_words.specs.Words.{Asks, without_prefix, request_with, request_of_arguments, request_of_tool, request_of}
+use Rattle.account_words.specs.Words.{AsksAs, without_prefix, prefix_for, request_with, request_of_arguments, request_of_tool, request_as}
 use Rattle.option_words.specs.declared.reading.Reading.{Reading}
 use Rattle.option_words.specs.declared.reading.Expects.{Expects}
 use Rattle.option_words.specs.declared.reading.Expects.TheVariants.{AnyWord, ValueOf, OperandsAlone}
@@ -58,12 +59,14 @@ request_by-option reading option (Ok read) =
     let later = last_value prefix_letter read.0 in
     elim (cases_Bool (option.letter == prefix_letter)) [
       | inl prefix ↦ rw prefix
-          (ap (request_with tool (reading.options ++ without_prefix read.0) operands)
+          (ap (λ prefix. request_with tool (reading.options ++ without_prefix read.0) operands
+          (prefix_for reading.whose prefix))
           (last_of-cons_option option.value
           (filter_map (λ given. given.value) (filter (λ given. given.letter == prefix_letter) read.0))
           reading.prefix))
       | inr other ↦ rw other
-          (ap (λ options. request_with tool options operands (option_or later reading.prefix))
+          (ap (λ options. request_with tool options operands
+          (prefix_for reading.whose (option_or later reading.prefix)))
           (sym (append_assoc reading.options (option ∷ []) (without_prefix read.0))))
     ]
 
@@ -75,7 +78,7 @@ pub request_by-operand :
 request_by-operand reading word (Err fault) = refl
 request_by-operand reading word (Ok read) =
     ap (λ operands. request_with reading.tool (reading.options ++ without_prefix read.0) operands
-    (option_or (last_value prefix_letter read.0) reading.prefix))
+    (prefix_for reading.whose (option_or (last_value prefix_letter read.0) reading.prefix)))
     (sym (append_assoc reading.operands (word ∷ []) read.1))
 
 -- ---- The options of a word
@@ -322,9 +325,10 @@ operand-reads reading new place word (Err found) any means taken fault = elim fa
 -- ---- The beginning and the end
 
 -- a reading of no words
-abbrev pub no_words : Global → Tool → Reading
-no_words alloc tool = record {
+abbrev pub no_words : Global → WordsOf → Tool → Reading
+no_words alloc whose tool = record {
   alloc = alloc;
+  whose = whose;
   tool = tool;
   prefix = None;
   options = [];
@@ -339,31 +343,35 @@ option_or-none (Some x) = refl
 
 -- what is read behind a reading of no words is all
 pub request_by-no_words :
-    (alloc : Global) (tool : Tool) (read : Result Arguments WordFault)
-    → request_by (no_words alloc tool) read ≡ request_of_arguments tool read
-request_by-no_words alloc tool (Err fault) = refl
-request_by-no_words alloc tool (Ok read) =
-    ap (request_with tool (without_prefix read.0) read.1) (option_or-none (last_value prefix_letter read.0))
+    (alloc : Global) (whose : WordsOf) (tool : Tool) (read : Result Arguments WordFault)
+    → request_by (no_words alloc whose tool) read ≡ request_of_arguments whose tool read
+request_by-no_words alloc whose tool (Err fault) = refl
+request_by-no_words alloc whose tool (Ok read) =
+    ap (λ value. request_with tool (without_prefix read.0) read.1 (prefix_for whose value))
+    (option_or-none (last_value prefix_letter read.0))
 
 -- a reading of no words comes to the request of the words behind the tool's name
 pub outcome_of-no_words :
-    (alloc : Global) (tool : Tool) (words : List Word)
-    → outcome_of (no_words alloc tool) 1 words ≡ request_of_tool (Some tool) words
-outcome_of-no_words alloc tool words =
-    ap (λ room. request_by (no_words alloc tool)
-    (read_arguments (option_forms tool) None room 1 words)) (sub-zero (operands_of tool))
-    ∙ request_by-no_words alloc tool
-    (read_arguments (option_forms tool) None (operands_of tool) 1 words)
+    (alloc : Global) (whose : WordsOf) (tool : Tool) (words : List Word)
+    → outcome_of (no_words alloc whose tool) 1 words ≡ request_of_tool whose (Some tool) words
+outcome_of-no_words alloc whose tool words =
+    let table = options_for whose tool in
+    ap (λ room. request_by (no_words alloc whose tool) (read_arguments table None room 1 words))
+    (sub-zero (operands_of tool))
+    ∙ request_by-no_words alloc whose tool
+    (read_arguments table None (operands_of tool) 1 words)
 
 -- with no words left, what was read is all
 pub request_by-nothing :
     (reading : Reading)
     → request_by reading (Ok ([], []))
-    ≡ request_with reading.tool reading.options reading.operands reading.prefix
+    ≡ request_with reading.tool reading.options reading.operands
+    (prefix_for reading.whose reading.prefix)
 request_by-nothing reading =
-    ap (λ options. request_with reading.tool options (reading.operands ++ []) reading.prefix)
+    let prefix = prefix_for reading.whose reading.prefix in
+    ap (λ options. request_with reading.tool options (reading.operands ++ []) prefix)
     (append-nil reading.options)
-    ∙ ap (λ operands. request_with reading.tool reading.options operands reading.prefix)
+    ∙ ap (λ operands. request_with reading.tool reading.options operands prefix)
     (append-nil reading.operands)
 
 -- no words add nothing where no letter waits
@@ -380,7 +388,8 @@ pub outcome_of-end :
     (reading : Reading) (place : ℕ)
     → ((letter : ℕ) → reading.expects ≢ ValueOf letter)
     → outcome_of reading place []
-    ≡ request_with reading.tool reading.options reading.operands reading.prefix
+    ≡ request_with reading.tool reading.options reading.operands
+    (prefix_for reading.whose reading.prefix)
 outcome_of-end reading place complete =
     ap (request_by reading) (rest_by-end reading.expects reading place complete)
     ∙ request_by-nothing reading
@@ -409,10 +418,11 @@ answers-fault asked (Err found) fault handed is = elim is [
 
 -- a request that is answered is asked for
 pub request-answered :
-    (words : List Word) {asked : Result Request WordFault} (result : Result Parsed WordFault)
-    → request_of words ≡ asked
+    (whose : WordsOf) (words : List Word) {asked : Result Request WordFault}
+    (result : Result Parsed WordFault)
+    → request_as whose words ≡ asked
     → Answers asked result
-    → IfOk result (λ parsed. Asks words (request_in parsed))
-request-answered words (Ok parsed) read answers =
-    read_is_asked words (request_in parsed) (read ∙ answers)
-request-answered words (Err fault) read answers = tt
+    → IfOk result (λ parsed. AsksAs whose words (request_in parsed))
+request-answered whose words (Ok parsed) read answers =
+    read_is_asked whose words (request_in parsed) (read ∙ answers)
+request-answered whose words (Err fault) read answers = tt

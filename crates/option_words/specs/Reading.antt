@@ -4,19 +4,19 @@ use Rattle.std.specs.Option.{option_or}
 use Rattle.account_words.specs.declared.given.Given.{Given}
 use Rattle.account_words.specs.declared.word_fault.WordFault.{WordFault}
 use Rattle.account_words.specs.declared.word_fault.WordFault.TheVariants.{Memory}
-use Rattle.account_words.specs.Options.{Word, OptionForm, prefix_letter, option_forms, operands_of}
+use Rattle.account_words.specs.Options.{Word, OptionForm, prefix_letter, options_for, operands_of}
 use Rattle.account_words.specs.Request.{Request, last_value}
 use Rattle.account_words.specs.Spelling.{WordReading, Arguments, has_options, read_operands, read_word, read_arguments}
-use Rattle.account_words.specs.Words.{without_prefix, request_with}
+use Rattle.account_words.specs.Words.{without_prefix, prefix_for, request_with}
 use Rattle.option_words.specs.declared.parsed.Parsed.{Parsed}
 use Rattle.option_words.specs.declared.reading.Reading.{Reading}
 use Rattle.option_words.specs.declared.reading.Expects.{Expects}
 use Rattle.option_words.specs.declared.reading.Expects.TheVariants.{AnyWord, ValueOf, OperandsAlone}
 use Rattle.option_words.specs.Parsed.{request_in}
 
--- the options that the tool takes
+-- the options that such words may give the tool
 abbrev pub table_of : Reading → List OptionForm
-table_of reading = option_forms reading.tool
+table_of reading = options_for reading.whose reading.tool
 
 -- how many operands the tool still takes
 abbrev pub room_of : Reading → ℕ
@@ -41,7 +41,7 @@ request_by reading (Err fault) = Err fault
 request_by reading (Ok (given, operands)) =
     request_with reading.tool (reading.options ++ without_prefix given)
     (reading.operands ++ operands)
-    (option_or (last_value prefix_letter given) reading.prefix)
+    (prefix_for reading.whose (option_or (last_value prefix_letter given) reading.prefix))
 
 -- what the words from a place on give
 abbrev pub rest_by : Expects → Reading → ℕ → List Word → Result Arguments WordFault
@@ -81,5 +81,7 @@ Answers asked (Err fault) = (fault ≡ Memory) ⊎ (asked ≡ Err fault)
 -- what is read to the end comes to this request or this fault, or there was no memory
 abbrev pub AnswersReading : Result Request WordFault → Result Reading WordFault → Type 0
 AnswersReading asked (Ok reading) =
-    asked ≡ request_with reading.tool reading.options reading.operands reading.prefix
+    asked
+    ≡ request_with reading.tool reading.options reading.operands
+    (prefix_for reading.whose reading.prefix)
 AnswersReading asked (Err fault) = (fault ≡ Memory) ⊎ (asked ≡ Err fault)

@@ -1,11 +1,11 @@
 // The options of each tool, in the order of its manual page.
 ghost use Rattle.std.specs.Prelude.{◌≡◌, ◌==◌, map, find, option_map};
-ghost use Rattle.account_words.specs.Options.{option_forms as all_options, operands_of as number_of_operands};
+ghost use Rattle.account_words.specs.Options.{option_forms as command_options, options_for, operands_of as number_of_operands};
 ghost use Rattle.account_words.specs.Spelling.{form_of_letter as by_letter, form_of_name as by_name, has_long_name as is_named};
 ghost use Rattle.option_words.specs.Forms.{form_of};
 
 use OptionForm::{Flag, ShortFlag, Value};
-use account_words::Tool;
+use account_words::{Tool, WordsOf};
 
 /// An option that a tool takes.
 #[derive(Clone, Copy)]
@@ -18,7 +18,7 @@ pub(crate) enum OptionForm {
     ShortFlag(u8),
 }
 
-// The folder whose `etc` is worked on, which each tool takes.
+// The folder whose `etc` is worked on, which each tool of a command takes.
 const PREFIX: OptionForm = Value(b'P', "prefix");
 
 const USERADD: &[OptionForm] = &[
@@ -113,9 +113,9 @@ const PWCK: &[OptionForm] = &[
 
 const GRPCK: &[OptionForm] = &[PREFIX, Flag(b'r', "read-only"), Flag(b's', "sort")];
 
-// The options of a tool.
-fn option_forms(tool: Tool) -> &'static [OptionForm]
-    ensures { map form_of result.now ≡ all_options tool }
+// The options of a tool, in words of a command.
+fn command_forms(tool: Tool) -> &'static [OptionForm]
+    ensures { map form_of result.now ≡ command_options tool }
 {
     match tool {
         Tool::Useradd => USERADD,
@@ -132,11 +132,22 @@ fn option_forms(tool: Tool) -> &'static [OptionForm]
     }
 }
 
-/// The option of a tool with a letter.
-pub(crate) fn form_of_letter(tool: Tool, letter: u8) -> Option<OptionForm>
-    ensures { option_map form_of result ≡ by_letter (all_options tool) letter }
+// The options that such words may give: the prefix, which is first, is a command's.
+fn forms_for(whose: WordsOf, tool: Tool) -> &'static [OptionForm]
+    ensures { map form_of result.now ≡ options_for whose tool }
 {
-    find_letter(option_forms(tool), letter)
+    let forms = command_forms(tool);
+    match (whose, forms) {
+        (WordsOf::Line, [_, own @ ..]) => own,
+        _ => forms,
+    }
+}
+
+/// The option of a tool with a letter.
+pub(crate) fn form_of_letter(whose: WordsOf, tool: Tool, letter: u8) -> Option<OptionForm>
+    ensures { option_map form_of result ≡ by_letter (options_for whose tool) letter }
+{
+    find_letter(forms_for(whose, tool), letter)
 }
 
 fn find_letter(forms: &[OptionForm], letter: u8) -> Option<OptionForm>
@@ -146,10 +157,10 @@ fn find_letter(forms: &[OptionForm], letter: u8) -> Option<OptionForm>
 }
 
 /// The option of a tool with a long name, which is written out.
-pub(crate) fn form_of_name(tool: Tool, name: &[u8]) -> Option<OptionForm>
-    ensures { option_map form_of result ≡ by_name (all_options tool) name.now }
+pub(crate) fn form_of_name(whose: WordsOf, tool: Tool, name: &[u8]) -> Option<OptionForm>
+    ensures { option_map form_of result ≡ by_name (options_for whose tool) name.now }
 {
-    find_long_name(option_forms(tool), name)
+    find_long_name(forms_for(whose, tool), name)
 }
 
 fn find_long_name(forms: &[OptionForm], name: &[u8]) -> Option<OptionForm>

@@ -1,8 +1,10 @@
-//! What the words of a command ask for (getopt_long(3), and the manual page of each tool).
+//! What the words of a command ask for (getopt_long(3), and the manual page of each tool), and the
+//! words of a line of a batch.
 //!
 //! `read_words` keeps the limits of words, finds the tool and reads the other words from left to
 //! right (`reading`), each by what it is (`meaning`) and by the tool's table of options (`forms`).
 //! Then it tests the prefix, the number of operands and the tool's rules (`rules`).
+//! `read_line_words` does the same for the words that `split_line` cuts from a line (`splitting`).
 #![tactic(auto)]
 
 mod forms;
@@ -11,8 +13,10 @@ mod parsed;
 mod reading;
 mod report;
 mod rules;
+mod splitting;
 mod words;
 
 pub use account_words::{Given, Tool, WordFault};
 pub use parsed::{Options, Parsed};
-pub use words::read_words;
+pub use splitting::split_line;
+pub use words::{read_line_words, read_words};

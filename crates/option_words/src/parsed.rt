@@ -81,7 +81,8 @@ impl Options {
 pub struct Parsed {
     /// The tool that word 0 names.
     pub tool: Tool,
-    /// The last value of `-P`, which isn't empty: the folder whose `etc` is worked on.
+    /// The last value of `-P`, which isn't empty: the folder whose `etc` is worked on. Empty for a
+    /// line of a batch.
     pub prefix: Bytes,
     /// The options but `-P`. A flag has no value, and every other option has one.
     pub options: Options,

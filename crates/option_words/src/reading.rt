@@ -1,7 +1,8 @@
-// The words behind the tool's name, read from left to right (getopt_long(3)).
+// The words behind the tool's name, of a command or of a line of a batch, read from left to right
+// (getopt_long(3)).
 ghost use Rattle.std.specs.Prelude.{◌≡◌, ◌⊎◌, ℕ, suc, [], ◌∷◌, ◌++◌, OnOk, IfErr};
 ghost use Rattle.account_words.specs.Spelling.{letters_reading, long_reading, name_reading, name_reading_with, value_behind};
-ghost use Rattle.account_words.specs.Words.{request_of_tool, request_with};
+ghost use Rattle.account_words.specs.Words.{prefix_for as prefix_by, request_of_tool, request_with};
 ghost use Rattle.option_words.specs.Forms.{form_of};
 ghost use Rattle.option_words.specs.Reading.{Answers, AnswersReading, LeadsTo, ReadsOn, after_option, has_room, options_of_word, outcome_of, table_of};
 
@@ -9,7 +10,7 @@ use crate::forms::{OptionForm, form_of_letter, form_of_name, operands_of};
 use crate::meaning::{Meaning, cut_at_equals, meaning_of};
 use crate::rules::broken_rule;
 use crate::{Options, Parsed};
-use account_words::{Given, Tool, WordFault};
+use account_words::{Given, Tool, WordFault, WordsOf};
 use acct_text::{Bytes, Names, Word};
 use std::alloc::{AllocError, Global};
 
@@ -31,6 +32,7 @@ enum Expects {
 #[derive(Drop)]
 pub(crate) struct Reading {
     alloc: Global,
+    whose: WordsOf,
     tool: Tool,
     prefix: Option<Bytes>,
     options: Options,
@@ -43,12 +45,13 @@ pub(crate) struct Reading {
 /// At a fault of the words it is the first of them, with the place of the word in the command.
 pub(crate) fn read_arguments(
     alloc: Global,
+    whose: WordsOf,
     tool: Tool,
     words: &[Word],
 ) -> Result<Reading, WordFault>
-    ensures { AnswersReading (request_of_tool (Some tool) words.now) result }
+    ensures { AnswersReading (request_of_tool whose (Some tool) words.now) result }
 {
-    let mut reading = Reading::new(alloc, tool);
+    let mut reading = Reading::new(alloc, whose, tool);
     'words: for (place, word) in words.iter().enumerate() {
         reading.take(place + 1, word.as_slice())?;
     }
@@ -60,9 +63,10 @@ pub(crate) fn read_arguments(
 
 impl Reading {
     // A reading of no words.
-    fn new(alloc: Global, tool: Tool) -> Self
+    fn new(alloc: Global, whose: WordsOf, tool: Tool) -> Self
         ensures { result ≡ record {
           alloc = alloc;
+          whose = whose;
           tool = tool;
           prefix = None;
           options = [];
@@ -72,6 +76,7 @@ impl Reading {
     {
         Reading {
             alloc,
+            whose,
             tool,
             prefix: None,
             options: Options::new(alloc),
@@ -132,7 +137,7 @@ impl Reading {
             self.new (suc place) result }
     {
         let option = cut_at_equals(text);
-        let Some(form) = form_of_name(self.tool, option.name) else {
+        let Some(form) = form_of_name(self.whose, self.tool, option.name) else {
             return Err(WordFault::UnknownOption(place));
         };
         match option.value {
@@ -182,7 +187,7 @@ impl Reading {
     {
         let mut letters = letters;
         'letters: while let Some((letter, behind)) = letters.split_first() {
-            let Some(form) = form_of_letter(self.tool, *letter) else {
+            let Some(form) = form_of_letter(self.whose, self.tool, *letter) else {
                 return Err(WordFault::UnknownOption(place));
             };
             if form.takes_value() {
@@ -233,21 +238,21 @@ impl Reading {
 
     /// The request that is read, where the prefix and the operands are there and no rule is broken.
     pub(crate) fn into_parsed(self) -> Result<Parsed, WordFault>
-        ensures { Answers (request_with self.tool self.options self.operands self.prefix) result }
+        ensures { Answers
+            (request_with self.tool self.options self.operands (prefix_by self.whose self.prefix)) result }
     {
         let Reading {
+            alloc,
+            whose,
             tool,
             prefix,
             options,
             operands,
             ..
         } = self;
-        let Some(prefix) = prefix else {
+        let Some(prefix) = prefix_for(alloc, whose, prefix) else {
             return Err(WordFault::NoPrefix);
         };
-        if prefix.as_slice().is_empty() {
-            return Err(WordFault::NoPrefix);
-        }
         if operands.len() < operands_of(tool) {
             return Err(WordFault::TooFew);
         }
@@ -260,5 +265,16 @@ impl Reading {
             options,
             operands,
         })
+    }
+}
+
+// The prefix of such words, if there is one, by the last value of `-P`.
+fn prefix_for(alloc: Global, whose: WordsOf, value: Option<Bytes>) -> Option<Bytes>
+    ensures { result ≡ prefix_by whose value }
+{
+    match (whose, value) {
+        (WordsOf::Command, Some(value)) if !value.as_slice().is_empty() => Some(value),
+        (WordsOf::Command, _) => None,
+        (WordsOf::Line, _) => Some(Bytes::new(alloc)),
     }
 }

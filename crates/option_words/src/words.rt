@@ -1,11 +1,11 @@
-// The words of a command, from their limits to the request.
+// The words of a command, or of a line of a batch, from their limits to the request.
 ghost use Rattle.std.specs.Prelude.{◌≡◌, ◌⊎◌, Some, IfOk, IfErr};
-ghost use Rattle.account_words.specs.Words.{Asks, fault, past_limit as first_past_limit};
+ghost use Rattle.account_words.specs.Words.{Asks, AsksAs, AsksLine, fault, fault_as, fault_line, may_name, past_limit as first_past_limit, tool_for as tool_by};
 ghost use Rattle.option_words.specs.Parsed.{request_in};
 
 use crate::Parsed;
 use crate::reading::read_arguments;
-use account_words::{Tool, WordFault};
+use account_words::{Tool, WordFault, WordsOf};
 use acct_text::Word;
 use std::alloc::Global;
 
@@ -24,14 +24,62 @@ pub fn read_words(alloc: Global, words: &[Word]) -> Result<Parsed, WordFault>
     ensures request { IfOk result (λ parsed. Asks words.now (request_in parsed)) }
     ensures first_fault { IfErr result (λ found. (fault words.now ≡ Some found) ⊎ (found ≡ WordFault.Memory)) }
 {
+    read_as(alloc, WordsOf::Command, words)
+}
+
+/// What the words of a line of a batch ask for, in the folder of the batch: the prefix is empty, and
+/// `-P` and `--prefix` are unknown options. Word 0 names a tool that changes tables: chpasswd, pwck,
+/// grpck and getsubids are unknown.
+///
+/// A fault of the words is the first of them, in the same order as `read_words` has it, and `Memory`
+/// comes for want of memory alone. The time is linear in the bytes of the words.
+pub fn read_line_words(alloc: Global, words: &[Word]) -> Result<Parsed, WordFault>
+    ensures request { IfOk result (λ parsed. AsksLine words.now (request_in parsed)) }
+    ensures first_fault { IfErr result (λ found.
+        (fault_line words.now ≡ Some found) ⊎ (found ≡ WordFault.Memory)) }
+{
+    read_as(alloc, WordsOf::Line, words)
+}
+
+// What such words ask for.
+fn read_as(alloc: Global, whose: WordsOf, words: &[Word]) -> Result<Parsed, WordFault>
+    ensures request { IfOk result (λ parsed. AsksAs whose words.now (request_in parsed)) }
+    ensures first_fault { IfErr result (λ found.
+        (fault_as whose words.now ≡ Some found) ⊎ (found ≡ WordFault.Memory)) }
+{
     if let Some(place) = past_limit(words) {
         return Err(WordFault::WordLimit(place));
     }
     let Some((name, arguments)) = words.split_first() else {
         return Err(WordFault::NoTool);
     };
-    let tool = Tool::named(name.as_slice()).ok_or(WordFault::UnknownTool)?;
-    read_arguments(alloc, tool, arguments)?.into_parsed()
+    let tool = tool_for(whose, name.as_slice()).ok_or(WordFault::UnknownTool)?;
+    read_arguments(alloc, whose, tool, arguments)?.into_parsed()
+}
+
+// The tool that a word names, where such words may name it.
+fn tool_for(whose: WordsOf, name: &[u8]) -> Option<Tool>
+    ensures { result ≡ tool_by whose name.now }
+{
+    let tool = Tool::named(name)?;
+    if may_name(whose, tool) {
+        Some(tool)
+    } else {
+        None
+    }
+}
+
+// Whether such words may name the tool.
+fn may_name(whose: WordsOf, tool: Tool) -> bool
+    ensures { result ≡ may_name whose tool }
+{
+    match whose {
+        WordsOf::Command => true,
+        WordsOf::Line => !matches!(
+            tool,
+            Tool::Chpasswd | Tool::Pwck | Tool::Grpck | Tool::Getsubids
+        ),
+    }
 }
 
 // The place of the first word that passes a limit.

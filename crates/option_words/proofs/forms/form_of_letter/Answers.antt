@@ -8,5 +8,5 @@ pub returns : goal.returns
 returns c =
     let has_letter : OptionForm → Bool = λ form. form.letter == c.args.letter in
     ap (option_map form_of) c.find_letter.ensures
-    ∙ sym (find-map form_of has_letter c.option_forms.result.now)
-    ∙ ap (find has_letter) c.option_forms.ensures
+    ∙ sym (find-map form_of has_letter c.forms_for.result.now)
+    ∙ ap (find has_letter) c.forms_for.ensures

@@ -9,5 +9,5 @@ pub returns : goal.returns
 returns c =
     let is_named : OptionForm → Bool = has_long_name c.args.name.now in
     ap (option_map form_of) c.find_long_name.ensures
-    ∙ sym (find-map form_of is_named c.option_forms.result.now)
-    ∙ ap (find is_named) c.option_forms.ensures
+    ∙ sym (find-map form_of is_named c.forms_for.result.now)
+    ∙ ap (find is_named) c.forms_for.ensures

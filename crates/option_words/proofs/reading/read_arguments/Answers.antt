@@ -19,7 +19,7 @@ split_at words place word before here =
 pub words-init : goal.words-init
 words-init c =
     ap (λ reading. outcome_of reading 1 c.args.words.now) c.new-reading.ensures
-    ∙ outcome_of-no_words c.args.alloc c.args.tool c.args.words.now
+    ∙ outcome_of-no_words c.args.alloc c.args.whose c.args.tool c.args.words.now
 
 pub words-preserved : goal.words-preserved
 words-preserved c =
@@ -44,7 +44,7 @@ returns-in_err-take c =
     let split =
     split_at words place word c.words-test.true c.index-words-place.is
     ∙ ap (λ word. word ∷ rest) (sym c.as_slice.ensures) in
-    answers-fault (request_of_tool (Some c.args.tool) words) c.from_residual.result
+    answers-fault (request_of_tool c.args.whose (Some c.args.tool) words) c.from_residual.result
     c.in_err-take.field-0.0 c.from_residual.ensures.1
     (elim (c.in_err-take.ensures {u = tt}) [
       | inl memory ↦ inl memory

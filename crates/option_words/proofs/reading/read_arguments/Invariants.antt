@@ -7,4 +7,4 @@ use Rattle.option_words.proofs.reading.read_arguments.Given as goal
 abbrev pub invariant-words : goal.invariant-words
 invariant-words l =
     outcome_of l.reading (suc l.place) (drop l.place l.words)
-    ≡ request_of_tool (Some l.fn.tool) l.fn.words
+    ≡ request_of_tool l.fn.whose (Some l.fn.tool) l.fn.words
