@@ -1,12 +1,12 @@
 // What is said of the first fault of a list of words, and its status ("EXIT VALUES" of each page).
-ghost use Rattle.std.specs.Prelude.{◌≡◌, IfOk};
+ghost use Rattle.std.specs.Prelude.{◌≡◌, ◌++◌, codes, decimal, IfOk};
 ghost use Rattle.account_words.specs.Words.{tool_named};
 ghost use Rattle.account_model.specs.WordMessages.{faulty_tool, syntax_status, word_at, word_fault_message, word_fault_status, word_fault_text};
 
 use crate::{MEMORY_STATUS, push_line};
 use account_words::{Tool, WordFault};
 use acct_text::Piece::{Number, Text};
-use acct_text::{Bytes, Word};
+use acct_text::{Bytes, Word, pair};
 use std::alloc::{AllocError, Global};
 
 // No tool is known, or its words make no sense.
@@ -88,62 +88,61 @@ fn word_fault_text(alloc: Global, words: &[Word], fault: WordFault) -> Result<By
     ensures { IfOk result (λ text. text ≡ word_fault_text words.now fault) }
 {
     match fault {
-        WordFault::WordLimit(place) => {
-            Bytes::made_of(
-                alloc,
-                &[
-                    Text(b"word "),
-                    Number(place as u64),
-                    Text(b" passes a limit"),
-                ],
-            )
-        }
+        WordFault::WordLimit(place) => at_place(alloc, b"word ", place, b" passes a limit"),
         WordFault::NoTool => Bytes::of(alloc, b"no command given"),
-        WordFault::UnknownTool => {
-            Bytes::made_of(alloc, &[Text(b"unknown command "), Text(word_at(words, 0))])
+        WordFault::UnknownTool => pair(alloc, b"unknown command ", word_at(words, 0)),
+        WordFault::UnknownOption(place) => {
+            with_word(alloc, b"unknown option in word ", words, place)
         }
-        WordFault::UnknownOption(place) => Bytes::made_of(
-            alloc,
-            &[
-                Text(b"unknown option in word "),
-                Number(place as u64),
-                Text(b": "),
-                Text(word_at(words, place)),
-            ],
-        ),
-        WordFault::MissingValue(place) => Bytes::made_of(
-            alloc,
-            &[
-                Text(b"option in word "),
-                Number(place as u64),
-                Text(b" needs a value"),
-            ],
-        ),
-        WordFault::UnexpectedValue(place) => Bytes::made_of(
-            alloc,
-            &[
-                Text(b"option in word "),
-                Number(place as u64),
-                Text(b" takes no value"),
-            ],
-        ),
-        WordFault::TooMany(place) => Bytes::made_of(
-            alloc,
-            &[
-                Text(b"unexpected word "),
-                Number(place as u64),
-                Text(b": "),
-                Text(word_at(words, place)),
-            ],
-        ),
+        WordFault::MissingValue(place) => {
+            at_place(alloc, b"option in word ", place, b" needs a value")
+        }
+        WordFault::UnexpectedValue(place) => {
+            at_place(alloc, b"option in word ", place, b" takes no value")
+        }
+        WordFault::TooMany(place) => with_word(alloc, b"unexpected word ", words, place),
         WordFault::NoPrefix => Bytes::of(alloc, b"option -P is required"),
         WordFault::TooFew => Bytes::of(alloc, b"missing operand"),
-        WordFault::Clash(rule) => {
-            Bytes::made_of(
-                alloc,
-                &[Text(b"options break rule "), Number(u64::from(rule))],
-            )
-        }
+        WordFault::Clash(rule) => clash(alloc, rule),
         WordFault::Memory => Ok(Bytes::new(alloc)),
     }
+}
+
+/// A text with the place of a word in it.
+fn at_place<'x>(
+    alloc: Global,
+    before: &'x [u8],
+    place: usize,
+    behind: &'x [u8],
+) -> Result<Bytes, AllocError>
+    ensures { IfOk result (λ text. text ≡ before.now ++ decimal place ++ behind.now) }
+{
+    Bytes::made_of(alloc, &[Text(before), Number(place as u64), Text(behind)])
+}
+
+/// A text that ends with the place of a word, and with the word.
+fn with_word<'x>(
+    alloc: Global,
+    before: &'x [u8],
+    words: &'x [Word],
+    place: usize,
+) -> Result<Bytes, AllocError>
+    ensures { IfOk result (λ text. text ≡
+        before.now ++ decimal place ++ codes ": " ++ word_at words.now place) }
+{
+    let word = word_at(words, place);
+    Bytes::made_of(
+        alloc,
+        &[Text(before), Number(place as u64), Text(b": "), Text(word)],
+    )
+}
+
+/// The options break the rule of this number.
+fn clash(alloc: Global, rule: u32) -> Result<Bytes, AllocError>
+    ensures { IfOk result (λ text. text ≡ codes "options break rule " ++ decimal rule) }
+{
+    Bytes::made_of(
+        alloc,
+        &[Text(b"options break rule "), Number(u64::from(rule))],
+    )
 }
