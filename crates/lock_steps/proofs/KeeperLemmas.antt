@@ -3,7 +3,7 @@
 -- listing, no verdict, no create, no read or removal of a lock and no move of the free text, so it
 -- leaves the own lock (`own-aside`) and what the last listing shows (`listing-aside`). It is keeper as the
 -- rules ask (`is-keeper`).
-use Rattle.std.proofs.Common.{◌≡◌, refl, sym, ap, subst, ◌∙◌, ℕ, nat_lt, Bool, true, false, ◌&&◌, if◌then◌else◌, List, ◌++◌, filter, Option, Some}
+use Rattle.std.proofs.Common.{◌≡◌, refl, sym, ap, subst, ◌∙◌, ℕ, nat_lt, Bool, true, false, ◌&&◌, if◌then◌else◌, List, ◌++◌, filter, Some}
 use Rattle.acct_outside.specs.declared.Name.{Name}
 use Rattle.acct_outside.specs.declared.Name.TheVariants.{FreeStage, Lock}
 use Rattle.acct_outside.specs.Calls.{Call, Answer, CallResult, Found, lists, reads, asks, creates, renames, removes, done}

@@ -5,3 +5,5 @@ pub mod PermitsLemmas
 pub mod OutcomesLemmas
 pub mod KeeperLemmas
 pub mod NextLemmas
+pub mod GatheredLemmas
+pub mod WatchingLemmas

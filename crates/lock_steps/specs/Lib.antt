@@ -4,3 +4,5 @@ pub mod Stands
 pub mod Outcomes
 pub mod Steps
 pub mod NextCall
+pub mod Gathered
+pub mod Watching

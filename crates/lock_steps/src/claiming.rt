@@ -18,6 +18,7 @@ ghost use Rattle.lock_steps.specs.Steps.{SeeksLock};
 use crate::holder::Holder;
 use crate::keeping::{Keeper, Unknown};
 use crate::listing::greatest_of;
+use crate::watching::Watcher;
 use crate::{LockEnd, LockRefusal};
 use acct_outside::{Call, Created, Folder, FolderFault, Name};
 use std::marker::Model;
@@ -99,6 +100,13 @@ impl Judged {
         ensures { result ≡ record { token = holder.token; greatest = greatest } }
     {
         Judged { holder, greatest }
+    }
+
+    /// The session as one that takes no lock, and watches whether another does.
+    pub fn watch(self) -> Watcher
+        ensures { result ≡ self }
+    {
+        Watcher::new(self.holder.into_token(), self.greatest)
     }
 
     /// The call that `claim` makes.

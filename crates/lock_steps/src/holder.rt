@@ -25,4 +25,11 @@ impl Holder {
             free: Bytes::of(alloc, b"free\n")?,
         })
     }
+
+    /// The token alone, of a session that takes no lock.
+    pub(crate) fn into_token(self) -> Token
+        ensures { result ≡ self.token }
+    {
+        self.token
+    }
 }

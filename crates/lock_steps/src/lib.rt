@@ -6,7 +6,8 @@
 //! 1. [`Looking`]: it has called nothing of the lock. `look` lists the locks.
 //! 2. [`Seen`]: it knows the greatest lock. `read` reads it; `none` says that there is none.
 //! 3. [`Asking`]: the greatest lock is held by another session. `ask` asks whether that still runs.
-//! 4. [`Judged`]: the greatest lock is free, or its session is dead. `claim` creates the next one.
+//! 4. [`Judged`]: the greatest lock is free, or its session is dead. `claim` creates the next one, and
+//!    `watch` says that the session takes none.
 //! 5. [`Claimed`]: it has made its lock. `confirm` lists the locks again.
 //! 6. [`Loser`]: a greater lock stands. `withdraw` removes the own one.
 //! 7. [`Keeper`]: its lock is the greatest, and it alone changes the account files. `clean_next`
@@ -14,22 +15,33 @@
 //! 8. [`Freeing`]: the text is written. `move_free` moves it to the lock.
 //! 9. [`Ended`]: the lock is free.
 //!
+//! A session that takes no lock finds what stood at one moment:
+//!
+//! 1. [`Watcher`]: the greatest lock is judged. `read_intent` reads the intent.
+//! 2. [`Reading`]: `read_next` reads each table that the intent doesn't list, and login.defs. Then
+//!    `confirm` lists the locks again.
+//! 3. [`Shown`]: the same lock is still the greatest, so nobody kept one in between.
+//!
 //! No state knows what stands in the folder, so any events of other sessions may come before the
 //! next call.
 #![tactic(auto)]
 
 mod claiming;
+mod gathered;
 mod holder;
 mod judging;
 mod keeping;
 mod listing;
 mod lock_text;
+mod watching;
 
 use acct_outside::{FolderFault, Token};
 pub use claiming::{Claimed, Confirmed, Judged, Loser};
+pub use gathered::IntentFound;
 pub use judging::{Asking, Looking, Seen, Told};
 pub use keeping::{Clean, Ended, Freeing, Keeper, Knowing, Unknown};
 use std::alloc::AllocError;
+pub use watching::{Reading, Shown, Watcher};
 
 /// Why a session didn't get the lock. It made no change, but for a lock of its own.
 #[derive(Debug, Drop)]
