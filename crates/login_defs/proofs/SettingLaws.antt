@@ -48,7 +48,8 @@ values-given :
 values-given name setting [] given = rw given refl
 values-given name setting (first ∷ settings) given =
     elim (cases_Bool (bytes_eq first.key name)) [
-      | inl yes_is ↦ rw yes_is (ap (λ rest. first.value ∷ rest) (values-given name setting settings given))
+      | inl yes_is ↦ rw yes_is
+          (ap (λ rest. first.value ∷ rest) (values-given name setting settings given))
       | inr no_is ↦ rw no_is (values-given name setting settings given)
     ]
 
@@ -59,7 +60,8 @@ values-other :
 values-other name setting [] other = rw other refl
 values-other name setting (first ∷ settings) other =
     elim (cases_Bool (bytes_eq first.key name)) [
-      | inl yes_is ↦ rw yes_is (ap (λ rest. first.value ∷ rest) (values-other name setting settings other))
+      | inl yes_is ↦ rw yes_is
+          (ap (λ rest. first.value ∷ rest) (values-other name setting settings other))
       | inr no_is ↦ rw no_is (values-other name setting settings other)
     ]
 
@@ -69,7 +71,8 @@ last-given :
     → bytes_eq setting.key name ≡ true
     → last_setting_value name (settings ++ setting ∷ []) ≡ Some setting.value
 last-given name setting settings given =
-    ap last_of (values-given name setting settings given) ∙ last-behind (values_of name settings) setting.value
+    ap last_of (values-given name setting settings given)
+    ∙ last-behind (values_of name settings) setting.value
 
 -- one of another name leaves the last of the name
 last-other :
@@ -79,7 +82,8 @@ last-other :
 last-other name setting settings other = ap last_of (values-other name setting settings other)
 
 -- a word is the name of the key that is found by it
-found-named : (word : List ℕ) (key : Key) → bytes_eq word (key_name key) ≡ true → find_key word ≡ Some key
+found-named :
+    (word : List ℕ) (key : Key) → bytes_eq word (key_name key) ≡ true → find_key word ≡ Some key
 found-named word key same =
     ap find_key ((bytes_eq-Decides word (key_name key)).0 same) ∙ named-key key
 
@@ -128,7 +132,8 @@ unknown-adds defs word value none no_flag = λ settings has. record {
   values = λ key. has.values key ∙ sym (ap (option_and_then (allowed_value key))
       (last-other (key_name key) (record { key = word; value = value }) settings
       (apart word None key none (λ e. cc))));
-  flag = has.flag ∙ sym (ap is_yes (last-other user_groups_key (record { key = word; value = value }) settings no_flag));
+  flag = has.flag ∙ sym (ap is_yes
+      (last-other user_groups_key (record { key = word; value = value }) settings no_flag));
 }
 
 -- a flag adds itself
@@ -171,18 +176,23 @@ number-adds old new word value key number no_flag found allowed place set flag =
                 let one : other ≡ key = one-place other key same.1 in
                 let named : bytes_eq word (key_name key) ≡ true =
                 (bytes_eq-Decides word (key_name key)).1 (name-found word key found)
-                in subst (λ k. slice_index_or (slice_set old.values (key_place key) (Some number)) (key_place k) None
+                in subst (λ k.
+                slice_index_or (slice_set old.values (key_place key) (Some number)) (key_place k) None
                 ≡ given_value k (settings ++ setting ∷ [])) (sym one)
                 (get_or-set_same old.values (key_place key) (Some number) None low
-                ∙ sym (ap (option_and_then (allowed_value key)) (last-given (key_name key) setting settings named)
+                ∙ sym (ap (option_and_then (allowed_value key))
+                (last-given (key_name key) setting settings named)
                 ∙ allowed))
             | inr other_is ↦
                 let away : bytes_eq word (key_name other) ≡ false =
                 apart word (Some key) other found
                 (λ e. other_is.1 (ap key_place (sym (some-inj e))))
-                in get_or-set_other old.values (key_place key) (key_place other) (Some number) None other_is.1
+                in get_or-set_other old.values (key_place key) (key_place other) (Some number) None
+                other_is.1
                 ∙ has.values other
-                ∙ sym (ap (option_and_then (allowed_value other)) (last-other (key_name other) setting settings away))
+                ∙ sym (ap (option_and_then (allowed_value other))
+                (last-other (key_name other) setting settings away))
           ];
-      flag = flag ∙ has.flag ∙ sym (ap is_yes (last-other user_groups_key setting settings no_flag));
+      flag = flag ∙ has.flag
+          ∙ sym (ap is_yes (last-other user_groups_key setting settings no_flag));
     }
