@@ -26,8 +26,10 @@ returns-in_err-put-2-clause-holds g c =
       memory-pieces c.args.tool c.args.stage name words c.speaker.ensures refl,
       error-is c.from_residual-in_err-put-2.result fault c.from_residual-in_err-put-2.ensures.1,
     )
-    (told-then _ _ _ name (start ++ (words ++ newline ∷ [])) (Err fault) (told-front _ _ name (Ok tt) c.in_ok-put.ensures.holds)
-    (told-first _ _ start (words ++ newline ∷ []) fault (told-front _ _ start (Err fault) c.in_err-put-2.ensures.holds)))
+    (told-then _ _ _ name (start ++ (words ++ newline ∷ [])) (Err fault)
+    (told-front _ _ name (Ok tt) c.in_ok-put.ensures.holds)
+    (told-first _ _ start (words ++ newline ∷ []) fault
+    (told-front _ _ start (Err fault) c.in_err-put-2.ensures.holds)))
 
 pub returns-in_err-put-3-clause-holds : goal.returns-in_err-put-3-clause-holds
 returns-in_err-put-3-clause-holds g c =
@@ -39,9 +41,12 @@ returns-in_err-put-3-clause-holds g c =
       memory-pieces c.args.tool c.args.stage name words c.speaker.ensures c.stage_text.ensures,
       error-is c.from_residual-in_err-put-3.result fault c.from_residual-in_err-put-3.ensures.1,
     )
-    (told-then _ _ _ name (start ++ (words ++ newline ∷ [])) (Err fault) (told-front _ _ name (Ok tt) c.in_ok-put.ensures.holds)
-    (told-then _ _ _ start (words ++ newline ∷ []) (Err fault) (told-front _ _ start (Ok tt) c.in_ok-put-2.ensures.holds)
-    (told-first _ _ words (newline ∷ []) fault (told-front _ _ words (Err fault) c.in_err-put-3.ensures.holds))))
+    (told-then _ _ _ name (start ++ (words ++ newline ∷ [])) (Err fault)
+    (told-front _ _ name (Ok tt) c.in_ok-put.ensures.holds)
+    (told-then _ _ _ start (words ++ newline ∷ []) (Err fault)
+    (told-front _ _ start (Ok tt) c.in_ok-put-2.ensures.holds)
+    (told-first _ _ words (newline ∷ []) fault
+    (told-front _ _ words (Err fault) c.in_err-put-3.ensures.holds))))
 
 pub returns-clause-holds : goal.returns-clause-holds
 returns-clause-holds g c =
@@ -50,7 +55,10 @@ returns-clause-holds g c =
     let words = c.stage_text.result.now in
     let start = codes ": want of memory " in
     rw (memory-pieces c.args.tool c.args.stage name words c.speaker.ensures c.stage_text.ensures)
-    (told-then _ _ _ name (start ++ (words ++ newline ∷ [])) result (told-front _ _ name (Ok tt) c.in_ok-put.ensures.holds)
-    (told-then _ _ _ start (words ++ newline ∷ []) result (told-front _ _ start (Ok tt) c.in_ok-put-2.ensures.holds)
-    (told-then _ _ _ words (newline ∷ []) result (told-front _ _ words (Ok tt) c.in_ok-put-3.ensures.holds)
+    (told-then _ _ _ name (start ++ (words ++ newline ∷ [])) result
+    (told-front _ _ name (Ok tt) c.in_ok-put.ensures.holds)
+    (told-then _ _ _ start (words ++ newline ∷ []) result
+    (told-front _ _ start (Ok tt) c.in_ok-put-2.ensures.holds)
+    (told-then _ _ _ words (newline ∷ []) result
+    (told-front _ _ words (Ok tt) c.in_ok-put-3.ensures.holds)
     (told-front _ _ (newline ∷ []) result c.put-4.ensures.holds))))
