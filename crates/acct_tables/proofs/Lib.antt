@@ -4,7 +4,6 @@ pub mod PlacedTexts
 pub mod PlaceLemmas
 pub mod LinesHere
 pub mod EndedLines
-pub mod OnlyPlace
 pub mod ListLines
 pub mod RenamingLemmas
 pub mod OrderLemmas

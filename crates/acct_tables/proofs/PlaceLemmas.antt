@@ -1,7 +1,7 @@
 -- What an edit at a place of a list leaves and changes.
 use Rattle.std.proofs.Common.{◌≡◌, ℕ, ◌+◌, ◌<◌, List, [], ◌∷◌, ◌++◌, length, map, take, drop, get_or, zero, suc, refl, sym, ◌∙◌, ap, arith, append_assoc, add-one}
 use Rattle.std.proofs.Math.ListN.{set}
-use Rattle.std.proofs.lemmas.List.{drop_more, set-get_or}
+use Rattle.std.proofs.lemmas.List.{drop_more}
 use Rattle.acct_tables.specs.TableLines.{changed_at}
 
 -- an element that is put at its place
@@ -29,11 +29,3 @@ set-changes f xs place old new inside is changed =
     ∙ ap (λ x. take place xs ++ x ∷ drop (place + 1) xs) changed
     ∙ sym (append_assoc (take place xs) (f old ∷ []) (drop (place + 1) xs))
     ∙ ap (λ middle. take place xs ++ middle ++ drop (place + 1) xs) (sym one)
-
--- an element that is put back where it was
-pub put-back :
-    {X : Type 0} (xs : List X) (place : ℕ) (old new : X)
-    → old ≡ get_or xs place old
-    → new ≡ old
-    → set xs place new ≡ xs
-put-back xs place old new is same = ap (set xs place) (same ∙ is) ∙ set-get_or xs place old

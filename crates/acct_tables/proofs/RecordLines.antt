@@ -1,15 +1,14 @@
 -- Claim: the records behind a place are those behind the next, with the record of the line there
 -- (`records-from`), so what is found and counted among the records is found and counted line by
--- line (`met-by`, `passed-by`, `count-met`), or place by place (`counted-as`, `counted-past`).
-use Rattle.std.proofs.Common.{◌≡◌, ℕ, ◌+◌, ◌<◌, ◌≤◌, arith, Bool, true, false, List, [], ◌∷◌, length, take, drop, get_or, zero, suc, refl, sym, ◌∙◌, ap, zero-add, add-one}
+-- line (`met-by`, `passed-by`), or place by place (`counted-as`, `counted-past`).
+use Rattle.std.proofs.Common.{◌≡◌, ℕ, ◌+◌, ◌<◌, ◌≤◌, arith, Bool, true, false, List, [], ◌∷◌, length, drop, get_or, zero, suc, refl, sym, ◌∙◌, ap, zero-add, add-one}
 use Rattle.std.specs.Prelude.{Option, Some, None, is_some, if◌then◌else◌}
 use Rattle.std.specs.List.{cons_option}
-use Rattle.std.proofs.lemmas.List.{drop_more, take-append-drop}
-use Rattle.std.proofs.lemmas.List.Sums.{sum_by-cons, sum_by-append}
-use Rattle.std.proofs.lemmas.List.Elements.{filter_map-append}
+use Rattle.std.proofs.lemmas.List.{drop_more}
+use Rattle.std.proofs.lemmas.List.Sums.{sum_by-cons}
 use Rattle.acct_text.specs.Lines.{Line}
 use Rattle.account_formats.specs.Format.{Format, records_of, is_named, find_named, count_named}
-use Rattle.acct_tables.specs.TableLines.{is_named_at, line_is_named}
+use Rattle.acct_tables.specs.TableLines.{is_named_at}
 
 -- the lines from a place on begin with the line there
 pub lines-from :
@@ -55,29 +54,6 @@ module _ {R : Type 0} (format : Format R) (name : List ℕ) where
   passed-by None rest other = refl
   passed-by (Some r) rest other = rw other refl
 
-  -- a record of the name counts
-  counts-by :
-      (kept : Option R) (rest : List R)
-      → (elim kept [ None ↦ false | Some r ↦ is_named format name r ]) ≡ true
-      → count_named format name (cons_option kept rest) ≡ 1 + count_named format name rest
-  counts-by None rest named = absurd cc
-  counts-by (Some r) rest named =
-      sum_by-cons (λ x. if is_named format name x then 1 else 0) r rest
-      ∙ ap (λ test. (if test then 1 else 0) + count_named format name rest) named
-
-  module _
-      (lines : List Line) (place : ℕ) (line : Line)
-      (inside : place < length lines)
-      (is : line ≡ get_or lines place line) where
-    -- a line of the name counts
-    pub count-met :
-        line_is_named format name line ≡ true
-        → count_named format name (records_of format (drop place lines))
-        ≡ 1 + count_named format name (records_of format (drop (place + 1) lines))
-    count-met named =
-        ap (count_named format name) (records-from lines place line inside is)
-        ∙ counts-by (format.read line.text) (records_of format (drop (place + 1) lines)) named
-
   -- one line, by what it reads as
   pub counted-by :
       (kept : Option R) (rest : List R)
@@ -120,16 +96,3 @@ module _ {R : Type 0} (format : Format R) (name : List ℕ) where
   counted-past [] (suc place) past = refl
   counted-past (line ∷ lines) zero past = absurd (omega arith)
   counted-past (line ∷ lines) (suc place) past = counted-past lines place (omega arith)
-
-  -- records before a place and from it on are all
-  pub count-cut :
-      (lines : List Line) (place : ℕ)
-      → count_named format name (records_of format lines)
-      ≡ count_named format name (records_of format (take place lines))
-      + count_named format name (records_of format (drop place lines))
-  count-cut lines place =
-      ap (λ all. count_named format name (records_of format all)) (sym (take-append-drop place lines))
-      ∙ ap (count_named format name)
-      (filter_map-append (λ line. format.read line.text) (take place lines) (drop place lines))
-      ∙ sum_by-append (λ x. if is_named format name x then 1 else 0)
-      (records_of format (take place lines)) (records_of format (drop place lines))

@@ -1,19 +1,14 @@
 -- Claim: what is told of a name among the lines of a table counts its records (`told-counts`,
--- `none-counted`), and where it is one record its line is the only one of the name (`told-only`).
--- Way: no line in front of the first of a name is a record of it.
-use Rattle.std.proofs.Common.{◌≡◌, ℕ, ◌<◌, ◌≤◌, List, length, drop, get_or, refl, sym, ◌∙◌, ap, arith}
+-- `none-counted`). Way: as many lines have the name as records.
+use Rattle.std.proofs.Common.{◌≡◌, ℕ, List, refl, sym, ◌∙◌, ap}
 use Rattle.std.specs.Prelude.{Option, Some, None, count_by, option_map}
 use Rattle.std.specs.List.{position_from}
-use Rattle.std.proofs.lemmas.List.{get_or_default}
 use Rattle.acct_text.specs.Lines.{Line}
-use Rattle.account_formats.specs.Format.{Format, count_named, is_named, records_of}
+use Rattle.account_formats.specs.Format.{Format, count_named, records_of}
 use Rattle.acct_tables.specs.declared.name_index.NamedLines.{NamedLines}
 use Rattle.acct_tables.specs.NameIndex.{has_name, line_names, lines_named, records_at}
-use Rattle.acct_tables.specs.TableLines.{IsOnlyPlace, line_is_named}
-use Rattle.acct_tables.proofs.FirstRecords.{first-from, no_line}
 use Rattle.acct_tables.proofs.NameIndexLemmas.{none-counts}
-use Rattle.acct_tables.proofs.NamedRecords.{told-count, told-place}
-use Rattle.acct_tables.proofs.OnlyPlace.{only-place}
+use Rattle.acct_tables.proofs.NamedRecords.{told-count}
 
 module _ {R : Type 0} (format : Format R) (name : List ℕ) where
   -- how many records of these lines have the name
@@ -59,32 +54,3 @@ module _ {R : Type 0} (format : Format R) (name : List ℕ) where
         sym (told-count format name lines)
         ∙ none-by (position_from (has_name name) 0 names) (count_by (has_name name) names) is
         (none-counts (has_name name) 0 names)
-
-    -- by whether there is a first line
-    first-by :
-        (first : Option ℕ) (count place : ℕ)
-        → option_map (λ found. found.first) (records_at first count) ≡ Some place
-        → first ≡ Some place
-    first-by None count place is = absurd cc
-    first-by (Some first) count place is = cc
-
-    -- the line of the only record that is told
-    pub told-only :
-        (found : NamedLines)
-        → told ≡ Some found
-        → found.count ≤ 1
-        → IsOnlyPlace format name lines found.first
-    told-only found is few =
-        let place = found.first in
-        let first : position_from (line_is_named format name) 0 lines ≡ Some place =
-        sym (told-place format name lines 0)
-        ∙ first-by (position_from (has_name name) 0 names) (count_by (has_name name) names) place
-        (ap (option_map (λ found. found.first)) is) in
-        let there = first-from format (is_named format name) lines 0 place first in
-        let same : there.behind ≡ place = omega (arith, there.is) in
-        let inside : place < length lines = omega (arith, there.inside, same) in
-        let line = get_or lines place no_line in
-        only-place format name lines place line inside (get_or_default lines place no_line line inside)
-        (ap (λ n. line_is_named format name (get_or lines n no_line)) (sym same) ∙ there.passing)
-        (omega (arith, few, told-counts found is))
-        (ap (λ n. count_of (drop n lines)) (sym same) ∙ there.counted)

@@ -5,7 +5,7 @@ use Rattle.acct_text.specs.Lines.{Line}
 use Rattle.account_formats.specs.declared.records.GroupRecord.{GroupRecord}
 use Rattle.account_formats.specs.declared.records.GshadowRecord.{GshadowRecord}
 use Rattle.account_formats.specs.Edits.{is_multiple}
-use Rattle.account_formats.specs.Format.{Format, records_of, count_named}
+use Rattle.account_formats.specs.Format.{Format, count_named, is_named, records_of}
 use Rattle.account_model.specs.Members.{renamed_in}
 use Rattle.account_formats.specs.Text.{first_some, is_listed}
 use Rattle.acct_tables.specs.declared.fault.TableFault.{TableFault}
@@ -41,6 +41,10 @@ changed_line format f line = elim (format.read line.text) [
   | None ↦ line
   | Some r ↦ with_record format (f r) line
 ]
+
+-- the record in the place of each of the name
+abbrev pub replaced : {R : Type 0} → Format R → List ℕ → R → R → R
+replaced format name item r = if is_named format name r then item else r
 
 -- ---- The refusal
 

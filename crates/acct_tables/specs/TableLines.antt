@@ -1,10 +1,10 @@
 -- A table as its calls see it: the list of the lines of its file, each other text or a record of
 -- the table's format (passwd(5), shadow(5), group(5), gshadow(5), subuid(5), subgid(5)).
 -- Places count the lines from 0.
-use Rattle.std.specs.Prelude.{◌≡◌, ℕ, ◌+◌, ◌<◌, ◌==◌, Bool, true, false, List, ◌∷◌, ◌++◌, length, map, take, drop, Option, Some, None, slice_get, if◌then◌else◌}
+use Rattle.std.specs.Prelude.{ℕ, ◌+◌, ◌==◌, Bool, false, List, ◌∷◌, ◌++◌, length, map, take, drop, Option, Some, None, slice_get, if◌then◌else◌}
 use Rattle.std.specs.List.{insert}
 use Rattle.acct_text.specs.Lines.{Line}
-use Rattle.account_formats.specs.Format.{Format, is_named, records_of, count_named}
+use Rattle.account_formats.specs.Format.{Format, is_named}
 use Rattle.account_formats.specs.Edits.{printed_line, with_line}
 
 -- ---- What is found
@@ -28,15 +28,6 @@ line_is_named format name line =
 abbrev pub is_named_at : {R : Type 0} → Format R → List ℕ → List Line → ℕ → Bool
 is_named_at format name lines place =
     elim (record_at format lines place) [ None ↦ false | Some r ↦ is_named format name r ]
-
--- the line at this place is the only one of the name
-pub record IsOnlyPlace {R : Type 0} (format : Format R) (name : List ℕ) (lines : List Line)
-    (place : ℕ) : Type 0 where
-  pub inside : place < length lines
-  pub none_before : count_named format name (records_of format (take place lines)) ≡ 0
-  pub named : (line : Line) (rest : List Line) → drop place lines ≡ line ∷ rest
-      → line_is_named format name line ≡ true
-  pub none_behind : count_named format name (records_of format (drop (place + 1) lines)) ≡ 0
 
 -- ---- Edits at a place
 

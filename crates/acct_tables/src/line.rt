@@ -7,9 +7,9 @@ ghost use Rattle.acct_text.specs.Pieces.{Lacks};
 ghost use Rattle.account_formats.specs.Edits.{as_ended};
 ghost use Rattle.account_formats.specs.Written.{IsListed, IsWritten};
 ghost use Rattle.acct_tables.specs.Kept.{is_printed_as};
-ghost use Rattle.acct_tables.specs.Lists.{changed_line};
+ghost use Rattle.acct_tables.specs.Lists.{changed_line, replaced};
 ghost use Rattle.acct_tables.specs.NameIndex.{line_name};
-ghost use Rattle.acct_tables.specs.TableLines.{text_is_named, with_record};
+ghost use Rattle.acct_tables.specs.TableLines.{line_is_named, text_is_named, with_record};
 
 use crate::ListRecord;
 use acct_lines::{ReadFault, TableRecord, first_field, has_first_field};
@@ -108,13 +108,6 @@ impl<R: TableRecord + Drop> TableLine<R> {
         self.kept.as_ref()
     }
 
-    /// The bytes of the line, without its newline.
-    pub(crate) fn text(&self) -> &[u8]
-        ensures { result.now ≡ self.now.text }
-    {
-        self.text.as_slice()
-    }
-
     /// The name of the record that the line is; none where it is other text.
     pub(crate) fn name(&self) -> Option<&[u8]>
         ensures { option_copied result ≡ line_name R.format self.now }
@@ -151,19 +144,38 @@ impl<R: TableRecord + Drop> TableLine<R> {
         self.ended = true;
     }
 
-    /// Puts a record into the line, which keeps its end, and its bytes where it is the same record.
-    /// At `AllocError` the line is as before.
-    pub(crate) fn put(&mut self, alloc: Global, item: R) -> Result<(), AllocError>
-        requires { IsWritten R.format item }
-        ensures put { OnOk result (self.new ≡ with_record R.format item self.old) }
-        ensures unchanged { OnErr result (self.new ≡ self.old) }
+    /// The line with a record in it: it keeps its end, and its bytes where it is the same record.
+    pub(crate) fn with_item(&self, alloc: Global, item: &R) -> Result<Self, AllocError>
+        requires { IsWritten R.format item.now }
+        ensures { IfOk result (λ line. line ≡ with_record R.format item.now self.now) }
     {
         let text = item.print(alloc)?;
-        if !self.prints_as(alloc, text.as_slice())? {
-            self.text = text;
-            self.kept = Some(item);
+        if self.prints_as(alloc, text.as_slice())? {
+            return self.copy(alloc);
         }
-        Ok(())
+        TableLine::read(alloc, text.as_slice(), self.ended)
+    }
+
+    /// The line with the record in it where it is a record of the name; each other line as it is.
+    pub(crate) fn replaced(&self, alloc: Global, name: &[u8], item: &R) -> Result<Self, AllocError>
+        requires { IsWritten R.format item.now }
+        ensures { IfOk result (λ line. line ≡
+            changed_line R.format (replaced R.format name.now item.now) self.now) }
+    {
+        if self.is_named(name) {
+            return self.with_item(alloc, item);
+        }
+        self.copy(alloc)
+    }
+
+    /// Whether the line is a record of the name.
+    pub(crate) fn is_named(&self, name: &[u8]) -> bool
+        ensures { result ≡ line_is_named R.format name.now self.now }
+    {
+        match &self.kept {
+            Some(kept) => kept.name() == name,
+            None => false,
+        }
     }
 
     // Whether the line is a record whose canonical text is this one.
@@ -197,10 +209,9 @@ impl<R: ListRecord + Drop> TableLine<R> {
         ensures { IfOk result (λ line. line ≡
             changed_line R.format (R.renamed old.now new.now) self.now) }
     {
-        let mut line = self.copy(alloc)?;
-        if let Some(kept) = self.record() {
-            line.put(alloc, kept.renamed(alloc, old, new)?)?;
+        match self.record() {
+            Some(kept) => self.with_item(alloc, &kept.renamed(alloc, old, new)?),
+            None => self.copy(alloc),
         }
-        Ok(line)
     }
 }

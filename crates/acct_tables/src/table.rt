@@ -1,16 +1,14 @@
 // A table: its lines, what is found in them, and their bytes. The edits stand in `edits`.
-ghost use Rattle.std.specs.Prelude.{◌≡◌, length, IfOk, IfSome, MatchResult, Some};
+ghost use Rattle.std.specs.Prelude.{◌≡◌, length, IfOk, IfSome};
 ghost use Rattle.std.specs.Option.{option_copied};
 ghost use Rattle.acct_text.specs.Lines.{lines_of, file_bytes};
 ghost use Rattle.account_formats.specs.Format.{records_of, find_named, count_named};
 ghost use Rattle.account_formats.specs.Written.{IsWritten};
-ghost use Rattle.acct_tables.specs.TableLines.{record_at, IsOnlyPlace};
-ghost use Rattle.acct_tables.specs.Order.{text_at};
-ghost use Rattle.acct_tables.specs.Refusals.{single_refusal};
+ghost use Rattle.acct_tables.specs.TableLines.{record_at};
 
 use self::names::TableNames;
+use crate::Lines;
 use crate::line::TableLine;
-use crate::{Lines, TableFault};
 use acct_lines::TableRecord;
 use acct_text::Bytes;
 use std::alloc::{AllocError, Global};
@@ -102,31 +100,6 @@ impl<R: TableRecord + Drop> Table<R> {
         ensures written { IfSome (option_copied result) (IsWritten R.format) }
     {
         self.lines.get(place)?.record()
-    }
-
-    /// The text of the line at a place, counted from 0 over all lines, without its newline; empty
-    /// past the end.
-    pub fn line_text(&self, place: usize) -> &[u8]
-        ensures { result.now ≡ text_at self.now place }
-    {
-        match self.lines.get(place) {
-            Some(line) => line.text(),
-            None => &[],
-        }
-    }
-
-    // The place of the only record of the name.
-    fn place_of(&self, name: &[u8]) -> Result<usize, TableFault>
-        ensures { MatchResult result (IsOnlyPlace R.format name.now self.now)
-            (λ fault. single_refusal R.format name.now self.now ≡ Some fault) }
-    {
-        let Some(found) = self.names.get(name) else {
-            return Err(TableFault::Absent);
-        };
-        if found.count > 1 {
-            return Err(TableFault::Multiple(found.count));
-        }
-        Ok(found.first)
     }
 
     /// The bytes of the table's file: those of its lines, one behind the other.

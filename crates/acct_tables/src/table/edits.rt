@@ -1,15 +1,15 @@
 // The edits of a table. Each puts only records that can be written and read again, and leaves the
 // bytes of all lines that it doesn't name.
-ghost use Rattle.std.specs.Prelude.{◌≡◌, ◌<◌, ◌≤◌, ◌&&◌, not, bytes_eq, List, [], ◌∷◌, length, map, OnOk, OnErr};
+ghost use Rattle.std.specs.Prelude.{◌≡◌, ◌<◌, ◌≤◌, length, map, IfOk, OnOk, OnErr};
 ghost use Rattle.std.specs.List.{remove};
-ghost use Rattle.account_formats.specs.Edits.{as_ended, edited, each_where, drop_where, with_line};
-ghost use Rattle.account_formats.specs.Format.{records_of, is_named, has_named};
+ghost use Rattle.account_formats.specs.Edits.{as_ended, drop_where, each, each_where, edited, with_line};
+ghost use Rattle.account_formats.specs.Format.{is_named, records_of};
 ghost use Rattle.account_formats.specs.Written.{IsWritten};
+ghost use Rattle.acct_tables.specs.Lists.{replaced};
 ghost use Rattle.acct_tables.specs.Refusals.{AnswersRefusal, single_refusal, present_refusal, replace_refusal};
 ghost use Rattle.acct_tables.specs.TableLines.{changed_at, with_record, with_record_at};
 
 use super::Table;
-use super::names::TableNames;
 use crate::line::TableLine;
 use crate::{TableFault, TableRecord};
 use std::alloc::{AllocError, Global};
@@ -66,11 +66,10 @@ impl<R: TableRecord + Drop> Table<R> {
             edited R.format self.old (each_where (is_named R.format name.now) (λ _. item))) }
         ensures unchanged { OnErr result (self.new ≡ self.old) }
     {
-        let place = self.place_of(name)?;
-        if self.is_taken(name, item.name()) {
-            return Err(TableFault::Present);
+        if let Some(fault) = self.replace_fault(name, item.name()) {
+            return Err(fault);
         }
-        self.set_at(place, item)?;
+        *self = Table::of_lines(self.allocator(), self.replaced_lines(name, &item)?)?;
         Ok(())
     }
 
@@ -84,8 +83,10 @@ impl<R: TableRecord + Drop> Table<R> {
             edited R.format self.old (drop_where (is_named R.format name.now))) }
         ensures unchanged { OnErr result (self.new ≡ self.old) }
     {
-        let place = self.place_of(name)?;
-        self.remove_at(place)?;
+        if let Some(fault) = self.single_fault(name) {
+            return Err(fault);
+        }
+        *self = Table::of_lines(self.allocator(), self.lines_without(name)?)?;
         Ok(())
     }
 
@@ -98,12 +99,7 @@ impl<R: TableRecord + Drop> Table<R> {
             changed_at (with_record R.format item) place self.old) }
         ensures unchanged { OnErr result (self.new ≡ self.old) }
     {
-        let alloc = self.allocator();
-        let before = &self.lines[..place];
-        let behind = &self.lines[place + 1..];
-        let names = TableNames::around(alloc, before, &item, behind)?;
-        self.lines[place].put(alloc, item)?;
-        self.names = names;
+        *self = Table::of_lines(self.allocator(), self.lines_with(place, &item)?)?;
         Ok(())
     }
 
@@ -118,12 +114,10 @@ impl<R: TableRecord + Drop> Table<R> {
         if place == self.lines.len() {
             return self.append_any(item);
         }
-        let alloc = self.allocator();
-        let before = &self.lines[..place];
-        let names = TableNames::around(alloc, before, &item, &self.lines[place..])?;
-        let line = TableLine::of(alloc, item, true)?;
-        self.lines.insert(place, line)?;
-        self.names = names;
+        let mut lines = self.copied_lines()?;
+        let line = TableLine::of(self.allocator(), item, true)?;
+        lines.insert(place, line)?;
+        *self = Table::of_lines(self.allocator(), lines)?;
         Ok(())
     }
 
@@ -133,21 +127,89 @@ impl<R: TableRecord + Drop> Table<R> {
         ensures removed { OnOk result (self.new ≡ remove self.old place) }
         ensures unchanged { OnErr result (self.new ≡ self.old) }
     {
-        let alloc = self.allocator();
-        let before = &self.lines[..place];
-        let behind = &self.lines[place + 1..];
-        let names = TableNames::of_both(alloc, before, behind)?;
-        self.lines.remove(place);
-        self.names = names;
+        let mut lines = self.copied_lines()?;
+        lines.remove(place);
+        *self = Table::of_lines(self.allocator(), lines)?;
         Ok(())
     }
 
-    // Whether the new name is another one and has a record.
-    fn is_taken(&self, name: &[u8], new: &[u8]) -> bool
-        ensures { result ≡ (not (bytes_eq new.now name.now)
-            && has_named R.format new.now (records_of R.format self.now)) }
+    // The refusal of an edit of the record of the name: there is none, or there are several.
+    fn single_fault(&self, name: &[u8]) -> Option<TableFault>
+        ensures { result ≡ single_refusal R.format name.now self.now }
     {
-        new != name && self.find(new).is_some()
+        match self.count(name) {
+            0 => Some(TableFault::Absent),
+            1 => None,
+            records => Some(TableFault::Multiple(records)),
+        }
+    }
+
+    // The refusal of a record of the new name in the place of that of the name.
+    fn replace_fault(&self, name: &[u8], new: &[u8]) -> Option<TableFault>
+        ensures { result ≡ replace_refusal R.format name.now new.now self.now }
+    {
+        let fault = self.single_fault(name);
+        if fault.is_some() {
+            return fault;
+        }
+        if new != name && self.find(new).is_some() {
+            return Some(TableFault::Present);
+        }
+        None
+    }
+
+    // The lines with the record in the place of each of the name.
+    fn replaced_lines(&self, name: &[u8], item: &R) -> Result<Vec<TableLine<R>>, AllocError>
+        requires { IsWritten R.format item.now }
+        ensures { IfOk result (λ lines. lines.items ≡
+            edited R.format self.now (each (replaced R.format name.now item.now))) }
+    {
+        let alloc = self.allocator();
+        let mut lines = Vec::new(alloc);
+        for line in &self.lines {
+            lines.push(line.replaced(alloc, name, item)?)?;
+        }
+        Ok(lines)
+    }
+
+    // The lines with the record in the line at a place.
+    fn lines_with(&self, place: usize, item: &R) -> Result<Vec<TableLine<R>>, AllocError>
+        requires inside { place < length self.now }
+        requires written { IsWritten R.format item.now }
+        ensures { IfOk result (λ lines. lines.items ≡
+            changed_at (with_record R.format item.now) place self.now) }
+    {
+        let mut lines = self.copied_lines()?;
+        let line = lines[place].with_item(self.allocator(), item)?;
+        lines[place] = line;
+        Ok(lines)
+    }
+
+    // The lines without those of the name.
+    fn lines_without(&self, name: &[u8]) -> Result<Vec<TableLine<R>>, AllocError>
+        ensures { IfOk result (λ lines. lines.items ≡
+            edited R.format self.now (drop_where (is_named R.format name.now))) }
+    {
+        let alloc = self.allocator();
+        let mut lines = Vec::new(alloc);
+        for line in &self.lines {
+            if !line.is_named(name) {
+                lines.push(line.copy(alloc)?)?;
+            }
+        }
+        Ok(lines)
+    }
+
+    // The lines once more.
+    fn copied_lines(&self) -> Result<Vec<TableLine<R>>, AllocError>
+        ensures { IfOk result (λ lines. lines.items ≡ self.now) }
+    {
+        let alloc = self.allocator();
+        let mut lines = Vec::new(alloc);
+        for line in &self.lines {
+            lines.push(line.copy(alloc)?)?;
+        }
+        Ok(lines)
     }
 
     // The allocator of the lines.

@@ -1,7 +1,6 @@
 // Where the records of each name stand among the lines of a table (passwd(5), shadow(5), group(5),
 // gshadow(5)). As its lines change, a table owns the names that it is asked for.
-ghost use Rattle.std.specs.Prelude.{◌≡◌, ◌++◌, ◌∷◌, ◌+◌, ◌^◌, ◌<◌, Some, map, IfOk, OnOk, OnErr};
-ghost use Rattle.std.specs.Option.{option_copied};
+ghost use Rattle.std.specs.Prelude.{◌≡◌, ◌+◌, ◌^◌, ◌<◌, IfOk, OnOk, OnErr};
 ghost use Rattle.acct_tables.specs.NameIndex.{IsNoted, Tells, TellsAtMost, line_names};
 ghost use Rattle.acct_tables.specs.TableNames.{told_names};
 
@@ -26,54 +25,11 @@ impl TableNames {
     ) -> Result<Self, AllocError>
         ensures { IfOk result (λ index. Tells (line_names R.format lines.now) (told_names index)) }
     {
-        let mut names = Vec::new(alloc);
-        push_names(&mut names, lines)?;
-        TableNames::of_names(alloc, names.as_slice())
-    }
-
-    /// The index of these lines, and of those behind them.
-    pub(crate) fn of_both<R: TableRecord + Drop>(
-        alloc: Global,
-        before: &[TableLine<R>],
-        behind: &[TableLine<R>],
-    ) -> Result<Self, AllocError>
-        ensures { IfOk result (λ index. Tells
-            (line_names R.format before.now ++ line_names R.format behind.now)
-            (told_names index)) }
-    {
-        let mut names = Vec::new(alloc);
-        push_names(&mut names, before)?;
-        push_names(&mut names, behind)?;
-        TableNames::of_names(alloc, names.as_slice())
-    }
-
-    /// The index of these lines, of a new record's, and of those behind it.
-    pub(crate) fn around<R: TableRecord + Drop>(
-        alloc: Global,
-        before: &[TableLine<R>],
-        item: &R,
-        behind: &[TableLine<R>],
-    ) -> Result<Self, AllocError>
-        ensures { IfOk result (λ index. Tells (line_names R.format before.now
-            ++ (Some (R.format.name item.now) ∷ line_names R.format behind.now))
-            (told_names index)) }
-    {
-        let mut names = Vec::new(alloc);
-        push_names(&mut names, before)?;
-        names.push(Some(item.name()))?;
-        push_names(&mut names, behind)?;
-        TableNames::of_names(alloc, names.as_slice())
-    }
-
-    // The index of lines with these names, of which other text has none.
-    fn of_names(alloc: Global, names: &[Option<&[u8]>]) -> Result<Self, AllocError>
-        ensures { IfOk result (λ index. Tells (map option_copied names.now) (told_names index)) }
-    {
         let mut index = TableNames {
             names: IndexMap::new(alloc),
         };
-        'places: for place in 0..names.len() {
-            if let Some(name) = names[place] {
+        'places: for place in 0..lines.len() {
+            if let Some(name) = lines[place].name() {
                 index.add(Vec::from_slice(alloc, name)?, place)?;
             }
         }
@@ -100,18 +56,4 @@ impl TableNames {
     {
         self.names.get(name).copied()
     }
-}
-
-// Adds the names of the lines.
-fn push_names<'a, R: TableRecord + Drop>(
-    names: &mut Vec<Option<&'a [u8]>>,
-    lines: &'a [TableLine<R>],
-) -> Result<(), AllocError>
-    ensures { OnOk result (map option_copied names.new.items
-        ≡ map option_copied names.old.items ++ line_names R.format lines.now) }
-{
-    for line in lines {
-        names.push(line.name())?;
-    }
-    Ok(())
 }

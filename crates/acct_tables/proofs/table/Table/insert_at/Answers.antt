@@ -1,26 +1,29 @@
-use Rattle.std.proofs.Common.{◌∙◌, [], ◌∷◌, sym, ap, subst}
-use Rattle.std.specs.Prelude.{Some}
+use Rattle.std.proofs.Common.{◌≡◌, ◌==◌, ◌∙◌, ℕ, false, length, ap, refl, sym, inl, inr, arith}
 use Rattle.std.specs.List.{insert}
-use Rattle.acct_tables.specs.NameIndex.{Tells, line_names}
-use Rattle.acct_tables.specs.TableNames.{told_names}
-use Rattle.acct_tables.proofs.EditedNames.{names-inserted, parts-are}
+use Rattle.std.proofs.lemmas.Bool.{cases_Bool, eqb-true}
 use Rattle.acct_tables.proofs.table.Table.insert_at.Goals as goal
 
-pub invariant_of-self : goal.invariant_of-self
-invariant_of-self g c =
-    subst (λ lines. Tells (line_names g.R.TableRecord.format lines) (told_names c.self.inside.names))
-    (sym c.in_err-insert.ensures.items) c.self.invariant
+-- numbers that aren't one are told apart
+apart : (place count : ℕ) → (place ≡ count → ⊥) → (place == count) ≡ false
+apart place count differ = elim (cases_Bool (place == count)) [
+  | inl same ↦ absurd (differ (eqb-true place count same))
+  | inr other ↦ other
+]
 
-pub invariant_of-self-2 : goal.invariant_of-self-2
-invariant_of-self-2 g c =
-    let format = g.R.TableRecord.format in
-    let item = c.args.item in
+pub returns-clause-inserted : goal.returns-clause-inserted
+returns-clause-inserted g c =
     let place = c.args.place in
-    let lines = c.self.inside.lines.items in
-    subst (λ names. Tells names (told_names c.in_ok-names.names))
-    (parts-are format lines c.deref.result.now c.deref-2.result.now place place
-    (Some (format.name item) ∷ []) c.deref.ensures.value c.deref-2.ensures.value
-    ∙ sym (ap (line_names format)
-    (c.in_ok-insert.ensures.items ∙ ap (insert lines place) c.in_ok-line.ensures)
-    ∙ names-inserted format item c.requires.written lines place))
-    c.in_ok-names.ensures
+    let inside : (place == length c.args.self.now) ≡ false =
+    apart place (length c.args.self.now) (λ is. c.if-place-len.false (omega (
+      arith,
+      is,
+      c.len.ensures,
+      c.self.inside.lines.ok.0,
+      ap length c.self.view_is,
+    ))) in
+    c.drop.view_is
+    ∙ c.in_ok-self-inside.ensures
+    ∙ c.in_ok-insert.ensures.items
+    ∙ ap (λ lines. insert lines place c.in_ok-line.line) c.in_ok-lines.ensures
+    ∙ ap (insert c.args.self.now place) c.in_ok-line.ensures
+    ∙ sym (rw inside refl)

@@ -12,4 +12,4 @@ returns g c =
     c.loop-line.invariant
     ∙ ap (map (changed_line format renamed)) (take_all c.loop-line.line-index lines (omega arith))
     ∙ ap (map (changed_line format renamed)) (c.deref-line-items.ensures.value ∙ c.self.view_is)
-    ∙ sym (changed-lines format g.met.R.TableRecord.is_line_format.same renamed c.args.self.now)
+    ∙ sym (changed-lines format renamed c.args.self.now)
