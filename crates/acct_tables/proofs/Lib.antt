@@ -1,6 +1,5 @@
 pub mod RecordLines
 pub mod LoadedLines
-pub mod PlacedTexts
 pub mod PlaceLemmas
 pub mod LinesHere
 pub mod EndedLines

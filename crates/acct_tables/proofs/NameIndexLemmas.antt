@@ -2,19 +2,17 @@
 -- (`told-record`), and at other text as before (`told-other`); it tells of no more records than
 -- there are lines (`told-within`). Way: behind the others a line is the first of its name only where
 -- none was, and counts one more (`lines-end`).
-use Rattle.std.proofs.Common.{◌≡◌, ℕ, suc, ◌+◌, ◌<◌, ◌≤◌, Bool, true, false, List, [], ◌∷◌, ◌++◌, length, take, get_or, refl, sym, ◌∙◌, ap, ap₂, subst, arith, inl, inr, cond, add-one, zero-add, if◌then◌else◌}
-use Rattle.std.specs.Prelude.{Option, Some, None, IfSome, bytes_eq, count_by, option_map}
+use Rattle.std.proofs.Common.{◌≡◌, ℕ, zero, suc, ◌+◌, ◌<◌, ◌≤◌, Bool, true, false, List, [], ◌∷◌, ◌++◌, append-nil, length, take, drop, refl, sym, ◌∙◌, ap, ap₂, subst, arith, inl, inr, cond, add-one, zero-add, if◌then◌else◌}
+use Rattle.std.specs.Prelude.{Option, Some, None, IfSome, bytes_eq, count_by}
 use Rattle.std.specs.List.{position_from}
 use Rattle.std.proofs.lemmas.Bool.{cases_Bool}
-use Rattle.std.proofs.lemmas.List.{map-append, take_more}
+use Rattle.std.proofs.lemmas.List.{length-map, length-take-le, map-append, take-append-drop}
 use Rattle.std.proofs.lemmas.List.Sums.{count_by-le-length, sum_by-append, sum_by-cons}
-use Rattle.std.proofs.lemmas.Option.{slice_get-get_or}
 use Rattle.std.proofs.lemmas.Slice.Eq.{bytes_eq-Decides}
 use Rattle.acct_text.specs.Lines.{Line}
 use Rattle.account_formats.specs.Format.{Format}
 use Rattle.acct_tables.specs.declared.name_index.NamedLines.{NamedLines}
 use Rattle.acct_tables.specs.NameIndex.{IsNoted, Tells, TellsAtMost, Told, has_name, line_name, line_names, lines_named, records_at, with_last}
-use Rattle.acct_tables.specs.TableLines.{record_at}
 
 -- ---- One line more
 
@@ -156,24 +154,65 @@ module _ (names : List (Option (List ℕ))) (old : Told) (tells : Tells names ol
       (within-by (position_from (has_name name) 0 names) (count_by (has_name name) names)
       (length names) (count_by-le-length (has_name name) names))
 
--- ---- The lines of a table
+-- ---- Lines left
 
--- a line without bytes, for a place that isn't there
-abbrev no_line : Line
-no_line = record { text = []; ended = false }
+module _ {X : Type 0} (x : X) (rest : List X) where
+  -- the place of the first that is left is one of all
+  left-inside : (all : List X) (place : ℕ) → drop place all ≡ x ∷ rest → place < length all
+  left-inside [] zero is = absurd cc
+  left-inside [] (suc place) is = absurd cc
+  left-inside (y ∷ ys) zero is = omega arith
+  left-inside (y ∷ ys) (suc place) is = omega (arith, left-inside ys place is)
 
-module _ {R : Type 0} (format : Format R) (lines : List Line) (place : ℕ)
-    (inside : place < length lines) where
-  -- the names of the lines up to the place, with that of the line there
+  -- behind it the others are left
+  left-behind : (all : List X) (place : ℕ) → drop place all ≡ x ∷ rest → drop (suc place) all ≡ rest
+  left-behind [] zero is = absurd cc
+  left-behind [] (suc place) is = absurd cc
+  left-behind (y ∷ ys) zero is = cc
+  left-behind (y ∷ ys) (suc place) is = left-behind ys place is
+
+  -- up to it are those so far, and it
+  left-taken :
+      (all : List X) (place : ℕ)
+      → drop place all ≡ x ∷ rest
+      → take (suc place) all ≡ take place all ++ x ∷ []
+  left-taken [] zero is = absurd cc
+  left-taken [] (suc place) is = absurd cc
+  left-taken (y ∷ ys) zero is = let same : y ≡ x = cc in ap (λ first. first ∷ []) same
+  left-taken (y ∷ ys) (suc place) is = ap (λ front. y ∷ front) (left-taken ys place is)
+
+module _ {R : Type 0} (format : Format R) (all left rest : List Line) (place : ℕ) (line : Line)
+    (so_far : left ≡ drop place all) (is : left ≡ line ∷ rest) where
+  -- the place of the first line that is left is one of all
+  pub next-inside : place < length all
+  next-inside = left-inside line rest all place (sym so_far ∙ is)
+
+  -- those behind it are left then
+  pub next-behind : rest ≡ drop (place + 1) all
+  next-behind =
+      sym (left-behind line rest all place (sym so_far ∙ is))
+      ∙ ap (λ n. drop n all) (sym (add-one place))
+
+  -- so many names are told before it
+  pub names-many : length (line_names format (take place all)) ≡ place
+  names-many =
+      let inside = next-inside in
+      length-map (take place all) (line_name format) ∙ length-take-le place all (omega (arith, inside))
+
+  -- the names up to it
   pub names-more :
       (name : Option (List ℕ))
-      → name ≡ option_map format.name (record_at format lines place)
-      → line_names format (take (place + 1) lines) ≡ line_names format (take place lines) ++ name ∷ []
-  names-more name is =
-      let here : line_name format (get_or lines place no_line) ≡ name =
-      sym (is ∙ ap (λ found. option_map format.name
-      (elim found [ None ↦ None | Some line ↦ format.read line.text ]))
-      (slice_get-get_or lines place no_line inside)) in
-      ap (line_names format) (take_more lines place no_line inside)
-      ∙ map-append (line_name format) (take place lines) (get_or lines place no_line ∷ [])
-      ∙ ap (λ name. line_names format (take place lines) ++ name ∷ []) here
+      → name ≡ line_name format line
+      → line_names format (take (place + 1) all) ≡ line_names format (take place all) ++ name ∷ []
+  names-more name named =
+      ap (λ n. line_names format (take n all)) (add-one place)
+      ∙ ap (line_names format) (left-taken line rest all place (sym so_far ∙ is))
+      ∙ map-append (line_name format) (take place all) (line ∷ [])
+      ∙ ap (λ name. line_names format (take place all) ++ name ∷ []) (sym named)
+
+-- where none is left, those so far are all
+pub none-left : {X : Type 0} (all : List X) (place : ℕ) → drop place all ≡ [] → take place all ≡ all
+none-left all place none =
+    sym (append-nil (take place all))
+    ∙ ap (λ back. take place all ++ back) (sym none)
+    ∙ take-append-drop place all

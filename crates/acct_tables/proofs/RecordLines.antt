@@ -1,14 +1,14 @@
 -- Claim: the records behind a place are those behind the next, with the record of the line there
 -- (`records-from`), so what is found and counted among the records is found and counted line by
--- line (`met-by`, `passed-by`), or place by place (`counted-as`, `counted-past`).
-use Rattle.std.proofs.Common.{◌≡◌, ℕ, ◌+◌, ◌<◌, ◌≤◌, arith, Bool, true, false, List, [], ◌∷◌, length, drop, get_or, zero, suc, refl, sym, ◌∙◌, ap, zero-add, add-one}
+-- line (`met-by`, `passed-by`, `counted-by`), or place by place (`counted-as`, `counted-past`).
+use Rattle.std.proofs.Common.{◌≡◌, ℕ, ◌+◌, ◌<◌, Bool, true, false, List, ◌∷◌, length, drop, get_or, refl, sym, ◌∙◌, ap, zero-add}
 use Rattle.std.specs.Prelude.{Option, Some, None, is_some, if◌then◌else◌}
 use Rattle.std.specs.List.{cons_option}
 use Rattle.std.proofs.lemmas.List.{drop_more}
 use Rattle.std.proofs.lemmas.List.Sums.{sum_by-cons}
 use Rattle.acct_text.specs.Lines.{Line}
 use Rattle.account_formats.specs.Format.{Format, records_of, is_named, find_named, count_named}
-use Rattle.acct_tables.specs.TableLines.{is_named_at}
+use Rattle.acct_tables.specs.TableLines.{text_is_named}
 
 -- the lines from a place on begin with the line there
 pub lines-from :
@@ -63,36 +63,14 @@ module _ {R : Type 0} (format : Format R) (name : List ℕ) where
   counted-by None rest = sym (zero-add (count_named format name rest))
   counted-by (Some r) rest = sum_by-cons (λ x. if is_named format name x then 1 else 0) r rest
 
-  -- the records from a place on are counted with the one there, where it has the name
-  counted-at :
-      (lines : List Line) (place : ℕ)
-      → count_named format name (records_of format (drop place lines))
-      ≡ (if is_named_at format name lines place then 1 else 0)
-      + count_named format name (records_of format (drop (suc place) lines))
-  counted-at [] zero = refl
-  counted-at [] (suc place) = refl
-  counted-at (line ∷ lines) zero = counted-by (format.read line.text) (records_of format lines)
-  counted-at (line ∷ lines) (suc place) = counted-at lines place
-
-  -- so many more as the place has, by whether it has one
-  pub counted-as :
-      (lines : List Line) (place : ℕ) (named : Bool)
-      → is_named_at format name lines place ≡ named
-      → count_named format name (records_of format (drop place lines))
-      ≡ (if named then 1 else 0) + count_named format name (records_of format (drop (place + 1) lines))
-  counted-as lines place named is =
-      counted-at lines place
-      ∙ ap (λ test. (if test then 1 else 0)
-      + count_named format name (records_of format (drop (suc place) lines))) is
-      ∙ ap (λ n. (if named then 1 else 0) + count_named format name (records_of format (drop n lines)))
-      (sym (add-one place))
-
-  -- behind the last line there is none
-  pub counted-past :
-      (lines : List Line) (place : ℕ)
-      → length lines ≤ place
-      → count_named format name (records_of format (drop place lines)) ≡ 0
-  counted-past [] zero past = refl
-  counted-past [] (suc place) past = refl
-  counted-past (line ∷ lines) zero past = absurd (omega arith)
-  counted-past (line ∷ lines) (suc place) past = counted-past lines place (omega arith)
+  -- a record of the name is one of those of the lines left, by whether there is one
+  pub counted-next :
+      (line : Line) (left rest : List Line) (named : Bool)
+      → left ≡ line ∷ rest
+      → text_is_named format name line.text ≡ named
+      → count_named format name (records_of format left)
+      ≡ (if named then 1 else 0) + count_named format name (records_of format rest)
+  counted-next line left rest named is named_is =
+      ap (λ lines. count_named format name (records_of format lines)) is
+      ∙ counted-by (format.read line.text) (records_of format rest)
+      ∙ ap (λ test. (if test then 1 else 0) + count_named format name (records_of format rest)) named_is

@@ -4,7 +4,6 @@ pub mod Refusals
 pub mod Lists
 pub mod Order
 pub mod Renaming
-pub mod LinePlaces
 pub mod EditedTexts
 pub mod SeenLines
 pub mod NameIndex

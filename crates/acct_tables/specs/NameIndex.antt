@@ -1,6 +1,6 @@
 -- Where the records of each name stand among the lines of a table, and what an index tells of it
 -- (passwd(5), shadow(5), group(5), gshadow(5)). Places count the lines from 0.
-use Rattle.std.specs.Prelude.{◌≡◌, ℕ, ◌+◌, ◌≤◌, Bool, false, List, map, nat_le, Option, None, Some, option_map, bytes_eq, count_by, IfSome, if◌then◌else◌}
+use Rattle.std.specs.Prelude.{◌≡◌, ℕ, ◌+◌, ◌≤◌, Bool, false, List, map, nat_le, nat_lt, Option, None, Some, option_map, bytes_eq, count_by, IfSome, if◌then◌else◌}
 use Rattle.std.specs.HashMap.{get_by}
 use Rattle.std.specs.List.{position_from}
 use Rattle.acct_text.specs.Lines.{Line}
@@ -39,6 +39,11 @@ lines_named name names =
 abbrev pub with_last : ℕ → Option NamedLines → NamedLines
 with_last place None = record { first = place; count = 1 }
 with_last place (Some found) = record { first = found.first; count = found.count + 1 }
+
+-- whether the first stands in front of a place
+abbrev pub begins_before : ℕ → Option NamedLines → Bool
+begins_before place None = false
+begins_before place (Some found) = nat_lt found.first place
 
 -- whether they are several
 abbrev pub are_several : Option NamedLines → Bool

@@ -1,7 +1,7 @@
 -- A table as its calls see it: the list of the lines of its file, each other text or a record of
 -- the table's format (passwd(5), shadow(5), group(5), gshadow(5), subuid(5), subgid(5)).
 -- Places count the lines from 0.
-use Rattle.std.specs.Prelude.{ℕ, ◌+◌, ◌==◌, Bool, false, List, ◌∷◌, ◌++◌, length, map, take, drop, Option, Some, None, slice_get, if◌then◌else◌}
+use Rattle.std.specs.Prelude.{ℕ, ◌+◌, ◌==◌, Bool, false, List, ◌++◌, length, map, take, drop, Option, Some, None, slice_get, if◌then◌else◌}
 use Rattle.std.specs.List.{insert}
 use Rattle.acct_text.specs.Lines.{Line}
 use Rattle.account_formats.specs.Format.{Format, is_named}
@@ -23,11 +23,6 @@ text_is_named format name text =
 abbrev pub line_is_named : {R : Type 0} → Format R → List ℕ → Line → Bool
 line_is_named format name line =
     elim (format.read line.text) [ None ↦ false | Some r ↦ is_named format name r ]
-
--- whether the line at this place is a record of the name
-abbrev pub is_named_at : {R : Type 0} → Format R → List ℕ → List Line → ℕ → Bool
-is_named_at format name lines place =
-    elim (record_at format lines place) [ None ↦ false | Some r ↦ is_named format name r ]
 
 -- ---- Edits at a place
 

@@ -1,5 +1,5 @@
 // The lines of a table's file, one after another, each where it stands in the file's bytes.
-ghost use Rattle.std.specs.Prelude.{◌≡◌, ◌++◌, [], ◌∷◌, Some, IfOk, IfSome, MatchOption, OnErr, OnOk};
+ghost use Rattle.std.specs.Prelude.{◌≡◌, ◌++◌, [], ◌∷◌, Some, nat_le, IfOk, IfSome, MatchOption, OnErr, OnOk};
 ghost use Rattle.acct_text.specs.Bytes.{newline};
 ghost use Rattle.acct_text.specs.Lines.{file_bytes, line_bytes, lines_of};
 ghost use Rattle.acct_text.specs.Pieces.{Lacks};
@@ -125,6 +125,23 @@ pub fn has_record<R: TableRecord>(text: &[u8], name: &[u8]) -> bool
         if is_named::<R>(line.text, name) {
             return true;
         }
+    }
+    false
+}
+
+/// Whether several records of a file with these bytes have the name. It takes no memory.
+pub fn has_several_records<R: TableRecord>(text: &[u8], name: &[u8]) -> bool
+    ensures { result ≡ nat_le 2
+        (count_named R.format name.now (records_of R.format (lines_of text.now))) }
+{
+    let mut is_found = false;
+    let mut left = Lines::of(text);
+    'lines: while let Some(line) = left.take() {
+        let is_one = is_named::<R>(line.text, name);
+        if is_one && is_found {
+            return true;
+        }
+        is_found = is_found || is_one;
     }
     false
 }

@@ -1,9 +1,10 @@
 // Where the records of each name stand among the lines of a file, found for all names in one pass
 // (passwd(5), shadow(5), group(5), gshadow(5)).
 ghost use Rattle.std.specs.Prelude.{◌≡◌, ◌+◌, ◌<◌, ◌≤◌, ◌^◌, [], is_some, IfOk, IfSome, OnOk};
-ghost use Rattle.acct_tables.specs.NameIndex.{IsNoted, Tells, TellsAtMost, are_several, line_names, told, with_last};
+ghost use Rattle.acct_text.specs.Lines.{lines_of};
+ghost use Rattle.acct_tables.specs.NameIndex.{IsNoted, Tells, TellsAtMost, are_several, begins_before, line_names, told, with_last};
 
-use crate::FileLines;
+use crate::{Lines, name_of};
 use acct_lines::TableRecord;
 use indexmap::IndexMap;
 use std::alloc::{AllocError, Global};
@@ -37,15 +38,19 @@ impl<'a> NameIndex<'a> {
         }
     }
 
-    /// The index of the lines of a file of such records, in one pass.
-    pub fn of<R: TableRecord>(alloc: Global, lines: &FileLines<'a>) -> Result<Self, AllocError>
-        ensures { IfOk result (λ index. Tells (line_names R.format lines.now) (told index)) }
+    /// The index of the lines of a file of such records with these bytes, in one pass.
+    pub fn of<R: TableRecord>(alloc: Global, text: &'a [u8]) -> Result<Self, AllocError>
+        ensures { IfOk result (λ index.
+            Tells (line_names R.format (lines_of text.now)) (told index)) }
     {
         let mut index = NameIndex::new(alloc);
-        'places: for place in 0..lines.len() {
-            if let Some(name) = lines.name_at::<R>(place) {
+        let mut place = 0usize;
+        let mut left = Lines::of(text);
+        'lines: while let Some(line) = left.take() {
+            if let Some(name) = name_of::<R>(line.text) {
                 index.add(name, place)?;
             }
+            place += 1;
         }
         Ok(index)
     }
@@ -73,6 +78,16 @@ impl<'a> NameIndex<'a> {
         ensures { result ≡ is_some (told self.now name.now) }
     {
         self.get(name).is_some()
+    }
+
+    /// Whether a record in front of this place, counted from 0 over all lines, has the name.
+    pub fn has_before(&self, name: &[u8], place: usize) -> bool
+        ensures { result ≡ begins_before place (told self.now name.now) }
+    {
+        match self.get(name) {
+            Some(found) => found.first < place,
+            None => false,
+        }
     }
 
     /// Whether several records have the name.

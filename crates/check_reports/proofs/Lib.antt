@@ -1,7 +1,7 @@
 pub mod DecisionLemmas
 pub mod RangeLines
 pub mod RecordWalk
-pub mod NameWalk
+pub mod KnownLemmas
 pub mod PlaceLemmas
 pub mod ReportWalk
 pub mod ReportLemmas

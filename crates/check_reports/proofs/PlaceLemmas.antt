@@ -1,14 +1,13 @@
 -- Claim: the places and the count of records are kept line by line (`order-more`), as a name that
 -- has no place gets the next (`noted`); and a name's place is where a search of the records stops
 -- (`place-or-count`). Way: a name's first place among records grows with them (`first-more`).
-use Rattle.std.proofs.Common.{◌≡◌, ◌∙◌, ℕ, ◌+◌, ◌<◌, Bool, true, false, List, [], ◌∷◌, ◌++◌, length, length-append, take, refl, sym, ap, subst, arith, append-nil}
+use Rattle.std.proofs.Common.{◌≡◌, ◌∙◌, ℕ, ◌+◌, Bool, true, false, List, [], ◌∷◌, ◌++◌, length, length-append, refl, sym, ap, subst, arith, append-nil}
 use Rattle.std.specs.Prelude.{Option, Some, None, bytes_eq, cond, is_some, not, option_map, option_to_list, unwrap_or, if◌then◌else◌}
 use Rattle.std.specs.List.{position_from, position_or_len}
 use Rattle.std.specs.Cmp.Lexicographic.{bytes_decides}
 use Rattle.std.specs.Map.{update}
 use Rattle.acct_text.specs.Lines.{Line}
 use Rattle.account_formats.specs.Format.{Format, is_named, records_of}
-use Rattle.acct_tables.specs.TableLines.{record_at}
 use Rattle.check_reports.specs.declared.sorting.ByPlace.{ByPlace}
 use Rattle.check_reports.specs.Sorted.{IsOrderOf, Places, first_places, kept_places, with_place}
 use Rattle.check_reports.proofs.RecordWalk.{records-more}
@@ -132,20 +131,18 @@ module _ {R : Type 0} (format : Format R) where
   order-by records None (Some name) before after is so_far placed counted = absurd cc
   order-by records (Some r) None before after is so_far placed counted = absurd cc
 
-  -- the order of the lines so far, with the record at a place, is that up to the next
+  -- the order of the lines so far, with the record of the next, is that up to it
   pub order-more :
-      (lines : List Line) (place : ℕ) (name : Option (List ℕ)) (before after : ByPlace)
-      → place < length lines
-      → name ≡ option_map format.name (record_at format lines place)
-      → IsOrderOf format (records_of format (take place lines)) before
+      (done : List Line) (line : Line) (name : Option (List ℕ)) (before after : ByPlace)
+      → name ≡ option_map format.name (format.read line.text)
+      → IsOrderOf format (records_of format done) before
       → ((other : List ℕ) → kept_places after other ≡ places_with name before other)
       → after.count ≡ count_with name before.count
-      → IsOrderOf format (records_of format (take (place + 1) lines)) after
-  order-more lines place name before after inside named so_far placed counted =
-      subst (λ records. IsOrderOf format records after)
-      (sym (records-more format lines place (record_at format lines place) inside refl))
-      (order-by (records_of format (take place lines)) (record_at format lines place) name before
-      after named so_far placed counted)
+      → IsOrderOf format (records_of format (done ++ line ∷ [])) after
+  order-more done line name before after named so_far placed counted =
+      subst (λ records. IsOrderOf format records after) (sym (records-more format done line))
+      (order-by (records_of format done) (format.read line.text) name before after named so_far
+      placed counted)
 
   -- what a name's place is, and where a search of the records stops
   pub place-or-count :

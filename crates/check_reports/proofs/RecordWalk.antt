@@ -1,67 +1,42 @@
--- Claim: the records of the lines up to a place, with that of the line there, are those up to the
--- next (`records-more`), and up to the end they are all (`records-all`). Way: line by line.
-use Rattle.std.proofs.Common.{◌≡◌, ◌∙◌, ℕ, ◌+◌, ◌<◌, ◌≤◌, List, [], ◌∷◌, ◌++◌, length, drop, take, zero, suc, refl, ap, arith, add-one}
+-- Claim: the records of lines, with that of the next line, are those up to it (`records-more`), and
+-- they are no more than the lines (`records-few`). Way: line by line.
+use Rattle.std.proofs.Common.{◌≡◌, ◌∙◌, ◌≤◌, List, [], ◌∷◌, ◌++◌, length, refl, ap, arith}
 use Rattle.std.specs.Prelude.{Option, Some, None, option_to_list}
 use Rattle.std.specs.List.{cons_option}
+use Rattle.std.proofs.lemmas.List.Elements.{filter_map-append}
 use Rattle.acct_text.specs.Lines.{Line}
 use Rattle.account_formats.specs.Format.{Format, records_of}
-use Rattle.acct_tables.specs.TableLines.{record_at}
 
--- one more record goes in front of those of an append
-cons-append :
-    {R : Type 0} (kept : Option R) (first second : List R)
-    → cons_option kept (first ++ second) ≡ cons_option kept first ++ second
-cons-append None first second = refl
-cons-append (Some r) first second = refl
+-- the lines that are taken, in front of those that are left
+pub record HaveTaken (all left : List Line) : Type 0 where
+  pub done : List Line
+  pub joined : done ++ left ≡ all
 
 -- a record alone
 cons-alone : {R : Type 0} (kept : Option R) → cons_option kept [] ≡ option_to_list kept
 cons-alone None = refl
 cons-alone (Some r) = refl
 
--- nothing comes behind the end
-pub drop-end : {X : Type 0} (xs : List X) (place : ℕ) → length xs ≤ place → drop place xs ≡ []
-drop-end [] zero all = refl
-drop-end [] (suc place) all = refl
-drop-end (x ∷ xs) zero all = absurd (omega (arith, all))
-drop-end (x ∷ xs) (suc place) all = drop-end xs place (omega (arith, all))
-
--- all lines up to the end are all
-pub take-end : {X : Type 0} (xs : List X) (count : ℕ) → length xs ≤ count → take count xs ≡ xs
-take-end [] zero all = refl
-take-end [] (suc count) all = refl
-take-end (x ∷ xs) zero all = absurd (omega (arith, all))
-take-end (x ∷ xs) (suc count) all = ap (λ rest. x ∷ rest) (take-end xs count (omega (arith, all)))
+-- with a record, if there is one, they are no more than with a line
+cons-few :
+    {R : Type 0} (kept : Option R) (rest : List R) (lines : List Line) (line : Line)
+    → length rest ≤ length lines
+    → length (cons_option kept rest) ≤ length (line ∷ lines)
+cons-few None rest lines line few = omega (arith, few)
+cons-few (Some r) rest lines line few = omega (arith, few)
 
 module _ {R : Type 0} (format : Format R) where
-  -- the same, by the successor
-  records-suc :
-      (lines : List Line) (place : ℕ)
-      → place < length lines
-      → records_of format (take (suc place) lines)
-      ≡ records_of format (take place lines) ++ option_to_list (record_at format lines place)
-  records-suc [] place inside = absurd (omega (arith, inside))
-  records-suc (line ∷ lines) zero inside = cons-alone (format.read line.text)
-  records-suc (line ∷ lines) (suc place) inside =
-      ap (cons_option (format.read line.text)) (records-suc lines place (omega (arith, inside)))
-      ∙ cons-append (format.read line.text) (records_of format (take place lines))
-      (option_to_list (record_at format lines place))
-
-  -- the records up to the next line
+  -- the records with that of one line more
   pub records-more :
-      (lines : List Line) (place : ℕ) (found : Option R)
-      → place < length lines
-      → record_at format lines place ≡ found
-      → records_of format (take (place + 1) lines)
-      ≡ records_of format (take place lines) ++ option_to_list found
-  records-more lines place found inside is =
-      ap (λ (count : ℕ). records_of format (take count lines)) (add-one place)
-      ∙ records-suc lines place inside
-      ∙ ap (λ found. records_of format (take place lines) ++ option_to_list found) is
+      (done : List Line) (line : Line)
+      → records_of format (done ++ line ∷ [])
+      ≡ records_of format done ++ option_to_list (format.read line.text)
+  records-more done line =
+      filter_map-append (λ line. format.read line.text) done (line ∷ [])
+      ∙ ap (λ back. records_of format done ++ back) (cons-alone (format.read line.text))
 
-  -- the records up to the end are all
-  pub records-all :
-      (lines : List Line) (place : ℕ)
-      → length lines ≤ place
-      → records_of format (take place lines) ≡ records_of format lines
-  records-all lines place all = ap (records_of format) (take-end lines place all)
+  -- no more records than lines
+  pub records-few : (lines : List Line) → length (records_of format lines) ≤ length lines
+  records-few [] = omega arith
+  records-few (line ∷ rest) =
+      cons-few (format.read line.text) (records_of format rest) rest line (records-few rest)

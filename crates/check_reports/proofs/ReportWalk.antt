@@ -1,9 +1,9 @@
 -- Claim: a report that takes the problems of line after line has at the end those of the table
--- (`report-more`, `report-end`, `report-in-lines`). Way: problems one after another are taken as all
--- at once (`problems-after`), and those of a line come first of those that are left.
-use Rattle.std.proofs.Common.{◌≡◌, ◌∙◌, ℕ, ◌+◌, ◌<◌, ◌≤◌, Bool, true, false, List, [], ◌∷◌, ◌++◌, length, length-take-le, take, drop, get_or, zero, suc, refl, sym, ap, arith, append-nil, append_assoc}
+-- (`report-more`, `report-end`, `report-in-lines`), and of each record it is told whether one before it
+-- has its name (`tells-before`). Way: problems one after another are taken as all at once
+-- (`problems-after`), and those of a line come first of those that are left.
+use Rattle.std.proofs.Common.{◌≡◌, ◌∙◌, ℕ, ◌+◌, Bool, true, false, List, [], ◌∷◌, ◌++◌, length, length-append, refl, sym, ap, arith, append-nil, append_assoc}
 use Rattle.std.specs.Prelude.{◌&&◌, Option, None, Some, not}
-use Rattle.std.proofs.lemmas.List.{drop_more, get_or_default, take_more}
 use Rattle.std.proofs.lemmas.List.Concat.{flat_map-append}
 use Rattle.std.proofs.lemmas.List.Elements.{filter-append}
 use Rattle.acct_text.specs.declared.Tab.{Tab}
@@ -11,13 +11,14 @@ use Rattle.acct_text.specs.Bytes.{is_empty}
 use Rattle.acct_text.specs.Lines.{Line}
 use Rattle.account_formats.specs.Format.{Format, records_of}
 use Rattle.account_model.specs.Problems.{Located, RecordProblems, at_line, is_notice, problem_line, problem_lines, problems_behind, problems_of_line, table_problems}
-use Rattle.account_model.specs.Problems as model
-use Rattle.acct_tables.specs.Order.{text_at}
-use Rattle.acct_tables.specs.TableLines.{record_at}
+use Rattle.acct_tables.specs.declared.name_index.NameIndex.{NameIndex}
+use Rattle.acct_tables.specs.NameIndex.{Tells, begins_before, line_names, lines_named, told}
+use Rattle.acct_tables.proofs.NamedRecords.{told-before}
 use Rattle.table_lookups.specs.TablesOfLines.{lines_in}
 use Rattle.check_reports.specs.declared.report.Report.{Report}
+use Rattle.check_reports.specs.Known.{TellsBefore}
 use Rattle.check_reports.specs.Reported.{shown, with_problems}
-use Rattle.check_reports.proofs.RecordWalk.{drop-end}
+use Rattle.check_reports.proofs.RecordWalk.{HaveTaken}
 
 -- ---- Problems
 
@@ -84,95 +85,74 @@ module _ (tab : Tab) where
 
 -- ---- The lines
 
--- the text at a place is that of the line there
-text-is :
-    (lines : List Line) (place : ℕ) (line : Line)
-    → place < length lines
-    → line ≡ get_or lines place line
-    → text_at lines place ≡ line.text
-text-is [] place line inside is = absurd (omega (arith, inside))
-text-is (first ∷ rest) zero line inside is = ap (λ l. l.text) (sym is)
-text-is (first ∷ rest) (suc place) line inside is = text-is rest place line (omega (arith, inside)) is
+-- the report of the lines of a file is that of its table
+pub report-in-lines :
+    {R : Type 0} (format : Format R) (problems : RecordProblems R) (file : Option (List ℕ))
+    → problems_behind format problems [] (lines_in file) ≡ table_problems format problems file
+report-in-lines format problems None = refl
+report-in-lines format problems (Some bytes) = refl
 
-module _ {R : Type 0} (format : Format R) where
-  -- the record at a place is what the text there reads as
-  pub read-at :
-      (lines : List Line) (place : ℕ)
-      → place < length lines
-      → record_at format lines place ≡ format.read (text_at lines place)
-  read-at [] place inside = absurd (omega (arith, inside))
-  read-at (first ∷ rest) zero inside = refl
-  read-at (first ∷ rest) (suc place) inside = read-at rest place (omega (arith, inside))
-
-  -- the report of the lines of a file is that of its table
-  pub report-in-lines :
-      (problems : RecordProblems R) (file : Option (List ℕ))
-      → problems_behind format problems [] (lines_in file) ≡ table_problems format problems file
-  report-in-lines problems None = refl
-  report-in-lines problems (Some bytes) = refl
+-- a report of so many lines is with the problems of those left the whole
+pub record IsReported {R : Type 0} (format : Format R) (problems : RecordProblems R) (tab : Tab)
+    (all left : List Line) (place : ℕ) (report total : Report) : Type 0 where
+  pub taken : HaveTaken all left
+  pub counted : place ≡ length taken.done
+  pub so_far : with_problems tab (problems_behind format problems taken.done left) report ≡ total
 
 module _ {R : Type 0} (format : Format R) (problems : RecordProblems R) (tab : Tab)
-    (lines : List Line) where
-  -- the problems of the lines from a place on
-  abbrev pub problems_left : ℕ → List Located
-  problems_left place = problems_behind format problems (take place lines) (drop place lines)
+    (all left : List Line) (place : ℕ) (report total : Report)
+    (is : IsReported format problems tab all left place report total) where
+  -- the lines so far
+  abbrev done : List Line
+  done = is.taken.done
 
-  -- the problems of a line come first of those that are left there
-  left-more :
-      (place : ℕ) (found : List model.Problem)
-      → place < length lines
-      → found ≡ problems_of_line format problems (records_of format (take place lines))
-      (text_at lines place)
-      → problems_left place ≡ at_line (place + 1) found ++ problems_left (place + 1)
-  left-more place found inside found_is =
-      let blank : Line = record { text = []; ended = false } in
-      let line = get_or lines place blank in
-      let before = take place lines in
-      let after = drop (place + 1) lines in
-      let at_place : line ≡ get_or lines place line =
-      get_or_default lines place blank line inside in
-      let left : drop place lines ≡ line ∷ after = drop_more lines place blank inside in
-      let passed : take (place + 1) lines ≡ before ++ line ∷ [] =
-      take_more lines place blank inside in
-      let count : length before ≡ place = length-take-le place lines (omega (arith, inside)) in
-      let text : text_at lines place ≡ line.text = text-is lines place line inside at_place in
-      ap (problems_behind format problems before) left
-      ∙ ap (λ (number : ℕ). at_line (number + 1)
-      (problems_of_line format problems (records_of format before) line.text)
-      ++ problems_behind format problems (before ++ line ∷ []) after) count
-      ∙ ap (λ text. at_line (place + 1)
-      (problems_of_line format problems (records_of format before) text)
-      ++ problems_behind format problems (before ++ line ∷ []) after) (sym text)
-      ∙ ap (λ found. at_line (place + 1) found
-      ++ problems_behind format problems (before ++ line ∷ []) after) (sym found_is)
-      ∙ ap (λ before. at_line (place + 1) found ++ problems_behind format problems before after)
-      (sym passed)
+  -- so many lines are there
+  pub place-inside : place + length left ≡ length all
+  place-inside = omega (arith, is.counted, length-append done left, ap length is.taken.joined)
 
-  -- a report with the problems of a line is with those that are left then the whole
-  pub report-more :
-      (place : ℕ) (found : List model.Problem) (before after total : Report)
-      → place < length lines
-      → found ≡ problems_of_line format problems (records_of format (take place lines))
-      (text_at lines place)
-      → with_problems tab (problems_left place) before ≡ total
-      → after ≡ with_problems tab (at_line (place + 1) found) before
-      → with_problems tab (problems_left (place + 1)) after ≡ total
-  report-more place found before after total inside found_is so_far pushed =
-      ap (with_problems tab (problems_left (place + 1))) pushed
-      ∙ problems-after tab (at_line (place + 1) found) (problems_left (place + 1)) before
-      ∙ ap (λ problems. with_problems tab problems before)
-      (sym (left-more place found inside found_is))
-      ∙ so_far
+  module _ (line : Line) (rest : List Line) (first : left ≡ line ∷ rest) where
+    -- all lines, with the next among them
+    all-are : done ++ line ∷ rest ≡ all
+    all-are = ap (λ left. done ++ left) (sym first) ∙ is.taken.joined
+
+    -- of its record it is told whether one before it has the name
+    pub tells-before :
+        (names : NameIndex)
+        → Tells (line_names format all) (told names)
+        → TellsBefore format names place (records_of format done) line.text
+    tells-before names tells = λ r reads.
+        sym (told-before format done line rest r reads)
+        ∙ ap (λ lines. begins_before (length done)
+        (lines_named (format.name r) (line_names format lines))) all-are
+        ∙ ap (begins_before (length done)) (sym (tells (format.name r)))
+        ∙ ap (λ n. begins_before n (told names (format.name r))) (sym is.counted)
+
+    -- with the problems of the next line it is a report of one line more
+    pub report-more :
+        (after : Report)
+        → after ≡ with_problems tab (at_line (place + 1)
+        (problems_of_line format problems (records_of format done) line.text)) report
+        → IsReported format problems tab all rest (place + 1) after total
+    report-more after pushed =
+        let found = problems_of_line format problems (records_of format done) line.text in
+        let behind = problems_behind format problems (done ++ line ∷ []) rest in
+        record {
+          taken = record {
+            done = done ++ line ∷ [];
+            joined = append_assoc done (line ∷ []) rest ∙ all-are;
+          };
+          counted = omega (arith, is.counted, length-append done (line ∷ []));
+          so_far = ap (with_problems tab behind) pushed
+              ∙ problems-after tab (at_line (place + 1) found) behind report
+              ∙ ap (λ n. with_problems tab (at_line (n + 1) found ++ behind) report) is.counted
+              ∙ ap (λ lines. with_problems tab (problems_behind format problems done lines) report)
+              (sym first)
+              ∙ is.so_far;
+        }
 
   -- behind the last line it is the whole
-  pub report-end :
-      (place : ℕ) (report total : Report)
-      → length lines ≤ place
-      → with_problems tab (problems_left place) report ≡ total
-      → report ≡ total
-  report-end place report total all so_far =
+  pub report-end : left ≡ [] → report ≡ total
+  report-end none =
       sym (no-problem tab report)
-      ∙ ap (λ left. with_problems tab (problems_behind format problems (take place lines) left)
-      report)
-      (sym (drop-end lines place all))
-      ∙ so_far
+      ∙ ap (λ lines. with_problems tab (problems_behind format problems done lines) report) (sym none)
+      ∙ is.so_far

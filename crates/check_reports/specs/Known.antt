@@ -3,10 +3,12 @@ use Rattle.std.specs.Prelude.{◌≡◌, ℕ, Bool, false, ◌==◌, List, Optio
 use Rattle.std.specs.List.{list_any}
 use Rattle.acct_text.specs.declared.files.Files.{Files}
 use Rattle.account_formats.specs.declared.records.GroupRecord.{GroupRecord}
+use Rattle.account_formats.specs.Format.{Format, has_named}
+use Rattle.account_formats.specs.Records.{group_format, gshadow_format, passwd_format, shadow_format}
 use Rattle.account_formats.specs.Tables.{group_records}
-use Rattle.account_model.specs.Users.{has_user, has_shadow, has_group, has_gshadow}
-use Rattle.check_reports.specs.declared.names.NameSet.{NameSet}
-use Rattle.check_reports.specs.Names.{has_name}
+use Rattle.acct_tables.specs.declared.name_index.NameIndex.{NameIndex}
+use Rattle.acct_tables.specs.NameIndex.{Tells, begins_before, line_names, told}
+use Rattle.table_lookups.specs.TablesOfLines.{lines_in}
 
 -- the tables, and the day in days since 1970-01-01
 pub record Sight : Type 0 where
@@ -22,11 +24,21 @@ abbrev pub is_of : Option GroupRecord → ℕ → Bool
 is_of None gid = false
 is_of (Some group) gid = group.gid == gid
 
+-- the index tells of the names of a file's records; an absent file has none
+abbrev pub TellsOf : {R : Type 0} → Format R → Option (List ℕ) → NameIndex → Type 0
+TellsOf format file names = Tells (line_names format (lines_in file)) (told names)
+
 -- the names and the GIDs that are kept are those of the tables
-pub record AreOf (files : Files) (users hashes groups group_hashes : NameSet) (gids : ℕ → Bool)
+pub record AreOf (files : Files) (users hashes groups group_hashes : NameIndex) (gids : ℕ → Bool)
     : Type 0 where
-  pub of_users : (name : List ℕ) → has_name users name ≡ has_user name files
-  pub of_hashes : (name : List ℕ) → has_name hashes name ≡ has_shadow name files
-  pub of_groups : (name : List ℕ) → has_name groups name ≡ has_group name files
-  pub of_group_hashes : (name : List ℕ) → has_name group_hashes name ≡ has_gshadow name files
+  pub of_users : TellsOf passwd_format files.passwd users
+  pub of_hashes : TellsOf shadow_format files.shadow hashes
+  pub of_groups : TellsOf group_format files.group groups
+  pub of_group_hashes : TellsOf gshadow_format files.gshadow group_hashes
   pub of_gids : (gid : ℕ) → gids gid ≡ has_gid (group_records files) gid
+
+-- of a record with this text it is told whether one of those before it has its name
+abbrev pub TellsBefore : {R : Type 0} → Format R → NameIndex → ℕ → List R → List ℕ → Type 0
+TellsBefore {R = R} format names place before text =
+    (r : R) → format.read text ≡ Some r
+    → has_named format (format.name r) before ≡ begins_before place (told names (format.name r))

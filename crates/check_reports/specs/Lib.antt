@@ -1,7 +1,6 @@
 pub mod Decided
 pub mod Listed
 pub mod Seen
-pub mod Names
 pub mod Known
 pub mod Reported
 pub mod Sorted

@@ -55,8 +55,14 @@ fn report_groups(alloc: Global, asked: &Asked, known: &Known) -> Result<Decision
 {
     let files = known.files();
     let mut report = Report::new(alloc, false);
-    report.push_table::<GroupRecord>(alloc, known, &files.group, Tab::Group)?;
-    report.push_table::<GshadowRecord>(alloc, known, &files.gshadow, Tab::Gshadow)?;
+    report.push_table::<GroupRecord>(alloc, known, known.groups(), &files.group, Tab::Group)?;
+    report.push_table::<GshadowRecord>(
+        alloc,
+        known,
+        known.group_hashes(),
+        &files.gshadow,
+        Tab::Gshadow,
+    )?;
     Ok(report.told(alloc))
 }
 

@@ -1,14 +1,14 @@
 // What a check looks up in the tables, found without a search of them (pwck(8), grpck(8), `-r`).
 ghost use Rattle.std.specs.Prelude.{◌≡◌, ℕ, ◌||◌, is_some, nat_eq, IfOk, OnOk};
 ghost use Rattle.std.specs.HashSet as bag;
-ghost use Rattle.account_formats.specs.Records.{group_format};
+ghost use Rattle.account_formats.specs.Records.{group_format, gshadow_format, passwd_format, shadow_format};
 ghost use Rattle.account_formats.specs.Tables.{group_records, table_records};
 ghost use Rattle.account_model.specs.Users.{has_user, has_shadow, has_group, has_gshadow};
-ghost use Rattle.check_reports.specs.Known.{has_gid, is_of};
+ghost use Rattle.check_reports.specs.Known.{TellsOf, has_gid, is_of};
 
-use crate::names::NameSet;
 use account_formats::{GroupRecord, GshadowRecord, PasswdRecord, ShadowRecord};
-use acct_tables::Lines;
+use acct_lines::TableRecord;
+use acct_tables::{Lines, NameIndex};
 use acct_text::{Bytes, Files};
 use std::alloc::{AllocError, Global};
 use std::collections::HashSet;
@@ -20,10 +20,10 @@ use table_lookups::{IdRecord, text_of};
 #[derive(Drop)]
 pub(crate) struct Known<'a> {
     files: &'a Files,
-    users: NameSet<'a>,
-    hashes: NameSet<'a>,
-    groups: NameSet<'a>,
-    group_hashes: NameSet<'a>,
+    users: NameIndex<'a>,
+    hashes: NameIndex<'a>,
+    groups: NameIndex<'a>,
+    group_hashes: NameIndex<'a>,
     gids: HashSet<u32>,
     today: u32,
 }
@@ -48,10 +48,10 @@ impl<'a> Known<'a> {
     {
         Ok(Known {
             files,
-            users: NameSet::of::<PasswdRecord>(alloc, &files.passwd)?,
-            hashes: NameSet::of::<ShadowRecord>(alloc, &files.shadow)?,
-            groups: NameSet::of::<GroupRecord>(alloc, &files.group)?,
-            group_hashes: NameSet::of::<GshadowRecord>(alloc, &files.gshadow)?,
+            users: names_of::<PasswdRecord>(alloc, &files.passwd)?,
+            hashes: names_of::<ShadowRecord>(alloc, &files.shadow)?,
+            groups: names_of::<GroupRecord>(alloc, &files.group)?,
+            group_hashes: names_of::<GshadowRecord>(alloc, &files.gshadow)?,
             gids: gids_of(alloc, &files.group)?,
             today,
         })
@@ -62,6 +62,34 @@ impl<'a> Known<'a> {
         ensures { result.now ≡ self.now.files }
     {
         self.files
+    }
+
+    /// The names of passwd, with their lines.
+    pub(crate) fn users(&self) -> &NameIndex<'a>
+        ensures { TellsOf passwd_format self.now.files.passwd result.now }
+    {
+        &self.users
+    }
+
+    /// The names of shadow, with their lines.
+    pub(crate) fn hashes(&self) -> &NameIndex<'a>
+        ensures { TellsOf shadow_format self.now.files.shadow result.now }
+    {
+        &self.hashes
+    }
+
+    /// The names of group, with their lines.
+    pub(crate) fn groups(&self) -> &NameIndex<'a>
+        ensures { TellsOf group_format self.now.files.group result.now }
+    {
+        &self.groups
+    }
+
+    /// The names of gshadow, with their lines.
+    pub(crate) fn group_hashes(&self) -> &NameIndex<'a>
+        ensures { TellsOf gshadow_format self.now.files.gshadow result.now }
+    {
+        &self.group_hashes
     }
 
     /// Today, in days since 1970-01-01.
@@ -119,6 +147,16 @@ impl<'a> Known<'a> {
     {
         self.gids.contains(&gid)
     }
+}
+
+/// The names of the records of a file, with their lines; an absent one has none.
+fn names_of<R: TableRecord>(
+    alloc: Global,
+    file: &Option<Bytes>,
+) -> Result<NameIndex<'_>, AllocError>
+    ensures { IfOk result (TellsOf R.format file.now) }
+{
+    NameIndex::of::<R>(alloc, text_of(file))
 }
 
 /// The GIDs of all groups of a file; an absent one has none.

@@ -52,8 +52,8 @@ fn report_users(alloc: Global, asked: &Asked, known: &Known) -> Result<Decision,
 {
     let files = known.files();
     let mut report = Report::new(alloc, asked.has(b'q'));
-    report.push_table::<PasswdRecord>(alloc, known, &files.passwd, Tab::Passwd)?;
-    report.push_table::<ShadowRecord>(alloc, known, &files.shadow, Tab::Shadow)?;
+    report.push_table::<PasswdRecord>(alloc, known, known.users(), &files.passwd, Tab::Passwd)?;
+    report.push_table::<ShadowRecord>(alloc, known, known.hashes(), &files.shadow, Tab::Shadow)?;
     Ok(report.told(alloc))
 }
 

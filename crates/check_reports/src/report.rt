@@ -1,5 +1,5 @@
 // The report of a check: the problems of its tables, line after line (pwck(8), grpck(8), `-r`).
-ghost use Rattle.std.specs.Prelude.{◌≡◌, ◌++◌, ◌∷◌, [], List, option_to_list, true, IfOk, OnOk};
+ghost use Rattle.std.specs.Prelude.{◌≡◌, ◌+◌, ◌^◌, ◌<◌, ◌++◌, ◌∷◌, [], List, true, IfOk, OnOk};
 ghost use Rattle.acct_text.specs.declared.files.Files.{Files};
 ghost use Rattle.account_words.specs.declared.tool.Tool.{Tool};
 ghost use Rattle.account_model.specs.Action.{reports};
@@ -7,21 +7,19 @@ ghost use Rattle.account_formats.specs.Format.{has_named};
 ghost use Rattle.account_model.specs.Problems as model;
 ghost use Rattle.account_model.specs.Problems.{at_line, is_nis, problem_line, problems_of_line, table_problems};
 ghost use Rattle.check_reports.specs.Decided.{DecidesBy};
-ghost use Rattle.check_reports.specs.Known.{Sight};
-ghost use Rattle.check_reports.specs.Names.{AreNamesOf};
+ghost use Rattle.check_reports.specs.Known.{Sight, TellsBefore, TellsOf};
 ghost use Rattle.check_reports.specs.Reported.{status_of, with_problems};
 ghost use Rattle.check_reports.specs.Seen.{seen_problem};
 
 use crate::decision::told;
 use crate::known::Known;
-use crate::names::NameSet;
 use crate::problem::Problem;
 use crate::problems::Problems;
-use acct_lines::{TableRecord, first_field};
-use acct_tables::read_record;
+use acct_lines::TableRecord;
+use acct_tables::{Lines, NameIndex, read_record};
 use acct_text::{Bytes, Tab, push_decimal};
 use std::alloc::{AllocError, Global};
-use table_lookups::file_lines;
+use table_lookups::text_of;
 use tool_answers::Decision;
 
 // The status of a report with a problem.
@@ -66,49 +64,50 @@ impl Report {
         }
     }
 
-    /// Adds the problems of a table by what is known, line after line; an absent table has none.
+    /// Adds the problems of a table by what is known and by its names, line after line; an absent
+    /// table has none.
     ///
     /// A record is kept no longer than its line is looked at.
     pub(crate) fn push_table<R: CheckedRecord + Drop>(
         &mut self,
         alloc: Global,
         known: &Known,
+        names: &NameIndex<'_>,
         file: &Option<Bytes>,
         tab: Tab,
     ) -> Result<(), AllocError>
+        requires { TellsOf R.format file.now names.now }
         ensures { OnOk result (self.new ≡ with_problems tab
             (table_problems R.format (R.problems known.now) file.now) self.old) }
     {
-        let lines = &file_lines(alloc, file)?;
-        let mut earlier = NameSet::new(alloc);
-        for place in 0..lines.len() {
-            let text = lines.text_at(place);
-            self.check_line::<R>(alloc, known, &mut earlier, tab, place + 1, text)?;
+        let mut place = 0usize;
+        let mut left = Lines::of(text_of(file));
+        'lines: while let Some(line) = left.take() {
+            self.check_line::<R>(alloc, known, names, tab, place, line.text)?;
+            place += 1;
         }
         Ok(())
     }
 
-    /// Adds the problems of a line with this text, counted from 1, behind records of which the names
-    /// are kept, and keeps the name of its record.
-    fn check_line<'a, R: CheckedRecord + Drop>(
+    /// Adds the problems of the line with this text at a place, counted from 0.
+    fn check_line<R: CheckedRecord + Drop>(
         &mut self,
         alloc: Global,
         known: &Known,
-        earlier: &mut NameSet<'a>,
+        names: &NameIndex<'_>,
         tab: Tab,
-        line: usize,
-        text: &'a [u8],
+        place: usize,
+        text: &[u8],
     ) -> Result<(), AllocError>
-        ensures added { OnOk result ((before : List R) → AreNamesOf R.format before earlier.old
-            → self.new ≡ with_problems tab (at_line line
+        requires { place + 1 < 2 ^ 64 }
+        ensures { OnOk result ((before : List R)
+            → TellsBefore R.format names.now place before text.now
+            → self.new ≡ with_problems tab (at_line (place + 1)
             (problems_of_line R.format (R.problems known.now) before text.now)) self.old) }
-        ensures kept { OnOk result ((before : List R) → AreNamesOf R.format before earlier.old
-            → AreNamesOf R.format (before ++ option_to_list (R.format.read text.now)) earlier.new) }
     {
         let item: Option<R> = read_record(alloc, text)?;
-        let problems = line_problems(alloc, text, &item, known, earlier)?;
-        self.push_line(alloc, tab, line, &problems)?;
-        note_record(earlier, text, &item)
+        let problems = line_problems(alloc, text, &item, known, names, place)?;
+        self.push_line(alloc, tab, place + 1, &problems)
     }
 
     /// Adds the problems of a line, counted from 1.
@@ -183,17 +182,17 @@ fn push_problem(
     out.push(b"\n")
 }
 
-/// The problems of a line with this text, which is the record or other text, behind records of which
-/// the names are kept.
+/// The problems of the line with this text at a place, which is the record or other text.
 fn line_problems<'a, R: CheckedRecord + Drop>(
     alloc: Global,
     text: &[u8],
     item: &'a Option<R>,
     known: &Known,
-    earlier: &NameSet,
+    names: &NameIndex<'_>,
+    place: usize,
 ) -> Result<Problems<'a>, AllocError>
     ensures { IfOk result (λ problems. (before : List R)
-        → AreNamesOf R.format before earlier.now
+        → TellsBefore R.format names.now place before text.now
         → item.now ≡ R.format.read text.now
         → problems ≡ problems_of_line R.format (R.problems known.now) before text.now) }
 {
@@ -201,7 +200,7 @@ fn line_problems<'a, R: CheckedRecord + Drop>(
         return Ok(Problems::none(alloc));
     }
     match item {
-        Some(item) => item.problems(alloc, known, earlier.has(item.name())),
+        Some(item) => item.problems(alloc, known, names.has_before(item.name(), place)),
         None => Problems::invalid_entry(alloc),
     }
 }
@@ -213,22 +212,5 @@ fn is_nis(line: &[u8]) -> bool
     match line.first() {
         Some(byte) => *byte == b'+' || *byte == b'-',
         None => false,
-    }
-}
-
-/// Notes the name of the record that the text is; other text has none.
-fn note_record<'a, R: TableRecord + Drop>(
-    names: &mut NameSet<'a>,
-    text: &'a [u8],
-    item: &Option<R>,
-) -> Result<(), AllocError>
-    ensures { OnOk result ((before : List R)
-        → AreNamesOf R.format before names.old
-        → item.now ≡ R.format.read text.now
-        → AreNamesOf R.format (before ++ option_to_list item.now) names.new) }
-{
-    match item {
-        Some(_) => names.add(first_field(text)),
-        None => Ok(()),
     }
 }

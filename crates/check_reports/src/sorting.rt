@@ -14,7 +14,7 @@ use acct_tables::{FileLine, Lines, is_record, name_of};
 use acct_text::Bytes;
 use std::alloc::{AllocError, Global};
 use std::collections::HashMap;
-use table_lookups::file_lines;
+use table_lookups::text_of;
 
 /// What the records of a table are sorted by.
 pub(crate) trait SortKey<R: TableRecord> {
@@ -65,13 +65,13 @@ impl<'a> ByPlace<'a> {
     fn of<M: TableRecord + Drop>(alloc: Global, main: &'a Option<Bytes>) -> Result<Self, AllocError>
         ensures { IfOk result (IsOrderOf M.format (table_records M.format main.now)) }
     {
-        let lines = &file_lines(alloc, main)?;
         let mut order = ByPlace {
             places: HashMap::new(alloc),
             count: 0,
         };
-        for place in 0..lines.len() {
-            if let Some(name) = lines.name_at::<M>(place) {
+        let mut left = Lines::of(text_of(main));
+        'lines: while let Some(line) = left.take() {
+            if let Some(name) = name_of::<M>(line.text) {
                 order.add(name)?;
             }
         }

@@ -1,10 +1,8 @@
 -- Which edit touches a record, and the first record that is touched among several of its name (passwd(5), shadow(5),
 -- group(5), gshadow(5)).
 use Rattle.std.specs.Prelude.{◌≡◌, ℕ, Bool, false, ◌&&◌, List, [], ◌∷◌, Option, Some, None, option_map, find, if◌then◌else◌}
-use Rattle.acct_text.specs.Lines.{Line}
-use Rattle.account_formats.specs.Format.{Format, records_of}
+use Rattle.account_formats.specs.Format.{Format}
 use Rattle.account_formats.specs.Edits.{Edit, touches, is_multiple}
-use Rattle.acct_tables.specs.TableLines.{record_at}
 use Rattle.std.specs.HashSet.{HashSet}
 use Rattle.line_edits.specs.NameSets.{has_text}
 use denote.Ref.{Bor}
@@ -37,9 +35,9 @@ abbrev pub first_touched :
     {R : Type 0} → Format R → List (Edit R) → List R → List R → Option (List ℕ)
 first_touched format edits whole records = option_map format.name (find (is_met format edits whole) records)
 
--- the name of the record at a place, where it is met so
-abbrev pub met_at : {R : Type 0} → Format R → List (Edit R) → List Line → ℕ → Option (List ℕ)
-met_at format edits lines place = elim (record_at format lines place) [
+-- the name of the record that a text is, where it is met so
+abbrev pub met_in : {R : Type 0} → Format R → List (Edit R) → List R → List ℕ → Option (List ℕ)
+met_in format edits whole text = elim (format.read text) [
   | None ↦ None
-  | Some r ↦ if is_met format edits (records_of format lines) r then Some (format.name r) else None
+  | Some r ↦ if is_met format edits whole r then Some (format.name r) else None
 ]

@@ -1,39 +1,42 @@
 // Which records the edits of a table touch, and the first of them whose name has several records.
-ghost use Rattle.std.specs.Prelude.{◌≡◌, ◌≤◌, true, false, Some, None, not, nat_le, length, IfOk, IfSome};
+ghost use Rattle.std.specs.Prelude.{◌≡◌, true, false, Some, None, not, nat_le, IfOk, IfSome};
 ghost use Rattle.std.specs.List.{AllByRecursion};
+ghost use Rattle.acct_text.specs.Bytes.{newline};
+ghost use Rattle.acct_text.specs.Lines.{lines_of};
+ghost use Rattle.acct_text.specs.Pieces.{Lacks};
 ghost use Rattle.account_formats.specs.Edits.{first_multiple, is_multiple, touches};
 ghost use Rattle.account_formats.specs.Edits as model;
 ghost use Rattle.account_formats.specs.Format.{count_named, records_of};
 ghost use Rattle.account_formats.specs.RecordEdits.{IsWrittenEdit};
 ghost use Rattle.account_formats.specs.Written.{IsWritten};
 ghost use Rattle.acct_tables.specs.NameIndex.{Tells, line_names, told};
-ghost use Rattle.acct_tables.specs.TableLines.{record_at};
 ghost use Rattle.line_edits.specs.SeenEdits.{seen_edit, seen_edits};
-ghost use Rattle.line_edits.specs.Touching.{LacksName, LeavesTo, TouchOnly, met_at, touches_alone};
+ghost use Rattle.line_edits.specs.Touching.{LacksName, LeavesTo, TouchOnly, met_in, touches_alone};
 
 use crate::fields::has_other_name;
 use crate::touched::touched_names;
 use crate::{Becoming, Edit, EditedRecord};
-use acct_tables::{FileLines, MANY, NameIndex};
+use acct_tables::{Lines, MANY, NameIndex, has_several_records, name_of, read_record};
 use acct_text::Bytes;
 use indexmap::IndexSet;
 use std::alloc::{AllocError, Global};
 
-/// The name of the first record that the edits touch and whose name has two or more records; none
-/// where there is no such record.
+/// The name of the first record of a file with these bytes that the edits touch and whose name has two
+/// or more records; none where there is no such record.
 pub fn first_multiple<R: EditedRecord + Drop>(
     alloc: Global,
-    lines: &FileLines<'_>,
+    text: &[u8],
     edits: &[Edit<R, R::Change>],
 ) -> Result<Option<Bytes>, AllocError>
     requires { AllByRecursion (IsWrittenEdit R.format) (seen_edits R.becomes edits.now) }
-    ensures { IfOk result (λ name. name ≡
-        first_multiple R.format (seen_edits R.becomes edits.now) (records_of R.format lines.now)) }
+    ensures { IfOk result (λ name. name ≡ first_multiple R.format (seen_edits R.becomes edits.now)
+        (records_of R.format (lines_of text.now))) }
 {
-    let names = &names_for(alloc, lines, edits)?;
+    let names = &names_for(alloc, text, edits)?;
     let touched = &touched_names(alloc, edits)?;
-    'places: for place in 0..lines.len() {
-        if let Some(name) = met_at(alloc, lines, edits, names, touched, place)? {
+    let mut left = Lines::of(text);
+    'lines: while let Some(line) = left.take() {
+        if let Some(name) = met_in(alloc, text, edits, names, touched, line.text)? {
             return Ok(Some(name));
         }
     }
@@ -44,51 +47,54 @@ pub fn first_multiple<R: EditedRecord + Drop>(
 // counted then.
 fn names_for<'a, R: EditedRecord>(
     alloc: Global,
-    lines: &FileLines<'a>,
+    text: &'a [u8],
     edits: &[Edit<R, R::Change>],
 ) -> Result<Option<NameIndex<'a>>, AllocError>
     ensures { IfOk result (λ names. IfSome names (λ names.
-        Tells (line_names R.format lines.now) (told names))) }
+        Tells (line_names R.format (lines_of text.now)) (told names))) }
 {
-    if edits.len() < MANY && open_lines(lines, edits) < MANY {
+    if edits.len() < MANY && !may_touch_many(text, edits) {
         return Ok(None);
     }
-    Ok(Some(NameIndex::of::<R>(alloc, lines)?))
+    Ok(Some(NameIndex::of::<R>(alloc, text)?))
 }
 
-// The number of lines that the edits may touch.
-fn open_lines<R: EditedRecord>(lines: &FileLines<'_>, edits: &[Edit<R, R::Change>]) -> usize
-    ensures { result ≤ length lines.now }
-{
-    let mut open = 0usize;
-    for place in 0..lines.len() {
-        if !leave(edits, lines.text_at(place)) {
+// Whether so many lines may be touched that an index of all names saves time.
+fn may_touch_many<R: EditedRecord>(text: &[u8], edits: &[Edit<R, R::Change>]) -> bool {
+    let mut open = 0;
+    let mut left = Lines::of(text);
+    'lines: while let Some(line) = left.take() {
+        if !leave(edits, line.text) {
             open += 1;
         }
+        if open == MANY {
+            return true;
+        }
     }
-    open
+    false
 }
 
-// The name of the record at a place, where its name has several records and the edits touch it.
-fn met_at<R: EditedRecord + Drop>(
+// The name of the record that the line is, where its name has several records and the edits touch it.
+fn met_in<R: EditedRecord + Drop>(
     alloc: Global,
-    lines: &FileLines<'_>,
+    text: &[u8],
     edits: &[Edit<R, R::Change>],
     names: &Option<NameIndex<'_>>,
     touched: &Option<IndexSet<&[u8]>>,
-    place: usize,
+    line: &[u8],
 ) -> Result<Option<Bytes>, AllocError>
     requires edits { AllByRecursion (IsWrittenEdit R.format) (seen_edits R.becomes edits.now) }
     requires told { IfSome names.now (λ names.
-        Tells (line_names R.format lines.now) (told names)) }
+        Tells (line_names R.format (lines_of text.now)) (told names)) }
     requires only { IfSome touched.now (TouchOnly R.format (seen_edits R.becomes edits.now)) }
-    ensures { IfOk result (λ name. name ≡
-        met_at R.format (seen_edits R.becomes edits.now) lines.now place) }
+    requires one_line { Lacks newline line.now }
+    ensures { IfOk result (λ name. name ≡ met_in R.format (seen_edits R.becomes edits.now)
+        (records_of R.format (lines_of text.now)) line.now) }
 {
-    if !may_meet(lines, edits, names, touched, place) {
+    if !may_meet(text, edits, names, touched, line) {
         return Ok(None);
     }
-    let Some(item) = lines.record_at::<R>(alloc, place)? else {
+    let Some(item) = read_record::<R>(alloc, line)? else {
         return Ok(None);
     };
     if !is_touched(alloc, edits, &item)? {
@@ -97,32 +103,32 @@ fn met_at<R: EditedRecord + Drop>(
     Ok(Some(Bytes::of(alloc, item.name())?))
 }
 
-// Whether a record stands at the place that the edits may touch, and whose name has several records.
+// Whether the line is a record that the edits may touch, and whose name has several records.
 fn may_meet<R: EditedRecord>(
-    lines: &FileLines<'_>,
+    text: &[u8],
     edits: &[Edit<R, R::Change>],
     names: &Option<NameIndex<'_>>,
     touched: &Option<IndexSet<&[u8]>>,
-    place: usize,
+    line: &[u8],
 ) -> bool
     requires told { IfSome names.now (λ names.
-        Tells (line_names R.format lines.now) (told names)) }
+        Tells (line_names R.format (lines_of text.now)) (told names)) }
     requires only { IfSome touched.now (TouchOnly R.format (seen_edits R.becomes edits.now)) }
-    ensures passed { result ≡ false →
-        met_at R.format (seen_edits R.becomes edits.now) lines.now place ≡ None }
-    ensures several { result ≡ true → (r : R) → record_at R.format lines.now place ≡ Some r
-        → is_multiple R.format (records_of R.format lines.now) r ≡ true }
+    ensures passed { result ≡ false → met_in R.format (seen_edits R.becomes edits.now)
+        (records_of R.format (lines_of text.now)) line.now ≡ None }
+    ensures several { result ≡ true → (r : R) → R.format.read line.now ≡ Some r
+        → is_multiple R.format (records_of R.format (lines_of text.now)) r ≡ true }
 {
-    if names.is_none() && leave(edits, lines.text_at(place)) {
+    if names.is_none() && leave(edits, line) {
         return false;
     }
-    let Some(name) = lines.name_at::<R>(place) else {
+    let Some(name) = name_of::<R>(line) else {
         return false;
     };
     if !may_touch(touched, name) {
         return false;
     }
-    has_several::<R>(lines, names, name)
+    has_several::<R>(text, names, name)
 }
 
 // Whether the edits may touch a record of the name.
@@ -136,18 +142,15 @@ fn may_touch(touched: &Option<IndexSet<&[u8]>>, name: &[u8]) -> bool
 }
 
 // Whether several records have the name, by the index or else by counting them.
-fn has_several<R: EditedRecord>(
-    lines: &FileLines<'_>,
-    names: &Option<NameIndex<'_>>,
-    name: &[u8],
-) -> bool
+fn has_several<R: EditedRecord>(text: &[u8], names: &Option<NameIndex<'_>>, name: &[u8]) -> bool
     requires { IfSome names.now (λ names.
-        Tells (line_names R.format lines.now) (told names)) }
-    ensures { result ≡ nat_le 2 (count_named R.format name.now (records_of R.format lines.now)) }
+        Tells (line_names R.format (lines_of text.now)) (told names)) }
+    ensures { result ≡ nat_le 2
+        (count_named R.format name.now (records_of R.format (lines_of text.now))) }
 {
     match names {
         Some(names) => names.has_several(name),
-        None => lines.has_several::<R>(name),
+        None => has_several_records::<R>(text, name),
     }
 }
 

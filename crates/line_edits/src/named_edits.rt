@@ -13,7 +13,7 @@ ghost use Rattle.line_edits.specs.SeenEdits.{seen_edit};
 
 use crate::placed_edits::{change_at, change_each};
 use crate::{Edit, EditedRecord};
-use acct_tables::{EditedLines, FileLines, NameIndex, NamedLines};
+use acct_tables::{EditedLines, NameIndex, NamedLines};
 use std::alloc::{AllocError, Global};
 
 /// What is known of the lines while edits by name change them.
@@ -32,9 +32,8 @@ pub(crate) fn known_before<'a, R: EditedRecord + Drop>(
 ) -> Result<Known<'a>, AllocError>
     ensures { IfOk result (IsKnown R.format (lines_of text.now)) }
 {
-    let lines = FileLines::of(alloc, text)?;
     Ok(Known {
-        names: NameIndex::of::<R>(alloc, &lines)?,
+        names: NameIndex::of::<R>(alloc, text)?,
         ended: false,
     })
 }

@@ -21,7 +21,7 @@ use account_words::Tool;
 use acct_text::{Bytes, Files, Tab};
 use line_edits::{Edit, EditedRecord, first_multiple};
 use std::alloc::{AllocError, Global};
-use table_lookups::{Tables, file_lines};
+use table_lookups::{Tables, text_of};
 use tool_answers::{Decision, Output, messages, refuse};
 
 /// What a command decides that has no refusal of its own: it refuses at the first record that it
@@ -114,7 +114,7 @@ fn multiple_in<R: EditedRecord + Drop>(
     if edits.is_empty() {
         return Ok(None);
     }
-    first_multiple(alloc, &file_lines(alloc, file)?, edits)
+    first_multiple(alloc, text_of(file), edits)
 }
 
 /// Whether all six files are equal, each absent in both or with the same bytes.

@@ -23,7 +23,6 @@ pub use account_words::Tool;
 pub use acct_lines::{
     GroupRecord, GshadowRecord, PasswdRecord, ShadowRecord, SubidRecord, TableRecord,
 };
-pub use acct_tables::FileLines;
 pub use decide::{are_same, decide_by};
 pub use deciding::decide_as;
 pub use range_edits::edited_ranges;

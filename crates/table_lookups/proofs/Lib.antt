@@ -1,4 +1,4 @@
 pub mod RecordLemmas
 pub mod FileLemmas
-pub mod GidLemmas
+pub mod FirstLemmas
 pub mod StoppingLemmas

@@ -1,4 +1,4 @@
 pub mod TablesOfLines
 pub mod Stopping
 pub mod Accepting
-pub mod IndexedLines
+pub mod FirstLines

@@ -1,31 +1,33 @@
 // The groups of group, looked up by name and by GID: where many are asked for, without a pass over
 // the table for each.
-ghost use Rattle.std.specs.Prelude.{◌≡◌, ◌<◌, ◌+◌, length, take, IfOk, OnOk};
+ghost use Rattle.std.specs.Prelude.{◌≡◌, List, [], IfOk, OnOk};
+ghost use Rattle.std.specs.List.{cons_option};
+ghost use Rattle.acct_text.specs.Lines.{lines_of};
 ghost use Rattle.account_formats.specs.Format.{records_of};
 ghost use Rattle.account_model.specs.GivenGroups.{find_gid as first_of_gid};
 ghost use Rattle.account_formats.specs.Records.{group_format};
-ghost use Rattle.account_formats.specs.Tables.{group_records};
+ghost use Rattle.account_formats.specs.Tables.{group_records, table_records};
 ghost use Rattle.account_model.specs.Users.{group_named as group_of_name};
-ghost use Rattle.table_lookups.specs.IndexedLines.{AreGroups, TellsGids};
-ghost use Rattle.table_lookups.specs.TablesOfLines.{lines_in};
+ghost use Rattle.account_formats.specs.declared.records.GroupRecord.{GroupRecord};
+ghost use Rattle.table_lookups.specs.FirstLines.{AreGroups, Tells, has_gid, told_gids};
 
-use crate::Tables;
+use crate::first_lines::FirstOfNames;
 use crate::ids::IdRecord;
-use crate::indexed_lines::IndexedLines;
+use crate::{Tables, text_of};
 use acct_lines::GroupRecord;
-use acct_tables::{FileLines, MANY};
+use acct_tables::{Lines, MANY, read_record};
 use acct_text::{Bytes, Files};
 use indexmap::IndexMap;
 use std::alloc::{AllocError, Global};
 use std::marker::Model;
 
-/// The lines of group(5), with the first of each name and of each GID.
+/// The lines of group(5) that are the first of their name or of their GID.
 #[derive(Drop)]
 pub(crate) struct GroupLines<'a> {
-    /// The lines, by name.
-    pub named: IndexedLines<'a>,
-    /// The line of the first group with each GID, counted from 0 over all lines.
-    pub gids: IndexMap<u32, usize>,
+    /// By name.
+    pub names: FirstOfNames<'a>,
+    /// By GID.
+    pub gids: IndexMap<u32, &'a [u8]>,
 }
 
 /// The groups, of which each is found by its name and by its GID. Contracts see them as the files.
@@ -39,15 +41,15 @@ pub struct GroupIndex<'a> {
 impl<'a> Model for GroupIndex<'a> {
     ghost use Rattle.std.specs.Prelude.{IfSome};
     ghost use Rattle.acct_text.specs.declared.files.Files.{Files};
-    ghost use Rattle.table_lookups.specs.IndexedLines.{AreGroups};
-    ghost use Rattle.table_lookups.specs.TablesOfLines.{lines_in};
+    ghost use Rattle.account_formats.specs.Tables.{group_records};
+    ghost use Rattle.table_lookups.specs.FirstLines.{AreGroups};
 
     ghost Value = { Files };
 
     ghost view = { λ index. index.files.now };
 
     ghost invariant = { λ index.
-        IfSome index.groups (AreGroups (lines_in index.files.now.group)) };
+        IfSome index.groups (AreGroups (group_records index.files.now)) };
 }
 
 impl<'a> GroupIndex<'a> {
@@ -74,7 +76,7 @@ impl<'a> GroupIndex<'a> {
         ensures { IfOk result (λ found. found ≡ group_of_name name.now self.now) }
     {
         match &self.groups {
-            Some(groups) => groups.named.find(alloc, name),
+            Some(groups) => groups.names.find(alloc, name),
             None => Tables::of(self.files).group_named(alloc, name),
         }
     }
@@ -84,65 +86,63 @@ impl<'a> GroupIndex<'a> {
         ensures { IfOk result (λ found. found ≡ first_of_gid gid (group_records self.now)) }
     {
         match &self.groups {
-            Some(groups) => find_told(alloc, &groups.named.lines, &groups.gids, gid),
+            Some(groups) => find_told(alloc, &groups.gids, gid),
             None => Tables::of(self.files).group_of_gid(alloc, gid),
         }
     }
 }
 
-// The lines of group, with the first of each name and of each GID; an absent file has none.
+// The first group of each name and of each GID; an absent file has none.
 fn group_lines(alloc: Global, file: &Option<Bytes>) -> Result<GroupLines<'_>, AllocError>
-    ensures { IfOk result (AreGroups (lines_in file.now)) }
+    ensures { IfOk result (AreGroups (table_records group_format file.now)) }
 {
-    let named = IndexedLines::of::<GroupRecord>(alloc, file)?;
-    let gids = first_of_gids(alloc, &named.lines)?;
-    Ok(GroupLines { named, gids })
+    let names = FirstOfNames::of::<GroupRecord>(alloc, file)?;
+    let gids = first_of_gids(alloc, text_of(file))?;
+    Ok(GroupLines { names, gids })
 }
 
 // The line of the first group with each GID.
-fn first_of_gids(alloc: Global, groups: &FileLines<'_>) -> Result<IndexMap<u32, usize>, AllocError>
-    ensures { IfOk result (TellsGids groups.now) }
+fn first_of_gids(alloc: Global, text: &[u8]) -> Result<IndexMap<u32, &[u8]>, AllocError>
+    ensures { IfOk result (λ gids. Tells group_format has_gid (told_gids gids) []
+        (records_of group_format (lines_of text.now))) }
 {
     let mut gids = IndexMap::new(alloc);
-    'places: for place in 0..groups.len() {
-        note_gid(&mut gids, groups, place)?;
+    let mut left = Lines::of(text);
+    'lines: while let Some(line) = left.take() {
+        note_gid(&mut gids, line.text)?;
     }
     Ok(gids)
 }
 
-// Notes the GID of the line at a place, where no line in front of it has it.
-fn note_gid(
-    gids: &mut IndexMap<u32, usize>,
-    groups: &FileLines<'_>,
-    place: usize,
-) -> Result<(), AllocError>
-    requires { place < length groups.now }
-    ensures { OnOk result (TellsGids (take place groups.now) gids.old
-        → TellsGids (take (place + 1) groups.now) gids.new) }
+// Notes the GID of the group that the line is, where no line in front of it has it.
+fn note_gid<'a>(gids: &mut IndexMap<u32, &'a [u8]>, line: &'a [u8]) -> Result<(), AllocError>
+    ensures { OnOk result ((rest all : List GroupRecord)
+        → Tells group_format has_gid (told_gids gids.old)
+        (cons_option (group_format.read line.now) rest) all
+        → Tells group_format has_gid (told_gids gids.new) rest all) }
 {
-    let Some(gid) = GroupRecord::id_in(groups.text_at(place)) else {
+    let Some(gid) = GroupRecord::id_in(line) else {
         return Ok(());
     };
     if gids.contains_key(&gid) {
         return Ok(());
     }
-    gids.insert(gid, place)?;
+    gids.insert(gid, line)?;
     Ok(())
 }
 
 // The first group with the GID, by what the map tells of it.
 fn find_told(
     alloc: Global,
-    groups: &FileLines<'_>,
-    gids: &IndexMap<u32, usize>,
+    gids: &IndexMap<u32, &[u8]>,
     gid: u32,
 ) -> Result<Option<GroupRecord>, AllocError>
-    requires { TellsGids groups.now gids.now }
-    ensures { IfOk result (λ found.
-        found ≡ first_of_gid gid (records_of group_format groups.now)) }
+    ensures { IfOk result (λ found. (records : List GroupRecord)
+        → Tells group_format has_gid (told_gids gids.now) [] records
+        → found ≡ first_of_gid gid records) }
 {
     match gids.get(&gid) {
-        Some(place) => groups.record_at(alloc, *place),
+        Some(line) => read_record(alloc, line),
         None => Ok(None),
     }
 }

@@ -2,14 +2,15 @@
 //! gshadow(5), subuid(5), subgid(5)).
 //!
 //! A look-up reads what it needs from the bytes of the files. `lookups`, `users` and `groups` find
-//! records by a pass over the lines, `user_index` and `group_index` many of them by an index of names;
+//! records by a pass over the lines, `user_index` and `group_index` many of them by the first lines of
+//! their names (`first_lines`);
 //! `ids` gathers the IDs that are used.
 #![tactic(auto)]
 
+mod first_lines;
 mod group_index;
 mod groups;
 mod ids;
-mod indexed_lines;
 mod lookups;
 mod search;
 mod tables;
@@ -18,6 +19,6 @@ mod users;
 
 pub use group_index::GroupIndex;
 pub use ids::IdRecord;
-pub use search::{RecordTest, file_lines, first_passing, text_of};
+pub use search::{RecordTest, first_passing, text_of};
 pub use tables::Tables;
 pub use user_index::UserIndex;

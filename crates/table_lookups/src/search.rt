@@ -6,7 +6,7 @@ ghost use Rattle.table_lookups.specs.Accepting.{is_accepted};
 ghost use Rattle.table_lookups.specs.TablesOfLines.{lines_in};
 
 use acct_lines::{GroupLine, GroupRecord, PasswdLine, PasswdRecord, TableRecord};
-use acct_tables::{FileLines, Lines, read_record};
+use acct_tables::{Lines, read_record};
 use acct_text::Bytes;
 use std::alloc::{AllocError, Global};
 
@@ -49,16 +49,6 @@ impl RecordTest<GroupRecord> for OfGid {
             Ok(group) => group.gid == self.gid,
             Err(_) => false,
         }
-    }
-}
-
-/// The lines of a table's file; an absent one has none.
-pub fn file_lines(alloc: Global, file: &Option<Bytes>) -> Result<FileLines<'_>, AllocError>
-    ensures { IfOk result (λ lines. lines ≡ lines_in file.now) }
-{
-    match file {
-        Some(text) => FileLines::of(alloc, text.as_slice()),
-        None => FileLines::of(alloc, b""),
     }
 }
 

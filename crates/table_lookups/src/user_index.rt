@@ -3,7 +3,7 @@ ghost use Rattle.std.specs.Prelude.{◌≡◌, IfOk};
 ghost use Rattle.account_model.specs.Users.{find_shadow, find_user};
 
 use crate::Tables;
-use crate::indexed_lines::IndexedLines;
+use crate::first_lines::FirstOfNames;
 use acct_lines::{PasswdRecord, ShadowRecord};
 use acct_text::Files;
 use std::alloc::{AllocError, Global};
@@ -14,23 +14,23 @@ use std::marker::Model;
 #[derive(Drop)]
 pub struct UserIndex<'a> {
     files: &'a Files,
-    users: IndexedLines<'a>,
-    shadow: IndexedLines<'a>,
+    users: FirstOfNames<'a>,
+    shadow: FirstOfNames<'a>,
 }
 
 impl<'a> Model for UserIndex<'a> {
     ghost use Rattle.acct_text.specs.declared.files.Files.{Files};
     ghost use Rattle.account_formats.specs.Records.{passwd_format, shadow_format};
-    ghost use Rattle.table_lookups.specs.IndexedLines.{AreIndexed};
-    ghost use Rattle.table_lookups.specs.TablesOfLines.{lines_in};
+    ghost use Rattle.account_formats.specs.Tables.{passwd_records, shadow_records};
+    ghost use Rattle.table_lookups.specs.FirstLines.{TellsNames};
 
     ghost Value = { Files };
 
     ghost view = { λ index. index.files.now };
 
     ghost invariant = { λ index.
-        AreIndexed passwd_format (lines_in index.files.now.passwd) index.users
-        × AreIndexed shadow_format (lines_in index.files.now.shadow) index.shadow };
+        TellsNames passwd_format (passwd_records index.files.now) index.users
+        × TellsNames shadow_format (shadow_records index.files.now) index.shadow };
 }
 
 impl<'a> UserIndex<'a> {
@@ -41,8 +41,8 @@ impl<'a> UserIndex<'a> {
         let files = tables.files();
         Ok(UserIndex {
             files,
-            users: IndexedLines::of::<PasswdRecord>(alloc, &files.passwd)?,
-            shadow: IndexedLines::of::<ShadowRecord>(alloc, &files.shadow)?,
+            users: FirstOfNames::of::<PasswdRecord>(alloc, &files.passwd)?,
+            shadow: FirstOfNames::of::<ShadowRecord>(alloc, &files.shadow)?,
         })
     }
 

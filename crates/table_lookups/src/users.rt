@@ -6,12 +6,11 @@ ghost use Rattle.account_model.specs.Refusals.{missing_user, missing_users};
 ghost use Rattle.account_formats.specs.Tables.{passwd_records};
 ghost use Rattle.account_model.specs.Users.{has_user};
 ghost use Rattle.id_choice.specs.Used.{AreThoseOf};
-ghost use Rattle.table_lookups.specs.IndexedLines.{AreIndexed};
+ghost use Rattle.table_lookups.specs.FirstLines.{TellsNames};
 ghost use Rattle.table_lookups.specs.Stopping.{StopsBy};
-ghost use Rattle.table_lookups.specs.TablesOfLines.{lines_in};
 
+use crate::first_lines::FirstOfNames;
 use crate::ids::used_ids;
-use crate::indexed_lines::IndexedLines;
 use crate::search::OfGid;
 use crate::{Tables, first_passing};
 use account_model::Refusal;
@@ -49,7 +48,7 @@ impl Tables<'_> {
         ensures { StopsBy (missing_users names.now self.now) result }
     {
         let file = &self.files().passwd;
-        let users = &IndexedLines::for_many::<PasswdRecord>(alloc, file, names.len())?;
+        let users = &FirstOfNames::for_many::<PasswdRecord>(alloc, file, names.len())?;
         for name in names {
             check_in(alloc, self, users, name.as_slice())?;
         }
@@ -61,10 +60,10 @@ impl Tables<'_> {
 fn check_in(
     alloc: Global,
     tables: &Tables,
-    users: &Option<IndexedLines<'_>>,
+    users: &Option<FirstOfNames<'_>>,
     name: &[u8],
 ) -> Result<(), ToolFault>
-    requires { IfSome users.now (AreIndexed passwd_format (lines_in tables.now.passwd)) }
+    requires { IfSome users.now (TellsNames passwd_format (passwd_records tables.now)) }
     ensures { StopsBy (missing_user name.now tables.now) result }
 {
     if has_user(alloc, tables, users, name)? {
@@ -77,14 +76,14 @@ fn check_in(
 fn has_user(
     alloc: Global,
     tables: &Tables,
-    users: &Option<IndexedLines<'_>>,
+    users: &Option<FirstOfNames<'_>>,
     name: &[u8],
 ) -> Result<bool, AllocError>
-    requires { IfSome users.now (AreIndexed passwd_format (lines_in tables.now.passwd)) }
+    requires { IfSome users.now (TellsNames passwd_format (passwd_records tables.now)) }
     ensures { IfOk result (λ has. has ≡ has_user name.now tables.now) }
 {
     match users {
-        Some(users) => Ok(users.names.has(name)),
+        Some(users) => Ok(users.has::<PasswdRecord>(name)),
         None => Ok(tables.user_named(alloc, name)?.is_some()),
     }
 }

@@ -6,7 +6,7 @@ ghost use Rattle.account_formats.specs.Records.{group_format};
 ghost use Rattle.account_formats.specs.Written.{IsWritten};
 
 use acct_lines::{GroupRecord, TableRecord};
-use acct_tables::{EditedLines, FileLines, Table, TableFault, find_record};
+use acct_tables::{EditedLines, Table, TableFault, find_record};
 use std::alloc::{AllocError, Global};
 use std::test::Fail;
 
@@ -91,9 +91,6 @@ fn the_first_of_a_name_is_found_where_it_stands(rt: HostRuntime) -> Result<(), F
     let alloc = rt.alloc();
     let text = b"# x\nab:x:1:\na:x:2:\na:x:3:".as_slice();
     assert_eq!(rt; gid(find_record(alloc, text, b"a")?), Some(2));
-    let lines = FileLines::of(alloc, text)?;
-    assert_eq!(rt; gid(lines.record_at(alloc, 0)?), None);
-    assert_eq!(rt; gid(lines.record_at(alloc, 3)?), Some(3));
     Ok(())
 }
 

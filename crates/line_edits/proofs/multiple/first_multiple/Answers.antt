@@ -1,16 +1,28 @@
-use Rattle.std.proofs.Common.{◌∙◌, sym, arith}
+use Rattle.std.proofs.Common.{◌∙◌, length, ap, sym, arith}
+use Rattle.acct_text.specs.Lines.{lines_of}
+use Rattle.account_formats.specs.Format.{records_of}
+use Rattle.acct_tables.specs.SeenLines.{seen_line}
 use Rattle.line_edits.specs.SeenEdits.{seen_edits}
+use Rattle.line_edits.specs.Touching.{first_touched}
 use Rattle.line_edits.proofs.TouchedRecords.{met-here, passed-here}
 use Rattle.line_edits.proofs.multiple.first_multiple.Goals as goal
 
-pub returns-in-Some : goal.returns-in-Some
-returns-in-Some g c =
-    sym (met-here g.R.TableRecord.format (seen_edits g.R.EditedRecord.becomes c.args.edits.now) c.args.lines.now
-    c.places.place c.in-Some.name (omega arith) (sym c.in_ok-name.ensures ∙ c.in-Some.is))
-    ∙ c.places.invariant
+pub returns-in-Some-2 : goal.returns-in-Some-2
+returns-in-Some-2 g c =
+    let format = g.R.TableRecord.format in
+    sym (met-here format (seen_edits g.R.EditedRecord.becomes c.args.edits.now)
+    (records_of format (lines_of c.args.text.now)) (seen_line c.in-Some.line) c.lines.left
+    c.take.new.self c.in-Some.ensures.taken c.in-Some-2.name
+    (sym c.in_ok-name.ensures ∙ c.in-Some-2.is))
+    ∙ c.lines.invariant
 
-pub places-preserved : goal.places-preserved
-places-preserved g c =
-    sym (passed-here g.R.TableRecord.format (seen_edits g.R.EditedRecord.becomes c.args.edits.now) c.args.lines.now
-    c.places.place (omega arith) (sym c.in_ok-name.ensures ∙ c.in_default.is))
-    ∙ c.places.invariant
+pub lines-preserved : goal.lines-preserved
+lines-preserved g c =
+    let format = g.R.TableRecord.format in
+    sym (passed-here format (seen_edits g.R.EditedRecord.becomes c.args.edits.now)
+    (records_of format (lines_of c.args.text.now)) (seen_line c.in-Some.line) c.lines.left
+    c.take.new.self c.in-Some.ensures.taken (sym c.in_ok-name.ensures ∙ c.in_default-2.is))
+    ∙ c.lines.invariant
+
+pub lines-smaller : goal.lines-smaller
+lines-smaller g c = omega (arith, ap length c.in-Some.ensures.taken)

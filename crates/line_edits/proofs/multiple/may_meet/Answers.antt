@@ -1,7 +1,7 @@
 use Rattle.std.proofs.Common.{◌∙◌, ap, sym, subst}
 use Rattle.std.specs.Prelude.{nat_le}
+use Rattle.acct_text.specs.Lines.{lines_of}
 use Rattle.account_formats.specs.Format.{count_named, records_of}
-use Rattle.acct_tables.specs.TableLines.{record_at}
 use Rattle.line_edits.specs.SeenEdits.{seen_edits}
 use Rattle.line_edits.specs.Touching.{LacksName}
 use Rattle.line_edits.proofs.TouchedRecords.{met-single, met-untouched, record-named, untouched}
@@ -10,22 +10,21 @@ use Rattle.line_edits.proofs.multiple.may_meet.Goals as goal
 pub returns-then-not-may_touch-clause-passed : goal.returns-then-not-may_touch-clause-passed
 returns-then-not-may_touch-clause-passed g c = λ no.
     let format = g.R.TableRecord.format in
-    let lines = c.args.lines.now in
     let edits = seen_edits g.R.EditedRecord.becomes c.args.edits.now in
-    let here = record-named format (record_at format lines c.args.place) c.in-Some.name.now
+    let here = record-named format (format.read c.args.line.now) c.in-Some.name.now
     c.in-Some.ensures in
-    met-untouched format edits lines c.args.place here.item here.is
+    met-untouched format edits (records_of format (lines_of c.args.text.now)) c.args.line.now here.item
+    here.is
     (untouched format edits here.item c.args.touched.now c.requires.only
     (subst (LacksName c.args.touched.now) (sym here.named) (c.may_touch.ensures c.if-not-may_touch.true)))
 
 pub returns-clause-passed : goal.returns-clause-passed
 returns-clause-passed g c = λ no.
     let format = g.R.TableRecord.format in
-    let lines = c.args.lines.now in
-    let records = records_of format lines in
-    let here = record-named format (record_at format lines c.args.place) c.in-Some.name.now
+    let records = records_of format (lines_of c.args.text.now) in
+    let here = record-named format (format.read c.args.line.now) c.in-Some.name.now
     c.in-Some.ensures in
-    met-single format (seen_edits g.R.EditedRecord.becomes c.args.edits.now) lines c.args.place
+    met-single format (seen_edits g.R.EditedRecord.becomes c.args.edits.now) records c.args.line.now
     here.item here.is
     (ap (λ name. nat_le 2 (count_named format name records)) here.named
     ∙ sym c.has_several.ensures ∙ no)

@@ -1,7 +1,15 @@
-use Rattle.std.proofs.Common.{take}
-use Rattle.table_lookups.specs.IndexedLines.{TellsGids}
+use Rattle.std.proofs.Common.{length}
+use Rattle.acct_text.specs.Lines.{lines_of}
+use Rattle.account_formats.specs.Format.{records_of}
+use Rattle.account_formats.specs.Records.{group_format}
+use Rattle.table_lookups.specs.FirstLines.{Tells, has_gid, told_gids}
 use Rattle.table_lookups.proofs.group_index.first_of_gids.Given as goal
 
--- the map has the first lines of the GIDs so far
-abbrev pub invariant-places : goal.invariant-places
-invariant-places l = TellsGids (take l.place l.groups) l.gids
+-- the first with each GID is told, or is among the groups left
+abbrev pub invariant-lines : goal.invariant-lines
+invariant-lines l =
+    Tells group_format has_gid (told_gids l.gids) (records_of group_format l.left)
+    (records_of group_format (lines_of l.text))
+
+abbrev pub decreases-lines : goal.decreases-lines
+decreases-lines l = length l.left

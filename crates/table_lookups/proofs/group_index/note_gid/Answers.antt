@@ -1,36 +1,36 @@
-use Rattle.std.proofs.Common.{◌∙◌, ap, refl, sym}
-use Rattle.std.specs.Prelude.{None, Some, option_map}
+use Rattle.std.proofs.Common.{◌∙◌, ap, nat_eq, sym, if◌then◌else◌}
+use Rattle.std.specs.Prelude.{Some, option_map}
+use Rattle.std.proofs.lemmas.Bool.{eqb-true}
 use Rattle.account_formats.specs.Records.{group_format}
-use Rattle.acct_tables.proofs.LinesHere.{read-here}
-use Rattle.table_lookups.proofs.GidLemmas.{gid-known, gid-noted, gid-other, is-none}
+use Rattle.table_lookups.specs.FirstLines.{has_gid, told_gids}
+use Rattle.table_lookups.proofs.FirstLemmas.{first-known, first-noted, first-other, is-none, mapped-if, none-of, some-mapped, told-of}
 use Rattle.table_lookups.proofs.group_index.note_gid.Goals as goal
 
 pub returns-in_default : goal.returns-in_default
-returns-in_default c = λ tells.
-    gid-other c.args.groups.now c.args.place c.requires None
-    (c.in_default.ensures
-    ∙ ap (λ text. option_map (λ group. group.gid) (group_format.read text)) c.text_at.ensures
-    ∙ ap (option_map (λ group. group.gid))
-    (read-here group_format c.args.groups.now c.args.place c.requires))
-    c.args.gids.now tells refl
+returns-in_default c = λ rest all.
+    first-other group_format has_gid c.args.line.now (told_gids c.args.gids.now) rest all
+    (none-of (λ group. group.gid) (group_format.read c.args.line.now) c.in_default.ensures)
 
 pub returns-then-contains_key : goal.returns-then-contains_key
-returns-then-contains_key c = λ tells.
-    gid-known c.args.groups.now c.args.place c.requires (Some c.in-Some.gid)
-    (c.in-Some.ensures
-    ∙ ap (λ text. option_map (λ group. group.gid) (group_format.read text)) c.text_at.ensures
-    ∙ ap (option_map (λ group. group.gid))
-    (read-here group_format c.args.groups.now c.args.place c.requires))
-    c.args.gids.now tells c.in-Some.gid refl
-    (sym c.contains_key.ensures ∙ c.if-contains_key.true)
+returns-then-contains_key c = λ rest all.
+    let line = c.args.line.now in
+    let gid = c.in-Some.gid in
+    let here = told-of (λ group. group.gid) (group_format.read line) gid c.in-Some.ensures in
+    first-known group_format has_gid line (told_gids c.args.gids.now) rest all here.item gid here.is
+    (λ key is. sym here.has ∙ eqb-true here.item.gid key is)
+    (some-mapped (λ line. line.now) _ ∙ sym c.contains_key.ensures ∙ c.if-contains_key.true)
 
 pub returns : goal.returns
-returns c = λ tells.
-    gid-noted c.args.groups.now c.args.place c.requires (Some c.in-Some.gid)
-    (c.in-Some.ensures
-    ∙ ap (λ text. option_map (λ group. group.gid) (group_format.read text)) c.text_at.ensures
-    ∙ ap (option_map (λ group. group.gid))
-    (read-here group_format c.args.groups.now c.args.place c.requires))
-    c.args.gids.now tells c.in-Some.gid c.insert.new.self refl
-    (is-none _ (sym c.contains_key.ensures ∙ c.if-contains_key.false))
-    c.in_ok-insert.ensures.updates.0
+returns c = λ rest all.
+    let line = c.args.line.now in
+    let gid = c.in-Some.gid in
+    let here = told-of (λ group. group.gid) (group_format.read line) gid c.in-Some.ensures in
+    first-noted group_format has_gid line (told_gids c.args.gids.now) rest all here.item gid
+    (told_gids c.insert.new.self) here.is
+    (λ key is. sym here.has ∙ eqb-true here.item.gid key is)
+    (ap (option_map (λ line. line.now))
+    (is-none _ (sym c.contains_key.ensures ∙ c.if-contains_key.false)))
+    (λ key. ap (option_map (λ line. line.now)) (c.in_ok-insert.ensures.updates.0 key)
+    ∙ mapped-if (λ line. line.now) (nat_eq gid key) _ _
+    ∙ ap (λ own. if nat_eq own key then Some line else told_gids c.args.gids.now key)
+    (sym here.has))

@@ -1,13 +1,18 @@
-use Rattle.std.proofs.Common.{◌≤◌, take}
+use Rattle.std.proofs.Common.{length}
 use Rattle.account_formats.specs.Format.{records_of}
+use Rattle.table_lookups.specs.TablesOfLines.{lines_in}
 use Rattle.check_reports.specs.Sorted.{IsOrderOf}
+use Rattle.check_reports.proofs.RecordWalk.{HaveTaken}
 use Rattle.check_reports.proofs.sorting.ByPlace.of.Given as goal
 
--- the order is that of the records so far, of which there are no more than lines
-abbrev pub invariant-loop-place : goal.invariant-loop-place
-invariant-loop-place g l =
+-- the order is that of the records so far
+abbrev pub invariant-lines : goal.invariant-lines
+invariant-lines g l =
     let format = g.M.TableRecord.format in
     record {
-      so_far : IsOrderOf format (records_of format (take l.place l.lines)) l.order;
-      small : l.order.count ≤ l.place;
+      taken : HaveTaken (lines_in l.main) l.left;
+      so_far : IsOrderOf format (records_of format taken.done) l.order;
     }
+
+abbrev pub decreases-lines : goal.decreases-lines
+decreases-lines g l = length l.left

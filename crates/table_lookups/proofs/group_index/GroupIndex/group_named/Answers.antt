@@ -4,23 +4,14 @@ use Rattle.std.proofs.lemmas.Result.{IfOk-weaker}
 use Rattle.account_formats.specs.Format.{find_named}
 use Rattle.account_formats.specs.Records.{group_format}
 use Rattle.account_formats.specs.Tables.{group_records}
-use Rattle.table_lookups.specs.IndexedLines.{AreGroups}
-use Rattle.table_lookups.specs.TablesOfLines.{lines_in}
-use Rattle.table_lookups.proofs.FileLemmas.{records-in}
+use Rattle.table_lookups.specs.FirstLines.{AreGroups}
 use Rattle.table_lookups.proofs.group_index.GroupIndex.group_named.Goals as goal
-
-pub find-requires : goal.find-requires
-find-requires c =
-    let file = c.self.inside.files.now.group in
-    (subst (λ groups. IfSome groups (AreGroups (lines_in file))) c.in-Some.is c.self.invariant).named.tells
 
 pub returns-in-Some : goal.returns-in-Some
 returns-in-Some c =
-    let file = c.self.inside.files.now.group in
-    let groups = subst (λ groups. IfSome groups (AreGroups (lines_in file))) c.in-Some.is
-    c.self.invariant in
+    let records = group_records c.self.inside.files.now in
+    let groups = subst (λ groups. IfSome groups (AreGroups records)) c.in-Some.is c.self.invariant in
     IfOk-weaker c.find.result _ _ (λ found is.
-    is
-    ∙ ap (find_named group_format c.args.name.now) (records-in group_format _ file groups.named.are)
+    is records groups.names
     ∙ ap (λ files. find_named group_format c.args.name.now (group_records files)) c.self.view_is)
     c.find.ensures

@@ -1,0 +1,21 @@
+-- Claim: a file has the records that an index tells of (`has-told`).
+use Rattle.std.proofs.Common.{◌≡◌, ◌∙◌, ℕ, List, ap}
+use Rattle.std.specs.Prelude.{Option, is_some}
+use Rattle.account_formats.specs.Format.{Format, has_named}
+use Rattle.account_formats.specs.Tables.{table_records}
+use Rattle.acct_tables.specs.declared.name_index.NameIndex.{NameIndex}
+use Rattle.acct_tables.specs.NameIndex.{told}
+use Rattle.acct_tables.proofs.NamedRecords.{told-has}
+use Rattle.table_lookups.specs.TablesOfLines.{lines_in}
+use Rattle.table_lookups.proofs.FileLemmas.{records-in}
+use Rattle.check_reports.specs.Known.{TellsOf}
+
+-- what is told of a name is there where a record of the file has it
+pub has-told :
+    {R : Type 0} (format : Format R) (file : Option (List ℕ)) (names : NameIndex) (name : List ℕ)
+    → TellsOf format file names
+    → is_some (told names name) ≡ has_named format name (table_records format file)
+has-told format file names name tells =
+    ap is_some (tells name)
+    ∙ told-has format name (lines_in file)
+    ∙ ap (has_named format name) (records-in format (lines_in file) file (λ i. lines_in file))

@@ -1,0 +1,15 @@
+use Rattle.std.proofs.Common.{length}
+use Rattle.account_formats.specs.Format.{records_of}
+use Rattle.account_formats.specs.Tables.{table_records}
+use Rattle.table_lookups.specs.FirstLines.{Tells, has_name, told_names}
+use Rattle.table_lookups.proofs.first_lines.FirstOfNames.of.Given as goal
+
+-- the first of each name is told, or is among the records left
+abbrev pub invariant-lines : goal.invariant-lines
+invariant-lines g l =
+    let format = g.R.TableRecord.format in
+    Tells format (has_name format) (told_names l.first) (records_of format l.left)
+    (table_records format l.file)
+
+abbrev pub decreases-lines : goal.decreases-lines
+decreases-lines g l = length l.left

@@ -1,0 +1,51 @@
+-- The line of the first record of each name, and of the first group with each GID (passwd(5),
+-- shadow(5), group(5)).
+use Rattle.std.specs.Prelude.{◌≡◌, ℕ, ◌==◌, nat_eq, Bool, List, [], Option, None, Some, find, bytes_eq, option_map}
+use Rattle.std.specs.HashMap.{HashMap, get, get_by}
+use Rattle.account_formats.specs.declared.records.GroupRecord.{GroupRecord}
+use Rattle.account_formats.specs.Format.{Format, is_named}
+use Rattle.account_formats.specs.Records.{group_format}
+use Rattle.table_lookups.specs.declared.first_lines.FirstOfNames.{FirstOfNames}
+use Rattle.table_lookups.specs.declared.group_index.GroupLines.{GroupLines}
+use denote.Ref.{Bor}
+
+-- the record of the line that is told, or else another
+abbrev pub or_other : {R : Type 0} → Format R → Option (List ℕ) → Option R → Option R
+or_other format None other = other
+or_other format (Some line) other = format.read line
+
+-- of each key the first of all records is told, or else it is among the rest
+abbrev pub Tells :
+    {R K : Type 0} → Format R → (K → R → Bool) → (K → Option (List ℕ)) → List R → List R → Type 0
+Tells {K = K} format has told rest all =
+    (key : K) → or_other format (told key) (find (has key) rest) ≡ find (has key) all
+
+-- ---- Names
+
+-- whether the record has the name
+abbrev pub has_name : {R : Type 0} → Format R → List ℕ → R → Bool
+has_name format name r = is_named format name r
+
+-- the line that is told of a name
+abbrev pub told_names : FirstOfNames → List ℕ → Option (List ℕ)
+told_names first name =
+    option_map (λ line. line.now) (get_by (λ key. bytes_eq name key.now) first.lines)
+
+-- the first of the records of each name is told
+abbrev pub TellsNames : {R : Type 0} → Format R → List R → FirstOfNames → Type 0
+TellsNames format records first = Tells format (has_name format) (told_names first) [] records
+
+-- ---- GIDs
+
+-- whether the group has the GID
+abbrev pub has_gid : ℕ → GroupRecord → Bool
+has_gid gid group = group.gid == gid
+
+-- the line that is told of a GID
+abbrev pub told_gids : {S : Type 0} → HashMap ℕ (Bor (List ℕ)) S → ℕ → Option (List ℕ)
+told_gids gids gid = option_map (λ line. line.now) (get nat_eq gids gid)
+
+-- of the groups the first of each name and the first with each GID are told
+pub record AreGroups (records : List GroupRecord) (groups : GroupLines) : Type 0 where
+  pub names : TellsNames group_format records groups.names
+  pub gids : Tells group_format has_gid (told_gids groups.gids) [] records
