@@ -1,15 +1,20 @@
 -- Claim: a tool that changes nothing decides as its report says (`told-decides`), and one that sorts
--- by the sorted files (`users-sorted`, `groups-sorted`). Way: without edits no name has multiple entries, and all six
+-- by the tables that differ then (`users-sorted`, `groups-sorted`). Way: without edits no name has multiple entries, and all six
 -- files stay; a sort touches no record (`users-untouched`, `groups-untouched`).
-use Rattle.std.proofs.Common.{◌≡◌, ◌∙◌, ℕ, false, true, List, [], ◌∷◌, refl, sym, ap}
-use Rattle.std.specs.Prelude.{codes, Option, Some, None, Ok}
+use Rattle.std.proofs.Common.{◌≡◌, ◌∙◌, ◌++◌, ℕ, false, true, List, [], ◌∷◌, refl, sym, ap, subst}
+use Rattle.std.specs.Prelude.{codes, Option, Some, None, Ok, is_some}
 use Rattle.std.specs.List.{position_or_len}
 use Rattle.acct_text.specs.declared.files.Files.{Files}
 use Rattle.account_model.specs.declared.refusal.Refusal.{Refusal}
 use Rattle.account_words.specs.declared.tool.Tool.{Tool}
+use Rattle.acct_text.specs.declared.new_tables.NewTable.{NewTable}
+use Rattle.acct_text.specs.ChangedTables.{changed_bytes, changed_tables, with_new_table}
 use Rattle.acct_text.specs.Contents.{same_content}
+use Rattle.acct_text.specs.Files.{table_of}
+use Rattle.acct_text.specs.Tables.{all_tables}
+use Rattle.acct_text.specs.declared.Tab.{Tab}
+use Rattle.acct_text.specs.declared.Tab.TheVariants.{Passwd, Shadow, Group, Gshadow, Subuid, Subgid}
 use Rattle.account_model.specs.Action.{changes, made_by, outcome_of, reports, multiple_entries}
-use Rattle.account_model.specs.Answer.{files_eq}
 use Rattle.account_formats.specs.Edits.{Arrange, first_multiple}
 use Rattle.account_formats.specs.Format.{Format, is_named}
 use Rattle.account_model.specs.Grpck.{grpck, grpck_report, grpck_sort, sorted_groups}
@@ -18,11 +23,12 @@ use Rattle.account_words.specs.Request.{Request, has_option}
 use Rattle.account_formats.specs.Records.{passwd_format, shadow_format, group_format, gshadow_format}
 use Rattle.account_formats.specs.Tables.{no_edits, files_after, table_after, table_records, passwd_records, shadow_records, group_records, gshadow_records}
 use Rattle.account_formats.specs.Text.{first_some}
-use Rattle.tool_answers.specs.Decisions.{decision_of, made_decision}
+use Rattle.tool_answers.specs.Decisions.{decision_by, decision_of, made_output}
 use Rattle.tool_answers.specs.declared.decision.Decision.{Decision}
 use Rattle.tool_answers.specs.declared.decision.Decision.TheVariants.{Same}
 use Rattle.account_formats.proofs.NoEdits.{files-stay}
 use Rattle.account_formats.proofs.SameLaws.{bytes-self}
+use Rattle.tool_answers.proofs.ListedTables.{AreListedBefore, all-listed, listed-on, listed-past, none-listed}
 use Rattle.check_reports.specs.Decided.{DecidesBy}
 
 -- no edit touches a record
@@ -36,9 +42,9 @@ same-self : (bytes : Option (List ℕ)) → same_content bytes bytes ≡ true
 same-self None = refl
 same-self (Some bytes) = bytes-self bytes
 
--- the files are the same as themselves
-files-same : (files : Files) → files_eq files files ≡ true
-files-same files =
+-- files don't differ from themselves
+none-changed : (files : Files) → changed_tables (table_of files) (table_of files) ≡ []
+none-changed files =
     rw (
       same-self files.passwd,
       same-self files.shadow,
@@ -68,8 +74,10 @@ module _ (tool : Tool) (refusals : List (Option Refusal)) (status : ℕ) (out : 
   told-outcome unrefused = rw (unrefused, outcome_of) rw (none-multiple-at-all files) refl
 
   -- what it made keeps the files
-  made-same : files_eq files (files_after no_edits files) ≡ true
-  made-same = ap (files_eq files) (files-stay files) ∙ files-same files
+  made-same : changed_tables (table_of files) (table_of (files_after no_edits files)) ≡ []
+  made-same =
+      ap (λ (new : Files). changed_tables (table_of files) (table_of new)) (files-stay files)
+      ∙ none-changed files
 
   -- the report decides
   pub told-decides :
@@ -80,7 +88,8 @@ module _ (tool : Tool) (refusals : List (Option Refusal)) (status : ℕ) (out : 
   told-decides decision is unrefused =
       is
       ∙ sym (ap (decision_of tool files) (told-outcome unrefused)
-      ∙ rw (made-same, made_decision) refl)
+      ∙ ap (λ (tables : List NewTable). decision_by tables
+      (made_output tool (made_by (reports refusals status out) files))) made-same)
 
 -- a sort touches no record, so names that stand twice don't refuse it
 pub sort-multiple :
@@ -140,55 +149,84 @@ module _ (request : Request) (files : Files) (today : ℕ) where
 
 -- ---- The sorted files
 
-module _ (files new : Files) (same : new ≡ files) where
-  -- what stays of the new files is what the script of no edits leaves
-  stays : {X : Type 0} (part : Files → X) → part new ≡ part (files_after no_edits files)
-  stays part = ap part same ∙ ap part (sym (files-stay files))
+-- a table stands once it is sorted where it stood
+pub sorted-stands :
+    {R : Type 0} (format : Format R) (key : R → ℕ) (bytes : Option (List ℕ))
+    → is_some (table_after format (Arrange key ∷ []) bytes) ≡ is_some bytes
+sorted-stands format key None = refl
+sorted-stands format key (Some bytes) = refl
 
-  -- passwd and shadow in order, and all else as it is
+module _ (files : Files) where
+  -- a table without edits is the same
+  unsorted : (part : Files → Option (List ℕ)) →
+      same_content (part files) (part (files_after no_edits files)) ≡ true
+  unsorted part = ap (same_content (part files)) (ap part (files-stay files)) ∙ same-self (part files)
+
+  -- what a table adds to the tables that differ, by its new content
+  abbrev with_table : Tab → Option (List ℕ) → Option (List ℕ) → List NewTable → List NewTable
+  with_table table old new before = before ++ with_new_table table (changed_bytes old new) []
+
+  -- passwd and shadow in order are all that can differ
   pub users-sorted :
-      (passwd shadow : Option (List ℕ))
+      (passwd shadow : Option (List ℕ)) (none one both : List NewTable)
       → passwd ≡ (files_after (pwck_sort files) files).passwd
       → shadow ≡ table_after shadow_format
       (Arrange (λ r. position_or_len (is_named passwd_format r.name)
       (table_records passwd_format passwd)) ∷ [])
       files.shadow
-      → record new { passwd = passwd; shadow = shadow } ≡ files_after (pwck_sort files) files
-  users-sorted passwd shadow passwd_is shadow_is =
+      → none ≡ []
+      → one ≡ with_table Passwd files.passwd passwd none
+      → both ≡ with_table Shadow files.shadow shadow one
+      → both ≡ changed_tables (table_of files) (table_of (files_after (pwck_sort files) files))
+  users-sorted passwd shadow none one both passwd_is shadow_is none_is one_is both_is =
+      let old = table_of files in
+      let new = table_of (files_after (pwck_sort files) files) in
       let like : shadow ≡ (files_after (pwck_sort files) files).shadow =
       shadow_is ∙ ap (λ passwd. table_after shadow_format
       (Arrange (λ r. position_or_len (is_named passwd_format r.name)
       (table_records passwd_format passwd)) ∷ [])
       files.shadow) passwd_is in
-      λ i. record {
-        passwd = passwd_is i;
-        shadow = like i;
-        group = stays (λ f. f.group) i;
-        gshadow = stays (λ f. f.gshadow) i;
-        subuid = stays (λ f. f.subuid) i;
-        subgid = stays (λ f. f.subgid) i;
-      }
+      let first = listed-on old new Passwd (Shadow ∷ Group ∷ Gshadow ∷ Subuid ∷ Subgid ∷ []) none one
+      (one_is ∙ ap (λ content. with_table Passwd files.passwd content none) passwd_is)
+      (subst (AreListedBefore old new all_tables) (sym none_is) (none-listed old new)) in
+      let users = listed-on old new Shadow (Group ∷ Gshadow ∷ Subuid ∷ Subgid ∷ []) one both
+      (both_is ∙ ap (λ content. with_table Shadow files.shadow content one) like) first in
+      all-listed old new both
+      (listed-past old new Subgid [] both (unsorted (λ f. f.subgid))
+      (listed-past old new Subuid (Subgid ∷ []) both (unsorted (λ f. f.subuid))
+      (listed-past old new Gshadow (Subuid ∷ Subgid ∷ []) both (unsorted (λ f. f.gshadow))
+      (listed-past old new Group (Gshadow ∷ Subuid ∷ Subgid ∷ []) both (unsorted (λ f. f.group))
+      users))))
 
-  -- group and gshadow in order, and all else as it is
+  -- and so are group and gshadow
   pub groups-sorted :
-      (group gshadow : Option (List ℕ))
+      (group gshadow : Option (List ℕ)) (none one both : List NewTable)
       → group ≡ (files_after (grpck_sort files) files).group
       → gshadow ≡ table_after gshadow_format
       (Arrange (λ r. position_or_len (is_named group_format r.name)
       (table_records group_format group)) ∷ [])
       files.gshadow
-      → record new { group = group; gshadow = gshadow } ≡ files_after (grpck_sort files) files
-  groups-sorted group gshadow group_is gshadow_is =
+      → none ≡ []
+      → one ≡ with_table Group files.group group none
+      → both ≡ with_table Gshadow files.gshadow gshadow one
+      → both ≡ changed_tables (table_of files) (table_of (files_after (grpck_sort files) files))
+  groups-sorted group gshadow none one both group_is gshadow_is none_is one_is both_is =
+      let old = table_of files in
+      let new = table_of (files_after (grpck_sort files) files) in
       let like : gshadow ≡ (files_after (grpck_sort files) files).gshadow =
       gshadow_is ∙ ap (λ group. table_after gshadow_format
       (Arrange (λ r. position_or_len (is_named group_format r.name)
       (table_records group_format group)) ∷ [])
       files.gshadow) group_is in
-      λ i. record {
-        passwd = stays (λ f. f.passwd) i;
-        shadow = stays (λ f. f.shadow) i;
-        group = group_is i;
-        gshadow = like i;
-        subuid = stays (λ f. f.subuid) i;
-        subgid = stays (λ f. f.subgid) i;
-      }
+      let users = listed-past old new Shadow (Group ∷ Gshadow ∷ Subuid ∷ Subgid ∷ []) none
+      (unsorted (λ f. f.shadow))
+      (listed-past old new Passwd (Shadow ∷ Group ∷ Gshadow ∷ Subuid ∷ Subgid ∷ []) none
+      (unsorted (λ f. f.passwd))
+      (subst (AreListedBefore old new all_tables) (sym none_is) (none-listed old new))) in
+      let first = listed-on old new Group (Gshadow ∷ Subuid ∷ Subgid ∷ []) none one
+      (one_is ∙ ap (λ content. with_table Group files.group content none) group_is) users in
+      let groups = listed-on old new Gshadow (Subuid ∷ Subgid ∷ []) one both
+      (both_is ∙ ap (λ content. with_table Gshadow files.gshadow content one) like) first in
+      all-listed old new both
+      (listed-past old new Subgid [] both (unsorted (λ f. f.subgid))
+      (listed-past old new Subuid (Subgid ∷ []) both (unsorted (λ f. f.subuid)) groups))

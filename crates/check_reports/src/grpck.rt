@@ -5,7 +5,7 @@ ghost use Rattle.account_model.specs.Grpck.{grpck, grpck_report, grpck_sort, unk
 ghost use Rattle.check_reports.specs.Decided.{DecidesBy};
 ghost use Rattle.check_reports.specs.Seen.{unknown_problem};
 
-use crate::decision::changed;
+use crate::decision::{changed, push_sorted};
 use crate::known::Known;
 use crate::problem::{Listing, Problem};
 use crate::problems::Problems;
@@ -13,7 +13,7 @@ use crate::report::{CheckedRecord, Report};
 use crate::sorting::{ById, sorted_file, sorted_like};
 use account_formats::{GroupRecord, GshadowRecord};
 use acct_lines::is_valid_name;
-use acct_text::{Files, Names, Tab};
+use acct_text::{Files, Names, NewTables, Tab};
 use command_values::Asked;
 use std::alloc::{AllocError, Global};
 use tool_answers::Decision;
@@ -42,10 +42,10 @@ fn sort_groups(alloc: Global, asked: &Asked, files: &Files) -> Result<Decision, 
 {
     let group = sorted_file::<GroupRecord, ById>(alloc, &files.group, &ById)?;
     let gshadow = sorted_like::<GroupRecord, GshadowRecord>(alloc, &group, &files.gshadow)?;
-    let mut new = files.copy(alloc)?;
-    new.group = group;
-    new.gshadow = gshadow;
-    Ok(changed(alloc, files, new))
+    let mut tables = NewTables::none(alloc);
+    push_sorted(&mut tables, Tab::Group, &files.group, group)?;
+    push_sorted(&mut tables, Tab::Gshadow, &files.gshadow, gshadow)?;
+    Ok(changed(alloc, tables))
 }
 
 /// Reports the problems of group and gshadow, in the order of lines.

@@ -4,7 +4,7 @@ ghost use Rattle.account_model.specs.Action.{changes};
 ghost use Rattle.account_model.specs.Pwck.{is_after, pwck, pwck_report, pwck_sort};
 ghost use Rattle.check_reports.specs.Decided.{DecidesBy};
 
-use crate::decision::changed;
+use crate::decision::{changed, push_sorted};
 use crate::known::Known;
 use crate::problem::Problem;
 use crate::problems::Problems;
@@ -12,7 +12,7 @@ use crate::report::{CheckedRecord, Report};
 use crate::sorting::{ById, sorted_file, sorted_like};
 use account_formats::{PasswdRecord, ShadowRecord};
 use acct_lines::is_valid_name;
-use acct_text::{Files, Tab};
+use acct_text::{Files, NewTables, Tab};
 use command_values::Asked;
 use std::alloc::{AllocError, Global};
 use tool_answers::Decision;
@@ -38,10 +38,10 @@ fn sort_users(alloc: Global, asked: &Asked, files: &Files) -> Result<Decision, A
 {
     let passwd = sorted_file::<PasswdRecord, ById>(alloc, &files.passwd, &ById)?;
     let shadow = sorted_like::<PasswdRecord, ShadowRecord>(alloc, &passwd, &files.shadow)?;
-    let mut new = files.copy(alloc)?;
-    new.passwd = passwd;
-    new.shadow = shadow;
-    Ok(changed(alloc, files, new))
+    let mut tables = NewTables::none(alloc);
+    push_sorted(&mut tables, Tab::Passwd, &files.passwd, passwd)?;
+    push_sorted(&mut tables, Tab::Shadow, &files.shadow, shadow)?;
+    Ok(changed(alloc, tables))
 }
 
 /// Reports the problems of passwd and shadow, in the order of lines. Notices are left out with

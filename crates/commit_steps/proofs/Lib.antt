@@ -4,6 +4,6 @@ pub mod ReadsLemmas
 pub mod InstallLemmas
 pub mod BackupLemmas
 pub mod CommitLemmas
-pub mod PreparedLemmas
+pub mod WithTables
 pub mod NextLemmas
 pub mod InstallNextLemmas

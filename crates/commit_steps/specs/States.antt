@@ -7,7 +7,7 @@ use Rattle.acct_text.specs.declared.Tab.TheVariants.{Passwd, Shadow, Group, Gsha
 use Rattle.acct_text.specs.declared.files.Files.{Files}
 use Rattle.acct_text.specs.Bytes.{Bytes}
 use Rattle.acct_text.specs.Limits.{table_limit}
-use Rattle.acct_text.specs.Contents.{Contents}
+use Rattle.acct_text.specs.Contents.{Contents, IsChange}
 use Rattle.acct_text.specs.Files.{table_of}
 use Rattle.acct_text.specs.Tables.{table_place}
 use Rattle.acct_outside.specs.declared.Name.{Name}
@@ -78,6 +78,11 @@ with_tables tables files = record {
   subuid = option_or (listed_in tables Subuid) files.subuid;
   subgid = option_or (listed_in tables Subgid) files.subgid;
 }
+
+-- The listed tables make a change of the files: each of them differs, and they stand in the fixed order.
+pub record MakesChange (tables : List NewTable) (files : Files) : Type 0 where
+  pub allowed : IsChange (table_of files) (table_of (with_tables tables files))
+  pub listed : tables ≡ changed_tables (table_of files) (table_of (with_tables tables files))
 
 -- the table that is read after one, and none after the last
 abbrev pub table_after : Tab → Option Tab

@@ -4,11 +4,11 @@ ghost use Rattle.acct_text.specs.Contents.{IsChange};
 ghost use Rattle.acct_text.specs.Files.{table_of};
 ghost use Rattle.intent_file.specs.Intent.{ReadsIntent, intent_text};
 ghost use Rattle.intent_file.specs.Pieces.{intent_pieces};
-ghost use Rattle.commit_steps.specs.States.{changed, intended, intent_piece, old_files};
+ghost use Rattle.commit_steps.specs.States.{MakesChange, change_by, changed, intended, intent_piece, old_files};
 
 use crate::reading::Loaded;
 use acct_outside::Token;
-use acct_text::{Bytes, Files, Tab};
+use acct_text::{Bytes, NewTables, Tab};
 use intent_file::{Intent, NewTable};
 use std::alloc::{AllocError, Global};
 use std::marker::Model;
@@ -40,12 +40,12 @@ impl Model for Prepared {
 }
 
 impl Prepared {
-    /// The change of what was read to the new files. The error says that memory ran out.
-    pub(crate) fn new(alloc: Global, loaded: Loaded, new: Files) -> Result<Self, AllocError>
-        requires { IsChange (table_of loaded.files) (table_of new) }
-        ensures { IfOk result (λ prepared. prepared ≡ record { inputs = loaded; new = new }) }
+    /// The change of what was read by these tables. The error says that memory ran out.
+    pub(crate) fn new(alloc: Global, loaded: Loaded, new: NewTables) -> Result<Self, AllocError>
+        requires { MakesChange new loaded.files }
+        ensures { IfOk result (λ prepared. prepared ≡ change_by new loaded) }
     {
-        let intent = intent_of(alloc, &loaded, new)?;
+        let intent = Intent::of(alloc, loaded.keeper().number(), new.into_vec())?;
         Ok(Prepared { loaded, intent })
     }
 
@@ -99,14 +99,4 @@ impl Prepared {
     {
         self.loaded
     }
-}
-
-/// The intent that leads from what was read to the new files, which it lets go. The error says that memory ran out.
-fn intent_of(alloc: Global, loaded: &Loaded, new: Files) -> Result<Intent, AllocError>
-    requires { IsChange (table_of loaded.now.files) (table_of new) }
-    ensures value { IfOk result (λ intent.
-        intent ≡ intended (record { inputs = loaded.now; new = new })) }
-    ensures reads { IfOk result (λ intent. ReadsIntent (intent_text intent) intent) }
-{
-    Intent::new(alloc, loaded.keeper().number(), loaded.files(), &new)
 }

@@ -7,7 +7,6 @@ ghost use Rattle.std.specs.Prelude.{◌≡◌, ◌≤◌, Option, Some, IfOk, If
 ghost use Rattle.std.specs.Option.{option_copied};
 ghost use Rattle.acct_text.specs.declared.Tab.{Tab};
 ghost use Rattle.acct_text.specs.Bytes.{Bytes};
-ghost use Rattle.acct_text.specs.Contents.{IsChange};
 ghost use Rattle.acct_text.specs.Files.{table_of};
 ghost use Rattle.acct_text.specs.Limits.{table_limit};
 ghost use Rattle.acct_outside.specs.Calls.{reads};
@@ -16,7 +15,7 @@ ghost use Rattle.suite_rules.specs.Steps.{StandsIn, own_command, TakesStep};
 ghost use Rattle.suite_rules.specs.Outcomes.{before_commit};
 ghost use Rattle.lock_steps.specs.NextCall.{IsNextCall};
 ghost use Rattle.intent_file.specs.Intent.{ReadsIntent, intent_text};
-ghost use Rattle.commit_steps.specs.States.{AreSound, intended, next_name, table_after, with_table, start_of, walk_of};
+ghost use Rattle.commit_steps.specs.States.{AreSound, MakesChange, change_by, intended, next_name, table_after, with_table, start_of, walk_of};
 ghost use Rattle.commit_steps.specs.Stands.{HasRead, StandsEnded, HoldsLoading};
 ghost use Rattle.commit_steps.specs.Outcomes.{Loads, LoadsContent, LoadsTable, is_missing};
 
@@ -24,7 +23,7 @@ use crate::backing::Backing;
 use crate::prepared::Prepared;
 use crate::{LoadEnd, Loading};
 use acct_outside::{Call, CommitStage, Folder, FolderFault, Found, Name, StageFault};
-use acct_text::{Bytes, Files, TABLE_LIMIT, Tab};
+use acct_text::{Bytes, Files, NewTables, TABLE_LIMIT, Tab};
 use lock_steps::{Clean, Keeper};
 use std::alloc::{AllocError, Global};
 use std::marker::Model;
@@ -260,14 +259,13 @@ impl Loaded {
         &self.keeper
     }
 
-    /// Makes the intent of these new files. It makes no call of the folder.
+    /// Makes the intent of these new tables, whose bytes it keeps. It makes no call of the folder.
     ///
-    /// A change leaves the same tables absent, none with more than 16,777,216 bytes, and at least
-    /// one differs. The error says that memory ran out: the keeper is spent then.
-    pub fn prepare(self, alloc: Global, new: Files) -> Result<Backing, AllocError>
-        requires { IsChange (table_of self.files) (table_of new) }
-        ensures value { IfOk result (λ backing.
-            backing ≡ walk_of (record { inputs = self; new = new })) }
+    /// Each of them stands and differs, and none has more than 16,777,216 bytes; there is one at
+    /// least. The error says that memory ran out: the keeper is spent then.
+    pub fn prepare(self, alloc: Global, new: NewTables) -> Result<Backing, AllocError>
+        requires { MakesChange new self.files }
+        ensures value { IfOk result (λ backing. backing ≡ walk_of (change_by new self)) }
         ensures reads { IfOk result (λ backing.
             ReadsIntent (intent_text (intended backing.change)) (intended backing.change)) }
     {

@@ -1,21 +1,27 @@
 -- Claim: on files that were loaded, the answer is that of the model (`decides-on`, `decides-setting`).
 -- Way: such files have no problem but a bad setting (`loaded-problem`); then the tool's outcome is the
--- decision, and the first new table that passes the limit is what the model finds (`new-problem`).
+-- decision: the tables that differ are what makes its files new (`none-differs`, `all-same`), and the
+-- first of them that passes the limit is what the model finds (`new-among`).
 use Rattle.std.proofs.Common.{◌≡◌, refl, sym, ap, subst, ◌∙◌, [], ◌∷◌, ◌≤◌, ℕ, Bool, true, false, length, List, Option, Some, None, IsSome, IfSome, Result, Ok, Err, arith, rules}
-use Rattle.std.specs.Prelude.{map, find, option_map, if◌then◌else◌, ◌&&◌}
+use Rattle.std.specs.Prelude.{map, find, is_some, option_map, if◌then◌else◌, ◌&&◌}
+use Rattle.std.specs.List.{list_all}
 use Rattle.acct_text.specs.declared.Tab.{Tab}
 use Rattle.acct_text.specs.declared.Tab.TheVariants.{Passwd, Shadow, Group, Gshadow, Subuid, Subgid}
 use Rattle.acct_text.specs.declared.files.Files.{Files}
 use Rattle.acct_outside.proofs.TokenLemmas.{bytes_eq-true}
 use Rattle.acct_text.specs.Bytes.{Bytes}
-use Rattle.acct_text.specs.Contents.{same_content}
+use Rattle.acct_text.specs.declared.new_tables.NewTable.{NewTable}
+use Rattle.acct_text.specs.ChangedTables.{changed_among, changed_tables, with_new_table}
+use Rattle.acct_text.specs.Contents.{Contents, same_content}
 use Rattle.acct_text.specs.Files.{table_of}
 use Rattle.acct_text.specs.Limits.{table_limit}
 use Rattle.acct_text.specs.Tables.{all_tables}
 use Rattle.account_model.specs.declared.refusal.Refusal.{Refusal}
 use Rattle.account_words.specs.declared.tool.Tool.{Tool}
 use Rattle.account_formats.specs.Text.{first_some}
-use Rattle.account_model.specs.Action.{Made, outcome_of}
+use Rattle.account_formats.specs.Tables.{files_after}
+use Rattle.account_model.specs.Action.{Action, Made, made_by, multiple_entries, outcome_of}
+use Rattle.account_model.proofs.DeedLaws.{files-stand}
 use Rattle.account_model.specs.Change.{action_of}
 use Rattle.account_words.specs.Settings.{bad_line, settings_of}
 use Rattle.account_model.specs.Answer.{FileProblem, TableTooLarge, BadSettingAt, Same, Changed, Answer as ToolAnswer, answer_outcome, succeeding, unusable, passes_limit, must_stand, table_problem, settings_problem, files_problem, new_table_problem, new_problem, files_eq, cause_of}
@@ -27,7 +33,9 @@ use Rattle.login_defs.specs.declared.defs.DefsFault.TheVariants.{BadNumber}
 use Rattle.login_defs.specs.Faults.{file_fault}
 use Rattle.tool_answers.specs.declared.decision.Decision.{Decision}
 use Rattle.tool_answers.specs.declared.decision.Decision.TheVariants.{Change as DecidesChange, Same as DecidesSame, Refuse}
-use Rattle.tool_answers.specs.Decisions.{Decides, decision_of, made_output, refusal_output}
+use Rattle.tool_answers.specs.Decisions.{Decides, decision_by, decision_of, made_output, refusal_output}
+use Rattle.commit_steps.specs.States.{MakesChange, with_tables}
+use Rattle.commit_steps.proofs.WithTables.{makes-change, with-changed}
 use Rattle.suite_answers.specs.declared.cause.Cause.TheVariants.{BadSetting}
 use Rattle.suite_answers.specs.declared.answer.Answer.{Answer}
 use Rattle.suite_session.specs.declared.tools.Decided.{Decided}
@@ -36,7 +44,8 @@ use Rattle.suite_session.specs.Runner.{Question}
 use Rattle.suite_session.specs.Answers.{answer_on, cause_of_answer, given_for, IsAnswerOn}
 use Rattle.suite_session.specs.Deeds.{is_change}
 use Rattle.suite_session.specs.Loading.{DecidesOn}
-use Rattle.suite_core.specs.Deciding.{bad_line as bad_line_of, AnswersDecision, is_large, large_table, settings_text}
+use Rattle.suite_session.proofs.LoadingTurns.{change-is}
+use Rattle.suite_core.specs.Deciding.{bad_line as bad_line_of, AnswersDecision, large_table, settings_text}
 
 -- ---- The files that were loaded
 
@@ -84,85 +93,102 @@ module _ (files : Files) (passwd : IsSome files.passwd) (group : IsSome files.gr
       alone None = refl
       alone (Some problem) = refl
 
-  -- no table of them passes the limit
-  none-large : (table : Tab) (content : Option Bytes) →
-      ((bytes : Bytes) → content ≡ Some bytes → length bytes ≤ table_limit) →
-      is_large content ≡ false
-  none-large table None small_one = refl
-  none-large table (Some bytes) small_one = within-limit bytes (small_one bytes refl)
-
-  pub loaded-small : large_table files ≡ None
-  loaded-small = rw (
-    none-large Passwd files.passwd (small Passwd),
-    none-large Shadow files.shadow (small Shadow),
-    none-large Group files.group (small Group),
-    none-large Gshadow files.gshadow (small Gshadow),
-    none-large Subuid files.subuid (small Subuid),
-    none-large Subgid files.subgid (small Subgid),
-  ) refl
-
 -- ---- New files
 
--- a new table has a problem where it passes the limit
-new-table : (table : Tab) (content : Option Bytes) → new_table_problem table content
-    ≡ (if is_large content then Some (TableTooLarge table) else None)
-new-table table None = refl
-new-table table (Some bytes) = refl
+-- the same content is one
+same-is : (one other : Option Bytes) → same_content one other ≡ true → one ≡ other
+same-is None None same = refl
+same-is None (Some bytes) same = absurd (cc same)
+same-is (Some bytes) None same = absurd (cc same)
+same-is (Some bytes) (Some others) same = ap Some (bytes_eq-true bytes others same)
 
--- the first problem of new tables is the first that passes the limit
-new-among : (files : Files) (tables : List Tab) →
-    first_some (map (λ table. new_table_problem table (table_of files table)) tables)
-    ≡ option_map TableTooLarge (find (λ table. is_large (table_of files table)) tables)
-new-among files [] = refl
-new-among files (table ∷ tables) =
-    by-test (is_large (table_of files table)) (new_table_problem table (table_of files table))
-    (new-table table (table_of files table)) (new-among files tables)
+-- new files, and old ones within the limit of which the same tables stand
+module _ (old new : Contents)
+    (small : (table : Tab) (bytes : Bytes) → old table ≡ Some bytes → length bytes ≤ table_limit)
+    (stands : (table : Tab) → is_some (new table) ≡ is_some (old table)) where
+  -- of new tables only those that differ can pass the limit
+  new-among : (tables : List Tab) →
+      first_some (map (λ table. new_table_problem table (new table)) tables)
+      ≡ option_map TableTooLarge (large_table (changed_among tables old new))
+  new-among [] = refl
+  new-among (table ∷ tables) =
+      cases (same_content (old table) (new table)) refl (new table) refl (new-among tables)
+    where
+      problems : List (Option FileProblem)
+      problems = map (λ other. new_table_problem other (new other)) tables
+
+      by-limit : (bytes : Bytes) (passes : Bool) →
+          first_some problems ≡ option_map TableTooLarge (large_table (changed_among tables old new)) →
+          first_some ((if passes then Some (TableTooLarge table) else None) ∷ problems)
+          ≡ option_map TableTooLarge (option_map (λ one. one.table)
+          (if passes then Some (record { table = table; bytes = bytes })
+          else find (λ one. passes_limit one.bytes) (changed_among tables old new)))
+      by-limit bytes true rest = refl
+      by-limit bytes false rest = rest
+
+      cases : (same : Bool) → same_content (old table) (new table) ≡ same →
+          (content : Option Bytes) → new table ≡ content →
+          first_some problems ≡ option_map TableTooLarge (large_table (changed_among tables old new)) →
+          first_some (new_table_problem table content ∷ problems)
+          ≡ option_map TableTooLarge (large_table (if same then changed_among tables old new
+          else with_new_table table content (changed_among tables old new)))
+      cases true same None is rest = rest
+      cases true same (Some bytes) is rest = rw (within-limit bytes (small table bytes
+          (same-is (old table) (new table) same ∙ is))) rest
+      cases false differs None is rest = rest
+      cases false differs (Some bytes) is rest = by-limit bytes (passes_limit bytes) rest
+
+  -- where none differs, each is the same
+  none-differs : (tables : List Tab) → changed_among tables old new ≡ [] →
+      list_all (λ table. same_content (old table) (new table)) tables ≡ true
+  none-differs [] none = refl
+  none-differs (table ∷ tables) none =
+      cases (same_content (old table) (new table)) refl (new table) refl none
+    where
+      absent : (one other : Option Bytes) → is_some other ≡ is_some one → other ≡ None →
+          same_content one other ≡ true
+      absent None other standing is = rw is refl
+      absent (Some bytes) other standing is = absurd (cc (sym standing ∙ ap is_some is))
+
+      cases : (same : Bool) → same_content (old table) (new table) ≡ same →
+          (content : Option Bytes) → new table ≡ content →
+          (if same then changed_among tables old new
+          else with_new_table table content (changed_among tables old new)) ≡ [] →
+          (same && list_all (λ other. same_content (old other) (new other)) tables) ≡ true
+      cases true same content is empty = none-differs tables empty
+      cases false differs None is empty =
+          absurd (cc (sym differs ∙ absent (old table) (new table) (stands table) is))
+      cases false differs (Some bytes) is empty = absurd (cc empty)
+
+  -- where each is the same, none differs
+  all-same : (tables : List Tab) →
+      list_all (λ table. same_content (old table) (new table)) tables ≡ true →
+      changed_among tables old new ≡ []
+  all-same [] same = refl
+  all-same (table ∷ tables) same = by-test (same_content (old table) (new table)) same
+    where
+      by-test : (is_same : Bool) →
+          (is_same && list_all (λ other. same_content (old other) (new other)) tables) ≡ true →
+          (if is_same then changed_among tables old new
+          else with_new_table table (new table) (changed_among tables old new)) ≡ []
+      by-test true rest = all-same tables rest
+      by-test false rest = absurd (cc rest)
+
+-- what a tool made are the files after its edits
+made-files : (action : Action) (files : Files) (made : Made) → outcome_of action files ≡ Ok made →
+    files_after action.script files ≡ made.files
+made-files action files made = by (first_some action.refusals) (multiple_entries action.script files)
   where
-    by-test : (large : Bool) (problem : Option FileProblem) →
-        problem ≡ (if large then Some (TableTooLarge table) else None) →
-        first_some (map (λ other. new_table_problem other (table_of files other)) tables)
-        ≡ option_map TableTooLarge (find (λ other. is_large (table_of files other)) tables) →
-        first_some (problem ∷ map (λ other. new_table_problem other (table_of files other)) tables)
-        ≡ option_map TableTooLarge (if large then Some table
-        else find (λ other. is_large (table_of files other)) tables)
-    by-test true problem is rest = rw is refl
-    by-test false problem is rest = rw is rest
-
-pub new-problem : (files : Files) → new_problem files ≡ option_map TableTooLarge (large_table files)
-new-problem files = new-among files all_tables
-
--- tables of the same content pass the limit both or not
-same-large : (one other : Option Bytes) → same_content one other ≡ true →
-    is_large other ≡ is_large one
-same-large None None same = refl
-same-large None (Some bytes) same = absurd (cc same)
-same-large (Some bytes) None same = absurd (cc same)
-same-large (Some bytes) (Some others) same =
-    ap passes_limit (sym (bytes_eq-true bytes others same))
-
--- so equal files have the same large table
-pub same-files-large : (old new : Files) → files_eq old new ≡ true →
-    large_table new ≡ large_table old
-same-files-large old new same =
-    let passwd = both _ _ same in
-    let shadow = both _ _ passwd.1 in
-    let group = both _ _ shadow.1 in
-    let gshadow = both _ _ group.1 in
-    let subuid = both _ _ gshadow.1 in
-    let subgid = both _ _ subuid.1 in
-    rw (
-      same-large old.passwd new.passwd passwd.0,
-      same-large old.shadow new.shadow shadow.0,
-      same-large old.group new.group group.0,
-      same-large old.gshadow new.gshadow gshadow.0,
-      same-large old.subuid new.subuid subuid.0,
-      same-large old.subgid new.subgid subgid.0,
-    ) refl
-  where
-    both : (one other : Bool) → (one && other) ≡ true → (one ≡ true) × (other ≡ true)
-    both true true same = (refl, refl)
-    both true false same = absurd (cc same)
-    both false other same = absurd (cc same)
+    by : (refusal multiple : Option Refusal) → (elim refusal as (λ one. Result Made Refusal) [
+      | Some one ↦ Err one
+      | None ↦ elim multiple as (λ one. Result Made Refusal) [
+        | Some one ↦ Err one
+        | None ↦ Ok (made_by action files)
+      ]
+    ]) ≡ Ok made → files_after action.script files ≡ made.files
+    by (Some refusal) multiple is = absurd (cc is)
+    by None (Some refusal) is = absurd (cc is)
+    by None None is = ap (λ (one : Made). one.files) (cc is)
 
 -- ---- The answer
 
@@ -204,33 +230,102 @@ module _ (asked : Question) (files : Files) (defs : Option Bytes) where
         ap (λ (one : ToolAnswer). is_change one.cause) told,
       )
 
-  module _ (sound : files_problem files defs ≡ None) (small : large_table files ≡ None) where
+  module _ (sound : files_problem files defs ≡ None)
+      (small : (table : Tab) (bytes : Bytes) → table_of files table ≡ Some bytes →
+      length bytes ≤ table_limit) where
     abbrev tool : Tool
     tool = asked.request.tool
+
+    -- what the tool does
+    abbrev action : Action
+    action = action_of asked.request asked.command.input asked.command.day files
+        (settings_of (settings_text defs))
+
+    -- the tables that differ once it is done
+    abbrev changed : Made → List NewTable
+    changed made = changed_tables (table_of files) (table_of made.files)
 
     -- the answer is that to the outcome
     of-outcome : answer_on asked files defs ≡ answer_outcome tool files outcome
     of-outcome = by-problem None sound
 
-    -- the answer to what the tool made, by the problem of that
-    abbrev made-answer : Made → Option FileProblem → ToolAnswer
-    made-answer made problem = elim problem as (λ other. ToolAnswer) [
-      | Some found ↦ unusable tool found
-      | None ↦ succeeding tool (cause_of files made.files) made
-    ]
+    module _ (made : Made) (is : outcome ≡ Ok made) where
+      -- the same tables stand
+      made-stands : (table : Tab) →
+          is_some (table_of made.files table) ≡ is_some (table_of files table)
+      made-stands table =
+          subst (λ (new : Files). is_some (table_of new table) ≡ is_some (table_of files table))
+          (made-files action files made is) (files-stand action.script files table)
 
-    -- the answer to what the tool made, by the first large table
-    of-made : (made : Made) → outcome ≡ Ok made → (large : Option Tab) →
-        large_table made.files ≡ large → answer_on asked files defs ≡ (elim large as (λ one. ToolAnswer) [
-          | Some table ↦ unusable tool (TableTooLarge table)
-          | None ↦ succeeding tool (cause_of files made.files) made
-        ])
-    of-made made is None none =
-        of-outcome ∙ (ap (answer_outcome tool files) is ∙ ap (made-answer made) (new-problem made.files
-        ∙ ap (λ (one : Option Tab). option_map TableTooLarge one) none))
-    of-made made is (Some table) large =
-        of-outcome ∙ (ap (answer_outcome tool files) is ∙ ap (made-answer made) (new-problem made.files
-        ∙ ap (λ (one : Option Tab). option_map TableTooLarge one) large))
+      -- the answer to what the tool made, by the problem of that
+      abbrev made-answer : Option FileProblem → ToolAnswer
+      made-answer problem = elim problem as (λ other. ToolAnswer) [
+        | Some found ↦ unusable tool found
+        | None ↦ succeeding tool (cause_of files made.files) made
+      ]
+
+      -- the answer to what the tool made, by the first large table
+      of-made : (large : Option Tab) → large_table (changed made) ≡ large →
+          answer_on asked files defs ≡ made-answer (option_map TableTooLarge large)
+      of-made large is_large =
+          of-outcome ∙ (ap (answer_outcome tool files) is
+          ∙ ap made-answer (new-among (table_of files) (table_of made.files) small made-stands
+          all_tables ∙ ap (λ (one : Option Tab). option_map TableTooLarge one) is_large))
+
+      -- the tool makes what stands already
+      same-on : changed made ≡ [] → (decided : Decided) →
+          AnswersDecision asked (DecidesSame (made_output tool made)) decided →
+          DecidesOn asked files defs decided
+      same-on none (Stay given) shown =
+          let same = none-differs (table_of files) (table_of made.files) small made-stands
+          all_tables none in
+          let told = of-made None (ap large_table none)
+          ∙ ap (λ (one : Bool). succeeding tool (if one then Same else Changed made.files) made) same
+          in (
+            subst (λ (one : Answer). IsAnswerOn asked files defs one) (sym shown)
+                (answer-is asked files defs _ _ told refl refl refl refl),
+            ap (λ (one : ToolAnswer). is_change one.cause) told,
+          )
+      same-on none (Changes new given) shown = absurd shown
+
+      -- the tool makes other files
+      change-on : (tables : List NewTable) → changed made ≡ tables →
+          files_eq files made.files ≡ false → (decided : Decided) →
+          AnswersDecision asked (DecidesChange tables (made_output tool made)) decided →
+          DecidesOn asked files defs decided
+      change-on tables are differs (Changes new given) shown =
+          let told = of-made None (ap large_table are ∙ shown.1)
+          ∙ ap (λ (one : Bool). succeeding tool (if one then Same else Changed made.files) made)
+          differs in
+          let cause = ap (λ (one : ToolAnswer). one.cause) told in
+          let allowed = change-is asked files defs made.files cause in
+          subst (λ (one : List NewTable). DecidesOn asked files defs (Changes one given))
+          (are ∙ sym shown.0) (
+            subst (λ (one : Answer). IsAnswerOn asked files defs one) (sym shown.2)
+                (answer-is asked files defs _ _ told refl refl refl refl),
+            cause ∙ ap Changed (sym (with-changed files made.files allowed)),
+            makes-change files made.files allowed,
+          )
+      change-on tables are differs (Stay given) shown =
+          let told = of-made (Some shown.0) (ap large_table are ∙ shown.1) in (
+            subst (λ (one : Answer). IsAnswerOn asked files defs one) (sym shown.2)
+                (answer-is asked files defs _ _ told refl refl refl refl),
+            ap (λ (one : ToolAnswer). is_change one.cause) told,
+          )
+
+      -- by the tables that differ
+      by-made : (tables : List NewTable) → changed made ≡ tables → (decided : Decided) →
+          AnswersDecision asked (decision_by tables (made_output tool made)) decided →
+          DecidesOn asked files defs decided
+      by-made [] none decided shown = same-on none decided shown
+      by-made (first ∷ rest) are decided shown =
+          change-on (first ∷ rest) are (differs (files_eq files made.files) refl) decided shown
+        where
+          differs : (same : Bool) → files_eq files made.files ≡ same →
+              files_eq files made.files ≡ false
+          differs true same = absurd (cc (sym are
+              ∙ all-same (table_of files) (table_of made.files) small made-stands all_tables same))
+          differs false same = same
 
     -- the tool refuses
     refuses-on : (refusal : Refusal) → outcome ≡ Err refusal → (decided : Decided) →
@@ -244,53 +339,11 @@ module _ (asked : Question) (files : Files) (defs : Option Bytes) where
         )
     refuses-on refusal is (Changes new given) shown = absurd shown
 
-    -- the tool makes what stands already
-    same-on : (made : Made) → outcome ≡ Ok made → files_eq files made.files ≡ true →
-        (decided : Decided) → AnswersDecision asked (DecidesSame (made_output tool made)) decided →
-        DecidesOn asked files defs decided
-    same-on made is same (Stay given) shown =
-        let told = of-made made is None (same-files-large files made.files same ∙ small)
-        ∙ ap (λ (one : Bool). succeeding tool (if one then Same else Changed made.files) made) same in (
-          subst (λ (one : Answer). IsAnswerOn asked files defs one) (sym shown)
-              (answer-is asked files defs _ _ told refl refl refl refl),
-          ap (λ (one : ToolAnswer). is_change one.cause) told,
-        )
-    same-on made is same (Changes new given) shown = absurd shown
-
-    -- the tool makes other files
-    change-on : (made : Made) → outcome ≡ Ok made → files_eq files made.files ≡ false →
-        (decided : Decided) →
-        AnswersDecision asked (DecidesChange made.files (made_output tool made)) decided →
-        DecidesOn asked files defs decided
-    change-on made is differs (Changes new given) shown =
-        let told = of-made made is None shown.1
-        ∙ ap (λ (one : Bool). succeeding tool (if one then Same else Changed made.files) made)
-        differs in (
-          subst (λ (one : Answer). IsAnswerOn asked files defs one) (sym shown.2)
-              (answer-is asked files defs _ _ told refl refl refl refl),
-          ap (λ (one : ToolAnswer). one.cause) told ∙ ap Changed (sym shown.0),
-        )
-    change-on made is differs (Stay given) shown =
-        let told = of-made made is (Some shown.0) shown.1 in (
-          subst (λ (one : Answer). IsAnswerOn asked files defs one) (sym shown.2)
-              (answer-is asked files defs _ _ told refl refl refl refl),
-          ap (λ (one : ToolAnswer). is_change one.cause) told,
-        )
-
-    -- by what the tool came to
-    by-made : (made : Made) → outcome ≡ Ok made → (same : Bool) → files_eq files made.files ≡ same →
-        (decided : Decided) → AnswersDecision asked (if same then DecidesSame (made_output tool made)
-        else DecidesChange made.files (made_output tool made)) decided →
-        DecidesOn asked files defs decided
-    by-made made is true same decided shown = same-on made is same decided shown
-    by-made made is false same decided shown = change-on made is same decided shown
-
     by-outcome : (came : Result Made Refusal) → outcome ≡ came → (decided : Decided) →
         AnswersDecision asked (decision_of tool files came) decided →
         DecidesOn asked files defs decided
     by-outcome (Err refusal) is decided shown = refuses-on refusal is decided shown
-    by-outcome (Ok made) is decided shown =
-        by-made made is (files_eq files made.files) refl decided shown
+    by-outcome (Ok made) is decided shown = by-made made is (changed made) refl decided shown
 
     -- the claim
     pub decides-on : (decision : Decision) → Decides tool files outcome decision →

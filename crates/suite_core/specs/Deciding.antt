@@ -1,10 +1,9 @@
 -- What a command answers on given files by what its tool decides (account_model/specs/Answer).
-use Rattle.std.specs.Prelude.{◌≡◌, ℕ, Bool, false, List, [], find, Option, Some, None, unwrap_or}
+use Rattle.std.specs.Prelude.{◌≡◌, ℕ, List, [], find, Option, Some, None, option_map, unwrap_or}
 use Rattle.acct_text.specs.declared.Tab.{Tab}
 use Rattle.acct_text.specs.declared.files.Files.{Files}
+use Rattle.acct_text.specs.declared.new_tables.NewTable.{NewTable}
 use Rattle.acct_text.specs.Bytes.{Bytes}
-use Rattle.acct_text.specs.Files.{table_of}
-use Rattle.acct_text.specs.Tables.{all_tables}
 use Rattle.acct_outside.specs.declared.Name.TheVariants.{Table}
 use Rattle.account_model.specs.Action.{outcome_of}
 use Rattle.account_model.specs.Answer.{passes_limit}
@@ -42,14 +41,9 @@ ToolDecides asked defs files decision = (settings : List Setting) → HasSetting
     (outcome_of (action_of asked.request asked.command.input asked.command.day files settings) files)
     decision
 
--- the table passes the limit
-abbrev pub is_large : Option Bytes → Bool
-is_large None = false
-is_large (Some bytes) = passes_limit bytes
-
--- the first table that passes it
-abbrev pub large_table : Files → Option Tab
-large_table files = find (λ table. is_large (table_of files table)) all_tables
+-- the first of new tables that passes the limit
+abbrev pub large_table : List NewTable → Option Tab
+large_table tables = option_map (λ new. new.table) (find (λ new. passes_limit new.bytes) tables)
 
 -- the answer with this cause and what the tool prints
 abbrev pub with_output : Cause → Output → Answer
@@ -64,7 +58,7 @@ abbrev pub AnswersDecision : Question → Decision → Decided → Type 0
 AnswersDecision asked (Refuse refusal output) (Stay given) =
     given ≡ with_output (Refused refusal) output
 AnswersDecision asked (Same output) (Stay given) = given ≡ with_output IsSame output
-AnswersDecision asked (Change new output) (Changes files given) = (files ≡ new)
+AnswersDecision asked (Change new output) (Changes tables given) = (tables ≡ new)
     × (large_table new ≡ None) × (given ≡ with_output Changed output)
 AnswersDecision asked (Change new output) (Stay given) = (table : Tab)
     × (large_table new ≡ Some table)

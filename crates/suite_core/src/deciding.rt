@@ -4,14 +4,15 @@ ghost use Rattle.std.specs.Prelude.{◌≡◌, ◌≤◌, IfOk, IfSome, length};
 ghost use Rattle.std.specs.Result.{result_err};
 ghost use Rattle.std.specs.Option.{option_copied};
 ghost use Rattle.acct_text.specs.Limits.{table_limit};
+ghost use Rattle.account_model.specs.Answer.{passes_limit};
 ghost use Rattle.account_words.specs.Settings.{settings_of};
 ghost use Rattle.login_defs.specs.Faults.{file_fault};
 ghost use Rattle.login_defs.specs.Held.{HasSettings, IsHeld};
 ghost use Rattle.suite_session.specs.Answers.{given_for};
-ghost use Rattle.suite_core.specs.Deciding.{AnswersDecision, ToolDecides, bad_line, is_large, large_table, settings_text, with_output};
+ghost use Rattle.suite_core.specs.Deciding.{AnswersDecision, ToolDecides, bad_line, large_table, settings_text, with_output};
 
 use acct_outside::Name;
-use acct_text::{Bytes, Files, TABLE_LIMIT, Tab};
+use acct_text::{Bytes, Files, NewTables, TABLE_LIMIT, Tab};
 use login_defs::{Defs, DefsFault};
 use std::alloc::{AllocError, Global};
 use suite_answers::{Answer, Cause, Outcome, Which};
@@ -92,7 +93,7 @@ fn answer_to(alloc: Global, asked: &Question, decision: Decision) -> Result<Deci
 fn change(
     alloc: Global,
     asked: &Question,
-    new: Files,
+    new: NewTables,
     output: Output,
 ) -> Result<Decided, AllocError>
     ensures { IfOk result (AnswersDecision asked.now (Decision.Change new output)) }
@@ -108,26 +109,23 @@ fn change(
     }
 }
 
-/// The first table that has more bytes than it may have.
-fn large_table(files: &Files) -> Option<Tab>
-    ensures { result ≡ large_table files.now }
+/// The first table that gets more bytes than it may have.
+fn large_table(tables: &NewTables) -> Option<Tab>
+    ensures { result ≡ large_table tables.now }
 {
-    for table in &Tab::all() {
-        if is_large(files.table(*table)) {
-            return Some(*table);
+    for new in tables.as_slice() {
+        if passes_limit(new.bytes.as_slice()) {
+            return Some(new.table);
         }
     }
     None
 }
 
-/// Whether the table has more bytes than it may have.
-fn is_large(table: Option<&Bytes>) -> bool
-    ensures { result ≡ is_large (option_copied table.entry) }
+/// Whether these are more bytes than a table may have.
+fn passes_limit(bytes: &[u8]) -> bool
+    ensures { result ≡ passes_limit bytes.now }
 {
-    match table {
-        Some(bytes) => bytes.as_slice().len() as u64 > TABLE_LIMIT,
-        None => false,
-    }
+    bytes.len() as u64 > TABLE_LIMIT
 }
 
 /// The answer with this cause and what the tool prints.

@@ -3,7 +3,7 @@
 -- (`ended-stands`).
 -- Way: what the read shows (proofs/LoadingLemmas) names the keeper and what comes next; the typed
 -- step gives the standing, of which the answer is due (proofs/AnswerLemmas).
-use Rattle.std.proofs.Common.{◌≡◌, refl, sym, ap, subst, ◌∙◌, false, true, inr, Option, Some, None, IfSome, Result, Ok, Err}
+use Rattle.std.proofs.Common.{◌≡◌, refl, sym, ap, subst, ◌∙◌, false, true, inr, List, Option, Some, None, IfSome, Result, Ok, Err}
 use Rattle.acct_text.specs.declared.Tab.{Tab}
 use Rattle.acct_text.specs.Bytes.{Bytes}
 use Rattle.acct_outside.specs.declared.StageFault.{StageFault}
@@ -28,8 +28,8 @@ use Rattle.commit_steps.specs.declared.Loading.{Loading as Loaded}
 use Rattle.commit_steps.specs.declared.Loading.TheVariants.{More, Done}
 use Rattle.commit_steps.specs.declared.LoadEnd.{LoadEnd}
 use Rattle.commit_steps.specs.declared.LoadEnd.TheVariants.{Fault, TooLarge, NoTable}
-use Rattle.commit_steps.specs.States.{intended, AreSound, Reader, Inputs, Walker, next_name, walk_of}
-use Rattle.intent_file.specs.Intent.{ReadsIntent, intent_text}
+use Rattle.commit_steps.specs.States.{intended, AreSound, Reader, Inputs, Walker, change_by, next_name, walk_of}
+use Rattle.intent_file.specs.Intent.{NewTable, ReadsIntent, intent_text}
 use Rattle.commit_steps.specs.Stands.{BacksUp, HasRead, HasLoaded, HasMissed, StandsLoading, StandsEnded}
 use Rattle.commit_steps.specs.Outcomes.{Loads, LoadsContent, is_missing}
 use Rattle.commit_steps.proofs.BackupLemmas.{starts-backing}
@@ -391,12 +391,6 @@ ended-failed tool (NoTable table kept) state ends reader answer shown told =
 
 -- ---- What the tool decided
 
--- a change is one, by the law of the tools
-pub change-is : (asked : Question) (files : Files) (defs : Option Bytes) (new : Files) →
-    (answer_on asked files defs).cause ≡ ChangedTo new → IsChange (table_of files) (table_of new)
-change-is asked files defs new is = deed-is asked.request asked.command.input asked.command.day
-    files defs new (ap new_files is)
-
 -- the tool decides the same on the same
 pub decides-on : (asked same_asked : Question) (files same_files : Files)
     (defs same_defs : Option Bytes) (decided : Decided) → asked ≡ same_asked →
@@ -407,17 +401,23 @@ decides-on asked same_asked files same_files defs same_defs decided one two thre
     (subst (λ (other : Files). DecidesOn same_asked other defs decided) two
     (subst (λ (other : Question). DecidesOn other files defs decided) one decides))
 
+-- a change is one, by the law of the tools
+pub change-is : (asked : Question) (files : Files) (defs : Option Bytes) (new : Files) →
+    (answer_on asked files defs).cause ≡ ChangedTo new → IsChange (table_of files) (table_of new)
+change-is asked files defs new is = deed-is asked.request asked.command.input asked.command.day
+    files defs new (ap new_files is)
+
 -- a change that it decided is backed up, with its answer
-pub of-change : (runner : Runner) (inputs : Inputs) (new : Files) (answer : FinalAnswer) →
+pub of-change : (runner : Runner) (inputs : Inputs) (new : List NewTable) (answer : FinalAnswer) →
     Asks runner.asked.command.words runner.asked.request →
     DecidesOn runner.asked inputs.files inputs.defs (Changes new answer) → (walker : Walker) →
-    walker ≡ walk_of (record { inputs = inputs; new = new }) →
+    walker ≡ walk_of (change_by new inputs) →
     ReadsIntent (intent_text (intended walker.change)) (intended walker.change) →
     DecidesTo runner inputs (BackingUp walker answer)
 of-change runner inputs new answer asks decides walker is small = (
   is ∙ ap (λ (one : Walker). walk_of one.change) (sym is),
   ap (λ (one : Walker). one.change.inputs) is,
   subst (λ (one : Walker). IsOfChange runner one.change answer) (sym is)
-      (record { asks = asks; is_answer = decides.0; is_change = decides.1 }),
+      (record { asks = asks; is_answer = decides.0; is_change = decides.1.0 }),
   small,
 )

@@ -10,7 +10,7 @@ use Rattle.commit_steps.specs.declared.Loading.{Loading as Loaded}
 use Rattle.commit_steps.specs.declared.Loading.TheVariants.{More, Done}
 use Rattle.commit_steps.specs.declared.LoadEnd.{LoadEnd}
 use Rattle.commit_steps.specs.declared.LoadEnd.TheVariants.{Fault, TooLarge, NoTable}
-use Rattle.commit_steps.specs.States.{Inputs, intended, walk_of}
+use Rattle.commit_steps.specs.States.{Inputs, MakesChange, intended, walk_of, with_tables}
 use Rattle.suite_answers.specs.declared.cause.Which.TheVariants.{File}
 use Rattle.suite_answers.specs.declared.cause.Cause.TheVariants.{TooLarge as IsTooLarge, NoTable as HasNoTable}
 use Rattle.suite_session.specs.declared.tools.Decided.{Decided}
@@ -23,11 +23,12 @@ use Rattle.suite_session.specs.Deeds.{is_change}
 use Rattle.suite_session.specs.Locking.{cause_of_fault}
 use Rattle.suite_session.specs.Stands.{AnswersWith, IsOfChange, LeavesWith}
 
--- what the tool decides on these files and this login.defs: a change to these files, or an answer
+-- what the tool decides on these files and this login.defs: a change by these tables, or an answer
 -- with which all stay
 abbrev pub DecidesOn : Question → Files → Option Bytes → Decided → Type 0
 DecidesOn asked files defs (Changes new given) = IsAnswerOn asked files defs given
-    × ((answer_on asked files defs).cause ≡ ChangedTo new)
+    × ((answer_on asked files defs).cause ≡ ChangedTo (with_tables new files))
+    × MakesChange new files
 DecidesOn asked files defs (Stay given) = IsAnswerOn asked files defs given
     × (is_change (answer_on asked files defs).cause ≡ false)
 

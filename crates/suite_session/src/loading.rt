@@ -9,7 +9,7 @@ use crate::state::State;
 use crate::tools::{Decided, Tools};
 use crate::unlocking::{failed, given_up, leave};
 use acct_outside::{CommitStage, Folder, FolderFault};
-use acct_text::Files;
+use acct_text::NewTables;
 use commit_steps::{LoadEnd, Loaded, Loader, Loading};
 use std::alloc::Global;
 use suite_answers::{Answer, Cause, Which};
@@ -58,7 +58,13 @@ fn decided<T: Tools>(alloc: Global, runner: &Runner, loaded: Loaded) -> State
 }
 
 /// The change that the tool decided is backed up next.
-fn backing_up(alloc: Global, runner: &Runner, loaded: Loaded, new: Files, answer: Answer) -> State
+fn backing_up(
+    alloc: Global,
+    runner: &Runner,
+    loaded: Loaded,
+    new: NewTables,
+    answer: Answer,
+) -> State
     requires { DecidesOn runner.now.asked loaded.files loaded.defs (Decided.Change new answer) }
     ensures { DecidesTo runner.now loaded result }
 {

@@ -8,15 +8,15 @@ ghost use Rattle.acct_text.specs.Limits.{table_limit};
 ghost use Rattle.suite_session.specs.Loading.{DecidesOn};
 
 use crate::runner::Question;
-use acct_text::{Bytes, Files};
+use acct_text::{Bytes, Files, NewTables};
 use std::alloc::{AllocError, Global};
 use suite_answers::Answer;
 
 /// What a command does on given files.
 #[derive(Drop)]
 pub enum Decided {
-    /// The tables become these, with this answer.
-    Change(Files, Answer),
+    /// These tables get other bytes, with this answer. The others stay as they are.
+    Change(NewTables, Answer),
     /// All tables stay as they are, with this answer.
     Stay(Answer),
 }

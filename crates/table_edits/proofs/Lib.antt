@@ -1,4 +1,4 @@
 pub mod DecidingLemmas
 pub mod ActingLemmas
-pub mod EditedFile
+pub mod ListedFile
 pub mod RemovalLemmas

@@ -1,9 +1,7 @@
 // What a command decides once none of its refusals is there, by its script.
-ghost use Rattle.std.specs.Prelude.{◌≡◌, if◌then◌else◌, IfOk};
+ghost use Rattle.std.specs.Prelude.{◌≡◌, IfOk};
 ghost use Rattle.std.specs.List.{AllByRecursion};
-ghost use Rattle.acct_text.specs.Contents.{same_content};
 ghost use Rattle.account_model.specs.Action.{multiple_entries, multiple_in, outcome_of};
-ghost use Rattle.account_model.specs.Answer.{files_eq};
 ghost use Rattle.account_formats.specs.Edits.{first_multiple};
 ghost use Rattle.account_model.specs.Messages.{messages};
 ghost use Rattle.account_formats.specs.RecordEdits.{IsWrittenEdit};
@@ -14,19 +12,19 @@ ghost use Rattle.table_edits.specs.Acting.{acting};
 ghost use Rattle.line_edits.specs.SeenEdits.{seen_edits};
 ghost use Rattle.table_edits.specs.SeenScript.{seen_script};
 
-use crate::files_after::files_after;
+use crate::changed_tables::changed_tables;
 use crate::{Report, Script};
 use account_model::Refusal;
 use account_words::Tool;
-use acct_text::{Bytes, Files, Tab};
+use acct_text::{Bytes, Tab};
 use line_edits::{Edit, EditedRecord, first_multiple};
 use std::alloc::{AllocError, Global};
 use table_lookups::{Tables, text_of};
-use tool_answers::{Decision, Output, messages, refuse};
+use tool_answers::{Decision, Output, decision_by, messages, refuse};
 
 /// What a command decides that has no refusal of its own: it refuses at the first record that it
 /// would touch and whose name has several records in its table, in the order passwd, shadow,
-/// group, gshadow; else all tables stay, or become those of the script.
+/// group, gshadow; else all tables stay, or those that the script changes get other bytes.
 pub fn decide_by(
     alloc: Global,
     tool: Tool,
@@ -42,8 +40,8 @@ pub fn decide_by(
         return refuse(alloc, tool, refusal);
     }
     let output = output_of(alloc, tool, report)?;
-    let new = files_after(alloc, tables.files(), script)?;
-    Ok(decision_between(tables.files(), new, output))
+    let changed = changed_tables(alloc, tables.files(), script)?;
+    Ok(decision_by(changed, output))
 }
 
 // What a tool prints that doesn't refuse, with its status.
@@ -60,19 +58,6 @@ fn output_of(alloc: Global, tool: Tool, report: Report) -> Result<Output, AllocE
         out: report.out,
         err,
     })
-}
-
-// The decision between the old tables and the new: they stay where all six are equal.
-fn decision_between(old: &Files, new: Files, output: Output) -> Decision
-    ensures { result ≡ (if files_eq old.now new
-        then Decision.Same output
-        else Decision.Change new output) }
-{
-    if are_same(old, &new) {
-        Decision::Same(output)
-    } else {
-        Decision::Change(new, output)
-    }
 }
 
 // The refusal of the first touched record whose name has several records in its table.
@@ -115,27 +100,4 @@ fn multiple_in<R: EditedRecord + Drop>(
         return Ok(None);
     }
     first_multiple(alloc, text_of(file), edits)
-}
-
-/// Whether all six files are equal, each absent in both or with the same bytes.
-pub fn are_same(old: &Files, new: &Files) -> bool
-    ensures { result ≡ files_eq old.now new.now }
-{
-    same_content(&old.passwd, &new.passwd)
-        && same_content(&old.shadow, &new.shadow)
-        && same_content(&old.group, &new.group)
-        && same_content(&old.gshadow, &new.gshadow)
-        && same_content(&old.subuid, &new.subuid)
-        && same_content(&old.subgid, &new.subgid)
-}
-
-// Whether a file is absent in both, or has the same bytes.
-fn same_content(old: &Option<Bytes>, new: &Option<Bytes>) -> bool
-    ensures { result ≡ same_content old.now new.now }
-{
-    match (old, new) {
-        (Some(old), Some(new)) => old.as_slice() == new.as_slice(),
-        (None, None) => true,
-        _ => false,
-    }
 }

@@ -4,13 +4,13 @@
 //! A tool looks up users and groups in the `Tables` for its refusals, and builds a `Script`:
 //! `group_edits`, `user_edits` and `new_groups` have the edits that several tools make. `decide_as`
 //! takes its answer: a refusal, or the script, which is refused where an edit touches one of several
-//! records of a name. `files_after` carries it out table by table, and `range_edits` the edits of
+//! records of a name. `changed_tables` carries it out table by table, and `range_edits` the edits of
 //! subuid and subgid.
 #![tactic(auto)]
 
+mod changed_tables;
 mod decide;
 mod deciding;
-mod files_after;
 mod group_edits;
 mod new_groups;
 mod range_edits;
@@ -23,7 +23,7 @@ pub use account_words::Tool;
 pub use acct_lines::{
     GroupRecord, GshadowRecord, PasswdRecord, ShadowRecord, SubidRecord, TableRecord,
 };
-pub use decide::{are_same, decide_by};
+pub use decide::decide_by;
 pub use deciding::decide_as;
 pub use range_edits::edited_ranges;
 pub use report::Report;

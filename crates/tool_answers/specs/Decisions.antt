@@ -1,11 +1,13 @@
 -- What a command decides on the tables, by the outcome of its tool: it refuses, all tables stay as
--- they are, or they become others; and what it prints with that ("EXIT VALUES" of each page).
-use Rattle.std.specs.Prelude.{◌≡◌, [], Result, Ok, Err, if◌then◌else◌}
+-- they are, or some get other bytes; and what it prints with that ("EXIT VALUES" of each page).
+use Rattle.std.specs.Prelude.{◌≡◌, List, [], ◌∷◌, Result, Ok, Err}
 use Rattle.acct_text.specs.declared.files.Files.{Files}
+use Rattle.acct_text.specs.declared.new_tables.NewTable.{NewTable}
+use Rattle.acct_text.specs.ChangedTables.{changed_tables}
+use Rattle.acct_text.specs.Files.{table_of}
 use Rattle.account_words.specs.declared.tool.Tool.{Tool}
 use Rattle.account_model.specs.declared.refusal.Refusal.{Refusal}
 use Rattle.account_model.specs.Action.{Made}
-use Rattle.account_model.specs.Answer.{files_eq}
 use Rattle.account_model.specs.Messages.{message, messages, refusal_text}
 use Rattle.account_model.specs.Statuses.{refusal_status}
 use Rattle.tool_answers.specs.declared.decision.Output.{Output}
@@ -28,11 +30,15 @@ made_output tool made = record {
   err = messages tool made.notices;
 }
 
--- what it decides by what it made: the tables stay where all six are equal
+-- the decision by the tables that differ: all stay where none does
+abbrev pub decision_by : List NewTable → Output → Decision
+decision_by [] output = Same output
+decision_by (first ∷ rest) output = Change (first ∷ rest) output
+
+-- what it decides by what it made
 abbrev pub made_decision : Tool → Files → Made → Decision
-made_decision tool files made = if files_eq files made.files
-    then Same (made_output tool made)
-    else Change made.files (made_output tool made)
+made_decision tool files made =
+    decision_by (changed_tables (table_of files) (table_of made.files)) (made_output tool made)
 
 -- the decision by the outcome of the tool on the files
 abbrev pub decision_of : Tool → Files → Result Made Refusal → Decision

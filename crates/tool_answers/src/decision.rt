@@ -1,11 +1,11 @@
 // What a command decides on given files.
 ghost use Rattle.std.specs.Prelude.{◌≡◌, IfOk};
-ghost use Rattle.tool_answers.specs.Decisions.{refusal_output};
+ghost use Rattle.tool_answers.specs.Decisions.{decision_by, refusal_output};
 
 use crate::{push_line, refusal_status, refusal_text};
 use account_model::Refusal;
 use account_words::Tool;
-use acct_text::{Bytes, Files};
+use acct_text::{Bytes, NewTables};
 use std::alloc::{AllocError, Global};
 
 /// What a command prints, and the status with which it ends.
@@ -22,12 +22,23 @@ pub struct Output {
 /// What a command decides on the files of the tables.
 #[derive(Drop)]
 pub enum Decision {
-    /// The tables become these, of which at least one differs.
-    Change(Files, Output),
+    /// These tables, of which there is one at least, get other bytes. The others stay as they are.
+    Change(NewTables, Output),
     /// All tables stay as they are.
     Same(Output),
     /// The command can't be done, for this cause. All tables stay as they are.
     Refuse(Refusal, Output),
+}
+
+/// The decision by the tables that differ: all stay where none does.
+pub fn decision_by(tables: NewTables, output: Output) -> Decision
+    ensures { result ≡ decision_by tables output }
+{
+    if tables.as_slice().is_empty() {
+        Decision::Same(output)
+    } else {
+        Decision::Change(tables, output)
+    }
 }
 
 /// The decision of a tool that refuses: all tables stay, and one line on the error stream tells why,

@@ -14,7 +14,7 @@ mod word_fault;
 
 pub use account_model::{LineProblem, Refusal};
 pub use account_words::{Tool, WordFault};
-pub use decision::{Decision, Output, refuse};
+pub use decision::{Decision, Output, decision_by, refuse};
 pub use message::{messages, push_line, speaker};
 pub use refusal::refusal_text;
 pub use status::{MEMORY_STATUS, file_status, lock_status, refusal_status, update_status};

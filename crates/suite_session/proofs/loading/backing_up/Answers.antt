@@ -1,12 +1,11 @@
 use Rattle.std.proofs.Common.{◌≡◌, ap, subst}
 use Rattle.account_words.specs.Words.{Asks}
 use Rattle.suite_session.specs.Runner.{Question, Runner}
-use Rattle.suite_session.proofs.LoadingTurns.{change-is, of-change}
+use Rattle.suite_session.proofs.LoadingTurns.{of-change}
 use Rattle.suite_session.proofs.loading.backing_up.Goals as goal
 
 pub prepare-requires : goal.prepare-requires
-prepare-requires c = change-is c.args.runner.now.asked c.args.loaded.files c.args.loaded.defs
-    c.args.new c.requires.1
+prepare-requires c = c.requires.1.1
 
 pub returns-in-Ok : goal.returns-in-Ok
 returns-in-Ok c =

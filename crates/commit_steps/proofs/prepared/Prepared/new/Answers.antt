@@ -1,23 +1,16 @@
-use Rattle.std.proofs.Common.{◌≡◌, sym, ap, subst}
-use Rattle.acct_text.specs.Contents.{IsChange}
-use Rattle.intent_file.specs.Intent.{Intended}
-use Rattle.commit_steps.specs.States.{Change, intended, old_files, new_files}
-use Rattle.commit_steps.proofs.PreparedLemmas.{change_by-changed}
+use Rattle.std.proofs.Common.{◌≡◌, ◌∙◌, ap, refl, List}
+use Rattle.acct_text.specs.Files.{table_of}
+use Rattle.intent_file.specs.Intent.{Intended, NewTable, is_allowed}
+use Rattle.intent_file.proofs.ChangedTablesLemmas.{changed-allowed}
+use Rattle.commit_steps.specs.States.{change_by, with_tables}
 use Rattle.commit_steps.proofs.prepared.Prepared.new.Goals as goal
 
-pub invariant_of-result : goal.invariant_of-result
-invariant_of-result c =
-    let change : Change = record { inputs = c.args.loaded; new = c.args.new } in
-    let intent : Intended = c.in_ok-intent.intent in
-    let made = sym (change_by-changed change c.requires intent.tables
-    (ap (λ (one : Intended). one.tables) c.in_ok-intent.ensures.value)) in (
-      subst (λ (made : Change). IsChange (old_files made) (new_files made)) made c.requires,
-      subst (λ (made : Change). intent ≡ intended made) made c.in_ok-intent.ensures.value,
-      c.in_ok-intent.ensures.reads,
-    )
-
-pub returns : goal.returns
-returns c =
-    change_by-changed (record { inputs = c.args.loaded; new = c.args.new }) c.requires
-    c.in_ok-intent.intent.tables
-    (ap (λ (intent : Intended). intent.tables) c.in_ok-intent.ensures.value)
+-- the tables are those that differ, so an intent may list them
+pub of-requires : goal.of-requires
+of-requires c =
+    let files = c.args.loaded.files in
+    ap (λ (tables : List NewTable). is_allowed
+    (record { number = c.number.result; tables = tables }))
+    (c.into_vec.ensures ∙ c.requires.listed)
+    ∙ changed-allowed c.number.result (table_of files) (table_of (with_tables c.args.new files))
+    _ c.requires.allowed

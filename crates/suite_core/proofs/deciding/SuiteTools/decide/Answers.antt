@@ -6,7 +6,7 @@ use Rattle.account_words.specs.Settings.{settings_of}
 use Rattle.suite_session.specs.declared.tools.Decided.{Decided}
 use Rattle.suite_session.specs.Loading.{DecidesOn}
 use Rattle.suite_core.specs.Deciding.{bad_line, settings_text}
-use Rattle.suite_core.proofs.DecidingLemmas.{decides-on, decides-setting, if-ok, loaded-problem, loaded-small, settings-bad, settings-good, settings-sound}
+use Rattle.suite_core.proofs.DecidingLemmas.{decides-on, decides-setting, if-ok, loaded-problem, settings-bad, settings-good, settings-sound}
 use Rattle.suite_core.proofs.deciding.SuiteTools.decide.Goals as goal
 
 pub returns-in_ok-decision-in-Ok : goal.returns-in_ok-decision-in-Ok
@@ -19,7 +19,7 @@ returns-in_ok-decision-in-Ok c =
     ∙ (settings-sound defs c.requires.small_defs
     ∙ ap (λ (line : Option ℕ). option_map BadSettingAt line) good) in
     if-ok (λ decided shown. decides-on c.args.asked.now files defs sound
-    (loaded-small files c.requires.passwd c.requires.group c.requires.small)
+    c.requires.small
     c.in_ok-decision-in-Ok.decision
     (c.in_ok-decision-in-Ok.ensures (settings_of text) c.in-Ok.ensures.settings) decided shown)
     c.answer_to.result c.answer_to.ensures
