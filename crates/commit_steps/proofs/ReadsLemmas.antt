@@ -10,7 +10,8 @@ use Rattle.acct_text.specs.declared.Tab.{Tab}
 use Rattle.acct_text.specs.declared.Tab.TheVariants.{Passwd, Shadow, Group, Gshadow, Subuid, Subgid}
 use Rattle.acct_text.specs.declared.files.Files.{Files}
 use Rattle.acct_text.specs.Bytes.{Bytes}
-use Rattle.acct_text.specs.Files.{table_of}
+use Rattle.acct_text.specs.Files.{table_of, with_table}
+use Rattle.acct_text.proofs.FilesLemmas.{with_table-same, with_table-other}
 use Rattle.acct_text.specs.Tables.{same_table}
 use Rattle.acct_outside.specs.declared.Name.{Name}
 use Rattle.acct_outside.specs.declared.Name.TheVariants.{Table, Defs}
@@ -36,10 +37,10 @@ use Rattle.commit_steps.specs.declared.Loading.{Loading}
 use Rattle.commit_steps.specs.declared.Loading.TheVariants.{More, Done}
 use Rattle.commit_steps.specs.declared.LoadEnd.{LoadEnd}
 use Rattle.commit_steps.specs.declared.LoadEnd.TheVariants.{Fault, TooLarge, NoTable}
-use Rattle.commit_steps.specs.States.{AreSound, Reader, Inputs, is_before, inputs_of, next_name, read_on, start_of, table_after, with_table}
+use Rattle.commit_steps.specs.States.{AreSound, Reader, Inputs, is_before, inputs_of, next_name, read_on, start_of, table_after}
 use Rattle.commit_steps.specs.Stands.{HasRead, HasLoaded, HasMissed, KnowsSome, KnowsInputs, StandsLoading, StandsEnded}
 use Rattle.commit_steps.specs.Outcomes.{Loads, is_missing}
-use Rattle.commit_steps.proofs.TablesLemmas.{with_table-same, with_table-other, before-after}
+use Rattle.commit_steps.proofs.TablesLemmas.{before-after}
 
 -- the next name is one of the folder
 pub next-is-name : (next : Option Tab) → IsName (next_name next)

@@ -1,7 +1,7 @@
 -- Claims: the table at a place of those that differ stood before (`next-stood`), and is the last of
 -- those up to it (`with-next`); where no step is left, all are done (`all-done`, `none-left`), else there
--- is one at the place. One table more is read, and the others stay (`with_table-same`, `with_table-other`); what was read before is before
--- the next (`before-after`); and files stay sound with one table more (`sound-on`).
+-- is one at the place. What was read before is before the next (`before-after`), and files stay sound
+-- with one table more (`sound-on`).
 use Rattle.std.proofs.Common.{◌≡◌, refl, sym, ap, subst, ◌∙◌, ℕ, suc, ◌+◌, ◌-◌, ◌*◌, ◌<◌, ◌≤◌, Bool, true, false, ◌==◌, nat_lt, if◌then◌else◌, List, [], ◌∷◌, length, take, slice_get, Option, Some, None, All, true≢false, arith}
 use Rattle.std.specs.Prelude.{IsSome, IsSomeAnd, IfSome, is_some, is_none}
 use Rattle.std.proofs.lemmas.Bool.Decides.{nat_tests}
@@ -14,12 +14,13 @@ use Rattle.acct_text.specs.declared.files.Files.{Files}
 use Rattle.acct_text.specs.Bytes.{Bytes}
 use Rattle.acct_text.specs.Limits.{table_limit}
 use Rattle.acct_text.specs.Contents.{Contents, same_content, IsChange}
-use Rattle.acct_text.specs.Files.{table_of}
+use Rattle.acct_text.specs.Files.{table_of, with_table}
+use Rattle.acct_text.proofs.FilesLemmas.{with_table-same, with_table-other}
 use Rattle.acct_text.specs.Tables.{all_tables, table_place, same_table}
 use Rattle.intent_file.specs.Intent.{NewTable}
 use Rattle.acct_text.specs.ChangedTables.{with_new_table, changed_among}
 use Rattle.suite_rules.proofs.Names.{table-is}
-use Rattle.commit_steps.specs.States.{Change, Walker, AreSound, has_staged, old_files, new_files, changed, with_table, table_after, is_before, steps_left, tables_left}
+use Rattle.commit_steps.specs.States.{Change, Walker, AreSound, has_staged, old_files, new_files, changed, table_after, is_before, steps_left, tables_left}
 use Rattle.commit_steps.specs.Outcomes.{is_missing}
 
 -- The tables that differ, where the same are absent before and after.
@@ -106,28 +107,6 @@ pub all-done : (walker : Walker) → steps_left walker ≡ 0 →
     take walker.place (changed walker.change) ≡ changed walker.change
 all-done walker none within = take_all walker.place (changed walker.change)
     (behind-all (length (changed walker.change)) walker.place (has_staged walker) none within)
-
--- a table that is read has its content
-pub with_table-same : (table : Tab) (content : Option Bytes) (files : Files) →
-    table_of (with_table table content files) table ≡ content
-with_table-same Passwd content files = refl
-with_table-same Shadow content files = refl
-with_table-same Group content files = refl
-with_table-same Gshadow content files = refl
-with_table-same Subuid content files = refl
-with_table-same Subgid content files = refl
-
--- the others stay
-pub with_table-other : (table other : Tab) (content : Option Bytes) (files : Files) →
-    same_table other table ≡ false →
-    table_of (with_table table content files) other ≡ table_of files other
-with_table-other Passwd Passwd content files differs = absurd (true≢false differs)
-with_table-other Shadow Shadow content files differs = absurd (true≢false differs)
-with_table-other Group Group content files differs = absurd (true≢false differs)
-with_table-other Gshadow Gshadow content files differs = absurd (true≢false differs)
-with_table-other Subuid Subuid content files differs = absurd (true≢false differs)
-with_table-other Subgid Subgid content files differs = absurd (true≢false differs)
-with_table-other table other content files differs = refl
 
 -- a table before the one after this is this one or before it
 pub before-after : (table other : Tab) → is_before other (table_after table) ≡ true →

@@ -8,7 +8,7 @@ use Rattle.acct_text.specs.declared.files.Files.{Files}
 use Rattle.acct_text.specs.Bytes.{Bytes}
 use Rattle.acct_text.specs.Limits.{table_limit}
 use Rattle.acct_text.specs.Contents.{Contents, IsChange}
-use Rattle.acct_text.specs.Files.{table_of}
+use Rattle.acct_text.specs.Files.{no_files, table_of, with_table}
 use Rattle.acct_text.specs.Tables.{table_place}
 use Rattle.acct_outside.specs.declared.Name.{Name}
 use Rattle.acct_outside.specs.declared.Name.TheVariants.{Table, Defs}
@@ -47,26 +47,6 @@ pub record Walker : Type 0 where
 pub record Stager : Type 0 where
   pub change : Change
   pub staged : ℕ
-
--- no file is read yet
-abbrev pub no_files : Files
-no_files = record {
-  passwd = None;
-  shadow = None;
-  group = None;
-  gshadow = None;
-  subuid = None;
-  subgid = None;
-}
-
--- the files with this for one table
-abbrev pub with_table : Tab → Option Bytes → Files → Files
-with_table Passwd content files = record files { passwd = content }
-with_table Shadow content files = record files { shadow = content }
-with_table Group content files = record files { group = content }
-with_table Gshadow content files = record files { gshadow = content }
-with_table Subuid content files = record files { subuid = content }
-with_table Subgid content files = record files { subgid = content }
 
 -- the files, each table that is listed with the bytes listed for it
 abbrev pub with_tables : List NewTable → Files → Files

@@ -15,7 +15,7 @@ ghost use Rattle.suite_rules.specs.Steps.{StandsIn, own_command, TakesStep};
 ghost use Rattle.suite_rules.specs.Outcomes.{before_commit};
 ghost use Rattle.lock_steps.specs.NextCall.{IsNextCall};
 ghost use Rattle.intent_file.specs.Intent.{ReadsIntent, intent_text};
-ghost use Rattle.commit_steps.specs.States.{AreSound, MakesChange, change_by, intended, next_name, table_after, with_table, start_of, walk_of};
+ghost use Rattle.commit_steps.specs.States.{AreSound, MakesChange, change_by, intended, next_name, table_after, start_of, walk_of};
 ghost use Rattle.commit_steps.specs.Stands.{HasRead, StandsEnded, HoldsLoading};
 ghost use Rattle.commit_steps.specs.Outcomes.{Loads, LoadsContent, LoadsTable, is_missing};
 
@@ -80,17 +80,9 @@ impl Loader {
     pub fn start(keeper: Keeper<Clean>) -> Self
         ensures { result ≡ start_of keeper }
     {
-        let files = Files {
-            passwd: None,
-            shadow: None,
-            group: None,
-            gshadow: None,
-            subuid: None,
-            subgid: None,
-        };
         Loader {
             keeper,
-            files,
+            files: Files::none(),
             next: Some(Tab::Passwd),
         }
     }
@@ -181,7 +173,7 @@ impl Loader {
         if is_missing(table, &content) {
             return Err(LoadEnd::NoTable(table, self.keeper));
         }
-        set_table(&mut self.files, table, content);
+        self.files.put(table, content);
         self.next = table_after(table);
         Ok(Loading::More(self))
     }
@@ -208,20 +200,6 @@ fn table_after(table: Tab) -> Option<Tab>
         Tab::Gshadow => Some(Tab::Subuid),
         Tab::Subuid => Some(Tab::Subgid),
         Tab::Subgid => None,
-    }
-}
-
-/// Puts the content in the place of the table's, None where it is absent.
-fn set_table(files: &mut Files, table: Tab, content: Option<Bytes>)
-    ensures { files.new ≡ with_table table content files.old }
-{
-    match table {
-        Tab::Passwd => files.passwd = content,
-        Tab::Shadow => files.shadow = content,
-        Tab::Group => files.group = content,
-        Tab::Gshadow => files.gshadow = content,
-        Tab::Subuid => files.subuid = content,
-        Tab::Subgid => files.subgid = content,
     }
 }
 

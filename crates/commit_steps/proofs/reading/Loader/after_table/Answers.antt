@@ -12,7 +12,7 @@ invariant_of-self c =
     let sound = subst (λ (next : Option Tab). AreSound next c.self.inside.files)
     next c.self.invariant in
     let stands = sym c.is_missing.ensures ∙ c.if-is_missing.false in
-    subst (λ (next : Option Tab). AreSound next c.set_table.new.files)
+    subst (λ (next : Option Tab). AreSound next c.put.new.self)
     (sym c.table_after-self-inside.ensures)
-    (subst (λ (files : Files). AreSound (table_after table) files) (sym c.set_table.ensures)
+    (subst (λ (files : Files). AreSound (table_after table) files) (sym c.put.ensures)
     (sound-on table c.args.content c.self.inside.files sound stands c.requires.limit))
