@@ -61,7 +61,8 @@ small-with table content files defs small limit = record {
   where
     within : (content : Option Bytes) → IfSome content (λ bytes. length bytes ≤ table_limit) →
         (bytes : Bytes) → content ≡ Some bytes → length bytes ≤ table_limit
-    within (Some held) most bytes is = subst (λ (one : Bytes). length one ≤ table_limit) (cc is) most
+    within (Some held) most bytes is = subst (λ (one : Bytes). length one ≤ table_limit) (cc is)
+        most
     within None most bytes is = absurd (cc is)
 
     cases : (other : Tab) (bytes : Bytes) (same : Bool) → same_table other table ≡ same →
@@ -184,7 +185,8 @@ unread-more large name [] unread apart = tt
 unread-more large name (other ∷ names) unread apart =
     let parts = or_parts (same_name other name) (is_in name names) apart in (
       unread.0,
-      in-more name other large ∙ or_from (is_in other large) (same_name name other || false) unread.1
+      in-more name other large
+          ∙ or_from (is_in other large) (same_name name other || false) unread.1
           (or_from (same_name name other) false (name-turned name other parts.0) refl),
       unread.2,
       unread-more large name names unread.3 parts.1,
@@ -220,7 +222,8 @@ filter-step test names kept place inside passes is =
         ++ filter test (drop (suc place) names)
         ≡ kept ++ (if passes then get_or names place Defs ∷ filter test (drop (suc place) names)
         else filter test (drop (suc place) names))
-    cases true = append_assoc kept (get_or names place Defs ∷ []) (filter test (drop (suc place) names))
+    cases true = append_assoc kept (get_or names place Defs ∷ [])
+        (filter test (drop (suc place) names))
     cases false = refl
 
 -- of another name it is told as before whether it is too large
@@ -297,7 +300,8 @@ begun-found watched found intent told = record {
   );
   unlisted = λ readable name input unlisted gone. absurd (true≢false (sym
       (in-filter left name inputs ∙ ap₂ (λ (one two : Bool). one && two)
-      (ap₂ (λ (one two : Bool). one && two) readable (lacks-it name unlisted)) (is-input name input))
+      (ap₂ (λ (one two : Bool). one && two) readable (lacks-it name unlisted))
+      (is-input name input))
       ∙ gone));
 }
   where

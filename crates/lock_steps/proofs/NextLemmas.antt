@@ -82,13 +82,15 @@ some-left (suc count) left is some = omega (arith, is)
 -- with lower locks left it removes the first
 pub unlocks-some : (keeper : Kept) → 0 < length keeper.lower →
     unlocking_call keeper ≡ removes (Lock (slice_index keeper.lower 0))
-unlocks-some keeper some = ap (next_or (writes FreeStage free_text) (λ number. removes (Lock number)))
+unlocks-some keeper some = ap
+    (next_or (writes FreeStage free_text) (λ number. removes (Lock number)))
     (slice_get-get_or keeper.lower 0 0 some)
 
 -- with none left it stages the free text
 pub unlocks-none : (keeper : Kept) → length keeper.lower ≡ 0 →
     unlocking_call keeper ≡ writes FreeStage free_text
-unlocks-none keeper none = ap (next_or (writes FreeStage free_text) (λ number. removes (Lock number)))
+unlocks-none keeper none = ap
+    (next_or (writes FreeStage free_text) (λ number. removes (Lock number)))
     (slice_get_past keeper.lower 0 (omega (arith, none)))
 
 module _ (keeper : Kept) (Knows : Knowledge → Type 0) where
@@ -100,7 +102,10 @@ module _ (keeper : Kept) (Knows : Knowledge → Type 0) where
   next-removal some bounds low below = subst (λ (next : Call). IsNextCall (Keeps keeper Knows) next
       (Remove (Lock (slice_index keeper.lower 0)))) (sym (unlocks-some keeper some)) (record {
         names = refl;
-        later = λ has. record { low = low; high = (let high = bounds.high in omega (arith, below, high)) };
+        later = λ has. record {
+          low = low;
+          high = (let high = bounds.high in omega (arith, below, high));
+        };
         permitted = λ deeds stood held.
             may-remove deeds stood keeper Knows (slice_index keeper.lower 0) below held;
       })

@@ -68,7 +68,8 @@ module _ (before now : Moment) (narrows : Narrows before.admits now.admits) (tok
   read-leads seen (Ok (found_bytes text)) (Ok (Judged judged)) shown stands tells =
       stands-done before.admits now.admits narrows token (reads (Lock seen.greatest)) tt
       (HasLooked seen) (HasJudged judged) (found_bytes text)
-      (λ stood held. read-free seen text stood held shown.0 judged shown.1) before.told now.told stands tells
+      (λ stood held. read-free seen text stood held shown.0 judged shown.1) before.told now.told
+      stands tells
   read-leads seen (Ok (found_bytes text)) (Ok (Ask asking)) shown stands tells =
       stands-done before.admits now.admits narrows token (reads (Lock seen.greatest)) tt
       (HasLooked seen) (HasReadHeld asking) (found_bytes text)
@@ -182,7 +183,8 @@ module _ (before now : Moment) (narrows : Narrows before.admits now.admits) (tok
       → Tells before now token (renames FreeStage (Lock freeing.number)) answer
       → IfOk result (λ _. StandsIn now token (HasFreed freeing.number))
   move-leads freeing (Ok tt) (Ok ended) shown stands tells =
-      stands-done before.admits now.admits narrows token (renames FreeStage (Lock freeing.number)) tt
+      stands-done before.admits now.admits narrows token (renames FreeStage (Lock freeing.number))
+      tt
       (HasStagedFree freeing) (HasFreed freeing.number) tt
       (λ stood held. freed freeing stood held) before.told now.told stands tells
   move-leads freeing (Err fault) (Ok ended) shown stands tells = absurd shown

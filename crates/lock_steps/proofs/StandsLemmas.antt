@@ -118,7 +118,8 @@ told-dead asking judged same stood held = record {
   listed = ap (λ (listing : Option Listing). option_map (verdict_step asking.asked Dead) listing)
       held.listed;
   is_greatest = held.is_greatest ∙ sym same;
-  is_such = second-passes held.listing.is_judged (is_held_in held.listing.texts asking.asked) held.is_such;
+  is_such = second-passes held.listing.is_judged (is_held_in held.listing.texts asking.asked)
+      held.is_such;
 }
 
 -- a done create makes the lock of its number

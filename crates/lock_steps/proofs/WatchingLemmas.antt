@@ -87,7 +87,8 @@ begins watcher found intent told stood held = record {
 goes-on : (reading : Gatherer) (left : List Name) → reading.left ≡ left → 0 < length left →
     AreUnread reading.gathered.large reading.left → (found : Found) (stood : Standing) →
     HasGathered reading stood →
-    HasGathered (read_on reading found) (standing_step (reads (next_name reading)) (done found) stood)
+    HasGathered (read_on reading found)
+    (standing_step (reads (next_name reading)) (done found) stood)
 goes-on reading [] is some unread found stood held = absurd (omega (arith, some))
 goes-on reading (name ∷ names) is some unread found stood held = rw is (record {
   owns = held.owns;
@@ -150,7 +151,8 @@ module _ (before now : Moment) (narrows : Narrows before.admits now.admits) (tok
 
   -- a read of the next name
   pub read-leads :
-      (reading : Gatherer) (answer : Result Found FolderFault) (result : Result Gatherer FolderFault)
+      (reading : Gatherer) (answer : Result Found FolderFault)
+      (result : Result Gatherer FolderFault)
       → 0 < length reading.left
       → AreUnread reading.gathered.large reading.left
       → ReadsOn reading answer result
@@ -221,7 +223,8 @@ next-told next name is input before now by token same found tells =
     told-of before now by token (reads next) (found_result found) same
     (read-tells before now by next found
     (subst (λ (other : Name). TellsRead before now by other (name_limit other) found) is
-    (subst (λ (limit : ℕ). TellsRead before now by name limit found) (sym (limit name input)) tells)))
+    (subst (λ (limit : ℕ). TellsRead before now by name limit found) (sym (limit name input))
+    tells)))
   where
     limit : (name : Name) → is_input name ≡ true → name_limit name ≡ table_limit
     limit (Table table) input = refl
@@ -247,12 +250,14 @@ pub listed-read : (bytes : Bytes) (intended : Intended) → ReadsIntent bytes in
 listed-read bytes intended reads_it = ap tables_of_intent (reads_computes bytes intended reads_it)
 
 -- bytes with a part that doesn't stand list none
-pub listed-damaged : (bytes : Bytes) (part : ℕ) → FirstFault bytes part → listed_by (Some bytes) ≡ []
+pub listed-damaged : (bytes : Bytes) (part : ℕ) → FirstFault bytes part →
+    listed_by (Some bytes) ≡ []
 listed-damaged bytes part fault = cases (read_intent bytes) refl
   where
     cases : (found : Option Intended) → read_intent bytes ≡ found → tables_of_intent found ≡ []
     cases None is = refl
-    cases (Some intended) is = absurd (first_fault_is_one_holds.none_if_read bytes part intended fault
+    cases (Some intended) is = absurd
+        (first_fault_is_one_holds.none_if_read bytes part intended fault
         (computed_reads bytes intended is))
 
 -- the tables of an intent that may stand are within the limit
@@ -264,7 +269,8 @@ small-tables intended allowed = all intended.tables (allowed_parts intended allo
         All (λ new. length new.bytes ≤ table_limit) tables
     all [] within = All-nil (λ (new : NewTable). length new.bytes ≤ table_limit)
     all (new ∷ tables) within =
-        let parts = and_parts (nat_le (length new.bytes) table_limit) (is_within_limit tables) within in
+        let parts = and_parts (nat_le (length new.bytes) table_limit) (is_within_limit tables)
+        within in
         All-cons (λ (new : NewTable). length new.bytes ≤ table_limit) new tables
         (leb-true (length new.bytes) table_limit parts.0) (all tables parts.1)
 

@@ -71,7 +71,8 @@ abbrev pub report_of : Gatherer → Report
 report_of reading = record { number = reading.number; gathered = reading.gathered }
 
 -- a read of the intent leads on, whatever it finds; memory may run out for what it lists
-abbrev pub ReadsIntentFirst : Lister → Result Found FolderFault → Result Gatherer FolderFault → Type 0
+abbrev pub ReadsIntentFirst : Lister → Result Found FolderFault →
+    Result Gatherer FolderFault → Type 0
 ReadsIntentFirst watcher (Ok found) (Ok reading) = TellsIntent found reading.gathered.intent
     × (reading ≡ begun_reading watcher reading.gathered.intent (listed_at found))
 ReadsIntentFirst watcher (Ok found) (Err Memory) = ⊤

@@ -9,5 +9,6 @@ tables-preserved c =
     let left = c.pop.new.self.items in
     ap (with_listed left) c.put.ensures
     ∙ (sym (listed-last left c.in-Some.new c.tables.files)
-    ∙ (ap (λ (tables : List NewTable). with_listed tables c.tables.files) (sym c.in-Some.ensures.items)
+    ∙ (ap (λ (tables : List NewTable). with_listed tables c.tables.files)
+    (sym c.in-Some.ensures.items)
     ∙ c.tables.invariant))

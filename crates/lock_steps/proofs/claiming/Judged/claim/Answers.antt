@@ -20,10 +20,12 @@ returns g c =
     let tells = rw (ap (λ (lister : Lister). lister.token) c.self.view_is, greatest_is)
     at c.create-created.ensures.told in
     let below = rw greatest_is at c.self.invariant in
-    takes-step before now narrows judged.token (creates (judged.greatest + 1)) tt tt (HasJudged judged)
+    takes-step before now narrows judged.token (creates (judged.greatest + 1)) tt tt
+    (HasJudged judged)
     (λ deeds stood held. may-create deeds stood judged below held) own_command
     (λ result stood held. refl)
-    (λ answer. Claims judged answer c.after_create.result) HasMade folder_failed c.after_create.result
+    (λ answer. Claims judged answer c.after_create.result) HasMade folder_failed
+    c.after_create.result
     created c.requires tells c.after_create.ensures.shown
     (claim-leads before now narrows judged.token judged created c.after_create.result
     c.after_create.ensures.shown c.requires tells)

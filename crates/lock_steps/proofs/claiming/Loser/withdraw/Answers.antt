@@ -22,7 +22,8 @@ returns g c =
     at c.remove-removed.ensures.told in
     let above = rw (number_is, ap (λ (one : Overtaken). one.greatest) c.self.view_is)
     at c.self.invariant.1 in
-    takes-step before now narrows loser.token (removes (Lock loser.number)) tt tt (WasOvertaken loser)
+    takes-step before now narrows loser.token (removes (Lock loser.number)) tt tt
+    (WasOvertaken loser)
     (λ deeds stood held. may-withdraw deeds stood loser above held) own_command
     (λ result stood held. refl)
     (λ answer. Withdraws loser answer c.after_removal.result) HoldsNever folder_failed

@@ -16,7 +16,8 @@ returns g c =
     let narrows = c.locks-listed.ensures.call.narrows in
     let listed = c.locks-listed.result in
     let tells = rw c.self.view_is at c.locks-listed.ensures.call.told in
-    takes-step before now narrows c.args.self lists tt tt HasNoLock (λ deeds stood held. free_listing)
+    takes-step before now narrows c.args.self lists tt tt HasNoLock
+    (λ deeds stood held. free_listing)
     own_command (λ result stood held. refl)
     (λ answer. Looks c.args.self answer c.after_listing.result) HasLooked folder_failed
     c.after_listing.result (locks_result listed) c.requires tells c.after_listing.ensures.shown

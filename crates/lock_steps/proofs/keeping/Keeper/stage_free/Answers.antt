@@ -21,9 +21,13 @@ returns g c =
     let keeper = c.args.self in
     let knows = g.K.Knowing.knows in
     let written = c.write-written.result in
-    let tells = rw (ap (λ (one : Kept). one.token) c.self.view_is, c.as_slice-free.ensures ∙ c.self.inside.holder.is_free)
+    let tells = rw (
+      ap (λ (one : Kept). one.token) c.self.view_is,
+      c.as_slice-free.ensures ∙ c.self.inside.holder.is_free,
+    )
     at c.write-written.ensures.told in
-    takes-step before now narrows keeper.token (writes FreeStage free_text) tt tt (Keeps keeper knows)
+    takes-step before now narrows keeper.token (writes FreeStage free_text) tt tt
+    (Keeps keeper knows)
     (λ deeds stood held. may-stage-free deeds stood keeper knows held) work
     (λ result stood held. write-leaves keeper knows stood held result)
     (λ answer. LeadsTo (freeing_of keeper) answer c.after_write.result) HasStagedFree Failed

@@ -17,7 +17,8 @@ returns-else-lower-eq0 g c =
     let lower_is = ap (λ (one : Kept). one.lower) c.self.view_is in
     let some = some-left _ _ c.lower.ensures c.if-lower-eq0.false in
     let first_is = first-of keeper.lower _ some (rw lower_is at c.index.ensures) in
-    let bounds = subst (λ (one : Kept). IsLockNumber one.number) c.self.view_is c.self.invariant.0 in
+    let bounds = subst (λ (one : Kept). IsLockNumber one.number) c.self.view_is c.self.invariant.0
+    in
     let below = subst (λ (one : Kept). 0 < length one.lower →
     (1 ≤ get_or one.lower 0 0) × (get_or one.lower 0 0 < one.number))
     c.self.view_is (λ some. c.self.invariant.1 0 0 some) some in

@@ -10,6 +10,9 @@ invariant_of-self c =
     let left = c.self.inside.left.items in
     let some = rw (sym (ap (λ (reading : Gatherer). length reading.left) c.self.view_is))
     at c.requires.left in
-    rw (ap (λ (gathered : Gathered). gathered.large) c.in_ok-put.ensures.kept, c.pop_front.ensures.rest)
+    rw (
+      ap (λ (gathered : Gathered). gathered.large) c.in_ok-put.ensures.kept,
+      c.pop_front.ensures.rest,
+    )
     (first-read c.self.inside.gathered.large left c.index.result.now (found_of c.in_ok-found.found)
     some c.index.ensures c.self.invariant)

@@ -22,8 +22,10 @@ returns g c =
     takes-step before now narrows reading.token lists tt tt (HasGathered reading)
     (λ deeds stood held. free_listing) own_command (λ result stood held. refl)
     (λ answer. ConfirmsFound reading answer c.after_listing.result) HasReported folder_failed
-    c.after_listing.result (locks_result listed) c.requires.stands tells c.after_listing.ensures.shown
+    c.after_listing.result (locks_result listed) c.requires.stands tells
+    c.after_listing.ensures.shown
     (confirm-leads before now narrows reading.token reading (locks_result listed)
-    c.after_listing.result c.requires.none_left c.after_listing.ensures.shown c.requires.stands tells)
+    c.after_listing.result c.requires.none_left c.after_listing.ensures.shown c.requires.stands
+    tells)
     (counts _ _ _ listed c.after_listing.result c.after_listing.ensures.failed
     c.locks-listed.ensures.call.faults)

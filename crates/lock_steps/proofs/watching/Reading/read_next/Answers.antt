@@ -25,7 +25,8 @@ returns g c =
     let tells = next-told (next_name reading) c.index.result.now first.0 first.1 before now _
     reading.token (ap (λ (one : Gatherer). one.token) c.self.view_is) found
     c.read-found.ensures.call.told in
-    takes-step before now narrows reading.token (reads (next_name reading)) tt tt (HasGathered reading)
+    takes-step before now narrows reading.token (reads (next_name reading)) tt tt
+    (HasGathered reading)
     (λ deeds stood held. free_read (next_name reading)) own_command (λ result stood held. refl)
     (λ answer. ReadsOn reading answer c.after_read.result) HasGathered Failed c.after_read.result
     (found_result found) c.requires.stands tells c.after_read.ensures.shown

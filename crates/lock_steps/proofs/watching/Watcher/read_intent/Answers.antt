@@ -21,7 +21,8 @@ returns g c =
     let watcher = c.args.self in
     let found = c.read-found.result in
     let tells = read-tells before now watcher.token Intent found
-    (rw (ap (λ (lister : Lister). lister.token) c.self.view_is) at c.read-found.ensures.call.told) in
+    (rw (ap (λ (lister : Lister). lister.token) c.self.view_is) at c.read-found.ensures.call.told)
+    in
     takes-step before now narrows watcher.token (reads Intent) tt tt (HasJudged watcher)
     (λ deeds stood held. free_read Intent) own_command (λ result stood held. refl)
     (λ answer. ReadsIntentFirst watcher answer c.after_intent.result) HasGathered Failed
