@@ -1,6 +1,6 @@
 -- Claim: the records of lines, with that of the next line, are those up to it (`records-more`), and
 -- they are no more than the lines (`records-few`). Way: line by line.
-use Rattle.std.proofs.Common.{◌≡◌, ◌∙◌, ◌≤◌, List, [], ◌∷◌, ◌++◌, length, refl, ap, arith}
+use Rattle.std.proofs.Common.{◌≡◌, ◌∙◌, ◌≤◌, List, [], ◌∷◌, ◌++◌, append_assoc, length, refl, sym, ap, arith}
 use Rattle.std.specs.Prelude.{Option, Some, None, option_to_list}
 use Rattle.std.specs.List.{cons_option}
 use Rattle.std.proofs.lemmas.List.Elements.{filter_map-append}
@@ -11,6 +11,19 @@ use Rattle.account_formats.specs.Format.{Format, records_of}
 pub record HaveTaken (all left : List Line) : Type 0 where
   pub done : List Line
   pub joined : done ++ left ≡ all
+
+-- with the next line among them
+abbrev pub with_next :
+    (all left : List Line) (line : Line) (rest : List Line)
+    → HaveTaken all left
+    → left ≡ line ∷ rest
+    → HaveTaken all rest
+with_next all left line rest taken next = record {
+  done = taken.done ++ line ∷ [];
+  joined = append_assoc taken.done (line ∷ []) rest
+      ∙ ap (λ left. taken.done ++ left) (sym next)
+      ∙ taken.joined;
+}
 
 -- a record alone
 cons-alone : {R : Type 0} (kept : Option R) → cons_option kept [] ≡ option_to_list kept

@@ -8,5 +8,6 @@ use Rattle.check_reports.proofs.known.Known.has_group.Goals as goal
 pub returns : goal.returns
 returns c =
     c.has.ensures
-    ∙ has-told group_format c.self.inside.files.now.group _ c.args.name.now c.self.invariant.of_groups
+    ∙ has-told group_format c.self.inside.files.now.group c.self.inside.groups
+    c.args.name.now c.self.invariant.of_groups
     ∙ ap (λ (sight : Sight). has_group c.args.name.now sight.files) c.self.view_is

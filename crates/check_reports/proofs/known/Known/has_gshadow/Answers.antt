@@ -8,5 +8,6 @@ use Rattle.check_reports.proofs.known.Known.has_gshadow.Goals as goal
 pub returns : goal.returns
 returns c =
     c.has.ensures
-    ∙ has-told gshadow_format c.self.inside.files.now.gshadow _ c.args.name.now c.self.invariant.of_group_hashes
+    ∙ has-told gshadow_format c.self.inside.files.now.gshadow c.self.inside.group_hashes
+    c.args.name.now c.self.invariant.of_group_hashes
     ∙ ap (λ (sight : Sight). has_gshadow c.args.name.now sight.files) c.self.view_is

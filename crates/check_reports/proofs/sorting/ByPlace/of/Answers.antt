@@ -9,14 +9,13 @@ use Rattle.table_lookups.specs.TablesOfLines.{lines_in}
 use Rattle.table_lookups.proofs.FileLemmas.{records-in}
 use Rattle.check_reports.specs.Sorted.{IsOrderOf, kept_places}
 use Rattle.check_reports.proofs.PlaceLemmas.{order-more}
-use Rattle.check_reports.proofs.RecordWalk.{records-few}
+use Rattle.check_reports.proofs.RecordWalk.{records-few, with_next}
 use Rattle.check_reports.proofs.sorting.ByPlace.of.Goals as goal
-use Rattle.check_reports.proofs.sorting.ByPlace.of.Goals.{in-Some-name_of+in_ok-add, in_default-name_of}
 
 pub lines-init : goal.lines-init
 lines-init g c = record {
   taken = record { done = []; joined = c.of-left.ensures ∙ c.text_of.ensures };
-  so_far = ?;
+  so_far = record { first = λ name. rw c.new.ensures.empty refl; counted = refl };
 }
 
 pub add-requires : goal.add-requires
@@ -33,32 +32,27 @@ add-requires g c =
       lines-counted text,
     )
 
-pub lines-preserved : goal.lines-preserved
-lines-preserved g c =
-    let format = g.M.TableRecord.format in
+pub lines-preserved-in-Continue-1 : goal.lines-preserved-in-Continue-1
+lines-preserved-in-Continue-1 g c =
     let taken = c.lines.invariant.taken in
     let line = seen_line c.in-Some.line in
-    let more = order-more format taken.done line in
     record {
-      taken = record {
-        done = taken.done ++ line ∷ [];
-        joined = append_assoc taken.done (line ∷ []) c.take.new.self
-            ∙ ap (λ left. taken.done ++ left) (sym c.in-Some.ensures.taken)
-            ∙ taken.joined;
-      };
-      so_far = elim c.match-name_of.branch [
-        | in-Some-name_of+in_ok-add w ↦
-            more (Some w.in-Some-name_of.name.now) c.lines.order c.match-name_of.order
-            w.in-Some-name_of.ensures c.lines.invariant.so_far
-            (λ other. ap (λ order. kept_places order other) w.order-is
-            ∙ w.in_ok-add.ensures.first other)
-            (ap (λ order. order.count) w.order-is ∙ w.in_ok-add.ensures.counted)
-        | in_default-name_of w ↦
-            more None c.lines.order c.match-name_of.order w.in_default-name_of.ensures
-            c.lines.invariant.so_far
-            (λ other. ap (λ order. kept_places order other) w.order-is)
-            (ap (λ order. order.count) w.order-is)
-      ];
+      taken = with_next (lines_in c.args.main.now) c.lines.left line c.take.new.self taken
+          c.in-Some.ensures.taken;
+      so_far = order-more g.M.TableRecord.format taken.done line (Some c.in-Some-name_of.name.now)
+          c.lines.order c.add.new.self c.in-Some-name_of.ensures c.lines.invariant.so_far
+          c.in_ok-add.ensures.first c.in_ok-add.ensures.counted;
+    }
+
+pub lines-preserved : goal.lines-preserved
+lines-preserved g c =
+    let taken = c.lines.invariant.taken in
+    let line = seen_line c.in-Some.line in
+    record {
+      taken = with_next (lines_in c.args.main.now) c.lines.left line c.take.new.self taken
+          c.in-Some.ensures.taken;
+      so_far = order-more g.M.TableRecord.format taken.done line None c.lines.order c.lines.order
+          c.in_default-name_of.ensures c.lines.invariant.so_far (λ other. refl) refl;
     }
 
 pub lines-smaller : goal.lines-smaller
