@@ -42,17 +42,19 @@ fn read_standing<R: Files + AllocGlobal>(
 ) -> io::Result<Found>
     ensures { IfOk result (IsWithinLimit limit) }
 {
-    if regular(rt, path, links)?.len() > limit {
+    let size = regular(rt, path, links)?.len();
+    if size > limit {
         return Ok(Found::TooLarge);
     }
-    // The file may have grown since, so one byte past the limit is asked for.
-    let mut bytes = Vec::new(rt.alloc());
+    // The file may have grown since, so one byte past the limit is asked for, and there is room for
+    // one past the size: that the end is there is seen without a move of all bytes.
+    let mut bytes = Vec::with_capacity(rt.alloc(), size.saturating_add(1) as usize)?;
     let mut front = File::open(rt, path)?.take(limit.saturating_add(1));
     front.read_to_end(&mut bytes)?;
     if bytes.len() as u64 > limit {
         return Ok(Found::TooLarge);
     }
-    Ok(Found::Held(Bytes::of(rt.alloc(), &bytes)?))
+    Ok(Found::Held(Bytes::of_vec(bytes)))
 }
 
 /// What stands at the path, up to `limit` bytes.
