@@ -1,4 +1,4 @@
-use Rattle.std.proofs.Common.{◌≡◌, ◌∙◌, ℕ, Bool, true, false, List, [], ◌∷◌, length, nat_eq, refl, sym, ap, arith}
+use Rattle.std.proofs.Common.{◌≡◌, ◌∙◌, ℕ, Bool, true, false, List, length, nat_eq, refl, sym, ap, arith}
 use Rattle.std.specs.Prelude.{◌||◌, Option, None, Some}
 use Rattle.std.specs.HashSet as bag
 use Rattle.std.specs.List.{cons_option}

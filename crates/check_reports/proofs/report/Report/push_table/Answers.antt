@@ -3,7 +3,6 @@ use Rattle.account_formats.specs.Format.{records_of}
 use Rattle.acct_tables.specs.SeenLines.{seen_line}
 use Rattle.acct_tables.proofs.LinesCounted.{lines-counted}
 use Rattle.account_model.specs.Problems.{problems_behind}
-use Rattle.table_lookups.specs.TablesOfLines.{lines_in}
 use Rattle.check_reports.specs.Reported.{with_problems}
 use Rattle.check_reports.proofs.ReportWalk.{place-inside, report-end, report-in-lines, report-more, tells-before}
 use Rattle.check_reports.proofs.report.Report.push_table.Goals as goal

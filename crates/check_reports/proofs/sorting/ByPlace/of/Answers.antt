@@ -1,13 +1,11 @@
-use Rattle.std.proofs.Common.{◌≡◌, ◌∙◌, ◌≤◌, ◌+◌, ◌++◌, [], ◌∷◌, append-nil, append_assoc, length, length-append, refl, sym, ap, subst, arith}
+use Rattle.std.proofs.Common.{◌∙◌, ◌++◌, [], append-nil, length, length-append, refl, sym, ap, subst, arith}
 use Rattle.std.specs.Prelude.{None, Some}
-use Rattle.acct_text.specs.Lines.{Line}
 use Rattle.account_formats.specs.Format.{records_of}
-use Rattle.account_formats.specs.Tables.{table_records}
 use Rattle.acct_tables.specs.SeenLines.{seen_line}
 use Rattle.acct_tables.proofs.LinesCounted.{lines-counted}
 use Rattle.table_lookups.specs.TablesOfLines.{lines_in}
 use Rattle.table_lookups.proofs.FileLemmas.{records-in}
-use Rattle.check_reports.specs.Sorted.{IsOrderOf, kept_places}
+use Rattle.check_reports.specs.Sorted.{IsOrderOf}
 use Rattle.check_reports.proofs.PlaceLemmas.{order-more}
 use Rattle.check_reports.proofs.RecordWalk.{records-few, with_next}
 use Rattle.check_reports.proofs.sorting.ByPlace.of.Goals as goal
