@@ -172,7 +172,7 @@ module _ (asked : Question) (files : Files) (defs : Option Bytes) (given : Answe
   answer-says = subst (Says asked given) (sym is_answer.has_cause) (cause-says _ refl)
 
 -- it comes before the commit
-cause-stage : (cause : AnswerCause) → is_change cause ≡ false →
+pub cause-stage : (cause : AnswerCause) → is_change cause ≡ false →
     stage_of (cause_of_answer cause) ≡ Before
 cause-stage (Unusable (TableTooLarge table)) stays = refl
 cause-stage (Unusable SettingsTooLarge) stays = refl
@@ -263,18 +263,54 @@ module _ (runner : Runner) (inputs : Inputs) (given : Answer) (history : History
 
   cause-shown : (cause : AnswerCause) → is_change cause ≡ false →
       IsShown runner given history (cause_of_answer cause)
-  cause-shown (Unusable (TableTooLarge table)) stays = inl (shows-all, keeper-now)
-  cause-shown (Unusable SettingsTooLarge) stays = inl (shows-all, keeper-now)
-  cause-shown (Unusable (TableAbsent table)) stays = (shows-some, keeper-now)
-  cause-shown (Unusable (BadSettingAt line)) stays = (shows-all, keeper-now)
-  cause-shown (Refused refusal) stays = (shows-all, keeper-now)
-  cause-shown Same stays = (shows-all, keeper-now)
+  cause-shown (Unusable (TableTooLarge table)) stays = inl (inl (shows-all, keeper-now))
+  cause-shown (Unusable SettingsTooLarge) stays = inl (inl (shows-all, keeper-now))
+  cause-shown (Unusable (TableAbsent table)) stays = inl (shows-some, keeper-now)
+  cause-shown (Unusable (BadSettingAt line)) stays = inl (shows-all, keeper-now)
+  cause-shown (Refused refusal) stays = inl (shows-all, keeper-now)
+  cause-shown Same stays = inl (shows-all, keeper-now)
   cause-shown (Changed new) stays = absurd (true≢false stays)
 
   pub stay-shown : is_change (answer_on runner.asked inputs.files inputs.defs).cause ≡ false →
       IsShown runner given history given.outcome.cause
   stay-shown stays = subst (IsShown runner given history) (sym is_answer.has_cause)
       (cause-shown _ stays)
+
+-- ---- The first problem
+
+-- an answer that is just a problem is what the session says of its cause
+told-problem : (asked : Question) (files : Files) (defs : Option Bytes) (problem : FileProblem) →
+    answer_on asked files defs ≡ unusable asked.request.tool problem → (cause : Cause) →
+    cause_of_problem problem ≡ cause → (given : Answer) →
+    given.outcome.cause ≡ cause → given.outcome.status ≡ file_status asked.request.tool →
+    given.out ≡ [] → given.err ≡ message asked.request.tool (file_problem_text problem) →
+    IsAnswerOn asked files defs given
+told-problem asked files defs problem whole cause of_problem given is status out err = record {
+  has_cause = is ∙ (sym of_problem
+      ∙ ap (λ (one : ToolAnswer). cause_of_answer one.cause) (sym whole));
+  has_status = status ∙ ap (λ (one : ToolAnswer). one.status) (sym whole);
+  has_out = out ∙ ap (λ (one : ToolAnswer). one.output) (sym whole);
+  has_err = err ∙ ap (λ (one : ToolAnswer). one.error) (sym whole);
+}
+
+-- the first problem of files is all that the session says
+pub problem-told : (asked : Question) (files : Files) (defs : Option Bytes)
+    (problem : FileProblem) → files_problem files defs ≡ Some problem →
+    IsAnswerOn asked files defs (given_for asked.request.tool (cause_of_problem problem))
+problem-told asked files defs problem is = by-problem problem
+    (problem-answers asked.request asked.command.input asked.command.day files defs problem is)
+  where
+    by-problem : (one : FileProblem) →
+        answer_on asked files defs ≡ unusable asked.request.tool one →
+        IsAnswerOn asked files defs (given_for asked.request.tool (cause_of_problem one))
+    by-problem (TableTooLarge table) whole =
+        told-problem asked files defs (TableTooLarge table) whole _ refl _ refl refl refl refl
+    by-problem SettingsTooLarge whole =
+        told-problem asked files defs SettingsTooLarge whole _ refl _ refl refl refl refl
+    by-problem (TableAbsent table) whole =
+        told-problem asked files defs (TableAbsent table) whole _ refl _ refl refl refl refl
+    by-problem (BadSettingAt line) whole =
+        told-problem asked files defs (BadSettingAt line) whole _ refl _ refl refl refl refl
 
 -- ---- A table that is absent
 
@@ -335,22 +371,14 @@ module _ (keeper : Kept) (files : Files) where
 absent-answers : (asked : Question) (files : Files) (defs : Option Bytes) (table : Tab) →
     files_problem files defs ≡ Some (TableAbsent table) →
     IsAnswerOn asked files defs (given_for asked.request.tool (HasNoTable table))
-absent-answers asked files defs table is =
-    let whole = problem-answers asked.request asked.command.input asked.command.day files defs
-    (TableAbsent table) is in
-    record {
-      has_cause = ap (λ (one : ToolAnswer). cause_of_answer one.cause) (sym whole);
-      has_status = ap (λ (one : ToolAnswer). one.status) (sym whole);
-      has_out = ap (λ (one : ToolAnswer). one.output) (sym whole);
-      has_err = ap (λ (one : ToolAnswer). one.error) (sym whole);
-    }
+absent-answers asked files defs table is = problem-told asked files defs (TableAbsent table) is
 
 -- what was read shows it
 pub missed-shown : (runner : Runner) (table : Tab) (keeper : Kept) (history : History) →
     is_missing table None ≡ true → HasMissed table keeper (standing runner.token history) →
     life runner.token history ≡ running →
     ShowsSome runner (given_for runner.asked.request.tool (HasNoTable table)) history
-missed-shown runner table keeper history missing held runs = (
+missed-shown runner table keeper history missing held runs = inl (
   record {
     number = keeper.number;
     kept = ap kept_number held.is_read.keeps.locks.owns;

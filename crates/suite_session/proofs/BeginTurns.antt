@@ -35,7 +35,7 @@ use Rattle.suite_session.specs.Answers.{memory_answer, IsTold}
 use Rattle.suite_session.specs.Due.{IsDue}
 use Rattle.suite_session.specs.Belongs.{CameTo}
 use Rattle.suite_session.specs.Grows.{Grew}
-use Rattle.suite_session.specs.Bound.{HasCalled}
+use Rattle.suite_session.specs.Bound.{HasCalled, HasCalledFree}
 use Rattle.suite_session.specs.Left.{most_lower}
 use Rattle.suite_session.specs.Locking.{cause_of_fault}
 use Rattle.suite_session.specs.Turning.{IsFirst, IsNew, IsUnbegun, StepsTo}
@@ -44,6 +44,7 @@ use Rattle.suite_session.specs.Telling.{IsToTell, Remembers}
 use Rattle.suite_session.proofs.TellingLemmas.{tells-nothing, tells-own}
 use Rattle.suite_session.proofs.CauseLemmas.{told-says, told-cause, fault-failed, fault-plain}
 use Rattle.suite_session.proofs.BoundLemmas.{backed-first, called-first}
+use Rattle.suite_session.proofs.FreeLemmas.{free-first}
 use Rattle.suite_session.proofs.GrowsLemmas.{others-extend, second-empty, tells-grow}
 
 -- ---- The begin
@@ -137,6 +138,19 @@ first-called runner (Answering answer) history only is =
     (omega arith) (inr (inl refl)) (omega arith) (omega arith)
 first-called runner state history only is = absurd is
 
+-- so a report has changed no name
+first-free : (runner : Runner) (state : State) (history : History) →
+    own_events runner.token history ≡ record {
+      token = runner.token;
+      call = begins runner.asked.command;
+      result = done tt;
+    } ∷ [] → IsFirst runner state → HasCalledFree runner.token state history
+first-free runner (Looking looking) history only is =
+    free-first runner.token runner.asked.command (Looking looking) history only (omega arith)
+first-free runner (Answering answer) history only is =
+    free-first runner.token runner.asked.command (Answering answer) history only (omega arith)
+first-free runner state history only is = absurd is
+
 -- the begin shows nothing that the session is to tell, and is its only event
 begin-came : (admits : Admission) (runner : Runner) (state : State) → IsFirst runner state →
     (before now : Option Past) →
@@ -154,6 +168,7 @@ begin-came admits runner state is (Some before) (Some now) tells =
           runner.token before.history now.history _ tells.1.0 tells.1.1)));
       called = first-called runner state now.history tells.1.1 is;
       backed = backed-first runner.token runner.asked.command now.history tells.1.1;
+      free = λ report. first-free runner state now.history tells.1.1 is;
     }
 begin-came admits runner state is None (Some now) tells = absurd tells
 begin-came admits runner state is (Some before) None tells = absurd tells

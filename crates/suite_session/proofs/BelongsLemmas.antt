@@ -18,7 +18,7 @@ use Rattle.suite_rules.proofs.Own.{own-standing}
 use Rattle.suite_rules.proofs.StepLemmas.{may-answer-now}
 use Rattle.suite_answers.specs.declared.answer.Answer.{Answer}
 use Rattle.suite_session.specs.declared.state.State.{State}
-use Rattle.suite_session.specs.declared.state.State.TheVariants.{Looking, Reading, Asking, Claiming, Confirming, Withdrawing, ReadingIntent, Recovering, Moving, Loading, BackingUp, Committing, Installing, Unlocking, Freeing, Answering}
+use Rattle.suite_session.specs.declared.state.State.TheVariants.{Looking, Reading, Asking, Claiming, Confirming, Withdrawing, ReadingIntent, Recovering, Moving, Loading, BackingUp, Committing, Installing, Unlocking, Freeing, Watching, Gathering, Answering}
 use Rattle.suite_session.specs.declared.session.Phase.{Phase}
 use Rattle.suite_session.specs.declared.session.Phase.TheVariants.{Waiting, Begun, Over, Unbegun}
 use Rattle.suite_session.specs.Runner.{Question, Runner}
@@ -26,6 +26,7 @@ use Rattle.suite_session.specs.Moment.{Runs, At}
 use Rattle.suite_session.specs.Answers.{after_fault, after_streams}
 use Rattle.suite_session.specs.Belongs.{Belongs, BelongingStays, CameTo, HasEnded, HasGiven, HasNoToken, IsOnItsWay, OthersCame, of_others}
 use Rattle.suite_session.specs.Due.{IsDue}
+use Rattle.suite_session.specs.Reports.{AnswersShown}
 use Rattle.suite_session.specs.Session.{HasText, HasTextIn, IsToPut, output_failed, state_after, state_failed, token_of}
 use Rattle.suite_session.specs.Stands.{Gives, HasLeft, KnowsDecided, StandsAs}
 use Rattle.suite_session.specs.Telling.{IsToTell, Tells}
@@ -35,6 +36,7 @@ use Rattle.suite_session.proofs.DueLemmas.{shown-stays}
 use Rattle.suite_session.proofs.GrowsLemmas.{others-extend}
 use Rattle.suite_session.proofs.LeavingLemmas.{clean-same, left-same}
 use Rattle.suite_session.proofs.MetLemmas.{told-as}
+use Rattle.suite_session.proofs.FreeLemmas.{free-still, ran-still}
 use Rattle.suite_session.proofs.TellingLemmas.{tells-others}
 
 -- ---- A session that belongs
@@ -72,6 +74,10 @@ state-runs now runner (Unlocking keeper answer) stands =
     may-answer-now now.admits runner.token _ now.told stands.stands
 state-runs now runner (Freeing freeing answer) stands =
     may-answer-now now.admits runner.token _ now.told stands.stands
+state-runs now runner (Watching watcher) stands =
+    may-answer-now now.admits runner.token _ now.told stands.1
+state-runs now runner (Gathering reading) stands =
+    may-answer-now now.admits runner.token _ now.told stands.1
 state-runs now runner (Answering answer) stands = stands.may_answer
 
 -- the folder admits no event of it
@@ -197,6 +203,7 @@ module _ (before now : Moment) (runner : Runner) (others : OthersCame before now
           shown = shown-stays runner answer was.history past.history longer.0 longer.1
               (ap (λ (stood : Standing). kept_number stood.own) stay.same_standing)
               (ap (λ (stood : Standing). stood.knows) stay.same_standing)
+              (subst (AnswersShown runner answer) (sym stay.same_standing))
               answer.outcome.cause due.shown;
         }
 
@@ -231,7 +238,7 @@ module _ (before now : Moment) (runner : Runner) (others : OthersCame before now
   state-stays (Looking looking) stands = (stands.0, at-stays _ _ stands.1)
   state-stays (Reading seen) stands = (stands.0, stands.1, at-stays _ _ stands.2, stands.3)
   state-stays (Asking asking) stands = (stands.0, at-stays _ _ stands.1, stands.2)
-  state-stays (Claiming judged) stands = (stands.0, at-stays _ _ stands.1)
+  state-stays (Claiming judged) stands = (stands.0, at-stays _ _ stands.1, stands.2)
   state-stays (Confirming claimed) stands = (stands.0, at-stays _ _ stands.1)
   state-stays (Withdrawing loser) stands = (stands.0, stands.1, at-stays _ _ stands.2)
   state-stays (ReadingIntent keeper) stands = (stands.0, at-stays _ _ stands.1)
@@ -268,6 +275,8 @@ module _ (before now : Moment) (runner : Runner) (others : OthersCame before now
     quiet = stands.quiet;
     gives = gives-still answer stands.gives;
   }
+  state-stays (Watching watcher) stands = (stands.0, at-stays _ _ stands.1, stands.2)
+  state-stays (Gathering reading) stands = (stands.0, at-stays _ _ stands.1, stands.2)
   state-stays (Answering answer) stands = record {
     may_answer = answer-stays stands.may_answer;
     gives = gives-still answer stands.gives;
@@ -285,6 +294,7 @@ module _ (before now : Moment) (runner : Runner) (others : OthersCame before now
         (others-never runner.token) was.history past.history came way.remembers;
     called = called-still runner.token was.history past.history came state way.called;
     backed = backed-still runner.token was.history past.history came way.backed;
+    free = λ report. free-still runner.token was.history past.history came state (way.free report);
   }
 
   -- and has ended as it had
@@ -301,6 +311,7 @@ module _ (before now : Moment) (runner : Runner) (others : OthersCame before now
     left = λ goes_on. left-still given was past came (ended.left goes_on);
     within = within-still runner.token was.history past.history came ended.within;
     backed = backed-still runner.token was.history past.history came ended.backed;
+    free = λ report. ran-still runner.token was.history past.history came (ended.free report);
   }
 
   -- on its way

@@ -21,7 +21,7 @@ use Rattle.suite_session.specs.Belongs.{of_others}
 use Rattle.suite_session.specs.Bound.{HasCalled, IsWithin, appends_in, others_in}
 use Rattle.suite_session.specs.Counts.{CountsLower, CountsTo, IsToList, LeavesFewer, Nears, appends_by, others_by}
 use Rattle.suite_session.specs.Grows.{Grows}
-use Rattle.suite_session.specs.Left.{appends_left, calls_left, is_append, most_appends, most_calls, most_lower}
+use Rattle.suite_session.specs.Left.{appends_left, calls_left, is_append, most_appends, most_calls, most_lower, watching_calls}
 use Rattle.suite_session.specs.NextCall.{state_call}
 use Rattle.suite_session.proofs.BackingLemmas.{NeverBacksUp, own-backed, grows-backed}
 use Rattle.suite_session.proofs.DueLemmas.{met-later}
@@ -108,12 +108,12 @@ sums-near : (was now old new by lower : ℕ) → now ≤ was + by → by ≡ 1 �
 sums-near was now old new by lower more one fewer most within =
     omega (arith, more, one, fewer, most, within)
 
--- where the answer alone is left, after so many calls
-sums-answer : (was now old new by lower : ℕ) → now ≤ was + by → by ≡ 1 → new ≡ 1 →
-    2 + most_lower ≤ old → lower ≤ most_lower → was + old ≤ most_calls + lower →
+-- where no more are left than a report has, after so many calls
+sums-few : (was now old new by lower : ℕ) → now ≤ was + by → by ≡ 1 → new ≤ watching_calls →
+    20 + most_lower ≤ old → lower ≤ most_lower → was + old ≤ most_calls + lower →
     now + new ≤ most_calls + 0
-sums-answer was now old new by lower more one last high most within =
-    omega (arith, more, one, last, high, most, within)
+sums-few was now old new by lower more one few high most within =
+    omega (arith, more, one, few, high, most, within)
 
 -- where it showed so many lower locks
 sums-listed : (was now old new lower shown : ℕ) → now ≤ was + 1 →
@@ -178,13 +178,13 @@ module _ (admits : Admission) (runner : Runner) (was past : Past)
       inr (counts-later runner.token was.history past.history longer.0 longer.1 lower counts)
 
   module _ (call : Call) (grew : GrewBy was past runner.token call) where
-    -- before the second listing a turn leads on towards it, or to the answer
+    -- before the second listing a turn leads on towards it, or leaves no more calls than a report has
     nears-then : (next state : State) → others_by call ≡ 1 → appends_by call ≡ 0 →
-        2 + most_lower ≤ calls_left state → Nears state next →
+        20 + most_lower ≤ calls_left state → Nears state next →
         HasCalled runner.token state was.history → HasCalled runner.token next past.history
     nears-then next state one none high nears called = by-next nears.next
       where
-        by-next : IsToList next ⊎ (calls_left next ≡ 1) →
+        by-next : IsToList next ⊎ (calls_left next ≤ watching_calls) →
             HasCalled runner.token next past.history
         by-next (inl is) = record {
           lower = most_lower;
@@ -195,11 +195,11 @@ module _ (admits : Admission) (runner : Runner) (was past : Past)
           appended = sums-same _ _ _ _ _ most_appends grew.appends none nears.appends
               called.appended;
         }
-        by-next (inr last) = record {
+        by-next (inr few) = record {
           lower = 0;
           most = omega arith;
           counts = inr (inl refl);
-          within = sums-answer _ _ _ _ _ called.lower grew.others one last high called.most
+          within = sums-few _ _ _ _ _ called.lower grew.others one few high called.most
               called.within;
           appended = sums-same _ _ _ _ _ most_appends grew.appends none nears.appends
               called.appended;

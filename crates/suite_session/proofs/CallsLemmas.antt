@@ -7,11 +7,12 @@ use Rattle.std.specs.Prelude.{option_map, unwrap_or}
 use Rattle.std.proofs.lemmas.List.{length-map}
 use Rattle.acct_outside.specs.declared.FolderFault.{FolderFault}
 use Rattle.acct_outside.specs.declared.Name.TheVariants.{Backup, BackupStage, FreeStage, Intent, IntentStage, Lock}
-use Rattle.acct_outside.specs.Calls.{Call, Found, appends, found_absent, found_bytes, found_too_large, lists, removes, renames, writes}
+use Rattle.acct_outside.specs.Calls.{Call, Found, appends, found_absent, found_bytes, found_too_large, lists, removes, reads as reads_name, renames, writes}
 use Rattle.acct_outside.specs.Pieces.{piece_at}
 use Rattle.acct_outside.specs.Moment.{Past}
 use Rattle.acct_outside.specs.Tokens.{Token, free_text}
 use Rattle.account_words.specs.declared.tool.Tool.{Tool}
+use Rattle.account_words.specs.Request.{Request, is_report}
 use Rattle.acct_text.specs.Bytes.{Bytes}
 use Rattle.intent_file.specs.Intent.{Intended, NewTable, ReadsIntent}
 use Rattle.intent_file.proofs.Reading.{allowed_parts, at_most_six}
@@ -38,13 +39,13 @@ use Rattle.suite_answers.specs.declared.cause.Cause.TheVariants.{IntentDamaged, 
 use Rattle.suite_answers.specs.declared.cause.Which.TheVariants.{File}
 use Rattle.suite_answers.specs.declared.answer.Answer.{Answer as FinalAnswer}
 use Rattle.suite_session.specs.declared.state.State.{State}
-use Rattle.suite_session.specs.declared.state.State.TheVariants.{Looking, Reading, Asking, Claiming, Unlocking, Answering, BackingUp, Committing, Confirming, Installing, Loading, Moving, ReadingIntent, Recovering}
+use Rattle.suite_session.specs.declared.state.State.TheVariants.{Looking, Reading, Asking, Claiming, Unlocking, Answering, BackingUp, Committing, Confirming, Gathering, Installing, Loading, Moving, ReadingIntent, Recovering, Watching}
 use Rattle.suite_session.specs.Runner.{Runner}
 use Rattle.suite_session.specs.Causes.{Met}
 use Rattle.suite_session.specs.Counts.{CountsLower, LeavesFewer, Listed, Nears}
 use Rattle.suite_session.specs.Left.{appends_left, calls_left, is_append, leaving_calls, loading_calls, new_texts, table_appends, texts_appends}
 use Rattle.suite_session.specs.NextCall.{state_call}
-use Rattle.suite_session.specs.Locking.{ShowsFew, after_look, after_read, after_listing}
+use Rattle.suite_session.specs.Locking.{ShowsFew, after_judging, after_look, after_read, after_listing}
 use Rattle.suite_session.specs.Recovering.{after_intent, Refuses}
 use Rattle.suite_session.specs.Stands.{AnswersWith, LeavesWith}
 use Rattle.suite_session.proofs.AppendsLemmas.{begun-same, listed-begun, listed-fewer, listed-most, listed-small, tables-most}
@@ -133,6 +134,8 @@ no-append (Installing walker answer) none =
 no-append (Unlocking keeper answer) none =
     next-apart (writes FreeStage free_text) (λ number. removes (Lock number))
     (slice_get keeper.lower 0) refl (λ one. refl)
+no-append (Gathering reading) none =
+    next-apart lists reads_name (slice_get reading.left 0) refl (λ name. refl)
 no-append state none = refl
 
 -- one with a piece left makes one
@@ -218,7 +221,7 @@ pub answers-near : (tool : Tool) (cause : Cause) (old state : State) →
 answers-near tool cause old state told more = record {
   fewer = less-calls tool cause state told (calls_left old) more;
   appends = (let none = answers-appends tool cause state told in omega (arith, none));
-  next = inr (answers-calls tool cause state told);
+  next = inr (let one = answers-calls tool cause state told in omega (arith, one));
 }
 
 -- or next
@@ -275,28 +278,43 @@ leaves-calls tool keeper cause state told = absurd told
 
 -- ---- To the lock
 
+-- once the greatest lock is judged
+judged-calls : (old : State) (judged : Lister) (report : Bool) →
+    calls_left (Claiming judged) < calls_left old →
+    appends_left (Claiming judged) ≤ appends_left old →
+    Nears old (if report then Watching judged else Claiming judged)
+judged-calls old judged true fewer few = record {
+  fewer = omega (arith, fewer);
+  appends = omega arith;
+  next = inr (omega arith);
+}
+judged-calls old judged false fewer few = record { fewer = fewer; appends = few; next = inl tt }
+
 -- after the first listing
-looked-calls : (looking : Token) (seen : Lister) (is_none : Bool) →
-    Nears (Looking looking) (if is_none then Claiming seen else Reading seen)
-looked-calls looking seen true =
-    record { fewer = omega arith; appends = omega arith; next = inl tt }
-looked-calls looking seen false =
+looked-calls : (request : Request) (looking : Token) (seen : Lister) (is_none : Bool) →
+    Nears (Looking looking) (if is_none then after_judging request seen else Reading seen)
+looked-calls request looking seen true =
+    judged-calls (Looking looking) seen (is_report request) (omega arith) (omega arith)
+looked-calls request looking seen false =
     record { fewer = omega arith; appends = omega arith; next = inl tt }
 
-pub look-calls : (looking : Token) (seen : Lister) → Nears (Looking looking) (after_look seen)
-look-calls looking seen = looked-calls looking seen _
+pub look-calls : (request : Request) (looking : Token) (seen : Lister) →
+    Nears (Looking looking) (after_look request seen)
+look-calls request looking seen = looked-calls request looking seen _
 
 -- after the read of the greatest lock
-pub read-calls : (seen : Lister) (told : Told) → Nears (Reading seen) (after_read told)
-read-calls seen (Judged judged) =
-    record { fewer = omega arith; appends = omega arith; next = inl tt }
-read-calls seen (Ask asking) =
+pub read-calls : (request : Request) (seen : Lister) (told : Told) →
+    Nears (Reading seen) (after_read request told)
+read-calls request seen (Judged judged) =
+    judged-calls (Reading seen) judged (is_report request) (omega arith) (omega arith)
+read-calls request seen (Ask asking) =
     record { fewer = omega arith; appends = omega arith; next = inl tt }
 
 -- after the verdict, and after the create
-pub ask-calls : (asking : Asker) (judged : Lister) → Nears (Asking asking) (Claiming judged)
-ask-calls asking judged =
-    record { fewer = omega arith; appends = omega arith; next = inl tt }
+pub ask-calls : (request : Request) (asking : Asker) (judged : Lister) →
+    Nears (Asking asking) (after_judging request judged)
+ask-calls request asking judged =
+    judged-calls (Asking asking) judged (is_report request) (omega arith) (omega arith)
 
 pub claim-calls : (judged : Lister) (claimed : Maker) → Nears (Claiming judged) (Confirming claimed)
 claim-calls judged claimed =

@@ -7,7 +7,6 @@ use Rattle.acct_outside.specs.declared.CommitStage.{CommitStage}
 use Rattle.acct_outside.specs.declared.FolderFault.{FolderFault}
 use Rattle.acct_outside.specs.declared.FolderFault.TheVariants.{Failed, Memory as NoMemory}
 use Rattle.acct_outside.specs.declared.Name.TheVariants.{Table, Defs}
-use Rattle.acct_outside.specs.Tokens.{Token}
 use Rattle.acct_outside.specs.History.{History}
 use Rattle.lock_steps.specs.States.{Kept}
 use Rattle.account_words.specs.declared.tool.Tool.{Tool}
@@ -20,8 +19,8 @@ use Rattle.suite_session.specs.declared.state.State.{State}
 use Rattle.suite_session.specs.declared.state.State.TheVariants.{Unlocking, Answering}
 use Rattle.suite_session.specs.Runner.{Question, Runner}
 use Rattle.suite_session.specs.Answers.{given_for, IsTold, Says}
-use Rattle.suite_session.specs.Causes.{HasMet, HasYielded}
-use Rattle.suite_session.specs.Due.{IsShown}
+use Rattle.suite_session.specs.Causes.{HasMet}
+use Rattle.suite_session.specs.Due.{IsShown, ShowsOutrun}
 use Rattle.suite_session.specs.Locking.{cause_of_fault}
 use Rattle.suite_session.specs.Stands.{AnswersWith, LeavesWith, IsDecided, IsOutside, TellsOutside}
 
@@ -114,14 +113,14 @@ plain-says asked answer (Syntax fault) plain is = absurd plain
 plain-says asked answer (BadSetting line) plain is = absurd plain
 plain-says asked answer (NoTable table) plain is = absurd plain
 
--- the session met the cause, and yielded its lock where that was outrun
-abbrev pub IsMetAs : Token → History → Cause → Type 0
-IsMetAs token history (Outrun number other) = HasYielded token number other history
-IsMetAs token history cause = HasMet token history cause
+-- the session met the cause, and shows that it was outrun where that is the cause
+abbrev pub IsMetAs : Runner → History → Cause → Type 0
+IsMetAs runner history (Outrun number other) = ShowsOutrun runner number other history
+IsMetAs runner history cause = HasMet runner.token history cause
 
 -- and it is shown by what the session met
 pub plain-shown : (runner : Runner) (answer : FinalAnswer) (history : History) (cause : Cause) →
-    IsPlain cause → IsMetAs runner.token history cause → IsShown runner answer history cause
+    IsPlain cause → IsMetAs runner history cause → IsShown runner answer history cause
 plain-shown runner answer history Changed plain met = absurd plain
 plain-shown runner answer history Same plain met = absurd plain
 plain-shown runner answer history (Refused refusal) plain met = absurd plain
@@ -143,13 +142,13 @@ told-plain asked cause answer plain told =
     ]
 
 -- what the session met of a cause it met of the answer that tells it
-pub told-met : (asked : Question) (cause : Cause) (answer : FinalAnswer) (token : Token)
-    (history : History) → IsTold asked.request.tool cause answer → IsMetAs token history cause →
-    IsMetAs token history answer.outcome.cause
-told-met asked cause answer token history told met =
-    elim (told-cause asked.request.tool cause answer told) [
-      | inl is ↦ subst (IsMetAs token history) (sym is) met
-      | inr is ↦ subst (IsMetAs token history) (sym is) tt
+pub told-met : (runner : Runner) (cause : Cause) (answer : FinalAnswer)
+    (history : History) → IsTold runner.asked.request.tool cause answer →
+    IsMetAs runner history cause → IsMetAs runner history answer.outcome.cause
+told-met runner cause answer history told met =
+    elim (told-cause runner.asked.request.tool cause answer told) [
+      | inl is ↦ subst (IsMetAs runner history) (sym is) met
+      | inr is ↦ subst (IsMetAs runner history) (sym is) tt
     ]
 
 -- and says what tells it

@@ -282,7 +282,7 @@ module _ (before now : Moment) (runner : Runner) (answer : FinalAnswer) where
           (Runs runner Before (HasStagedIntent stager)) →
           StandsUnsure told runner.token fault → LeavesWhere asked_of runner.token was told →
           IfSome told (λ past.
-          IsMetAs runner.token past.history (cause_of_fault fault.stage fault.fault)) →
+          IsMetAs runner past.history (cause_of_fault fault.stage fault.fault)) →
           IfSome told (IsDue runner given)
       unsure-due fault given says None None held unsure kept met = tt
       unsure-due fault given says (Some was) (Some past) held unsure kept met = record {
@@ -293,7 +293,7 @@ module _ (before now : Moment) (runner : Runner) (answer : FinalAnswer) where
         shown = plain-shown runner given past.history given.outcome.cause
             (told-plain runner.asked (cause_of_fault fault.stage fault.fault) given
             (fault-plain fault.stage fault.fault) says)
-            (told-met runner.asked (cause_of_fault fault.stage fault.fault) given runner.token
+            (told-met runner (cause_of_fault fault.stage fault.fault) given
             past.history says met);
       }
       unsure-due fault given says None (Some past) held unsure kept met = absurd kept

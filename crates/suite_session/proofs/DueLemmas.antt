@@ -6,7 +6,7 @@ use Rattle.std.proofs.lemmas.List.{append_assoc}
 use Rattle.acct_outside.specs.declared.Name.{Name}
 use Rattle.acct_outside.specs.declared.Name.TheVariants.{Table, Intent, Defs}
 use Rattle.acct_outside.specs.Tokens.{Token}
-use Rattle.acct_outside.specs.Calls.{Call, Answer as CallAnswer}
+use Rattle.acct_outside.specs.Calls.{Call, Answer as CallAnswer, Found, found_bytes, found_too_large}
 use Rattle.acct_outside.specs.History.{History}
 use Rattle.suite_rules.specs.OwnLock.{kept_number}
 use Rattle.suite_rules.specs.Standing.{Standing, standing}
@@ -20,8 +20,8 @@ use Rattle.acct_outside.specs.Moment.{Past, Moment}
 use Rattle.acct_outside.specs.declared.CommitStage.{CommitStage}
 use Rattle.suite_rules.proofs.Parts.{LeavesWhere, StandsWhere}
 use Rattle.suite_session.specs.Moment.{Runs, At}
-use Rattle.suite_session.specs.Causes.{Met, HasMet, HasYielded}
-use Rattle.suite_session.specs.Due.{AnswersAll, AnswersSome, AnsweredAll, WasKeeper, ShowsAll, ShowsLarge, IsShown, IsDue}
+use Rattle.suite_session.specs.Causes.{Met, HasMet, HasYielded, MetChange, MetIntent}
+use Rattle.suite_session.specs.Due.{AnswersAll, AnswersSome, AnsweredAll, WasKeeper, IsReported, ShowsAll, ShowsLarge, ShowsOutrun, ShowsSome, IsShown, IsDue}
 use Rattle.suite_session.specs.Stands.{Extends, Gives}
 
 -- what was met stays met
@@ -35,6 +35,20 @@ met-later token call answered Stood old new newer parts met = record {
       ∙ sym (append_assoc newer met.newer _));
   stood = met.stood;
 }
+
+-- so does what was found of the intent
+intent-later : (token : Token) (found : Found) (old new newer : History) → new ≡ newer ++ old →
+    MetIntent token found old → MetIntent token found new
+intent-later token found old new newer parts (inl met) =
+    inl (met-later _ _ _ _ old new newer parts met)
+intent-later token found old new newer parts (inr met) =
+    inr (met.0, met-later _ _ _ _ old new newer parts met.1)
+
+-- and another greatest lock that was listed
+change-later : (token : Token) (number other : ℕ) (old new newer : History) → new ≡ newer ++ old →
+    MetChange token number other old → MetChange token number other new
+change-later token number other old new newer parts met =
+    (met.0, met.1, met.2, met-later _ _ _ _ old new newer parts met.3)
 
 module _ (runner : Runner) (answer : Answer) where
   -- what was seen stays seen
@@ -87,16 +101,18 @@ module _ (runner : Runner) (answer : Answer) where
       (met.0, met-later _ _ _ _ old new newer parts met.1, met.2)
   met-stays old new newer parts (Raced number) met =
       (met.0, met.1, met-later _ _ _ _ old new newer parts met.2)
-  met-stays old new newer parts (Outrun number other) met =
-      (met.0, met.1, met.2, met-later _ _ _ _ old new newer parts met.3)
+  met-stays old new newer parts (Outrun number other) (inl met) =
+      inl (met.0, met.1, met.2, met-later _ _ _ _ old new newer parts met.3)
+  met-stays old new newer parts (Outrun number other) (inr met) =
+      inr (change-later runner.token number other old new newer parts met)
   met-stays old new newer parts (LockDamaged number) met =
       (met.0, met.1, met-later _ _ _ _ old new newer parts met.2, met.3)
   met-stays old new newer parts Exhausted met =
       (met.0, met.1, met-later _ _ _ _ old new newer parts met.2)
   met-stays old new newer parts (IntentDamaged part) met =
-      (met.0, met.1, met-later _ _ _ _ old new newer parts met.2)
+      (met.0, met.1, intent-later runner.token (found_bytes met.0) old new newer parts met.2)
   met-stays old new newer parts (TooLarge (File Intent)) met =
-      met-later _ _ _ _ old new newer parts met
+      intent-later runner.token found_too_large old new newer parts met
   met-stays old new newer parts (DiskFault stage) met = record {
     newer = newer ++ met.newer;
     older = met.older;
@@ -129,51 +145,59 @@ module _ (runner : Runner) (answer : Answer) where
     uncommitted = was.uncommitted;
   }
 
-  both-stay : (old new newer : History) → new ≡ newer ++ old →
-      kept_number (standing runner.token new).own ≡ kept_number (standing runner.token old).own →
-      (standing runner.token new).knows ≡ (standing runner.token old).knows →
-      ShowsAll runner answer old → ShowsAll runner answer new
-  both-stay old new newer parts kept knows shown =
-      (all-stays _ _ kept knows shown.0, keeper-stays old new newer parts shown.1)
+  module _ (old new newer : History) (parts : new ≡ newer ++ old)
+      (kept : kept_number (standing runner.token new).own
+      ≡ kept_number (standing runner.token old).own)
+      (knows : (standing runner.token new).knows ≡ (standing runner.token old).knows)
+      (reported : IsReported runner answer old → IsReported runner answer new) where
+    both-stay : ShowsAll runner answer old → ShowsAll runner answer new
+    both-stay (inl shown) =
+        inl (all-stays _ _ kept knows shown.0, keeper-stays old new newer parts shown.1)
+    both-stay (inr shown) = inr (reported shown)
 
-  -- what shows that a file is too large stays
-  large-stays : (old new newer : History) → new ≡ newer ++ old →
-      kept_number (standing runner.token new).own ≡ kept_number (standing runner.token old).own →
-      (standing runner.token new).knows ≡ (standing runner.token old).knows → (name : Name) →
-      ShowsLarge runner answer old name → ShowsLarge runner answer new name
-  large-stays old new newer parts kept knows name (inl all) =
-      inl (both-stay old new newer parts kept knows all)
-  large-stays old new newer parts kept knows name (inr large) = inr (record {
-    reader = large.reader;
-    sound = large.sound;
-    is_next = large.is_next;
-    met = met-later _ _ _ _ old new newer parts large.met;
-    says = large.says;
-  })
+    absent-stays : ShowsSome runner answer old → ShowsSome runner answer new
+    absent-stays (inl shown) =
+        inl (some-stays _ _ kept knows shown.0, keeper-stays old new newer parts shown.1)
+    absent-stays (inr shown) = inr (reported shown)
 
-  -- what shows a cause stays
-  pub shown-stays : (old new newer : History) → new ≡ newer ++ old →
-      kept_number (standing runner.token new).own ≡ kept_number (standing runner.token old).own →
-      (standing runner.token new).knows ≡ (standing runner.token old).knows →
-      (cause : Cause) → IsShown runner answer old cause → IsShown runner answer new cause
-  shown-stays old new newer parts kept knows Changed shown =
-      earlier-stays old new newer parts shown
-  shown-stays old new newer parts kept knows Same shown =
-      both-stay old new newer parts kept knows shown
-  shown-stays old new newer parts kept knows (Refused refusal) shown =
-      both-stay old new newer parts kept knows shown
-  shown-stays old new newer parts kept knows (BadSetting line) shown =
-      both-stay old new newer parts kept knows shown
-  shown-stays old new newer parts kept knows (NoTable table) shown =
-      (some-stays _ _ kept knows shown.0, keeper-stays old new newer parts shown.1)
-  shown-stays old new newer parts kept knows (TooLarge (File (Table table))) shown =
-      large-stays old new newer parts kept knows (Table table) shown
-  shown-stays old new newer parts kept knows (TooLarge (File Defs)) shown =
-      large-stays old new newer parts kept knows Defs shown
-  shown-stays old new newer parts kept knows (Outrun number other) shown =
-      yielded-stays old new newer parts number other shown
-  shown-stays old new newer parts kept knows cause shown =
-      met-stays old new newer parts cause shown
+    -- what shows that a file is too large stays
+    large-stays : (name : Name) → ShowsLarge runner answer old name →
+        ShowsLarge runner answer new name
+    large-stays name (inl all) = inl (both-stay all)
+    large-stays name (inr large) = inr (record {
+      reader = large.reader;
+      sound = large.sound;
+      is_next = large.is_next;
+      met = met-later _ _ _ _ old new newer parts large.met;
+      says = large.says;
+    })
+
+    -- so does what shows that it was outrun
+    outrun-stays : (number other : ℕ) → ShowsOutrun runner number other old →
+        ShowsOutrun runner number other new
+    outrun-stays number other (inl met) = inl (yielded-stays old new newer parts number other met)
+    outrun-stays number other (inr met) =
+        inr (met.0, change-later runner.token number other old new newer parts met.1)
+
+    -- what shows a cause stays
+    pub shown-stays : (cause : Cause) → IsShown runner answer old cause →
+        IsShown runner answer new cause
+    shown-stays Changed shown = earlier-stays old new newer parts shown
+    shown-stays Same shown = both-stay shown
+    shown-stays (Refused refusal) shown = both-stay shown
+    shown-stays (BadSetting line) shown = both-stay shown
+    shown-stays (NoTable table) shown = absent-stays shown
+    shown-stays (TooLarge (File (Table table))) shown = large-stays (Table table) shown
+    shown-stays (TooLarge (File Defs)) shown = large-stays Defs shown
+    shown-stays (Outrun number other) shown = outrun-stays number other shown
+    shown-stays cause shown = met-stays old new newer parts cause shown
+
+  -- a session that keeps a number has reported nothing
+  kept-reports : (history : History) (number : ℕ) →
+      kept_number (standing runner.token history).own ≡ Some number →
+      IsReported runner answer history → ⊥
+  kept-reports history number kept reported =
+      absurd (cc (sym kept ∙ ap kept_number reported.uncalled))
 
   module _ (commit : CommitStage) (number : ℕ) (Held Holds : Standing → Type 0)
       (had : (stood : Standing) → Held stood → kept_number stood.own ≡ Some number)
@@ -191,7 +215,9 @@ module _ (runner : Runner) (answer : Answer) where
       commits = ap (λ (part : Work). part.commit) left.1 ∙ due.commits;
       shown = shown-stays was.history past.history extends.1.0 extends.1.1
           (has _ stands.holds.holds ∙ sym (had _ stood.holds.holds))
-          (ap (λ (part : Work). part.knows) left.1) answer.outcome.cause due.shown;
+          (ap (λ (part : Work). part.knows) left.1)
+          (λ reported. absurd (kept-reports was.history number (had _ stood.holds.holds) reported))
+          answer.outcome.cause due.shown;
     }
     due-stays None (Some past) stood stands left extends due = absurd left
     due-stays (Some was) None stood stands left extends due = absurd left

@@ -24,6 +24,7 @@ use Rattle.suite_rules.specs.Steps.{Work, work}
 use Rattle.suite_rules.proofs.Parts.{LeavesWhere, StandsWhere}
 use Rattle.lock_steps.specs.States.{Lister, Asker, Maker, Overtaken}
 use Rattle.lock_steps.specs.Stands.{HasLooked, HasReadHeld, HasJudged, HasMade, WasOvertaken, KnowsNone, HasFreed}
+use Rattle.lock_steps.specs.Watching.{ConfirmsFound, Gatherer, HasGathered}
 use Rattle.lock_steps.specs.declared.LockRefusal.TheVariants.{Outrun}
 use Rattle.lock_steps.specs.declared.LockEnd.{LockEnd}
 use Rattle.lock_steps.specs.declared.LockEnd.TheVariants.{Refused, Folder}
@@ -90,16 +91,16 @@ module _ (token : Token) (cause : Cause) where
           freed = λ other kept.
               let same : number ≡ other = cc (sym (ap kept_number held.owns) ∙ kept) in
               subst (λ (one : ℕ). HasFreed one (standing token past.history)) same held;
-          clean = clean;
+          clean = λ kept. clean;
         }
 
   -- one that keeps no lock
-  pub none-left : (admits : Admission) → (IsDecided cause → ⊥) → (told : Option Past) →
+  pub none-left : (admits : Admission) (told : Option Past) →
       StandsWhere admits told token KeepsNone → IfSome told (HasLeft token cause)
-  none-left admits undecided None stands = tt
-  none-left admits undecided (Some past) stands = record {
+  none-left admits None stands = tt
+  none-left admits (Some past) stands = record {
     freed = λ number kept. absurd (cc (sym stands.holds ∙ kept));
-    clean = λ decided. absurd (undecided decided);
+    clean = λ kept. absurd (cc (sym stands.holds ∙ kept.1));
   }
 
   -- it has left this as long as its own lock, its last listing and its knowledge stay
@@ -118,7 +119,8 @@ module _ (token : Token) (cause : Cause) where
           is_greatest = held.is_greatest;
           is_such = held.is_such;
         };
-    clean = clean-same was past knows left.clean;
+    clean = λ kept. clean-same was past knows
+        (left.clean (kept.0, ap kept_number (sym own) ∙ kept.1));
   }
 
 -- ---- A session that was refused its lock
@@ -209,6 +211,25 @@ confirm-unkept claimed (Ok numbers) (Refused (Outrun number other)) shown goes_o
 confirm-unkept claimed (Err fault) (Folder came) shown goes_on =
     absurd (goes_on (fault-stopped Before came))
 confirm-unkept claimed answer end shown goes_on = absurd shown
+
+-- the listing that ends the reads of a report
+pub report-unkept : (reading : Gatherer) (answer : Result (List ℕ) FolderFault)
+    (numbers : List ℕ) → answer ≡ Ok numbers → LeavesUnkept lists answer (HasGathered reading)
+report-unkept reading answer numbers is = record {
+  given = numbers;
+  is = is;
+  unkept = λ stood gathered. ap (kept_after numbers) gathered.owns;
+}
+
+-- also where it shows that the report was outrun
+pub outrun-unkept : (reading : Gatherer) (answer : Result (List ℕ) FolderFault) (end : LockEnd) →
+    ConfirmsFound reading answer (Err end) → (IsStopped (cause_of_end end) → ⊥) →
+    LeavesUnkept lists answer (HasGathered reading)
+outrun-unkept reading (Ok numbers) end shown goes_on =
+    report-unkept reading (Ok numbers) numbers refl
+outrun-unkept reading (Err fault) (Folder came) shown goes_on =
+    absurd (goes_on (fault-stopped Before came))
+outrun-unkept reading (Err fault) (Refused refusal) shown goes_on = absurd shown
 
 -- the removal of a lock that was outrun
 pub withdraw-unkept : (loser : Overtaken) (answer : Result (Unit {0}) FolderFault)

@@ -12,6 +12,7 @@ mod CommitCalls
 mod CommittingTurns
 mod WalkingLemmas
 pub mod DueLemmas
+pub mod FreeLemmas
 mod DyingLemmas
 pub mod GrowsLemmas
 mod LeadsLemmas
@@ -24,7 +25,13 @@ mod MeetingLemmas
 pub mod MetLemmas
 mod NextLemmas
 mod OwnCallLemmas
+pub mod ProblemLemmas
 mod RecoveringTurns
+mod ReportMeeting
+mod ReportProblems
+mod ReportReads
+mod ReportStays
+mod ReportingTurns
 mod RuleLemmas
 mod SessionTurns
 pub mod StreamLemmas

@@ -418,6 +418,6 @@ of-change runner inputs new answer asks decides walker is small = (
   is ∙ ap (λ (one : Walker). walk_of one.change) (sym is),
   ap (λ (one : Walker). one.change.inputs) is,
   subst (λ (one : Walker). IsOfChange runner one.change answer) (sym is)
-      (record { asks = asks; is_answer = decides.0; is_change = decides.1.0 }),
+      (record { asks = asks; is_answer = decides.0; is_change = decides.1 }),
   small,
 )

@@ -15,13 +15,14 @@ use Rattle.lock_steps.specs.declared.claiming.Confirmed.{Confirmed}
 use Rattle.lock_steps.specs.declared.claiming.Confirmed.TheVariants.{Keeper, Loser}
 use Rattle.lock_steps.specs.Outcomes.{Looks, Reads, Confirms}
 use Rattle.lock_steps.specs.Stands.{HasLooked, HasReadHeld, HasJudged, HasMade, WasOvertaken, Keeps, KnowsAnything, StandsTold, StandsConfirmed}
+use Rattle.account_words.specs.Request.{Request, is_report}
 use Rattle.suite_session.specs.Causes.{HasListedNone}
-use Rattle.suite_session.specs.declared.state.State.TheVariants.{Claiming, Reading}
+use Rattle.suite_session.specs.declared.state.State.TheVariants.{Claiming, Reading, Watching}
 use Rattle.suite_session.specs.Runner.{Runner}
 use Rattle.acct_outside.specs.Moment.{Moment}
 use Rattle.acct_outside.specs.declared.CommitStage.TheVariants.{Before}
 use Rattle.suite_session.specs.Moment.{At}
-use Rattle.suite_session.specs.Locking.{after_look, after_read, after_listing}
+use Rattle.suite_session.specs.Locking.{after_judging, after_look, after_read, after_listing}
 use Rattle.suite_session.specs.Stands.{StandsAs, TellsOutside}
 use Rattle.suite_session.proofs.TurnLemmas.{goes-on}
 use Rattle.suite_session.proofs.LockingLemmas.{looks-last, looks-token, reads-number, reads-judged, reads-asking, confirms-keeper, confirms-less, confirms-loser}
@@ -38,6 +39,18 @@ none-judged seen none stood looked = record {
 }
 
 module _ (before now : Moment) (runner : Runner) where
+  -- once the greatest lock is judged a report watches, and another command makes a lock
+  judged-by : (judged : Lister) (report : Bool) → is_report runner.asked.request ≡ report →
+      judged.token ≡ runner.token → At now runner Before (HasJudged judged) →
+      StandsAs now runner (if report then Watching judged else Claiming judged)
+  judged-by judged true is same stands = (same, stands, is)
+  judged-by judged false is same stands = (same, stands, is)
+
+  pub judged-stands : (judged : Lister) → judged.token ≡ runner.token →
+      At now runner Before (HasJudged judged) →
+      StandsAs now runner (after_judging runner.asked.request judged)
+  judged-stands judged = judged-by judged _ refl
+
   module _ (looking : Token) (stands : At before runner Before HasListedNone)
       (same : looking ≡ runner.token) where
     -- after the first listing, by whether there is a lock
@@ -45,14 +58,14 @@ module _ (before now : Moment) (runner : Runner) where
         MakesCall before now looking lists
         (λ answer. Looks looking answer (Ok seen)) →
         StandsIn now looking (HasLooked seen) →
-        StandsAs now runner (if is_none then Claiming seen else Reading seen)
-    looked seen true is made next = (
-      looks-token _ _ _ made.shown ∙ same,
-      goes-on before now runner Before HasListedNone stands looking same
-          lists tt _ (λ result stood. refl) made (HasJudged seen)
-          (stands-weaker now.admits looking (HasLooked seen) (HasJudged seen)
-          (none-judged seen (search (rules, is))) now.told next),
-    )
+        StandsAs now runner
+        (if is_none then after_judging runner.asked.request seen else Reading seen)
+    looked seen true is made next = judged-stands seen
+        (looks-token _ _ _ made.shown ∙ same)
+        (goes-on before now runner Before HasListedNone stands looking same
+        lists tt _ (λ result stood. refl) made (HasJudged seen)
+        (stands-weaker now.admits looking (HasLooked seen) (HasJudged seen)
+        (none-judged seen (search (rules, is))) now.told next))
     looked seen false is made next = (
       looks-token _ _ _ made.shown ∙ same,
       (search (rules, is, arith)),
@@ -65,7 +78,7 @@ module _ (before now : Moment) (runner : Runner) where
         MakesCall before now looking lists
         (λ answer. Looks looking answer (Ok seen)) →
         StandsIn now looking (HasLooked seen) →
-        StandsAs now runner (after_look seen)
+        StandsAs now runner (after_look runner.asked.request seen)
     look-stands seen made next = looked seen _ refl made next
 
   module _ (seen : Lister) (stands : At before runner Before (HasLooked seen))
@@ -74,12 +87,12 @@ module _ (before now : Moment) (runner : Runner) where
     pub read-stands : (told : Told) →
         MakesCall before now seen.token
         (reads (Lock seen.greatest)) (λ answer. Reads seen answer (Ok told)) →
-        StandsTold now seen.token told → StandsAs now runner (after_read told)
-    read-stands (Judged judged) made next = (
-      reads-judged _ _ _ made.shown ∙ same,
-      goes-on before now runner Before (HasLooked seen) stands seen.token same
-          (reads (Lock seen.greatest)) tt _ (λ result stood. refl) made (HasJudged judged) next,
-    )
+        StandsTold now seen.token told →
+        StandsAs now runner (after_read runner.asked.request told)
+    read-stands (Judged judged) made next = judged-stands judged
+        (reads-judged _ _ _ made.shown ∙ same)
+        (goes-on before now runner Before (HasLooked seen) stands seen.token same
+        (reads (Lock seen.greatest)) tt _ (λ result stood. refl) made (HasJudged judged) next)
     read-stands (Ask asking) made next = (
       reads-asking _ _ _ made.shown ∙ same,
       goes-on before now runner Before (HasLooked seen) stands seen.token same
@@ -107,10 +120,20 @@ module _ (before now : Moment) (runner : Runner) where
           lists tt _ (λ result stood. refl) made (WasOvertaken loser) next,
     )
 
--- the state after the read tells of no fault
-pub read-quiet : (told : Told) → TellsOutside (after_read told) → ⊥
-read-quiet (Judged judged) fault = fault
-read-quiet (Ask asking) fault = fault
+-- a state with a judged lock tells of no fault
+judged-by-quiet : (judged : Lister) (report : Bool) →
+    TellsOutside (if report then Watching judged else Claiming judged) → ⊥
+judged-by-quiet judged true fault = fault
+judged-by-quiet judged false fault = fault
+
+pub judged-quiet : (request : Request) (judged : Lister) →
+    TellsOutside (after_judging request judged) → ⊥
+judged-quiet request judged = judged-by-quiet judged _
+
+-- nor does that after the read
+pub read-quiet : (request : Request) (told : Told) → TellsOutside (after_read request told) → ⊥
+read-quiet request (Judged judged) fault = judged-quiet request judged fault
+read-quiet request (Ask asking) fault = fault
 
 -- nor does that after the second listing
 pub confirm-quiet : (confirmed : Confirmed) → TellsOutside (after_listing confirmed) → ⊥
@@ -118,10 +141,10 @@ confirm-quiet (Keeper keeper) fault = fault
 confirm-quiet (Loser loser) fault = fault
 
 -- nor does that after the first
-looked-quiet : (seen : Lister) (is_none : Bool) →
-    TellsOutside (if is_none then Claiming seen else Reading seen) → ⊥
-looked-quiet seen true fault = fault
-looked-quiet seen false fault = fault
+looked-quiet : (request : Request) (seen : Lister) (is_none : Bool) →
+    TellsOutside (if is_none then after_judging request seen else Reading seen) → ⊥
+looked-quiet request seen true fault = judged-quiet request seen fault
+looked-quiet request seen false fault = fault
 
-pub look-quiet : (seen : Lister) → TellsOutside (after_look seen) → ⊥
-look-quiet seen fault = looked-quiet seen _ fault
+pub look-quiet : (request : Request) (seen : Lister) → TellsOutside (after_look request seen) → ⊥
+look-quiet request seen fault = looked-quiet request seen _ fault

@@ -23,11 +23,12 @@ use Rattle.intent_file.specs.Intent.{Intended, ReadsIntent}
 use Rattle.intent_file.specs.Parts.{FirstFault}
 use Rattle.intent_file.proofs.FirstFaultIsOne.{first_fault_is_one_holds}
 use Rattle.suite_rules.specs.OwnLock.{OwnLock, lock_uncalled, lock_made, made_number}
+use Rattle.suite_rules.specs.Listing.{Listing}
 use Rattle.suite_rules.specs.Outcomes.{LeadsTo, at_stage}
 use Rattle.suite_rules.specs.Standing.{Standing}
 use Rattle.lock_steps.specs.LockText.{IsDamaged}
 use Rattle.lock_steps.specs.States.{Lister, Asker, Maker, Overtaken, Kept}
-use Rattle.lock_steps.specs.Stands.{HasLooked, HasReadHeld, HasJudged, HasMade, WasOvertaken, Keeps, KnowsAnything}
+use Rattle.lock_steps.specs.Stands.{HasListed, HasLooked, HasReadHeld, HasJudged, HasMade, WasOvertaken, Keeps, KnowsAnything}
 use Rattle.lock_steps.specs.declared.LockRefusal.TheVariants.{Held as LockHeld, Gone as LockGone, Raced as LockRaced, Outrun as LockOutrun, Damaged, Exhausted as LocksExhausted}
 use Rattle.lock_steps.specs.declared.LockEnd.{LockEnd}
 use Rattle.lock_steps.specs.declared.LockEnd.TheVariants.{Refused, Folder}
@@ -179,7 +180,7 @@ locks-ended next (Ok answer) fault shown = absurd shown
 -- ---- On the way to the lock
 
 -- a session without a lock has made none
-none-made : (own : OwnLock) (number : ℕ) → own ≡ lock_uncalled → own ≡ lock_made number → ⊥
+pub none-made : (own : OwnLock) (number : ℕ) → own ≡ lock_uncalled → own ≡ lock_made number → ⊥
 none-made own number uncalled made = absurd (cc (sym uncalled ∙ made))
 
 -- it made one lock
@@ -188,16 +189,27 @@ one-made : (own : OwnLock) (number other : ℕ) → own ≡ lock_made number →
 one-made own number other made same =
     let both : Some number ≡ Some other = ap made_number (sym made ∙ same) in cc both
 
+-- a session that has listed the locks isn't one that hasn't
+listed-none : (own : OwnLock) (number : ℕ) (IsSuch : Listing → Type 0) (stood : Standing) →
+    HasListedNone stood → HasListed own number IsSuch stood → ⊥
+listed-none own number IsSuch stood none listed = absurd (cc (sym none.unlisted ∙ listed.listed))
+
 -- the second listing, by the greatest lock that it shows
 listed-tells : (state : State) (claimed : Maker) (numbers : List ℕ) → ((other : ℕ) → greatest numbers ≡ other →
     other ≢ claimed.number → IsToTell state (Outrun claimed.number other)) → (stood : Standing) →
     HasMade claimed stood → (met : Cause) → Shows lists numbers stood met → IsToTell state met
 listed-tells state claimed numbers tells stood held Exhausted shows =
     absurd (none-made stood.own claimed.number shows.1.owns held)
-listed-tells state claimed numbers tells stood held (Outrun number other) shows =
-    let same = one-made stood.own claimed.number number held shows.2 in
+listed-tells state claimed numbers tells stood held (Outrun number other) (is, apart, inl made) =
+    let same = one-made stood.own claimed.number number held made in
     subst (λ (one : ℕ). IsToTell state (Outrun one other)) same
-    (tells other shows.0 (subst (λ (one : ℕ). other ≢ one) (sym same) shows.1))
+    (tells other is (subst (λ (one : ℕ). other ≢ one) (sym same) apart))
+listed-tells state claimed numbers tells stood held (Outrun number other) (is, apart, inr judged) =
+    absurd (none-made stood.own claimed.number judged.owns held)
+listed-tells state claimed numbers tells stood held (IntentDamaged part) shows =
+    absurd (none-made stood.own claimed.number shows.2.owns held)
+listed-tells state claimed numbers tells stood held (TooLarge (File Intent)) shows =
+    absurd (none-made stood.own claimed.number shows.owns held)
 listed-tells state claimed numbers tells stood held met shows = absurd shows
 
 module _ (tool : Tool) (state : State) where
@@ -207,12 +219,24 @@ module _ (tool : Tool) (state : State) where
   folder-ends came fault told is call Stood =
       fault-ends tool Before came state told call (Err fault) Stood (ap Err (sym is))
 
+  -- the first listing shows no other greatest lock
+  unlisted-tells : (numbers : List ℕ) (stood : Standing) → HasListedNone stood → (number other : ℕ) →
+      Shows lists numbers stood (Outrun number other) → ⊥
+  unlisted-tells numbers stood held number other (greatest_is, apart, inl made) =
+      none-made stood.own number held.owns made
+  unlisted-tells numbers stood held number other (greatest_is, apart, inr judged) =
+      listed-none _ _ _ stood held judged
+
   -- the first listing, where the greatest lock doesn't have the last number
   look-none : (numbers : List ℕ) → greatest numbers ≢ greatest_lock → (stood : Standing) →
       HasListedNone stood → (met : Cause) → Shows lists numbers stood met → ⊥
   look-none numbers not_last stood held Exhausted shows = not_last shows.0
   look-none numbers not_last stood held (Outrun number other) shows =
-      none-made stood.own number held.owns shows.2
+      unlisted-tells numbers stood held number other shows
+  look-none numbers not_last stood held (IntentDamaged part) shows =
+      listed-none _ _ _ stood held shows.2
+  look-none numbers not_last stood held (TooLarge (File Intent)) shows =
+      listed-none _ _ _ stood held shows
   look-none numbers not_last stood held met shows = shows
 
   pub look-on : (looking : Token) (answer : Result (List ℕ) FolderFault) (seen : Lister) →
@@ -226,7 +250,11 @@ module _ (tool : Tool) (state : State) where
       HasListedNone stood → (met : Cause) → Shows lists numbers stood met → IsToTell state met
   look-tells numbers told stood held Exhausted shows = answers-tell tool Exhausted state told
   look-tells numbers told stood held (Outrun number other) shows =
-      absurd (none-made stood.own number held.owns shows.2)
+      absurd (unlisted-tells numbers stood held number other shows)
+  look-tells numbers told stood held (IntentDamaged part) shows =
+      absurd (listed-none _ _ _ stood held shows.2)
+  look-tells numbers told stood held (TooLarge (File Intent)) shows =
+      absurd (listed-none _ _ _ stood held shows)
   look-tells numbers told stood held met shows = absurd shows
 
   pub look-ends : (looking : Token) (answer : Result (List ℕ) FolderFault) (end : LockEnd) →
@@ -397,13 +425,13 @@ module _ (tool : Tool) (state : State) where
       let same : shows.0 ≡ bytes = cc shows.1 in
       first_fault_is_one_holds.none_if_read bytes part intent
       (subst (λ (one : Bytes). FirstFault one part) same shows.2) reads_it
-  read-none bytes intent reads_it stood (TooLarge (File Intent)) shows = absurd (cc shows)
+  read-none bytes intent reads_it stood (TooLarge (File Intent)) shows = absurd (cc shows.0)
   read-none bytes intent reads_it stood met shows = shows
 
   -- or of none
   absent-none : (stood : Standing) (met : Cause) → Shows (reads Intent) found_absent stood met → ⊥
   absent-none stood (IntentDamaged part) shows = absurd (cc shows.1)
-  absent-none stood (TooLarge (File Intent)) shows = absurd (cc shows)
+  absent-none stood (TooLarge (File Intent)) shows = absurd (cc shows.0)
   absent-none stood met shows = shows
 
   pub intent-on : (keeper : Kept) (answer : Result Found FolderFault) (seen : IntentSeen) →
@@ -425,7 +453,7 @@ module _ (tool : Tool) (state : State) where
       (first_fault_is_one_holds.one_part bytes part other first
       (subst (λ (one : Bytes). FirstFault one other) same shows.2))
       (leaves-tell tool kept (IntentDamaged part) state leaves)
-  part-tells bytes part kept first leaves stood (TooLarge (File Intent)) shows = absurd (cc shows)
+  part-tells bytes part kept first leaves stood (TooLarge (File Intent)) shows = absurd (cc shows.0)
   part-tells bytes part kept first leaves stood met shows = absurd shows
 
   -- or of one that is too large

@@ -30,7 +30,9 @@ use Rattle.suite_answers.specs.declared.cause.Which.TheVariants.{File}
 use Rattle.suite_answers.specs.declared.cause.Cause.{Cause}
 use Rattle.suite_answers.specs.declared.cause.Cause.TheVariants.{IntentDamaged, TooLarge}
 use Rattle.suite_session.specs.Locking.{cause_of_end, cause_of_fault}
-use Rattle.suite_session.specs.Causes.{Met, HasKept, HasListedNone, HasYielded, MetNoLock, MetDamage, MetHolder, MetNext}
+use Rattle.suite_session.specs.Causes.{Met, HasKept, HasListedNone, MetNoLock, MetDamage, MetHolder, MetNext}
+use Rattle.suite_session.specs.Due.{ShowsOutrun}
+use Rattle.suite_session.specs.Runner.{Runner}
 use Rattle.suite_session.proofs.CauseLemmas.{IsMetAs}
 
 -- what holds of a told history leads to what follows from it
@@ -50,22 +52,22 @@ met-weaker token call answer Stood Weaker weaker history met = record {
   stood = weaker _ met.stood;
 }
 
-module _ (token : Token) (told : Option Past) where
+module _ (runner : Runner) (told : Option Past) where
   -- where the history is told, the session got this answer when it stood so
-  abbrev Got : (call : Call) → Answer call → (Standing → Type 0) → Type 0
-  Got call answer Stood = IfSome told (λ past. Met token call answer Stood past.history)
+  abbrev pub Got : (call : Call) → Answer call → (Standing → Type 0) → Type 0
+  Got call answer Stood = IfSome told (λ past. Met runner.token call answer Stood past.history)
 
   -- and has met what leads to this cause
-  abbrev Meets : Cause → Type 0
-  Meets cause = IfSome told (λ past. IsMetAs token past.history cause)
+  abbrev pub Meets : Cause → Type 0
+  Meets cause = IfSome told (λ past. IsMetAs runner past.history cause)
 
   -- where the call came to a fault, it has met that
-  abbrev Ended : (call : Call) → Result (Answer call) FolderFault → Type 0
+  abbrev pub Ended : (call : Call) → Result (Answer call) FolderFault → Type 0
   Ended call answer =
       (fault : FolderFault) → answer ≡ Err fault → Meets (cause_of_fault Before fault)
 
   -- that its own call came to one
-  fault-meets : (call : Call) (came fault : FolderFault) → Ended call (Err fault) → came ≡ fault →
+  pub fault-meets : (call : Call) (came fault : FolderFault) → Ended call (Err fault) → came ≡ fault →
       Meets (cause_of_end (Folder came))
   fault-meets call came fault ended is = ended came (ap Err (sym is))
 
@@ -74,7 +76,7 @@ module _ (token : Token) (told : Option Past) where
   memory-meets = by-told told
     where
       by-told : (some : Option Past) →
-          IfSome some (λ past. IsMetAs token past.history (cause_of_end (Folder NoMemory)))
+          IfSome some (λ past. IsMetAs runner past.history (cause_of_end (Folder NoMemory)))
       by-told None = tt
       by-told (Some past) = tt
 
@@ -98,13 +100,16 @@ module _ (token : Token) (told : Option Past) where
       Got (reads (Lock seen.greatest)) found (HasLooked seen)) →
       Ended (reads (Lock seen.greatest)) answer → Meets (cause_of_end end)
   read-met seen (Ok found_absent) (Refused (Gone number)) some not_last shown got ended =
-      told-as told (λ past met. subst (λ (one : ℕ). MetNoLock token one past.history) (sym shown)
+      told-as told (λ past met.
+      subst (λ (one : ℕ). MetNoLock runner.token one past.history) (sym shown)
       (some, met, not_last)) (got found_absent refl)
   read-met seen (Ok found_too_large) (Refused (Damaged number)) some not_last shown got ended =
-      told-as told (λ past met. subst (λ (one : ℕ). MetDamage token one past.history) (sym shown)
+      told-as told (λ past met.
+      subst (λ (one : ℕ). MetDamage runner.token one past.history) (sym shown)
       (found_too_large, tt, met, not_last)) (got found_too_large refl)
   read-met seen (Ok (found_bytes text)) (Refused (Damaged number)) some not_last shown got ended =
-      told-as told (λ past met. subst (λ (one : ℕ). MetDamage token one past.history) (sym shown.1)
+      told-as told (λ past met.
+      subst (λ (one : ℕ). MetDamage runner.token one past.history) (sym shown.1)
       (found_bytes text, shown.0, met, not_last)) (got (found_bytes text) refl)
   read-met seen (Ok (found_bytes text)) (Folder NoMemory) some not_last shown got ended =
       memory-meets
@@ -119,7 +124,7 @@ module _ (token : Token) (told : Option Past) where
       Got (asks asking.asked) verdict (HasReadHeld asking)) →
       Ended (asks asking.asked) answer → Meets (cause_of_end end)
   ask-met asking (Ok Alive) (Refused (Held holder)) not_last shown got ended = told-as told
-      (λ past met. subst (λ (one : Token). MetHolder token one past.history) (sym shown)
+      (λ past met. subst (λ (one : Token). MetHolder runner.token one past.history) (sym shown)
       (asking.greatest, met, not_last)) (got Alive refl)
   ask-met asking (Err fault) (Folder came) not_last shown got ended =
       fault-meets (asks asking.asked) came fault ended shown
@@ -131,7 +136,7 @@ module _ (token : Token) (told : Option Past) where
       Got (creates (judged.greatest + 1)) created (HasJudged judged)) →
       Ended (creates (judged.greatest + 1)) answer → Meets (cause_of_end end)
   claim-met judged (Ok Exists) (Refused (Raced number)) shown got ended = told-as told
-      (λ past met. subst (λ (one : ℕ). MetNext token one past.history) (sym shown)
+      (λ past met. subst (λ (one : ℕ). MetNext runner.token one past.history) (sym shown)
       (judged.greatest, refl, met)) (got Exists refl)
   claim-met judged (Err fault) (Folder came) shown got ended =
       fault-meets (creates (judged.greatest + 1)) came fault ended shown
@@ -143,9 +148,9 @@ module _ (token : Token) (told : Option Past) where
       ((numbers : List ℕ) → answer ≡ Ok numbers → Got lists numbers (HasMade claimed)) →
       Ended lists answer → Meets (cause_of_end end)
   confirm-met claimed (Ok numbers) (Refused (Outrun number other)) shown got ended = told-as told
-      (λ past met. subst (λ (one : ℕ). HasYielded token one other past.history) (sym shown.1)
-      (subst (λ (one : ℕ). HasYielded token claimed.number one past.history) (sym shown.2)
-      (inr (numbers, refl, shown.0, met)))) (got numbers refl)
+      (λ past met. subst (λ (one : ℕ). ShowsOutrun runner one other past.history) (sym shown.1)
+      (subst (λ (one : ℕ). ShowsOutrun runner claimed.number one past.history) (sym shown.2)
+      (inl (inr (numbers, refl, shown.0, met))))) (got numbers refl)
   confirm-met claimed (Err fault) (Folder came) shown got ended =
       fault-meets lists came fault ended shown
   confirm-met claimed answer end shown got ended = absurd shown
@@ -157,9 +162,9 @@ module _ (token : Token) (told : Option Past) where
       Got (removes (Lock loser.number)) unit (WasOvertaken loser)) →
       Ended (removes (Lock loser.number)) answer → Meets (cause_of_end end)
   withdraw-met loser (Ok unit) (Refused (Outrun number other)) less shown got ended = told-as told
-      (λ past met. subst (λ (one : ℕ). HasYielded token one other past.history) (sym shown.0)
-      (subst (λ (one : ℕ). HasYielded token loser.number one past.history) (sym shown.1)
-      (inl (less, met)))) (got unit refl)
+      (λ past met. subst (λ (one : ℕ). ShowsOutrun runner one other past.history) (sym shown.0)
+      (subst (λ (one : ℕ). ShowsOutrun runner loser.number one past.history) (sym shown.1)
+      (inl (inl (less, met))))) (got unit refl)
   withdraw-met loser (Err fault) (Folder came) less shown got ended =
       fault-meets (removes (Lock loser.number)) came fault ended shown
   withdraw-met loser answer end less shown got ended = absurd shown
@@ -179,8 +184,8 @@ module _ (token : Token) (told : Option Past) where
       (λ past met. (
         bytes,
         shown.0,
-        met-weaker token (reads Intent) (found_bytes bytes) _ HasKept
-            (has-kept keeper) past.history met,
+        inl (met-weaker runner.token (reads Intent) (found_bytes bytes) _ HasKept
+            (has-kept keeper) past.history met),
       )) (got (found_bytes bytes) refl)
   damaged-met keeper answer part kept shown got = absurd shown
 
@@ -189,6 +194,6 @@ module _ (token : Token) (told : Option Past) where
       FindsIntent keeper answer (Err (IntentIsLarge kept)) → ((found : Found) → answer ≡ Ok found →
       Got (reads Intent) found (Keeps keeper KnowsAnything)) → Meets (TooLarge (File Intent))
   large-met keeper (Ok found_too_large) kept shown got = told-as told
-      (λ past met. met-weaker token (reads Intent) found_too_large _ HasKept (has-kept keeper)
-      past.history met) (got found_too_large refl)
+      (λ past met. inl (met-weaker runner.token (reads Intent) found_too_large _ HasKept
+      (has-kept keeper) past.history met)) (got found_too_large refl)
   large-met keeper answer kept shown got = absurd shown

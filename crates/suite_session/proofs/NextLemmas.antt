@@ -18,12 +18,13 @@ use Rattle.suite_rules.specs.Rules.{AnswerRule}
 use Rattle.suite_rules.specs.Standing.{Standing, standing}
 use Rattle.lock_steps.specs.NextCall.{IsCallWhere}
 use Rattle.lock_steps.specs.Stands.{HasJudged, HasLooked, HasMade, HasReadHeld, HasStagedFree, Keeps, KnowsAnything, WasOvertaken}
+use Rattle.lock_steps.specs.Watching.{HasGathered}
 use Rattle.recovery.specs.Stands.{HasStagedNext, Recovers}
 use Rattle.commit_steps.specs.Stands.{BacksUp, HasRead, HasStagedIntent, Installs}
 use Rattle.suite_answers.specs.declared.answer.Answer.{Answer}
 use Rattle.suite_answers.specs.Reasons.{stage_of}
 use Rattle.suite_session.specs.declared.state.State.{State}
-use Rattle.suite_session.specs.declared.state.State.TheVariants.{Looking, Reading, Asking, Claiming, Confirming, Withdrawing, ReadingIntent, Recovering, Moving, Loading, BackingUp, Committing, Installing, Unlocking, Freeing, Answering}
+use Rattle.suite_session.specs.declared.state.State.TheVariants.{Looking, Reading, Asking, Claiming, Confirming, Withdrawing, ReadingIntent, Recovering, Moving, Loading, BackingUp, Committing, Installing, Unlocking, Freeing, Watching, Gathering, Answering}
 use Rattle.suite_session.specs.Runner.{Runner}
 use Rattle.suite_session.specs.Belongs.{IsOnItsWay}
 use Rattle.suite_session.specs.Causes.{HasListedNone}
@@ -138,6 +139,12 @@ module _ (now : Moment) (runner : Runner) where
           going (stage_of answer.outcome.cause) (HasStagedFree freeing)
           (Freeing freeing answer) (λ stood runs. runs.holds) may
           (led (Freeing freeing answer) refl way).stands
+      next-ready (Watching watcher) may way =
+          going Before (HasJudged watcher) (Watching watcher)
+          (λ stood runs. runs.holds) may (led (Watching watcher) refl way).1
+      next-ready (Gathering reading) may way =
+          going Before (HasGathered reading) (Gathering reading)
+          (λ stood runs. runs.holds) may (led (Gathering reading) refl way).1
       next-ready (Answering answer) may way =
           let had = left-given now runner answer way in
           told-both now.told (λ past runs due. record {

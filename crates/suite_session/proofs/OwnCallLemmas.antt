@@ -39,13 +39,13 @@ module _ (before now : Moment) (runner : Runner) (commit : CommitStage) (Held : 
 
   -- what came to a fault, the session met as that
   pub fault-met : (stage : CommitStage) (fault : FolderFault) → made.answer ≡ Err fault →
-      IfSome now.told (λ past. IsMetAs runner.token past.history (cause_of_fault stage fault))
+      IfSome now.told (λ past. IsMetAs runner past.history (cause_of_fault stage fault))
   fault-met stage fault is = by-told fault before.told now.told
       (subst (OutsideTells before now runner.token call) is told-by-runner)
     where
       by-told : (one : FolderFault) (was told : Option Past) →
           TellsWhere before.admits was told runner.token call (Err one) →
-          IfSome told (λ past. IsMetAs runner.token past.history (cause_of_fault stage one))
+          IfSome told (λ past. IsMetAs runner past.history (cause_of_fault stage one))
       by-told Failed (Some was) (Some past) tells = record {
         newer = [];
         older = tells.1.1.others_then.between;

@@ -151,7 +151,7 @@ module _ (before now : Moment) (runner : Runner) (keeper : Kept)
       leaves-turn before now runner Before (Keeps keeper KnowsAnything) stands
       keeper.token same (reads Intent) tt _ (λ result stood. refl) made kept (IntentDamaged part)
       state refuses tt
-      (damaged-met runner.token now.told keeper made.answer part kept made.shown
+      (damaged-met runner now.told keeper made.answer part kept made.shown
       (got before now runner Before (Keeps keeper KnowsAnything) stands keeper.token same
       (reads Intent) tt _ (λ result stood. refl) made))
       (λ fault. fault) refl
@@ -160,7 +160,7 @@ module _ (before now : Moment) (runner : Runner) (keeper : Kept)
       leaves-turn before now runner Before (Keeps keeper KnowsAnything) stands
       keeper.token same (reads Intent) tt _ (λ result stood. refl) made kept
       (IsTooLarge (File Intent)) state refuses tt
-      (large-met runner.token now.told keeper made.answer kept made.shown
+      (large-met runner now.told keeper made.answer kept made.shown
       (got before now runner Before (Keeps keeper KnowsAnything) stands keeper.token same
       (reads Intent) tt _ (λ result stood. refl) made))
       (λ fault. fault) refl

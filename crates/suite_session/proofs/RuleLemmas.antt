@@ -3,8 +3,11 @@
 -- Way: a cause that is no tool's answer has a status of its own (`lock-some` and the others); a
 -- change comes after the own commit; and what else has status 0 is an answer on files that the
 -- session saw.
-use Rattle.std.proofs.Common.{◌≡◌, refl, sym, ap, ◌∙◌, ◌==◌, ◌&&◌, not, ℕ, Bool, true, false, Some, Result, Ok, Err, rules}
+use Rattle.std.proofs.Common.{◌≡◌, refl, sym, ap, subst, ◌∙◌, ◌==◌, ◌&&◌, not, ℕ, Bool, true, false, inl, inr, Option, Some, Result, Ok, Err, rules}
+use Rattle.acct_text.specs.Bytes.{Bytes}
+use Rattle.acct_text.specs.Contents.{Contents}
 use Rattle.acct_text.specs.Files.{table_of}
+use Rattle.acct_outside.specs.Calls.{Command}
 use Rattle.acct_outside.specs.declared.streams.SinkFault.{SinkFault}
 use Rattle.acct_outside.specs.declared.streams.SinkFault.TheVariants.{Failed, Memory as NoMemory}
 use Rattle.acct_outside.specs.History.{History}
@@ -15,16 +18,17 @@ use Rattle.account_model.specs.Statuses.{file_status, lock_status, memory_status
 use Rattle.account_words.specs.Words.{request_of}
 use Rattle.suite_rules.specs.Deeds.{SuiteDeeds}
 use Rattle.suite_rules.specs.Standing.{Standing, standing}
-use Rattle.suite_rules.specs.Rules.{AnswerRule, answers_refusal, answers_changed, answers_same}
+use Rattle.suite_rules.specs.Rules.{AnswerRule, answers_refusal, answers_changed, answers_same, answers_shown}
 use Rattle.suite_answers.specs.declared.cause.Which.TheVariants.{Input, File}
 use Rattle.suite_answers.specs.declared.cause.Cause.{Cause}
 use Rattle.suite_answers.specs.declared.cause.Cause.TheVariants.{Changed, Same, Refused, Syntax, Held, Gone, Raced, Outrun, LockDamaged, Exhausted, IntentDamaged, TooLarge, NoTable, BadSetting, DiskFault, InputFault, OutputFault, ClockFault, Memory}
 use Rattle.suite_answers.specs.declared.answer.Answer.{Answer}
 use Rattle.suite_answers.specs.Reasons.{stage_of}
 use Rattle.suite_session.specs.Runner.{Runner}
-use Rattle.suite_session.specs.Answers.{after_streams, answer_on, cause_of_answer, given_for, Says}
-use Rattle.suite_session.specs.Deeds.{AreOfTools, is_change, tools_answer_same}
-use Rattle.suite_session.specs.Due.{AnswersAll, IsShown}
+use Rattle.suite_session.specs.Answers.{after_streams, cause_of_answer, given_for, IsAnswerOn, Says}
+use Rattle.suite_session.specs.Deeds.{AreOfTools, files_of, is_change, tools_answer_same}
+use Rattle.suite_session.specs.Due.{AnswersAll, ShowsAll, IsShown}
+use Rattle.suite_session.specs.Reports.{AnswersShown}
 
 -- ---- The statuses
 
@@ -59,7 +63,7 @@ update-some Grpck = refl
 update-some Getsubids = refl
 
 -- of a file that can't be used
-file-some : (tool : Tool) → (file_status tool == 0) ≡ false
+pub file-some : (tool : Tool) → (file_status tool == 0) ≡ false
 file-some Useradd = refl
 file-some Usermod = refl
 file-some Userdel = refl
@@ -106,12 +110,17 @@ module _ (deeds : SuiteDeeds) (ours : AreOfTools deeds) (runner : Runner) (answe
   other-rule : (answer.outcome.status == 0) ≡ false → Permitted
   other-rule is = other-status answer.outcome.status is
 
-  -- the answer on what it has seen has status 0 and changes nothing
-  same-here : (all : AnswersAll runner answer stood) → (answer.outcome.status == 0) ≡ true →
-      is_change (answer_on runner.asked all.files all.defs).cause ≡ false →
-      tools_answer_same runner.asked.command (table_of all.files) all.defs ≡ true
-  same-here all zero none = rw (read, tools_answer_same)
-      (both-hold _ _ (ap (λ status. status == 0) (sym all.is_answer.has_status) ∙ zero) none)
+  -- the answer on these files has status 0 and changes nothing
+  same-on : (contents : Contents) (defs : Option Bytes) →
+      IsAnswerOn runner.asked (files_of contents) defs answer →
+      (answer.outcome.status == 0) ≡ true → (cause : Cause) → answer.outcome.cause ≡ cause →
+      (cause ≡ Changed → ⊥) →
+      deeds.answers_same runner.asked.command contents defs ≡ true
+  same-on contents defs is_answer zero cause is quiet =
+      (λ i. ours.is_same i runner.asked.command contents defs)
+      ∙ rw (read, tools_answer_same)
+      (both-hold _ _ (ap (λ status. status == 0) (sym is_answer.has_status) ∙ zero)
+      (not-change _ cause (sym is_answer.has_cause ∙ is) quiet))
 
   -- so it may come
   all-rule : (cause : Cause) → answer.outcome.cause ≡ cause → (cause ≡ Changed → ⊥) →
@@ -129,10 +138,33 @@ module _ (deeds : SuiteDeeds) (ours : AreOfTools deeds) (runner : Runner) (answe
       each_table = all.all.each_table;
       settings = all.all.settings;
     };
-    same = (λ i. ours.is_same i runner.asked.command (table_of all.files) all.defs)
-        ∙ same-here all zero
-        (not-change _ cause (sym all.is_answer.has_cause ∙ is) quiet);
+    same = same-on (table_of all.files) all.defs all.is_answer zero cause is quiet;
   })
+
+  -- so may that on what it has shown without a lock
+  shown-rule : (cause : Cause) → answer.outcome.cause ≡ cause → (cause ≡ Changed → ⊥) →
+      AnswersShown runner answer stood → (zero : Bool) → (answer.outcome.status == 0) ≡ zero →
+      Permitted
+  shown-rule cause is quiet reported false zero = other-rule zero
+  shown-rule cause is quiet reported true zero =
+      let whole = reported.whole (search (rules, zero)) in
+      answers_shown (record {
+        uncalled = reported.uncalled;
+        shown = reported.shown;
+        shows = reported.shows;
+        has_shown = whole.0;
+        same = subst
+            (λ (one : Command). deeds.answers_same one whole.0.files whole.0.defs ≡ true)
+            (let both : Some runner.asked.command ≡ Some whole.0.command =
+            sym asked ∙ whole.0.is_asked in cc both)
+            (same-on whole.0.files whole.0.defs whole.1 zero cause is quiet);
+      })
+
+  -- either of them
+  either-rule : (cause : Cause) → answer.outcome.cause ≡ cause → (cause ≡ Changed → ⊥) →
+      ShowsAll runner answer history → Permitted
+  either-rule cause is quiet (inl all) = all-rule cause is quiet all.0 _ refl
+  either-rule cause is quiet (inr reported) = shown-rule cause is quiet reported _ refl
 
   -- one that tells a cause may come, where the cause has a status of its own
   told-rule : (cause : Cause) → answer ≡ given_for runner.asked.request.tool cause →
@@ -144,9 +176,9 @@ module _ (deeds : SuiteDeeds) (ours : AreOfTools deeds) (runner : Runner) (answe
   by-cause : (cause : Cause) → answer.outcome.cause ≡ cause → Says runner.asked answer cause →
       IsShown runner answer history cause → stood.commit ≡ stage_of cause → Permitted
   by-cause Changed is says shown commits = answers_changed commits
-  by-cause Same is says shown commits = all-rule Same is (λ bad. cc) shown.0 _ refl
+  by-cause Same is says shown commits = either-rule Same is (λ bad. cc) shown
   by-cause (Refused refusal) is says shown commits =
-      all-rule (Refused refusal) is (λ bad. cc) shown.0 _ refl
+      either-rule (Refused refusal) is (λ bad. cc) shown
   by-cause (Syntax fault) is says shown commits = absurd says
   by-cause (Held token) is says shown commits = told-rule (Held token) says (lock-some _)
   by-cause (Gone number) is says shown commits = told-rule (Gone number) says (lock-some _)

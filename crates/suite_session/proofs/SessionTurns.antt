@@ -32,6 +32,7 @@ use Rattle.suite_session.specs.Counts.{CountsTo, LeavesFewer, appends_by, others
 use Rattle.suite_session.specs.Grows.{Grew}
 use Rattle.suite_session.specs.Left.{appends_left, calls_left, is_append, most_lower}
 use Rattle.suite_session.specs.NextCall.{state_call}
+use Rattle.suite_session.specs.Reports.{AnswersShown}
 use Rattle.suite_session.specs.Turning.{TakesTurn, GaveLeft, HasAnswered, StepsTo}
 use Rattle.suite_session.specs.Stands.{FindsNoMemory, HasLeft, MakesOne, IsStopped, StaysTold, TurnsTo}
 use Rattle.suite_session.specs.Telling.{DropsNothing, MayFollow, Tells as CauseTells}
@@ -39,6 +40,7 @@ use Rattle.suite_session.proofs.TellingLemmas.{tells-others, tells-own}
 use Rattle.suite_session.proofs.LeavingLemmas.{left-same}
 use Rattle.suite_session.proofs.BelongsLemmas.{state-own}
 use Rattle.suite_session.proofs.BoundLemmas.{backed-then, called-last, called-then}
+use Rattle.suite_session.proofs.FreeLemmas.{StandsFree, free-last, free-then, reported-after, stands-free}
 use Rattle.suite_session.proofs.GrowsLemmas.{grows-extends, tells-grow}
 use Rattle.suite_session.proofs.DueLemmas.{shown-stays}
 use Rattle.suite_session.proofs.RuleLemmas.{rule-left}
@@ -52,21 +54,23 @@ listed-fewer new old lower fewer most = omega (arith, fewer, most)
 
 -- a turn of a session that came to a state leads on to the next
 came-on : (admits : Admission) (runner : Runner) (old new : State) (was told : Option Past) →
-    CountsTo told runner old new →
+    CountsTo told runner old new → IfSome was (StandsFree runner old) →
     MakesOne was told runner.token (state_call old) (FindsNoMemory new) →
     Grew admits runner.token 1 was told → IfSome was (λ past. NeverAdmits admits runner.token) →
     StaysTold was told runner.token old new → IfSome was (CameTo runner old) →
     IfSome told (CameTo runner new)
-came-on admits runner old new None None counts one grew own stays came = tt
-came-on admits runner old new (Some was) (Some past) counts one grew own stays came = record {
+came-on admits runner old new None None counts stands one grew own stays came = tt
+came-on admits runner old new (Some was) (Some past) counts free one grew own stays came = record {
   named = came.named;
   remembers = stays.1 came.remembers;
   called = called-then admits runner was past own grew.1 new old (FindsNoMemory new) one.1 counts
       came.called;
   backed = backed-then admits runner was past own grew.1 came.backed;
+  free = λ report. free-then runner old new was past
+      (free report (came.free report).free) (FindsNoMemory new) one.1 counts (came.free report);
 }
-came-on admits runner old new None (Some past) counts one grew own stays came = absurd grew
-came-on admits runner old new (Some was) None counts one grew own stays came = tt
+came-on admits runner old new None (Some past) counts stands one grew own stays came = absurd grew
+came-on admits runner old new (Some was) None counts stands one grew own stays came = tt
 
 -- a turn of a session whose events led to a state leads to the next
 pub steps-to : (before now : Moment) (runner : Runner) (old new : State) →
@@ -79,7 +83,8 @@ steps-to before now runner old new led made =
         stands = record {
           stands = turns.stands;
           came = came-on before.admits runner old new before.told now.told made.counts
-              made.turns.makes_one turns.grew (state-own before runner old led.stands) made.turns.remembers led.came;
+              (stands-free before runner old led.stands) made.turns.makes_one turns.grew
+              (state-own before runner old led.stands) made.turns.remembers led.came;
         };
         grew = turns.grew;
         lawful = turns.lawful;
@@ -183,7 +188,10 @@ module _ (before now : Moment) (runner : Runner) (status : ℕ) where
             commits = ap (λ (one : Standing). one.commit) step.next_standing ∙ due.commits;
             shown = shown-stays runner answer was.history past.history longer.0 longer.1
                 (ap (λ (one : Standing). kept_number one.own) step.next_standing)
-                knows answer.outcome.cause due.shown;
+                knows
+                (λ reported. subst (AnswersShown runner answer) (sym step.next_standing)
+                (reported-after runner answer status _ reported))
+                answer.outcome.cause due.shown;
           };
           drops_nothing = subst (DropsNothing runner.token answer.outcome.cause)
               (sym tells.1.others_then.last)
@@ -199,6 +207,8 @@ module _ (before now : Moment) (runner : Runner) (status : ℕ) where
           within = called-last before.admits runner was past may.own grew.1 answer status ⊥
               (inl (_, step.next_events)) came.called;
           backed = backed-then before.admits runner was past may.own grew.1 came.backed;
+          free = λ report. free-last runner answer status was past step.next_events
+              (came.free report);
         };
       }
   answered-due answer None (Some past) may tells grew came due left = absurd tells

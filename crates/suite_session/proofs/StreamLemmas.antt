@@ -6,7 +6,7 @@ use Rattle.std.proofs.Common.{◌≡◌, ◌<◌, refl, sym, ap, subst, ◌∙�
 use Rattle.acct_outside.specs.declared.streams.SinkFault.{SinkFault}
 use Rattle.suite_answers.specs.declared.answer.Answer.{Answer}
 use Rattle.suite_session.specs.declared.state.State.{State}
-use Rattle.suite_session.specs.declared.state.State.TheVariants.{Looking, Reading, Asking, Claiming, Confirming, Withdrawing, ReadingIntent, Recovering, Moving, Loading, BackingUp, Committing, Installing, Unlocking, Freeing, Answering}
+use Rattle.suite_session.specs.declared.state.State.TheVariants.{Looking, Reading, Asking, Claiming, Confirming, Withdrawing, ReadingIntent, Recovering, Moving, Loading, BackingUp, Committing, Installing, Unlocking, Freeing, Watching, Gathering, Answering}
 use Rattle.suite_session.specs.Runner.{Runner}
 use Rattle.acct_outside.specs.Moment.{Moment}
 use Rattle.suite_session.specs.Answers.{after_fault, after_streams}
@@ -36,6 +36,8 @@ goes-on (Committing change answer) apart = omega arith
 goes-on (Installing walker answer) apart = omega arith
 goes-on (Unlocking keeper answer) apart = omega arith
 goes-on (Freeing freeing answer) apart = omega arith
+goes-on (Watching watcher) apart = omega arith
+goes-on (Gathering reading) apart = omega arith
 goes-on (Answering answer) apart = absurd (apart answer refl)
 
 -- so it has none

@@ -1,7 +1,7 @@
 -- Claims: a session that drops nothing drops nothing after events of others (`tells-others`), and after
 -- a call of its own where the next state is to tell what its answer shows (`tells-own`).
 -- Way: what a history shows of what was met its last event shows, or it was met before (`met-last`).
-use Rattle.std.proofs.Common.{◌≡◌, ◌≢◌, ◌⊎◌, refl, sym, ap, subst, ◌∙◌, [], ◌∷◌, ◌++◌, inl, inr}
+use Rattle.std.proofs.Common.{◌≡◌, ◌≢◌, ◌⊎◌, refl, sym, ap, subst, ◌∙◌, true, ℕ, List, [], ◌∷◌, ◌++◌, inl, inr}
 use Rattle.std.proofs.lemmas.List.Elements.{filter-append}
 use Rattle.std.proofs.lemmas.Slice.Eq.{bytes_eq-Decides}
 use Rattle.acct_text.specs.Bytes.{Bytes}
@@ -12,31 +12,41 @@ use Rattle.acct_outside.specs.declared.CommitStage.{CommitStage}
 use Rattle.acct_outside.specs.Names.{greatest_lock}
 use Rattle.acct_outside.specs.Tokens.{Token}
 use Rattle.acct_outside.specs.Folder.{greatest}
-use Rattle.acct_outside.specs.Calls.{Call, Answer, CallResult, lists, reads, asks, creates, done, failed, found_absent, found_bytes, found_too_large}
+use Rattle.acct_outside.specs.Calls.{Call, Answer, CallResult, Found, lists, reads, asks, creates, done, failed, found_absent, found_bytes, found_too_large}
 use Rattle.acct_outside.specs.History.{Event, History, is_of, own_events}
 use Rattle.acct_outside.specs.Others.{Admission, ByOthers, none_came, one_came}
 use Rattle.acct_outside.specs.Contract.{NeverAdmits}
 use Rattle.intent_file.specs.Parts.{FirstFault}
-use Rattle.suite_rules.specs.OwnLock.{lock_made}
+use Rattle.suite_rules.specs.OwnLock.{lock_uncalled, lock_made}
 use Rattle.suite_rules.specs.Standing.{Standing, standing}
 use Rattle.suite_answers.specs.declared.cause.Which.TheVariants.{File}
 use Rattle.suite_answers.specs.declared.cause.Cause.{Cause}
 use Rattle.suite_answers.specs.declared.cause.Cause.TheVariants.{Held, Gone, Raced, Outrun, LockDamaged, Exhausted, IntentDamaged, TooLarge, DiskFault}
-use Rattle.suite_session.specs.Causes.{Met, HasMet, HasFailed, HasListedNone, ComesOfCall, IsNoLockText}
+use Rattle.lock_steps.specs.Stands.{HasListed}
+use Rattle.suite_session.specs.Causes.{Met, MetIntent, HasKept, HasMet, HasFailed, HasListedNone, HasWatched, ComesOfCall, IsNoLockText}
 use Rattle.suite_session.specs.Telling.{MayFollow, TellsMet}
 use Rattle.suite_session.proofs.GrowsLemmas.{second-empty}
+
+-- it has judged the greatest lock, which has this number
+abbrev pub HasJudgedAt : ℕ → Standing → Type 0
+HasJudgedAt number = HasListed lock_uncalled number (λ listing. listing.is_judged ≡ true)
 
 -- what a call's answer shows that the session met, by how it stood when it made the call
 abbrev pub Shows : (call : Call) → Answer call → Standing → Cause → Type 0
 Shows lists numbers stood Exhausted = (greatest numbers ≡ greatest_lock) × HasListedNone stood
-Shows lists numbers stood (Outrun number other) =
-    (greatest numbers ≡ other) × (other ≢ number) × (stood.own ≡ lock_made number)
+Shows lists numbers stood (Outrun number other) = (greatest numbers ≡ other) × (other ≢ number)
+    × ((stood.own ≡ lock_made number) ⊎ HasJudgedAt number stood)
+Shows lists numbers stood (IntentDamaged part) = (bytes : Bytes) × FirstFault bytes part
+    × HasWatched (greatest numbers) Intent (found_bytes bytes) stood
+Shows lists numbers stood (TooLarge (File Intent)) =
+    HasWatched (greatest numbers) Intent found_too_large stood
 Shows (reads (Lock number)) found stood (Gone gone) = (number ≡ gone) × (found ≡ found_absent)
 Shows (reads (Lock number)) found stood (LockDamaged damaged) =
     (number ≡ damaged) × IsNoLockText found
 Shows (reads Intent) found stood (IntentDamaged part) =
-    (bytes : Bytes) × (found ≡ found_bytes bytes) × FirstFault bytes part
-Shows (reads Intent) found stood (TooLarge (File Intent)) = found ≡ found_too_large
+    (bytes : Bytes) × (found ≡ found_bytes bytes) × FirstFault bytes part × HasKept stood
+Shows (reads Intent) found stood (TooLarge (File Intent)) =
+    (found ≡ found_too_large) × HasKept stood
 Shows (asks holder) verdict stood (Held held) = (holder ≡ held) × (verdict ≡ Alive)
 Shows (creates number) created stood (Raced raced) = (number ≡ raced) × (created ≡ Exists)
 Shows call answer stood met = ⊥
@@ -80,6 +90,23 @@ module _ (token : Token) (history : History) (event : Event) where
       cases (first ∷ newer) older parts stood =
           let rest : history ≡ newer ++ own ∷ older = cc parts in
           inl (record { newer = newer; older = older; parts = rest; stood = stood })
+
+  -- what was found at the intent
+  intent-then : (found : Found) (met : Cause) →
+      ((stood : Standing) → HasKept stood → Shows (reads Intent) found stood met) →
+      ((numbers : List ℕ) (stood : Standing) → HasWatched (greatest numbers) Intent found stood →
+      Shows lists numbers stood met) →
+      MetIntent token found (event ∷ history) → MetIntent token found history ⊎ ShowsLast met
+  intent-then found met reads_it confirms (inl was) =
+      elim (met-then (reads Intent) found _ met (reads_it (standing token history)) was) [
+        | inl before ↦ inl (inl before)
+        | inr shows ↦ inr shows
+      ]
+  intent-then found met reads_it confirms (inr was) =
+      elim (met-then lists was.0 _ met (confirms was.0 (standing token history)) was.1) [
+        | inl before ↦ inl (inr (was.0, before))
+        | inr shows ↦ inr shows
+      ]
 
   -- or at one that failed
   failed-then : (stage : CommitStage) → HasFailed token (event ∷ history) →
@@ -127,9 +154,16 @@ module _ (token : Token) (history : History) (event : Event) where
         | inl before ↦ inl (was.0, was.1, before)
         | inr shows ↦ inr shows
       ]
-  met-last (Outrun number other) comes was =
-      elim (met-then lists was.0 _ (Outrun number other) (λ stood. (was.1, was.2, stood)) was.3) [
-        | inl before ↦ inl (was.0, was.1, was.2, before)
+  met-last (Outrun number other) comes (inl was) =
+      elim (met-then lists was.0 _ (Outrun number other) (λ stood. (was.1, was.2, inl stood))
+      was.3) [
+        | inl before ↦ inl (inl (was.0, was.1, was.2, before))
+        | inr shows ↦ inr shows
+      ]
+  met-last (Outrun number other) comes (inr was) =
+      elim (met-then lists was.0 _ (Outrun number other) (λ stood. (was.1, was.2, inr stood))
+      was.3) [
+        | inl before ↦ inl (inr (was.0, was.1, was.2, before))
         | inr shows ↦ inr shows
       ]
   met-last (LockDamaged number) comes was =
@@ -144,13 +178,15 @@ module _ (token : Token) (history : History) (event : Event) where
         | inr shows ↦ inr shows
       ]
   met-last (IntentDamaged part) comes was =
-      elim (met-then (reads Intent) (found_bytes was.0) _ (IntentDamaged part)
-      (λ stood. (was.0, refl, was.1)) was.2) [
+      elim (intent-then (found_bytes was.0) (IntentDamaged part)
+      (λ stood kept. (was.0, refl, was.1, kept))
+      (λ numbers stood watched. (was.0, was.1, watched)) was.2) [
         | inl before ↦ inl (was.0, was.1, before)
         | inr shows ↦ inr shows
       ]
   met-last (TooLarge (File Intent)) comes was =
-      met-then (reads Intent) found_too_large _ (TooLarge (File Intent)) (λ stood. refl) was
+      intent-then found_too_large (TooLarge (File Intent)) (λ stood kept. (refl, kept))
+      (λ numbers stood watched. watched) was
   met-last (DiskFault stage) comes was = failed-then stage was
   met-last met comes was = absurd comes
 
@@ -228,21 +264,28 @@ met-there : (token : Token) (history : History) (call : Call) (answer : Answer c
 met-there token history call answer Stood none met =
     own-there token history met.newer met.older _ refl met.parts none
 
+intent-there : (token : Token) (history : History) (found : Found) →
+    own_events token history ≡ [] → MetIntent token found history → ⊥
+intent-there token history found none (inl met) = met-there token history _ _ _ none met
+intent-there token history found none (inr met) = met-there token history _ _ _ none met.1
+
 -- without one it has met nothing
 met-none : (token : Token) (history : History) → own_events token history ≡ [] → (met : Cause) →
     ComesOfCall met → HasMet token history met → ⊥
 met-none token history none (Held holder) comes was = met-there token history _ _ _ none was.1
 met-none token history none (Gone number) comes was = met-there token history _ _ _ none was.1
 met-none token history none (Raced number) comes was = met-there token history _ _ _ none was.2
-met-none token history none (Outrun number other) comes was =
+met-none token history none (Outrun number other) comes (inl was) =
+    met-there token history _ _ _ none was.3
+met-none token history none (Outrun number other) comes (inr was) =
     met-there token history _ _ _ none was.3
 met-none token history none (LockDamaged number) comes was =
     met-there token history _ _ _ none was.2
 met-none token history none Exhausted comes was = met-there token history _ _ _ none was.2
 met-none token history none (IntentDamaged part) comes was =
-    met-there token history _ _ _ none was.2
+    intent-there token history (found_bytes was.0) none was.2
 met-none token history none (TooLarge (File Intent)) comes was =
-    met-there token history _ _ _ none was
+    intent-there token history found_too_large none was
 met-none token history none (DiskFault stage) comes was =
     own-there token history was.newer was.older _ refl was.parts none
 met-none token history none met comes was = absurd comes

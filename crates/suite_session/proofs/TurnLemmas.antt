@@ -56,7 +56,7 @@ may-step now runner commit Holds token same stands =
 
 -- what the runner met of the cause, where the folder tells its history
 abbrev pub HasMetNow : Moment → Runner → Cause → Type 0
-HasMetNow now runner cause = IfSome now.told (λ past. IsMetAs runner.token past.history cause)
+HasMetNow now runner cause = IfSome now.told (λ past. IsMetAs runner past.history cause)
 
 -- of want of memory nothing
 pub memory-met : (now : Moment) (runner : Runner) (stage : CommitStage) →
@@ -64,7 +64,7 @@ pub memory-met : (now : Moment) (runner : Runner) (stage : CommitStage) →
 memory-met now runner stage = by-told now.told
   where
     by-told : (told : Option Past) →
-        IfSome told (λ past. IsMetAs runner.token past.history (Memory stage))
+        IfSome told (λ past. IsMetAs runner past.history (Memory stage))
     by-told None = tt
     by-told (Some past) = tt
 
@@ -86,13 +86,13 @@ told-left now runner cause answer told has_left =
 -- what the runner met of a cause shows the answer that tells it
 shown-now : (runner : Runner) (cause : Cause) (answer : FinalAnswer) (told : Option Past) →
     IsPlain cause → IsTold runner.asked.request.tool cause answer →
-    IfSome told (λ past. IsMetAs runner.token past.history cause) →
+    IfSome told (λ past. IsMetAs runner past.history cause) →
     IfSome told (λ past. IsShown runner answer past.history answer.outcome.cause)
 shown-now runner cause answer None plain tells met = tt
 shown-now runner cause answer (Some past) plain tells met =
     plain-shown runner answer past.history answer.outcome.cause
     (told-plain runner.asked cause answer plain tells)
-    (told-met runner.asked cause answer runner.token past.history tells met)
+    (told-met runner cause answer past.history tells met)
 
 module _ (before now : Moment) (runner : Runner) (commit : CommitStage) (Held : Standing → Type 0)
     (stands : At before runner commit Held) (token : Token) (same : token ≡ runner.token)
@@ -192,12 +192,12 @@ module _ (before now : Moment) (runner : Runner) (commit : CommitStage) (Held : 
   is-due answer is None (Some past) stood kept shown = absurd kept
   is-due answer is (Some was) None stood kept shown = absurd kept
 
-  -- where it leaves no lock kept, the runner has left what it must with a plain cause
-  pub unkept-left : (cause : Cause) → IsPlain cause →
+  -- where it leaves no lock kept, the runner has left what it must
+  pub unkept-left : (cause : Cause) →
       ((IsStopped cause → ⊥) → LeavesUnkept call made.answer Held) → HasLeftNow now runner cause
-  unkept-left cause plain leaves_unkept goes_on =
+  unkept-left cause leaves_unkept goes_on =
       let one = leaves_unkept goes_on in
-      none-left runner.token cause now.admits (plain-undecided cause plain) now.told
+      none-left runner.token cause now.admits now.told
       (stands-done before.admits now.admits made.narrows runner.token call no_answer
       (Runs runner commit Held) KeepsNone one.given (λ stood runs. one.unkept stood runs.holds)
       before.told now.told stands (answered one.given one.is))

@@ -1,7 +1,7 @@
 -- When a session belongs to a folder, at one moment of it: the condition of a turn. It speaks of the
 -- session's own events alone, in a history that may be lawful or not, so the session belongs there still
 -- whatever others have done since (docs/ARCHITECTURE.md, "The session").
-use Rattle.std.specs.Prelude.{◌≡◌, ◌∷◌, ⊤, ℕ, Some, IfSome, Result, Err}
+use Rattle.std.specs.Prelude.{◌≡◌, ◌∷◌, ⊤, true, ℕ, Some, IfSome, Result, Err}
 use Rattle.acct_outside.specs.declared.CommitStage.TheVariants.{Before}
 use Rattle.acct_outside.specs.declared.FolderFault.{FolderFault}
 use Rattle.acct_outside.specs.declared.streams.SinkFault.{SinkFault}
@@ -12,6 +12,7 @@ use Rattle.acct_outside.specs.Others.{Admission, ByOthers}
 use Rattle.acct_outside.specs.Contract.{NeverAdmits, WhereTold}
 use Rattle.acct_outside.specs.Moment.{Past, Moment, Narrows}
 use Rattle.account_words.specs.declared.tool.Tool.{Tool}
+use Rattle.account_words.specs.Request.{is_report}
 use Rattle.suite_answers.specs.declared.answer.Answer.{Answer}
 use Rattle.suite_session.specs.declared.state.State.{State}
 use Rattle.suite_session.specs.declared.session.Phase.{Phase}
@@ -19,9 +20,10 @@ use Rattle.suite_session.specs.declared.session.Phase.TheVariants.{Waiting, Begu
 use Rattle.suite_session.specs.Runner.{Runner}
 use Rattle.suite_session.specs.Answers.{IsTold, Says, after_streams}
 use Rattle.suite_session.specs.Backing.{BackedUpChanges}
-use Rattle.suite_session.specs.Bound.{HasCalled, IsWithin}
+use Rattle.suite_session.specs.Bound.{HasCalled, HasCalledFree, IsWithin}
 use Rattle.suite_session.specs.Due.{IsDue}
 use Rattle.suite_session.specs.Locking.{cause_of_fault}
+use Rattle.suite_session.specs.Reports.{RunsFree}
 use Rattle.suite_session.specs.Stands.{HasLeft, IsStopped, StandsAs}
 use Rattle.suite_session.specs.Telling.{DropsNothing, Remembers}
 use Rattle.suite_session.specs.Session.{HasText, HasTextIn, IsToPut, output_failed, state_after, token_of}
@@ -29,13 +31,15 @@ use Rattle.suite_session.specs.Session.{HasText, HasTextIn, IsToPut, output_fail
 -- ---- A session on its way
 
 -- The runner came to the state, from a begin that gave its token: it drops nothing that it has met, its
--- calls are within the bound with those that are left, and it has backed up tables that it was to change
--- alone.
+-- calls are within the bound with those that are left, it has backed up tables that it was to change alone,
+-- and a report has changed no name.
 pub record CameTo (runner : Runner) (state : State) (past : Past) : Type 0 where
   pub named : IsToken runner.token
   pub remembers : Remembers runner.token state past.history
   pub called : HasCalled runner.token state past.history
   pub backed : BackedUpChanges runner.token past.history
+  pub free : is_report runner.asked.request ≡ true →
+      HasCalledFree runner.token state past.history
 
 -- the runner's events lead to the state, in which it stands
 pub record IsLedTo (now : Moment) (runner : Runner) (state : State) : Type 0 where
@@ -54,8 +58,8 @@ pub record IsOnItsWay (now : Moment) (runner : Runner) (state : State) : Type 0 
 
 -- The last of the runner's events is its answer, with this status. What it had to give is due and drops
 -- nothing that it has met; it has left the locks and the intent as it must with that, unless a fault or
--- want of memory stopped it; its events are within the bound, and it has backed up tables that it was
--- to change alone.
+-- want of memory stopped it; its events are within the bound, it has backed up tables that it was to
+-- change alone, and a report has changed no name.
 pub record HasEnded (runner : Runner) (given : Answer) (status : ℕ) (past : Past) : Type 0 where
   pub named : IsToken runner.token
   pub before : History
@@ -67,6 +71,7 @@ pub record HasEnded (runner : Runner) (given : Answer) (status : ℕ) (past : Pa
       HasLeft runner.token given.outcome.cause past
   pub within : IsWithin runner.token past.history
   pub backed : BackedUpChanges runner.token past.history
+  pub free : is_report runner.asked.request ≡ true → RunsFree runner.token past.history
 
 -- the runner had an answer to give, has answered with what the streams left of it, and the folder admits
 -- no event of it

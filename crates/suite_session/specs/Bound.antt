@@ -5,9 +5,11 @@ use Rattle.acct_outside.specs.Tokens.{Token}
 use Rattle.acct_outside.specs.History.{History, own_events}
 use Rattle.acct_outside.specs.Others.{Admission}
 use Rattle.suite_session.specs.declared.state.State.{State}
+use Rattle.suite_session.specs.declared.state.State.TheVariants.{Looking, Reading, Asking, Watching, Gathering, Answering}
 use Rattle.suite_session.specs.Counts.{CountsLower, IsToList}
 use Rattle.suite_session.specs.Grows.{Grows}
-use Rattle.suite_session.specs.Left.{appends_left, calls_left, is_append, most_appends, most_calls, most_lower}
+use Rattle.suite_session.specs.Left.{appends_left, calls_left, is_append, most_appends, most_calls, most_lower, watching_calls}
+use Rattle.suite_session.specs.Reports.{ChangesNothing, report_calls}
 
 -- how many of the events are appends
 abbrev pub appends_in : History → ℕ
@@ -40,3 +42,19 @@ pub record HasCalled (token : Token) (state : State) (history : History) : Type 
   pub counts : IsToList state ⊎ CountsLower token history lower
   pub within : others_in (own_events token history) + calls_left state ≤ most_calls + lower
   pub appended : appends_in (own_events token history) + appends_left state ≤ most_appends
+
+-- The events that a report has left at most: before it has judged the greatest lock it may have to read
+-- that, and to ask for its holder. In other states no report stands.
+abbrev pub report_left : State → ℕ
+report_left (Looking looking) = 3 + watching_calls
+report_left (Reading seen) = 2 + watching_calls
+report_left (Asking asking) = 1 + watching_calls
+report_left (Watching watcher) = calls_left (Watching watcher)
+report_left (Gathering reading) = calls_left (Gathering reading)
+report_left (Answering answer) = calls_left (Answering answer)
+report_left state = 0
+
+-- On its way a report has changed no name, and its events are within the bound with those that are left.
+pub record HasCalledFree (token : Token) (state : State) (history : History) : Type 0 where
+  pub free : ChangesNothing token history
+  pub within : length (own_events token history) + report_left state ≤ report_calls

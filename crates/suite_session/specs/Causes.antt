@@ -1,6 +1,7 @@
 -- What a session met that its answer tells of. Each cause comes of one call of its own: what that
 -- answered, and how the session stood when it made it (docs/ARCHITECTURE.md, "Taking over").
-use Rattle.std.specs.Prelude.{◌≡◌, ◌≢◌, ◌⊎◌, ⊤, ◌∷◌, ◌++◌, ℕ, ◌+◌, ◌<◌, List, None, Some}
+use Rattle.std.specs.Prelude.{◌≡◌, ◌≢◌, ◌⊎◌, ⊤, true, ◌∷◌, ◌++◌, ℕ, ◌+◌, ◌<◌, List, None, Some}
+use Rattle.acct_outside.specs.declared.Name.{Name}
 use Rattle.acct_outside.specs.declared.Name.TheVariants.{Intent, Lock}
 use Rattle.acct_outside.specs.declared.Created.TheVariants.{Exists}
 use Rattle.acct_outside.specs.declared.Verdict.TheVariants.{Alive}
@@ -11,11 +12,11 @@ use Rattle.acct_outside.specs.Calls.{Call, Answer, Effect, Found, lists, reads, 
 use Rattle.acct_outside.specs.History.{History}
 use Rattle.acct_text.specs.Bytes.{Bytes}
 use Rattle.intent_file.specs.Parts.{FirstFault}
-use Rattle.suite_rules.specs.OwnLock.{kept_number}
+use Rattle.suite_rules.specs.OwnLock.{lock_uncalled, kept_number}
 use Rattle.suite_rules.specs.Standing.{Standing, standing}
 use Rattle.lock_steps.specs.LockText.{IsDamaged}
 use Rattle.lock_steps.specs.States.{Lister}
-use Rattle.lock_steps.specs.Stands.{HasNoLock, HasLooked, HasReadHeld, HasJudged, HasMade, WasOvertaken}
+use Rattle.lock_steps.specs.Stands.{HasNoLock, HasListed, HasLooked, HasReadHeld, HasJudged, HasMade, WasOvertaken}
 use Rattle.suite_answers.specs.declared.cause.Which.TheVariants.{File}
 use Rattle.suite_answers.specs.declared.cause.Cause.{Cause}
 use Rattle.suite_answers.specs.declared.cause.Cause.TheVariants.{Held, Gone, Raced, Outrun, LockDamaged, Exhausted, IntentDamaged, TooLarge, DiskFault, InputFault, ClockFault}
@@ -95,20 +96,43 @@ abbrev pub HasYielded : Token → ℕ → ℕ → History → Type 0
 HasYielded token number other history =
     MetGreater token number other history ⊎ MetLoss token number other history
 
+-- ---- Without a lock
+
+-- it had judged the greatest lock, and then listed another as the greatest
+abbrev pub MetChange : Token → ℕ → ℕ → History → Type 0
+MetChange token number other history = (numbers : List ℕ) × (greatest numbers ≡ other)
+    × (other ≢ number) × Met token lists numbers (HasJudged (lister token number)) history
+
+-- it has judged the greatest lock, which has this number, and has found this at the name since
+abbrev pub HasWatched : ℕ → Name → Found → Standing → Type 0
+HasWatched number name found = HasListed lock_uncalled number
+    (λ listing. (listing.is_judged ≡ true) × (listing.watched name ≡ Some found))
+
+-- it listed the locks again, with the same greatest one, and had found this at the name in between
+abbrev pub MetShown : Token → Name → Found → History → Type 0
+MetShown token name found history =
+    (numbers : List ℕ) × Met token lists numbers (HasWatched (greatest numbers) name found) history
+
 -- ---- The intent
 
 -- the session is or was keeper
 abbrev pub HasKept : Standing → Type 0
 HasKept standing = (number : ℕ) × (kept_number standing.own ≡ Some number)
 
--- as keeper it read an intent of which this part is the first that doesn't stand
-abbrev pub MetBadIntent : Token → ℕ → History → Type 0
-MetBadIntent token part history = (bytes : Bytes) × FirstFault bytes part
-    × Met token (reads Intent) (found_bytes bytes) HasKept history
+-- as keeper it found this at the intent; or it has shown that without a lock, which a second listing
+-- confirmed
+abbrev pub MetIntent : Token → Found → History → Type 0
+MetIntent token found history =
+    Met token (reads Intent) found HasKept history ⊎ MetShown token Intent found history
 
--- as keeper it found that the intent has more bytes than one may have
+-- it found an intent of which this part is the first that doesn't stand
+abbrev pub MetBadIntent : Token → ℕ → History → Type 0
+MetBadIntent token part history =
+    (bytes : Bytes) × FirstFault bytes part × MetIntent token (found_bytes bytes) history
+
+-- it found that the intent has more bytes than one may have
 abbrev pub MetLargeIntent : Token → History → Type 0
-MetLargeIntent token = Met token (reads Intent) found_too_large HasKept
+MetLargeIntent token = MetIntent token found_too_large
 
 -- ---- A fault of the folder
 
@@ -142,7 +166,8 @@ abbrev pub HasMet : Token → History → Cause → Type 0
 HasMet token history (Held holder) = MetHolder token holder history
 HasMet token history (Gone number) = MetNoLock token number history
 HasMet token history (Raced number) = MetNext token number history
-HasMet token history (Outrun number other) = MetOther token number other history
+HasMet token history (Outrun number other) =
+    MetOther token number other history ⊎ MetChange token number other history
 HasMet token history (LockDamaged number) = MetDamage token number history
 HasMet token history Exhausted = MetLast token history
 HasMet token history (IntentDamaged part) = MetBadIntent token part history

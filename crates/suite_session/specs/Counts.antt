@@ -11,7 +11,7 @@ use Rattle.suite_session.specs.declared.state.State.{State}
 use Rattle.suite_session.specs.declared.state.State.TheVariants.{Looking, Reading, Asking, Claiming, Confirming}
 use Rattle.suite_session.specs.Runner.{Runner}
 use Rattle.suite_session.specs.Causes.{Met}
-use Rattle.suite_session.specs.Left.{appends_left, calls_left, is_append, most_lower}
+use Rattle.suite_session.specs.Left.{appends_left, calls_left, is_append, most_lower, watching_calls}
 use Rattle.suite_session.specs.NextCall.{state_call}
 
 -- the session listed the locks once its create was done, its own was the greatest, and there were so
@@ -27,7 +27,7 @@ pub record ShowsLower (token : Token) (history : History) (lower : ℕ) : Type 0
 abbrev pub CountsLower : Token → History → ℕ → Type 0
 CountsLower token history lower = (lower ≡ 0) ⊎ ShowsLower token history lower
 
--- the session's second listing is still to come
+-- the second listing of a session that takes a lock is still to come
 abbrev pub IsToList : State → Type 0
 IsToList (Looking looking) = ⊤
 IsToList (Reading seen) = ⊤
@@ -49,12 +49,12 @@ pub record LeavesFewer (old new : State) : Type 0 where
   pub calls : calls_left new + others_by (state_call old) ≤ calls_left old
   pub appends : appends_left new + appends_by (state_call old) ≤ appends_left old
 
--- before that listing a turn leaves a call fewer; it leads on towards the listing, or the answer alone is
--- left
+-- before that listing a turn leaves a call fewer; it leads on towards the listing, or no more calls are
+-- left than a report has that has judged the greatest lock
 pub record Nears (old new : State) : Type 0 where
   pub fewer : calls_left new < calls_left old
   pub appends : appends_left new ≤ appends_left old
-  pub next : IsToList new ⊎ (calls_left new ≡ 1)
+  pub next : IsToList new ⊎ (calls_left new ≤ watching_calls)
 
 -- the listing leaves a call fewer, with the lower locks that it shows, and no others
 pub record Listed (told : Option Past) (runner : Runner) (old new : State) : Type 0 where

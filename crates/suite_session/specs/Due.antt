@@ -1,5 +1,5 @@
 -- What the own events of a session show of the answer that it gives.
-use Rattle.std.specs.Prelude.{◌≡◌, ◌⊎◌, ◌++◌, ℕ, Option, Some}
+use Rattle.std.specs.Prelude.{◌≡◌, ◌⊎◌, ◌++◌, true, ℕ, Option, Some}
 use Rattle.acct_text.specs.Bytes.{Bytes}
 use Rattle.acct_text.specs.declared.files.Files.{Files}
 use Rattle.acct_text.specs.declared.Tab.{Tab}
@@ -11,6 +11,7 @@ use Rattle.acct_outside.specs.Tokens.{Token}
 use Rattle.acct_outside.specs.History.{History}
 use Rattle.acct_outside.specs.Moment.{Past}
 use Rattle.acct_outside.specs.declared.CommitStage.TheVariants.{Before}
+use Rattle.account_words.specs.Request.{is_report}
 use Rattle.suite_rules.specs.OwnLock.{kept_number}
 use Rattle.suite_rules.specs.Knowledge.{Seen, knows_none}
 use Rattle.suite_rules.specs.Standing.{Standing, standing}
@@ -25,7 +26,8 @@ use Rattle.suite_answers.specs.declared.answer.Answer.{Answer}
 use Rattle.suite_answers.specs.Reasons.{stage_of}
 use Rattle.suite_session.specs.Runner.{Runner}
 use Rattle.suite_session.specs.Answers.{IsAnswerOn, given_for}
-use Rattle.suite_session.specs.Causes.{Met, HasMet, HasYielded}
+use Rattle.suite_session.specs.Causes.{Met, HasMet, HasYielded, MetChange}
+use Rattle.suite_session.specs.Reports.{AnswersShown}
 
 -- the session has seen the six tables and login.defs
 pub record HasSeenAll (seen : Seen) (files : Files) (defs : Option Bytes) : Type 0 where
@@ -92,20 +94,31 @@ pub record WasKeeper (token : Token) (history : History) : Type 0 where
   pub active : IsActiveKeeper older token number
   pub uncommitted : (standing token older).commit ≡ Before
 
--- what it has seen of all files shows the answer, and it was keeper
+-- what it has shown without a lock shows the answer
+abbrev pub IsReported : Runner → Answer → History → Type 0
+IsReported runner answer history = AnswersShown runner answer (standing runner.token history)
+
+-- what it has seen of all files shows the answer, and it was keeper; or it is a report's
 abbrev pub ShowsAll : Runner → Answer → History → Type 0
 ShowsAll runner answer history =
-    AnswersAll runner answer (standing runner.token history) × WasKeeper runner.token history
+    (AnswersAll runner answer (standing runner.token history) × WasKeeper runner.token history)
+    ⊎ IsReported runner answer history
 
--- what it has seen of some files shows the answer, and it was keeper
+-- what it has seen of some files shows the answer, and it was keeper; or it is a report's
 abbrev pub ShowsSome : Runner → Answer → History → Type 0
 ShowsSome runner answer history =
-    AnswersSome runner answer (standing runner.token history) × WasKeeper runner.token history
+    (AnswersSome runner answer (standing runner.token history) × WasKeeper runner.token history)
+    ⊎ IsReported runner answer history
 
 -- what shows that a file is too large: what the tool answers on all files, or that one alone
 abbrev pub ShowsLarge : Runner → Answer → History → Name → Type 0
 ShowsLarge runner answer history name =
     ShowsAll runner answer history ⊎ AnswersLarge runner answer history name
+
+-- what shows that the session was outrun: it gave up its own lock, or as a report listed another one
+abbrev pub ShowsOutrun : Runner → ℕ → ℕ → History → Type 0
+ShowsOutrun runner number other history = HasYielded runner.token number other history
+    ⊎ ((is_report runner.asked.request ≡ true) × MetChange runner.token number other history)
 
 -- what shows the cause of an answer: what a tool answers on, or what the session met
 abbrev pub IsShown : Runner → Answer → History → Cause → Type 0
@@ -118,7 +131,7 @@ IsShown runner answer history (TooLarge (File (Table table))) =
     ShowsLarge runner answer history (Table table)
 IsShown runner answer history (TooLarge (File Defs)) = ShowsLarge runner answer history Defs
 IsShown runner answer history (Outrun number other) =
-    HasYielded runner.token number other history
+    ShowsOutrun runner number other history
 IsShown runner answer history cause = HasMet runner.token history cause
 
 -- the session was asked this, its own commit came as far as the answer's cause says, and its events

@@ -9,9 +9,10 @@ use Rattle.acct_outside.specs.Calls.{Call, appends}
 use Rattle.acct_outside.specs.Pieces.{piece_count}
 use Rattle.intent_file.specs.Intent.{NewTable}
 use Rattle.lock_steps.specs.States.{Kept}
+use Rattle.lock_steps.specs.Watching.{gathering_left}
 use Rattle.commit_steps.specs.States.{Change, changed, intent_left, old_bytes, steps_left, tables_left}
 use Rattle.suite_session.specs.declared.state.State.{State}
-use Rattle.suite_session.specs.declared.state.State.TheVariants.{Looking, Reading, Asking, Claiming, Confirming, Withdrawing, ReadingIntent, Recovering, Moving, Loading, BackingUp, Committing, Installing, Unlocking, Freeing, Answering}
+use Rattle.suite_session.specs.declared.state.State.TheVariants.{Looking, Reading, Asking, Claiming, Confirming, Withdrawing, ReadingIntent, Recovering, Moving, Loading, BackingUp, Committing, Installing, Unlocking, Freeing, Watching, Gathering, Answering}
 
 -- the reads that are left: the tables from the next on, and login.defs
 abbrev pub reads_left : Option Tab → ℕ
@@ -44,6 +45,11 @@ change_calls keeper = table_calls + 1 + commit_calls keeper
 abbrev pub loading_calls : Kept → ℕ
 loading_calls keeper = 7 + change_calls keeper
 
+-- those of a report that has judged the greatest lock: it reads the intent, six tables and login.defs,
+-- lists the locks again, and answers
+abbrev pub watching_calls : ℕ
+watching_calls = 10
+
 -- the most lower locks that a listing can show
 abbrev pub most_lower : ℕ
 most_lower = 18446744073709551615
@@ -68,6 +74,8 @@ calls_left (Installing walker answer) =
     steps_left walker + 1 + leaving_calls walker.change.inputs.keeper
 calls_left (Unlocking keeper answer) = leaving_calls keeper
 calls_left (Freeing freeing answer) = 2
+calls_left (Watching watcher) = watching_calls
+calls_left (Gathering reading) = gathering_left reading + 2
 calls_left (Answering answer) = 1
 
 -- ---- The appends
@@ -132,5 +140,7 @@ appends_left (Installing walker answer) =
     texts_appends walker.staged (new_texts (tables_left walker))
 appends_left (Unlocking keeper answer) = 0
 appends_left (Freeing freeing answer) = 0
+appends_left (Watching watcher) = 0
+appends_left (Gathering reading) = 0
 appends_left (Answering answer) = 0
 appends_left state = most_appends

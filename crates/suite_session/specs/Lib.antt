@@ -4,6 +4,7 @@ pub mod Locking
 pub mod Answers
 pub mod Deeds
 pub mod Causes
+pub mod Reports
 pub mod Due
 pub mod Telling
 pub mod Backing
@@ -12,6 +13,7 @@ pub mod NextCall
 pub mod Stands
 pub mod Recovering
 pub mod Loading
+pub mod Reporting
 pub mod Left
 pub mod Counts
 pub mod Bound

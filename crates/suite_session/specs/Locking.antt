@@ -5,6 +5,7 @@ use Rattle.acct_outside.specs.declared.CommitStage.{CommitStage}
 use Rattle.acct_outside.specs.declared.CommitStage.TheVariants.{Before}
 use Rattle.acct_outside.specs.declared.FolderFault.{FolderFault}
 use Rattle.acct_outside.specs.declared.FolderFault.TheVariants.{Failed, Memory as NoMemory}
+use Rattle.account_words.specs.Request.{Request, is_report}
 use Rattle.lock_steps.specs.declared.LockRefusal.{LockRefusal}
 use Rattle.lock_steps.specs.declared.LockRefusal.TheVariants.{Held, Gone, Raced, Outrun, Damaged, Exhausted}
 use Rattle.lock_steps.specs.declared.LockEnd.{LockEnd}
@@ -16,18 +17,23 @@ use Rattle.lock_steps.specs.declared.claiming.Confirmed.{Confirmed}
 use Rattle.lock_steps.specs.declared.claiming.Confirmed.TheVariants.{Keeper, Loser}
 use Rattle.suite_session.specs.Left.{most_lower}
 use Rattle.suite_session.specs.declared.state.State.{State}
-use Rattle.suite_session.specs.declared.state.State.TheVariants.{Reading, Claiming, Asking, ReadingIntent, Withdrawing}
+use Rattle.suite_session.specs.declared.state.State.TheVariants.{Reading, Claiming, Asking, ReadingIntent, Withdrawing, Watching}
 use Rattle.suite_answers.specs.declared.cause.Cause.{Cause}
 use Rattle.suite_answers.specs.declared.cause.Cause.TheVariants.{Held as LockHeld, Gone as LockGone, Raced as LockRaced, Outrun as LockOutrun, LockDamaged, Exhausted as LocksExhausted, DiskFault, Memory}
 
+-- the state of a session that has judged the greatest lock: a report takes none
+abbrev pub after_judging : Request → Lister → State
+after_judging request judged = if is_report request then Watching judged else Claiming judged
+
 -- the state after the first listing
-abbrev pub after_look : Lister → State
-after_look seen = if seen.greatest == 0 then Claiming seen else Reading seen
+abbrev pub after_look : Request → Lister → State
+after_look request seen =
+    if seen.greatest == 0 then after_judging request seen else Reading seen
 
 -- the state after the read of the greatest lock
-abbrev pub after_read : Told → State
-after_read (Judged judged) = Claiming judged
-after_read (Ask asking) = Asking asking
+abbrev pub after_read : Request → Told → State
+after_read request (Judged judged) = after_judging request judged
+after_read request (Ask asking) = Asking asking
 
 -- the state after the second listing
 abbrev pub after_listing : Confirmed → State

@@ -9,6 +9,7 @@ use Rattle.suite_rules.specs.Deeds.{SuiteDeeds}
 use Rattle.suite_rules.specs.Standing.{Standing}
 use Rattle.suite_rules.specs.Rules.{AnswerRule}
 use Rattle.lock_steps.specs.NextCall.{unlocking_call}
+use Rattle.lock_steps.specs.Watching.{HasGathered, gathering_call}
 use Rattle.lock_steps.specs.Stands.{HasJudged, HasLooked, HasMade, HasNoLock, HasReadHeld, HasStagedFree, Keeps, KnowsAnything, WasOvertaken}
 use Rattle.recovery.specs.NextCall.{moving_call, recovering_call}
 use Rattle.recovery.specs.Stands.{HasStagedNext, Recovers}
@@ -16,7 +17,7 @@ use Rattle.commit_steps.specs.NextCall.{MayCommit, backing_call, committing_call
 use Rattle.commit_steps.specs.Stands.{BacksUp, HasRead, Installs}
 use Rattle.commit_steps.specs.States.{next_name}
 use Rattle.suite_session.specs.declared.state.State.{State}
-use Rattle.suite_session.specs.declared.state.State.TheVariants.{Looking, Reading, Asking, Claiming, Confirming, Withdrawing, ReadingIntent, Recovering, Moving, Loading, BackingUp, Committing, Installing, Unlocking, Freeing, Answering}
+use Rattle.suite_session.specs.declared.state.State.TheVariants.{Looking, Reading, Asking, Claiming, Confirming, Withdrawing, ReadingIntent, Recovering, Moving, Loading, BackingUp, Committing, Installing, Unlocking, Freeing, Watching, Gathering, Answering}
 use Rattle.suite_session.specs.declared.session.Phase.{Phase}
 use Rattle.suite_session.specs.declared.session.Phase.TheVariants.{Waiting, Begun, Over, Unbegun}
 
@@ -37,6 +38,8 @@ state_call (Committing stager answer) = committing_call stager
 state_call (Installing walker answer) = installing_call walker
 state_call (Unlocking keeper answer) = unlocking_call keeper
 state_call (Freeing freeing answer) = renames FreeStage (Lock freeing.number)
+state_call (Watching watcher) = reads Intent
+state_call (Gathering reading) = gathering_call reading
 state_call (Answering answer) = answers answer.outcome.status
 
 -- a session that stands so is ready for the call of its state: the rules permit it for these deeds
@@ -56,6 +59,8 @@ IsReady (Committing stager answer) deeds = MayCommit stager deeds
 IsReady (Installing walker answer) deeds = Installs walker
 IsReady (Unlocking keeper answer) deeds = Keeps keeper KnowsAnything
 IsReady (Freeing freeing answer) deeds = HasStagedFree freeing
+IsReady (Watching watcher) deeds = HasJudged watcher
+IsReady (Gathering reading) deeds = HasGathered reading
 IsReady (Answering answer) deeds = λ stood. AnswerRule deeds stood answer.outcome.status
 
 -- a session that reads a lock has listed one

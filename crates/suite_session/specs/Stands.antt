@@ -1,5 +1,5 @@
 -- How a session stands in each of its states, by its own events, and what one turn of it does.
-use Rattle.std.specs.Prelude.{◌≡◌, ◌≢◌, ◌⊎◌, ◌∷◌, ⊤, ℕ, ◌<◌, ◌≤◌, ◌++◌, length, Option, Some, IfSome}
+use Rattle.std.specs.Prelude.{◌≡◌, ◌≢◌, ◌⊎◌, ◌∷◌, ⊤, true, false, ℕ, ◌<◌, ◌≤◌, ◌++◌, length, Option, Some, IfSome}
 use Rattle.acct_outside.specs.Faults.{HasRisen}
 use Rattle.acct_outside.specs.declared.Name.TheVariants.{Table, Defs}
 use Rattle.acct_outside.specs.Names.{greatest_lock}
@@ -13,10 +13,12 @@ use Rattle.lock_steps.specs.States.{Maker, Kept}
 use Rattle.suite_rules.specs.Deeds.{SuiteDeeds}
 use Rattle.suite_rules.specs.Steps.{StaysLawful}
 use Rattle.lock_steps.specs.Stands.{HasLooked, HasReadHeld, HasJudged, HasMade, WasOvertaken, Keeps, KnowsAnything, KnowsNone, HasStagedFree, HasFreed}
+use Rattle.lock_steps.specs.Watching.{HasGathered}
 use Rattle.recovery.specs.Stands.{Recovers, HasStagedNext}
 use Rattle.account_words.specs.declared.tool.Tool.{Tool}
 use Rattle.account_model.specs.Answer.{Changed as ChangedTo}
 use Rattle.account_words.specs.Words.{Asks}
+use Rattle.account_words.specs.Request.{is_report}
 use Rattle.commit_steps.specs.States.{Change, Walker}
 use Rattle.commit_steps.specs.Walks.{token_of}
 use Rattle.commit_steps.specs.Stands.{HasRead, BacksUp, HasStagedIntent, Installs}
@@ -26,14 +28,14 @@ use Rattle.suite_answers.specs.declared.cause.Cause.TheVariants.{Changed, Same, 
 use Rattle.suite_answers.specs.declared.answer.Answer.{Answer}
 use Rattle.suite_answers.specs.Reasons.{stage_of}
 use Rattle.suite_session.specs.declared.state.State.{State}
-use Rattle.suite_session.specs.declared.state.State.TheVariants.{Looking, Reading, Asking, Claiming, Confirming, Withdrawing, ReadingIntent, Recovering, Moving, Loading, BackingUp, Committing, Installing, Unlocking, Freeing, Answering}
+use Rattle.suite_session.specs.declared.state.State.TheVariants.{Looking, Reading, Asking, Claiming, Confirming, Withdrawing, ReadingIntent, Recovering, Moving, Loading, BackingUp, Committing, Installing, Unlocking, Freeing, Watching, Gathering, Answering}
 use Rattle.suite_session.specs.Runner.{Runner}
 use Rattle.acct_outside.specs.Moment.{Past, Moment, Narrows}
 use Rattle.acct_outside.specs.declared.CommitStage.TheVariants.{Before, Committed}
 use Rattle.suite_session.specs.Moment.{At}
 use Rattle.suite_session.specs.Answers.{answer_on, IsAnswerOn, given_for, memory_answer, IsTold, Says}
 use Rattle.suite_session.specs.Deeds.{AreOfTools}
-use Rattle.suite_session.specs.Causes.{HasListedNone}
+use Rattle.suite_session.specs.Causes.{HasKept, HasListedNone}
 use Rattle.suite_session.specs.Due.{IsDue}
 use Rattle.suite_session.specs.NextCall.{state_call}
 use Rattle.suite_session.specs.Telling.{Remembers}
@@ -74,16 +76,16 @@ IsDecided (TooLarge (File (Table table))) = ⊤
 IsDecided (TooLarge (File Defs)) = ⊤
 IsDecided cause = ⊥
 
--- a session with an answer of its tool knows that no intent stands
+-- a keeper with an answer of its tool knows that no intent stands
 abbrev pub KnowsDecided : Token → Cause → Past → Type 0
 KnowsDecided token cause past = IsDecided cause → KnowsNone (standing token past.history).knows
 
--- A session that answers with this cause has freed the lock that it kept, and removed all lower ones;
--- with an answer of its tool it knows that no intent stands.
+-- A session that answers with this cause has freed the lock that it kept, and removed all lower ones. Where
+-- it kept one, it knows with an answer of its tool that no intent stands.
 pub record HasLeft (token : Token) (cause : Cause) (past : Past) : Type 0 where
   pub freed : (number : ℕ) → kept_number (standing token past.history).own ≡ Some number →
       HasFreed number (standing token past.history)
-  pub clean : KnowsDecided token cause past
+  pub clean : HasKept (standing token past.history) → KnowsDecided token cause past
 
 -- a keeper frees its lock with the answer to this cause, or there was no memory for its text
 abbrev pub LeavesWith : Tool → Kept → Cause → State → Type 0
@@ -155,6 +157,7 @@ StandsAs now runner (Asking asking) = (asking.token ≡ runner.token)
     × At now runner Before (HasReadHeld asking) × (asking.greatest ≢ greatest_lock)
 StandsAs now runner (Claiming judged) =
     (judged.token ≡ runner.token) × At now runner Before (HasJudged judged)
+    × (is_report runner.asked.request ≡ false)
 StandsAs now runner (Confirming claimed) =
     (claimed.token ≡ runner.token) × At now runner Before (HasMade claimed)
 StandsAs now runner (Withdrawing loser) =
@@ -169,6 +172,12 @@ StandsAs now runner (Moving moving) =
     × At now runner Before (HasStagedNext moving)
 StandsAs now runner (Loading reader) =
     (reader.keeper.token ≡ runner.token) × At now runner Before (HasRead reader)
+StandsAs now runner (Watching watcher) =
+    (watcher.token ≡ runner.token) × At now runner Before (HasJudged watcher)
+    × (is_report runner.asked.request ≡ true)
+StandsAs now runner (Gathering reading) =
+    (reading.token ≡ runner.token) × At now runner Before (HasGathered reading)
+    × (is_report runner.asked.request ≡ true)
 StandsAs now runner (BackingUp walker answer) =
     StandsChanging now runner walker.change (BacksUp walker) answer
 StandsAs now runner (Committing stager answer) =

@@ -1,9 +1,10 @@
 //! The session of a command: how it shares the account files with others, whatever its tool is.
 //!
 //! A session takes the lock, carries out an intent that another left, loads the files, lets the tool
-//! decide, commits through an intent of its own, frees the lock and answers. `State` names each step,
-//! with the one call of the folder that it makes next. What the tools decide is their crates' matter:
-//! a session asks them by the trait `Tools`.
+//! decide, commits through an intent of its own, frees the lock and answers. A report takes no lock: it
+//! reads the files between two listings of the locks. `State` names each step, with the one call of the
+//! folder that it makes next. What the tools decide is their crates' matter: a session asks them by the
+//! trait `Tools`.
 #![tactic(auto)]
 
 mod committing;
@@ -13,6 +14,7 @@ mod loading;
 mod locking;
 mod next_call;
 mod recovering;
+mod reporting;
 mod runner;
 mod session;
 mod state;

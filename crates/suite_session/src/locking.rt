@@ -1,6 +1,6 @@
-// The turns in which a session takes the lock.
+// The turns in which a session judges the greatest lock, and takes the next one unless it is a report.
 ghost use Rattle.std.specs.Prelude.{◌≡◌};
-ghost use Rattle.suite_session.specs.Locking.{ShowsFew, after_look, after_read, after_listing, cause_of_end, cause_of_fault, cause_of_refusal};
+ghost use Rattle.suite_session.specs.Locking.{ShowsFew, after_judging, after_look, after_read, after_listing, cause_of_end, cause_of_fault, cause_of_refusal};
 ghost use Rattle.suite_session.specs.Stands.{AnswersWith, StandsAs};
 ghost use Rattle.suite_session.specs.Turning.{TakesTurn};
 
@@ -13,7 +13,7 @@ use lock_steps::{
 use std::alloc::Global;
 use suite_answers::Cause;
 
-/// Lists the locks. Where there is none, a lock of its own comes next.
+/// Lists the locks. Where there is none, that is judged.
 pub(crate) fn look<F: Folder>(
     alloc: Global,
     runner: &Runner,
@@ -25,19 +25,30 @@ pub(crate) fn look<F: Folder>(
         (State.Looking looking) result }
 {
     match looking.look(folder) {
-        Ok(seen) => after_look(seen),
+        Ok(seen) => after_look(runner, seen),
         Err(end) => stopped(alloc, runner, end),
     }
 }
 
 /// There is no lock, or a greatest one.
-fn after_look(seen: Seen) -> State
-    ensures { result ≡ after_look seen }
+fn after_look(runner: &Runner, seen: Seen) -> State
+    ensures { result ≡ after_look runner.now.asked.request seen }
 {
     if seen.greatest() == 0 {
-        State::Claiming(seen.none())
+        after_judging(runner, seen.none())
     } else {
         State::Reading(seen)
+    }
+}
+
+/// The greatest lock is judged: a report reads without one, and any other command makes the next.
+fn after_judging(runner: &Runner, judged: Judged) -> State
+    ensures { result ≡ after_judging runner.now.asked.request judged }
+{
+    if runner.asked.is_report() {
+        State::Watching(judged.watch())
+    } else {
+        State::Claiming(judged)
     }
 }
 
@@ -48,17 +59,17 @@ pub(crate) fn read<F: Folder>(alloc: Global, runner: &Runner, seen: Seen, folder
         (State.Reading seen) result }
 {
     match seen.read(alloc, folder) {
-        Ok(told) => after_read(told),
+        Ok(told) => after_read(runner, told),
         Err(end) => stopped(alloc, runner, end),
     }
 }
 
 /// The greatest lock is free, or held by another session.
-fn after_read(told: Told) -> State
-    ensures { result ≡ after_read told }
+fn after_read(runner: &Runner, told: Told) -> State
+    ensures { result ≡ after_read runner.now.asked.request told }
 {
     match told {
-        Told::Judged(judged) => State::Claiming(judged),
+        Told::Judged(judged) => after_judging(runner, judged),
         Told::Ask(asking) => State::Asking(asking),
     }
 }
@@ -75,7 +86,7 @@ pub(crate) fn ask<F: Folder>(
         (State.Asking asking) result }
 {
     match asking.ask(folder) {
-        Ok(judged) => State::Claiming(judged),
+        Ok(judged) => after_judging(runner, judged),
         Err(end) => stopped(alloc, runner, end),
     }
 }
@@ -143,8 +154,8 @@ pub(crate) fn withdraw<F: Folder>(
     stopped(alloc, runner, loser.withdraw(folder))
 }
 
-/// The answer of a step on the way to the lock that doesn't lead on.
-fn stopped(alloc: Global, runner: &Runner, end: LockEnd) -> State
+/// The answer of a step on the locks that doesn't lead on.
+pub(crate) fn stopped(alloc: Global, runner: &Runner, end: LockEnd) -> State
     ensures { AnswersWith runner.now.asked.request.tool (cause_of_end end) result }
 {
     State::Answering(runner.asked.tell(alloc, cause_of_end(end)))

@@ -34,6 +34,8 @@ impl State {
             State::Installing(installing, _) => installing.next_call(alloc),
             State::Unlocking(keeper, _) => keeper.unlocking_call(),
             State::Freeing(freeing, _) => Ok(freeing.next_call()),
+            State::Watching(watcher) => Ok(watcher.next_call()),
+            State::Gathering(reading) => Ok(reading.next_call()),
             State::Answering(answer) => Ok(Call::Answered(answer.outcome.status)),
         }
     }

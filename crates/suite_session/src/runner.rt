@@ -1,6 +1,7 @@
 // What a session that has begun carries from its begin to its answer.
 ghost use Rattle.std.specs.Prelude.{◌≡◌, ◌≤◌, length, IfOk};
 ghost use Rattle.acct_text.specs.Limits.{last_day, table_limit};
+ghost use Rattle.account_words.specs.Request.{is_report};
 ghost use Rattle.account_words.specs.Words.{Asks};
 ghost use Rattle.option_words.specs.Parsed.{request_in};
 ghost use Rattle.suite_session.specs.Answers.{given_for, IsTold, memory_answer};
@@ -69,6 +70,14 @@ impl Question {
         ensures asks { Asks self.now.command.words self.now.request }
     {
         self.parsed.tool
+    }
+
+    /// Whether it asks for a report, which takes no lock and changes nothing: `pwck -r`, `grpck -r`,
+    /// getsubids or `chage -l`.
+    pub(crate) fn is_report(&self) -> bool
+        ensures { result ≡ is_report self.now.request }
+    {
+        self.parsed.is_report()
     }
 
     /// The input, which is empty for a tool that reads none.

@@ -1,16 +1,19 @@
 // The states of a session that has begun, in the order in which they follow. Each names the call of
 // the folder that it makes next; a step out of order can't be written.
 //
-// 1. Taking the lock: `Looking`, `Reading`, `Asking`, `Claiming`, `Confirming`, and `Withdrawing`
-//    where a greater lock outran the own one.
-// 2. Carrying out an intent that another session left: `ReadingIntent`, `Recovering`, `Moving`.
-// 3. Loading the files: `Loading`. After the last read the tool decides.
-// 4. Committing a change: `BackingUp`, `Committing`, `Installing`.
-// 5. Freeing the lock: `Unlocking`, `Freeing`.
-// 6. Answering.
+// 1. Judging the greatest lock: `Looking`, `Reading`, `Asking`. A report goes on at 7.
+// 2. Taking a lock: `Claiming`, `Confirming`, and `Withdrawing` where a greater lock outran the own one.
+// 3. Carrying out an intent that another session left: `ReadingIntent`, `Recovering`, `Moving`.
+// 4. Loading the files: `Loading`. After the last read the tool decides.
+// 5. Committing a change: `BackingUp`, `Committing`, `Installing`.
+// 6. Freeing the lock: `Unlocking`, `Freeing`. It goes on at 8.
+// 7. Reading without a lock: `Watching`, `Gathering`. After the last listing the tool decides.
+// 8. Answering.
 
 use commit_steps::{Backing, Installing, IntentStaged, Loader};
-use lock_steps::{Asking, Claimed, Freeing, Judged, Keeper, Looking, Loser, Seen, Unknown};
+use lock_steps::{
+    Asking, Claimed, Freeing, Judged, Keeper, Looking, Loser, Reading, Seen, Unknown, Watcher,
+};
 use recovery::{Moving, Recovering};
 use suite_answers::Answer;
 
@@ -48,6 +51,10 @@ pub(crate) enum State {
     Unlocking(Keeper<Unknown>, Answer),
     /// It moves the free text to its lock.
     Freeing(Freeing, Answer),
+    /// A report, it reads the intent.
+    Watching(Watcher),
+    /// A report, it reads the next file, or lists the locks again once none is left.
+    Gathering(Reading),
     /// It answers: no other call is left.
     Answering(Answer),
 }

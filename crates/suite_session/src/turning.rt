@@ -13,6 +13,7 @@ use crate::committing::{back_up, commit, install};
 use crate::loading::load;
 use crate::locking::{ask, cause_of_fault, claim, confirm, look, read, withdraw};
 use crate::recovering::{move_table, read_intent, recover};
+use crate::reporting::{gather, watch};
 use crate::runner::{Question, Runner};
 use crate::session::Phase;
 use crate::state::State;
@@ -128,6 +129,8 @@ fn go_on<T: Tools, F: Folder>(alloc: Global, runner: &Runner, state: State, fold
         }
         State::Unlocking(keeper, answer) => { unlock(alloc, runner, keeper, answer, folder) }
         State::Freeing(freeing, answer) => free(alloc, runner, freeing, answer, folder),
+        State::Watching(watcher) => watch(alloc, runner, watcher, folder),
+        State::Gathering(reading) => gather::<T, F>(alloc, runner, reading, folder),
         State::Answering(answer) => State::Answering(answer),
     }
 }

@@ -5,7 +5,7 @@ use Rattle.suite_session.proofs.LoadingTurns.{of-change}
 use Rattle.suite_session.proofs.loading.backing_up.Goals as goal
 
 pub prepare-requires : goal.prepare-requires
-prepare-requires c = c.requires.1.1
+prepare-requires c = c.requires.2
 
 pub returns-in-Ok : goal.returns-in-Ok
 returns-in-Ok c =

@@ -1,11 +1,12 @@
 use Rattle.std.proofs.Common.{refl, sym, ap, ◌∙◌, Err, arith}
-use Rattle.suite_session.specs.declared.state.State.TheVariants.{Asking, Claiming}
+use Rattle.suite_session.specs.declared.state.State.TheVariants.{Asking}
 use Rattle.acct_outside.specs.Calls.{asks}
 use Rattle.lock_steps.specs.Stands.{HasReadHeld, HasJudged}
 use Rattle.suite_session.proofs.MetLemmas.{ask-met}
 use Rattle.suite_session.proofs.TurnLemmas.{ended, got, unkept-left, goes-on, turns, stops}
 use Rattle.suite_session.proofs.LeavingLemmas.{ask-unkept}
 use Rattle.suite_session.proofs.LockingLemmas.{end-plain, end-stage, end-failed, asks-token}
+use Rattle.suite_session.proofs.LockingTurns.{judged-stands, judged-quiet}
 use Rattle.suite_session.proofs.MeetingLemmas.{ask-on, ask-ends}
 use Rattle.suite_session.specs.Locking.{cause_of_end}
 use Rattle.acct_outside.specs.declared.CommitStage.TheVariants.{Before}
@@ -17,24 +18,23 @@ returns-in-Ok g c = record {
   turns =
       let before = g.F.Folder.moment c.args.folder.now in
       let now = g.F.Folder.moment c.ask.new.folder in
-      turns before now c.args.runner.now Before (HasReadHeld c.args.asking) c.requires.1
+      rw c.after_judging.ensures (turns before now c.args.runner.now Before (HasReadHeld c.args.asking) c.requires.1
       c.args.asking.token c.requires.0 (asks c.args.asking.asked) tt _ (λ result stood. refl)
       c.in-Ok.ensures.call
       c.ask.ensures.lawful c.ask.ensures.faults.never_falls
-      (Asking c.args.asking) (Claiming c.in-Ok.judged) refl
-      (ask-on c.args.runner.now.asked.request.tool (Claiming c.in-Ok.judged) c.args.asking
+      (Asking c.args.asking) _ refl
+      (ask-on c.args.runner.now.asked.request.tool _ c.args.asking
       c.in-Ok.ensures.call.answer c.in-Ok.judged
       c.in-Ok.ensures.call.shown)
-      (λ met none. absurd none) (
-        asks-token _ _ _ c.in-Ok.ensures.call.shown ∙ c.requires.0,
-        goes-on before now c.args.runner.now Before (HasReadHeld c.args.asking)
-            c.requires.1
-            c.args.asking.token c.requires.0 (asks c.args.asking.asked) tt _ (λ result stood. refl)
-            c.in-Ok.ensures.call
-            (HasJudged c.in-Ok.judged) c.in-Ok.ensures.next,
-      )
-      (λ fault. fault);
-  counts = ask-calls c.args.asking c.in-Ok.judged;
+      (λ met none. absurd none)
+      (judged-stands before now c.args.runner.now c.in-Ok.judged
+      (asks-token _ _ _ c.in-Ok.ensures.call.shown ∙ c.requires.0)
+      (goes-on before now c.args.runner.now Before (HasReadHeld c.args.asking) c.requires.1
+      c.args.asking.token c.requires.0 (asks c.args.asking.asked) tt _ (λ result stood. refl)
+      c.in-Ok.ensures.call (HasJudged c.in-Ok.judged) c.in-Ok.ensures.next))
+      (judged-quiet c.args.runner.now.asked.request c.in-Ok.judged));
+  counts =
+      rw c.after_judging.ensures (ask-calls c.args.runner.now.asked.request c.args.asking c.in-Ok.judged);
 }
 
 pub returns-in-Err : goal.returns-in-Err
@@ -52,7 +52,7 @@ returns-in-Err g c = record {
       c.in-Err.end c.in-Err.ensures.call.shown c.stopped.ensures)
       (λ met none. absurd none)
       (cause_of_end c.in-Err.end) c.stopped.ensures (end-plain c.in-Err.end)
-      (ask-met c.args.runner.now.token now.told c.args.asking c.in-Err.ensures.call.answer
+      (ask-met c.args.runner.now now.told c.args.asking c.in-Err.ensures.call.answer
       c.in-Err.end
       c.requires.2 c.in-Err.ensures.call.shown
       (got before now c.args.runner.now Before (HasReadHeld c.args.asking) c.requires.1
@@ -64,7 +64,7 @@ returns-in-Err g c = record {
       (unkept-left before now c.args.runner.now Before (HasReadHeld c.args.asking)
       c.requires.1 c.args.asking.token c.requires.0 (asks c.args.asking.asked) tt _
       (λ result stood. refl)
-      c.in-Err.ensures.call _ (end-plain c.in-Err.end)
+      c.in-Err.ensures.call _
       (ask-unkept c.args.asking c.in-Err.ensures.call.answer c.in-Err.end
       c.in-Err.ensures.call.shown))
       (sym (end-stage c.in-Err.end))

@@ -54,7 +54,7 @@ returns-in-Err g c = record {
       c.in-Err.end c.in-Err.ensures.call.shown c.stopped.ensures)
       (λ met none. absurd none)
       (cause_of_end c.in-Err.end) c.stopped.ensures (end-plain c.in-Err.end)
-      (claim-met c.args.runner.now.token now.told c.args.judged c.in-Err.ensures.call.answer
+      (claim-met c.args.runner.now now.told c.args.judged c.in-Err.ensures.call.answer
       c.in-Err.end
       c.in-Err.ensures.call.shown
       (got before now c.args.runner.now Before (HasJudged c.args.judged) c.requires.1
@@ -68,7 +68,7 @@ returns-in-Err g c = record {
       (unkept-left before now c.args.runner.now Before (HasJudged c.args.judged)
       c.requires.1
       c.args.judged.token c.requires.0 (creates (c.args.judged.greatest + 1)) tt _
-      (λ result stood. refl) c.in-Err.ensures.call _ (end-plain c.in-Err.end)
+      (λ result stood. refl) c.in-Err.ensures.call _
       (claim-unkept c.args.judged c.in-Err.ensures.call.answer c.in-Err.end
       c.in-Err.ensures.call.shown))
       (sym (end-stage c.in-Err.end))

@@ -30,9 +30,9 @@ returns-in-Ok g c = record {
       (λ met none. absurd none)
       (look-stands before now c.args.runner.now c.args.looking c.requires.1 c.requires.0
       c.in-Ok.seen c.in-Ok.ensures.call c.in-Ok.ensures.next)
-      (look-quiet c.in-Ok.seen));
+      (look-quiet c.args.runner.now.asked.request c.in-Ok.seen));
   counts =
-      rw c.after_look.ensures (look-calls c.args.looking c.in-Ok.seen);
+      rw c.after_look.ensures (look-calls c.args.runner.now.asked.request c.args.looking c.in-Ok.seen);
 }
 
 pub returns-in-Err : goal.returns-in-Err
@@ -50,7 +50,7 @@ returns-in-Err g c = record {
       c.in-Err.end c.in-Err.ensures.call.shown c.stopped.ensures)
       (λ met none. absurd none)
       (cause_of_end c.in-Err.end) c.stopped.ensures (end-plain c.in-Err.end)
-      (look-met c.args.runner.now.token now.told c.args.looking c.in-Err.ensures.call.answer
+      (look-met c.args.runner.now now.told c.args.looking c.in-Err.ensures.call.answer
       c.in-Err.end
       c.in-Err.ensures.call.shown
       (got before now c.args.runner.now Before (HasListedNone) c.requires.1
@@ -61,7 +61,7 @@ returns-in-Err g c = record {
       c.in-Err.ensures.call Before))
       (unkept-left before now c.args.runner.now Before (HasListedNone) c.requires.1
       c.args.looking c.requires.0 (lists) tt _ (λ result stood. refl)
-      c.in-Err.ensures.call _ (end-plain c.in-Err.end)
+      c.in-Err.ensures.call _
       (look-unkept c.args.looking c.in-Err.ensures.call.answer c.in-Err.end
       c.in-Err.ensures.call.shown))
       (sym (end-stage c.in-Err.end))

@@ -31,9 +31,9 @@ returns-in-Ok g c = record {
       (λ met none. absurd none)
       (read-stands before now c.args.runner.now c.args.seen c.requires.2 c.requires.0 c.requires.3
       c.in-Ok.told
-      c.in-Ok.ensures.call c.in-Ok.ensures.next) (read-quiet c.in-Ok.told));
+      c.in-Ok.ensures.call c.in-Ok.ensures.next) (read-quiet c.args.runner.now.asked.request c.in-Ok.told));
   counts =
-      rw c.after_read.ensures (read-calls c.args.seen c.in-Ok.told);
+      rw c.after_read.ensures (read-calls c.args.runner.now.asked.request c.args.seen c.in-Ok.told);
 }
 
 pub returns-in-Err : goal.returns-in-Err
@@ -51,7 +51,7 @@ returns-in-Err g c = record {
       c.in-Err.end c.in-Err.ensures.call.shown c.stopped.ensures)
       (λ met none. absurd none)
       (cause_of_end c.in-Err.end) c.stopped.ensures (end-plain c.in-Err.end)
-      (read-met c.args.runner.now.token now.told c.args.seen c.in-Err.ensures.call.answer
+      (read-met c.args.runner.now now.told c.args.seen c.in-Err.ensures.call.answer
       c.in-Err.end
       c.requires.1 c.requires.3 c.in-Err.ensures.call.shown
       (got before now c.args.runner.now Before (HasLooked c.args.seen) c.requires.2
@@ -62,7 +62,7 @@ returns-in-Err g c = record {
       c.in-Err.ensures.call Before))
       (unkept-left before now c.args.runner.now Before (HasLooked c.args.seen) c.requires.2
       c.args.seen.token c.requires.0 (reads (Lock c.args.seen.greatest)) tt _ (λ result stood. refl)
-      c.in-Err.ensures.call _ (end-plain c.in-Err.end)
+      c.in-Err.ensures.call _
       (read-unkept c.args.seen c.in-Err.ensures.call.answer c.in-Err.end
       c.in-Err.ensures.call.shown))
       (sym (end-stage c.in-Err.end))

@@ -31,7 +31,7 @@ returns g c = record {
       c.withdraw.ensures.call.answer
       c.withdraw.result c.withdraw.ensures.call.shown c.stopped.ensures)
       (cause_of_end c.withdraw.result) c.stopped.ensures (end-plain c.withdraw.result)
-      (withdraw-met c.args.runner.now.token now.told c.args.loser c.withdraw.ensures.call.answer
+      (withdraw-met c.args.runner.now now.told c.args.loser c.withdraw.ensures.call.answer
       c.withdraw.result c.requires.1 c.withdraw.ensures.call.shown
       (got before now c.args.runner.now Before (WasOvertaken c.args.loser) c.requires.2
       c.args.loser.token c.requires.0 (removes (Lock c.args.loser.number)) tt _
@@ -43,7 +43,7 @@ returns g c = record {
       c.withdraw.ensures.call Before))
       (unkept-left before now c.args.runner.now Before (WasOvertaken c.args.loser)
       c.requires.2 c.args.loser.token c.requires.0 (removes (Lock c.args.loser.number)) tt _
-      (λ result stood. refl) c.withdraw.ensures.call _ (end-plain c.withdraw.result)
+      (λ result stood. refl) c.withdraw.ensures.call _
       (withdraw-unkept c.args.loser c.withdraw.ensures.call.answer c.withdraw.result
       c.withdraw.ensures.call.shown))
       (sym (end-stage c.withdraw.result))

@@ -1,7 +1,7 @@
 use Rattle.std.proofs.Common.{refl}
 use Rattle.acct_outside.specs.declared.Name.TheVariants.{Intent}
 use Rattle.suite_rules.specs.Rules.{answer_rule, free_read}
-use Rattle.suite_session.specs.declared.state.State.TheVariants.{Reading, Asking, Claiming, Withdrawing, ReadingIntent, Recovering, Moving, Loading, BackingUp, Committing, Installing, Unlocking, Freeing, Answering}
+use Rattle.suite_session.specs.declared.state.State.TheVariants.{Reading, Asking, Claiming, Withdrawing, ReadingIntent, Recovering, Moving, Loading, BackingUp, Committing, Installing, Unlocking, Freeing, Watching, Gathering, Answering}
 use Rattle.suite_session.proofs.NextLemmas.{of-state, of-state-ok}
 use Rattle.suite_session.proofs.state.State.next_call.Goals as goal
 
@@ -60,6 +60,14 @@ returns-in-Unlocking c = of-state-ok c.args.self.now (Unlocking c.in-Unlocking.k
 pub returns-in-Freeing : goal.returns-in-Freeing
 returns-in-Freeing c = of-state c.args.self.now (Freeing c.in-Freeing.freeing _) c.in-Freeing.is
     c.next_call-in-Freeing.ensures
+
+pub returns-in-Watching : goal.returns-in-Watching
+returns-in-Watching c = of-state c.args.self.now (Watching c.in-Watching.watcher) c.in-Watching.is
+    c.next_call-in-Watching.ensures
+
+pub returns-in-Gathering : goal.returns-in-Gathering
+returns-in-Gathering c = of-state c.args.self.now (Gathering c.in-Gathering.reading)
+    c.in-Gathering.is c.next_call-in-Gathering.ensures
 
 pub returns-in-Answering : goal.returns-in-Answering
 returns-in-Answering c = of-state c.args.self.now (Answering c.in-Answering.answer)

@@ -1,0 +1,363 @@
+-- Claims: where a report's first problem is one of a file that it has shown, that is the first problem of all
+-- files that are as was shown (`problem-first`); and where it has none, those are the files that it has kept,
+-- all of them whole (`shown-files`, `whole-shown`).
+-- Way: what was found at a table is kept or too large (`as-found`), so each table has the problem that the
+-- report finds (`table-by`); the first of a list of problems is that of the first table that has one
+-- (`first-of`).
+use Rattle.std.proofs.Common.{◌≡◌, refl, sym, ap, subst, ◌∙◌, ◌<◌, ◌≤◌, ◌&&◌, ◌||◌, ℕ, Bool, true, false, cond, nat_lt, if◌then◌else◌, List, [], ◌∷◌, ◌++◌, length, map, inl, inr, Option, Some, None, true≢false, arith}
+use Rattle.std.specs.Prelude.{find, is_none, is_some, IsSome, unwrap_or}
+use Rattle.std.specs.List.{AllByRecursion}
+use Rattle.std.specs.Option.{option_and_then}
+use Rattle.std.proofs.lemmas.Bool.{le-leb, ltb-true}
+use Rattle.acct_text.specs.declared.Tab.{Tab}
+use Rattle.acct_text.specs.declared.Tab.TheVariants.{Passwd, Shadow, Group, Gshadow, Subuid, Subgid}
+use Rattle.acct_text.specs.declared.files.Files.{Files}
+use Rattle.acct_text.specs.Bytes.{Bytes}
+use Rattle.acct_text.specs.Files.{table_of}
+use Rattle.acct_text.specs.Limits.{table_limit}
+use Rattle.acct_text.specs.Tables.{all_tables}
+use Rattle.acct_outside.specs.declared.Name.{Name}
+use Rattle.acct_outside.specs.declared.Name.TheVariants.{Table, Intent, Defs}
+use Rattle.acct_outside.specs.Calls.{Command, Found, found_absent, found_bytes, found_too_large, found_within}
+use Rattle.account_formats.specs.Text.{first_some}
+use Rattle.account_model.specs.Answer.{FileProblem, SettingsTooLarge, TableAbsent, TableTooLarge, files_problem, must_stand, settings_problem, table_problem}
+use Rattle.intent_file.specs.Intent.{Intended, ReadsIntent, listed_in}
+use Rattle.suite_rules.specs.Knowledge.{whole_content}
+use Rattle.suite_rules.specs.Rules.{HasShown}
+use Rattle.suite_rules.specs.Settled.{listed_by}
+use Rattle.suite_rules.specs.Shown.{Shown, ShowsIntent, whole_at}
+use Rattle.lock_steps.specs.declared.gathered.IntentFound.{IntentFound}
+use Rattle.lock_steps.specs.declared.gathered.IntentFound.TheVariants.{Absent, Listed, TooLarge, Damaged}
+use Rattle.lock_steps.specs.Gathered.{AreSmall, Gathered, HasFound, TellsIntent, found_as, gathered_at, is_large, is_readable, listed_at}
+use Rattle.suite_answers.specs.declared.answer.Answer.{Answer}
+use Rattle.suite_session.specs.Runner.{Question}
+use Rattle.suite_session.specs.Answers.{IsAnswerOn}
+use Rattle.suite_session.specs.Deeds.{files_of}
+use Rattle.suite_session.specs.Reporting.{bad_settings, bad_table, first_problem, is_bad}
+use Rattle.suite_session.specs.Reports.{AreShown}
+use Rattle.suite_session.proofs.ProblemLemmas.{IsLarge, large-settings, large-table}
+
+-- ---- What was found
+
+-- what stands where this is kept: too much, or just that
+abbrev IsKept : Bool → Option Bytes → Option Bytes → Type 0
+IsKept true kept stands = IsLarge stands
+IsKept false kept stands = stands ≡ kept
+
+-- so it is where a read within the limit found so
+as-found : (large : Bool) (kept stands : Option Bytes) →
+    found_as large kept ≡ found_within table_limit stands → IsKept large kept stands
+as-found true kept None is = absurd (cc is)
+as-found true kept (Some bytes) is = cases (nat_lt table_limit (length bytes)) refl is
+  where
+    cases : (more : Bool) → nat_lt table_limit (length bytes) ≡ more →
+        found_too_large ≡ (if more then found_too_large else found_bytes bytes) →
+        IsLarge (Some bytes)
+    cases true more found = (bytes, refl, ltb-true table_limit (length bytes) more)
+    cases false more found = absurd (cc found)
+as-found false None None is = refl
+as-found false None (Some bytes) is = cases (nat_lt table_limit (length bytes)) is
+  where
+    cases : (more : Bool) →
+        found_absent ≡ (if more then found_too_large else found_bytes bytes) → Some bytes ≡ None
+    cases true found = absurd (cc found)
+    cases false found = absurd (cc found)
+as-found false (Some kept) None is = absurd (cc is)
+as-found false (Some kept) (Some bytes) is = cases (nat_lt table_limit (length bytes)) is
+  where
+    cases : (more : Bool) →
+        found_bytes kept ≡ (if more then found_too_large else found_bytes bytes) →
+        Some bytes ≡ Some kept
+    cases true found = absurd (cc found)
+    cases false found = let same : kept ≡ bytes = cc found in ap Some (sym same)
+
+-- ---- The first problem
+
+-- the first problem of a list is that of the first that has one
+first-of : {X : Type 0} (test : X → Bool) (problem : X → Option FileProblem)
+    (bad : X → FileProblem) → ((one : X) → problem one ≡ cond (test one) (Some (bad one)) None) → (all : List X)
+    (rest : List (Option FileProblem)) → first_some (map problem all ++ rest)
+    ≡ (elim (find test all) [ Some one ↦ Some (bad one) | None ↦ first_some rest ])
+first-of test problem bad each [] rest = refl
+first-of test problem bad each (one ∷ all) rest =
+    ap (λ (found : Option FileProblem). first_some (found ∷ (map problem all ++ rest))) (each one)
+    ∙ cases (test one) (first-of test problem bad each all rest)
+  where
+    cases : (is : Bool) → first_some (map problem all ++ rest)
+        ≡ (elim (find test all) [ Some one ↦ Some (bad one) | None ↦ first_some rest ]) →
+        first_some (cond is (Some (bad one)) None ∷ (map problem all ++ rest))
+        ≡ (elim (cond is (Some one) (find test all)) [
+          | Some one ↦ Some (bad one)
+          | None ↦ first_some rest
+        ])
+    cases true same = refl
+    cases false same = same
+
+-- a table has the problem that the report finds
+table-by : (table : Tab) (large : Bool) (kept stands : Option Bytes) → IsKept large kept stands →
+    ((bytes : Bytes) → kept ≡ Some bytes → length bytes ≤ table_limit) →
+    table_problem table stands ≡ cond (large || (must_stand table && is_none kept))
+    (Some (if large then TableTooLarge table else TableAbsent table)) None
+table-by table true kept stands is small = large-table table stands is
+table-by table false None stands is small =
+    ap (table_problem table) is ∙ cases (must_stand table)
+  where
+    cases : (must : Bool) → (if must then Some (TableAbsent table) else None)
+        ≡ cond (must && true) (Some (TableAbsent table)) None
+    cases true = refl
+    cases false = refl
+table-by table false (Some bytes) stands is small =
+    ap (table_problem table) is ∙ (within ∙ cases (must_stand table))
+  where
+    within : table_problem table (Some bytes) ≡ None
+    within = rw (le-leb (length bytes) table_limit (small bytes refl)) refl
+
+    cases : (must : Bool) → None ≡ cond (must && false) (Some (TableAbsent table)) None
+    cases true = refl
+    cases false = refl
+
+-- ---- The intent
+
+-- the bytes that were found, none where there are none
+abbrev pub content_of : Found → Option Bytes
+content_of (found_bytes bytes) = Some bytes
+content_of found = None
+
+-- it lists the tables that what was found does
+same-listed : (found : Found) (table : Tab) →
+    listed_in (listed_by (content_of found)) table ≡ listed_in (listed_at found) table
+same-listed found_absent table = refl
+same-listed (found_bytes bytes) table = refl
+same-listed found_too_large table = refl
+
+-- one that is absent or reads was found whole
+readable-whole : (found : Found) (intent : IntentFound) → TellsIntent found intent →
+    is_readable intent ≡ true → whole_content found ≡ Some (content_of found)
+readable-whole found_absent intent told readable = refl
+readable-whole (found_bytes bytes) intent told readable = refl
+readable-whole found_too_large TooLarge told readable = absurd (true≢false (sym readable))
+readable-whole found_too_large Absent told readable = absurd told
+readable-whole found_too_large Listed told readable = absurd told
+readable-whole found_too_large (Damaged part) told readable = absurd told
+
+-- and reads where it is there
+readable-reads : (found : Found) (intent : IntentFound) → TellsIntent found intent →
+    is_readable intent ≡ true → (bytes : Bytes) → content_of found ≡ Some bytes →
+    (intended : Intended) × ReadsIntent bytes intended
+readable-reads (found_bytes kept) Listed told readable bytes is =
+    let same : kept ≡ bytes = cc is in
+    subst (λ (one : Bytes). (intended : Intended) × ReadsIntent one intended) same told
+readable-reads (found_bytes kept) (Damaged part) told readable bytes is =
+    absurd (true≢false (sym readable))
+readable-reads (found_bytes kept) TooLarge told readable bytes is = absurd told
+readable-reads (found_bytes kept) Absent told readable bytes is = absurd told
+readable-reads found_absent intent told readable bytes is = absurd (cc is)
+readable-reads found_too_large intent told readable bytes is = absurd (cc is)
+
+-- what is kept whole was found whole
+kept-whole : (content : Option Bytes) → whole_content (found_as false content) ≡ Some content
+kept-whole None = refl
+kept-whole (Some bytes) = refl
+
+-- ---- No problem
+
+-- where no element passes a test, each fails it
+none-passes : {X : Type 0} (test : X → Bool) (all : List X) → find test all ≡ None →
+    AllByRecursion (λ one. test one ≡ false) all
+none-passes test [] none = tt
+none-passes test (one ∷ all) none = cases (test one) refl none (none-passes test all)
+  where
+    cases : (is : Bool) → test one ≡ is → cond is (Some one) (find test all) ≡ None →
+        (find test all ≡ None → AllByRecursion (λ other. test other ≡ false) all) →
+        (test one ≡ false) × AllByRecursion (λ other. test other ≡ false) all
+    cases true is found rest = absurd (cc found)
+    cases false is found rest = (is, rest found)
+
+-- what is so of all tables is so of each
+each-table : (Holds : Tab → Type 0) → AllByRecursion Holds all_tables → (table : Tab) → Holds table
+each-table Holds all Passwd = all.0
+each-table Holds all Shadow = all.1.0
+each-table Holds all Group = all.1.1.0
+each-table Holds all Gshadow = all.1.1.1.0
+each-table Holds all Subuid = all.1.1.1.1.0
+each-table Holds all Subgid = all.1.1.1.1.1.0
+
+-- where there is no first problem, no table has one, and login.defs isn't too large
+pub record IsUsable (gathered : Gathered) : Type 0 where
+  pub tables : (table : Tab) → is_bad gathered table ≡ false
+  pub settings : is_large gathered Defs ≡ false
+
+pub none-usable : (gathered : Gathered) → first_problem gathered ≡ None → IsUsable gathered
+none-usable gathered none = by-found (find (is_bad gathered) all_tables) refl none
+  where
+    settings-usable : (large : Bool) → (if large then Some SettingsTooLarge else None) ≡ None →
+        large ≡ false
+    settings-usable true is = absurd (cc is)
+    settings-usable false is = refl
+
+    by-found : (found : Option Tab) → find (is_bad gathered) all_tables ≡ found →
+        (elim found as (λ one. Option FileProblem) [
+          | Some table ↦ Some (bad_table gathered table)
+          | None ↦ bad_settings gathered
+        ]) ≡ None → IsUsable gathered
+    by-found (Some table) is problem = absurd (cc problem)
+    by-found None is problem = record {
+      tables = each-table (λ table. is_bad gathered table ≡ false)
+          (none-passes (is_bad gathered) all_tables is);
+      settings = settings-usable (is_large gathered Defs) problem;
+    }
+
+-- a table without a problem isn't too large, and stands where it must
+fine-small : (large rest : Bool) → (large || rest) ≡ false → large ≡ false
+fine-small false rest is = refl
+fine-small true rest is = absurd (true≢false is)
+
+fine-stands : (large : Bool) (content : Option Bytes) →
+    (large || (true && is_none content)) ≡ false → IsSome content
+fine-stands false (Some bytes) is = refl
+fine-stands false None is = absurd (true≢false is)
+fine-stands true content is = absurd (true≢false is)
+
+pub passwd-stands : (gathered : Gathered) → IsUsable gathered → IsSome gathered.files.passwd
+passwd-stands gathered usable =
+    fine-stands (is_large gathered (Table Passwd)) gathered.files.passwd (usable.tables Passwd)
+
+pub group-stands : (gathered : Gathered) → IsUsable gathered → IsSome gathered.files.group
+group-stands gathered usable =
+    fine-stands (is_large gathered (Table Group)) gathered.files.group (usable.tables Group)
+
+-- ---- Files as they were shown
+
+module _ (shown : Shown) (gathered : Gathered) (found : HasFound shown.file gathered [])
+    (readable : is_readable gathered.intent ≡ true) (small : AreSmall gathered.files gathered.defs)
+  where
+    -- the intent that was found, none where there is none
+    abbrev intent : Option Bytes
+    intent = content_of found.found
+
+    module _ (files : Files) (defs : Option Bytes) (agree : AreShown shown intent files defs) where
+      -- each table is as it is kept
+      table-kept : (table : Tab) → IsKept (is_large gathered (Table table))
+          (table_of gathered.files table) (table_of files table)
+      table-kept table = by-listed (listed_in (listed_at found.found) table) refl
+        where
+          by-listed : (listed : Option Bytes) → listed_in (listed_at found.found) table ≡ listed →
+              IsKept (is_large gathered (Table table)) (table_of gathered.files table)
+              (table_of files table)
+          by-listed (Some new) is = subst
+              (λ (large : Bool). IsKept large (table_of gathered.files table) (table_of files table))
+              (sym (found.taken table new is).0)
+              (agree.listed table new (same-listed found.found table ∙ is)
+              ∙ sym (found.listed table new is))
+          by-listed None is = as-found (is_large gathered (Table table))
+              (table_of gathered.files table) (table_of files table)
+              (agree.unlisted table (gathered_at gathered (Table table))
+              (same-listed found.found table ∙ is)
+              (found.unlisted readable (Table table) refl (ap is_some is) refl))
+
+      -- so is login.defs
+      settings-kept : IsKept (is_large gathered Defs) gathered.defs defs
+      settings-kept = as-found (is_large gathered Defs) gathered.defs defs
+          (agree.settings (gathered_at gathered Defs) (found.unlisted readable Defs refl refl refl))
+
+      -- each table has the problem that the report finds
+      table-problem : (table : Tab) → table_problem table (table_of files table)
+          ≡ cond (is_bad gathered table) (Some (bad_table gathered table)) None
+      table-problem table = table-by table (is_large gathered (Table table))
+          (table_of gathered.files table) (table_of files table) (table-kept table)
+          (small.tables table)
+
+      -- so their first problem is that of the report, or of login.defs
+      files-first : files_problem files defs ≡ (elim (find (is_bad gathered) all_tables) [
+        | Some table ↦ Some (bad_table gathered table)
+        | None ↦ first_some (settings_problem (unwrap_or defs []) ∷ [])
+      ])
+      files-first = first-of (is_bad gathered)
+          (λ table. table_problem table (table_of files table)) (bad_table gathered) table-problem
+          all_tables (settings_problem (unwrap_or defs []) ∷ [])
+
+      -- the first claim
+      pub problem-first : (problem : FileProblem) → first_problem gathered ≡ Some problem →
+          files_problem files defs ≡ Some problem
+      problem-first problem is = files-first ∙ by-table (find (is_bad gathered) all_tables) is
+        where
+          by-settings : (large : Bool) → IsKept large gathered.defs defs →
+              (if large then Some SettingsTooLarge else None) ≡ Some problem →
+              first_some (settings_problem (unwrap_or defs []) ∷ []) ≡ Some problem
+          by-settings true kept same = ap
+              (λ (one : Option FileProblem). first_some (one ∷ [])) (large-settings defs kept) ∙ same
+          by-settings false kept same = absurd (cc same)
+
+          by-table : (bad : Option Tab) → (elim bad [
+            | Some table ↦ Some (bad_table gathered table)
+            | None ↦ bad_settings gathered
+          ]) ≡ Some problem → (elim bad [
+            | Some table ↦ Some (bad_table gathered table)
+            | None ↦ first_some (settings_problem (unwrap_or defs []) ∷ [])
+          ]) ≡ Some problem
+          by-table (Some table) same = same
+          by-table None same = by-settings (is_large gathered Defs) settings-kept same
+
+      module _ (usable : IsUsable gathered) where
+        -- a table that is not too large is as it is kept
+        table-same : (table : Tab) → table_of files table ≡ table_of gathered.files table
+        table-same table = subst (λ (large : Bool). IsKept large (table_of gathered.files table)
+            (table_of files table))
+            (fine-small (is_large gathered (Table table)) _ (usable.tables table)) (table-kept table)
+
+        -- the second claim
+        pub shown-files : files ≡ gathered.files
+        shown-files = λ i. record {
+          passwd = table-same Passwd i;
+          shadow = table-same Shadow i;
+          group = table-same Group i;
+          gshadow = table-same Gshadow i;
+          subuid = table-same Subuid i;
+          subgid = table-same Subgid i;
+        }
+
+        pub shown-settings : defs ≡ gathered.defs
+        shown-settings = subst (λ (large : Bool). IsKept large gathered.defs defs) usable.settings
+            settings-kept
+
+    -- the intent is absent or reads
+    pub intent-shown : ShowsIntent shown intent
+    intent-shown = record {
+      is_found = ap (option_and_then whole_content) found.at_intent
+          ∙ readable-whole found.found gathered.intent found.told readable;
+      reads = readable-reads found.found gathered.intent found.told readable;
+    }
+
+    -- where no table has a problem, all seven were shown whole
+    module _ (usable : IsUsable gathered) (command : Command) (asked : Option Command)
+        (is_asked : asked ≡ Some command) where
+      -- what isn't too large was found whole
+      whole-found : (name : Name) (content : Option Bytes) → is_large gathered name ≡ false →
+          shown.file name ≡ Some (found_as (is_large gathered name) content) →
+          whole_at shown name ≡ Some content
+      whole-found name content fine is = ap (option_and_then whole_content) is
+          ∙ (ap (λ (large : Bool). whole_content (found_as large content)) fine ∙ kept-whole content)
+
+      has-shown : HasShown asked shown
+      has-shown = record {
+        command = command;
+        intent = intent;
+        files = table_of gathered.files;
+        defs = gathered.defs;
+        is_asked = is_asked;
+        shows_intent = intent-shown;
+        listed = λ table new is. found.listed table new (sym (same-listed found.found table) ∙ is);
+        unlisted = λ table is. whole-found (Table table) (table_of gathered.files table)
+            (fine-small (is_large gathered (Table table)) _ (usable.tables table))
+            (found.unlisted readable (Table table) refl
+            (ap is_some (sym (same-listed found.found table) ∙ is)) refl);
+        settings = whole-found Defs gathered.defs usable.settings
+            (found.unlisted readable Defs refl refl refl);
+      }
+
+      -- with the answer on the files that it has kept
+      pub whole-shown : (question : Question) (answer : Answer) →
+          IsAnswerOn question gathered.files gathered.defs answer →
+          (all : HasShown asked shown) × IsAnswerOn question (files_of all.files) all.defs answer
+      unfolding has-shown
+      whole-shown question answer is_answer = (has-shown, is_answer)
