@@ -9,4 +9,6 @@ mod races;
 #[cfg(test)]
 mod ranges;
 #[cfg(test)]
+mod reports;
+#[cfg(test)]
 mod scenes;

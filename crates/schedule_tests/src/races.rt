@@ -1,5 +1,5 @@
 // Races for the lock: of two that take over from a dead holder, and of three that begin at once.
-use crate::scenes::{TO_END, makes, push_locks, sessions_of, steps_of, told_of};
+use crate::scenes::{TO_END, makes, push_locks, staged, steps_of, told_of};
 use acct_outside::{MemoryFolder, Name};
 use acct_text::Bytes;
 use side_by_side::{StagedFolder, Step};
@@ -53,14 +53,6 @@ fn lists(alloc: Global) -> Result<Vec<Vec<Step>>, AllocError> {
     Ok(lists)
 }
 
-// The same race with the second as a command of its own, between whose calls the others take their steps.
-fn staged(alloc: Global) -> Result<StagedFolder<Suite>, Fail> {
-    let lists = lists(alloc)?;
-    let sessions = sessions_of(alloc, &[STAFF, WHEEL])?;
-    let folder = held(alloc)?;
-    Ok(StagedFolder::new(folder, sessions, lists))
-}
-
 // The message of a command that runs in the folder, and the locks that stand then.
 fn told_in(alloc: Global, folder: &mut StagedFolder<Suite>) -> Result<Bytes, AllocError> {
     let mut streams = Streams::new(alloc, b"")?;
@@ -70,9 +62,15 @@ fn told_in(alloc: Global, folder: &mut StagedFolder<Suite>) -> Result<Bytes, All
     Ok(told)
 }
 
+// The same race with the second as a command of its own, between whose calls the others take their steps.
 #[test]
 fn a_command_between_others_is_outrun(rt: HostRuntime) -> Result<(), Fail> {
-    let mut folder = staged(rt.alloc())?;
+    let mut folder = staged(
+        rt.alloc(),
+        held(rt.alloc())?,
+        &[STAFF, WHEEL],
+        lists(rt.alloc())?,
+    )?;
     let told = told_in(rt.alloc(), &mut folder)?;
     assert_eq!(rt;
         told.as_slice(),

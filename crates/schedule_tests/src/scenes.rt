@@ -4,10 +4,10 @@ ghost use Rattle.suite_session.specs.Session.{IsWaiting};
 
 use acct_outside::{MemoryFolder, Name};
 use acct_text::{Bytes, push_decimal};
-use side_by_side::{Step, play};
+use side_by_side::{StagedFolder, Step, play};
 use std::alloc::{AllocError, Global};
 use std::test::Fail;
-use suite_core::Session;
+use suite_core::{Session, Suite};
 use whole_commands::{session_of, text_at};
 
 // More calls of the folder than a command here has.
@@ -51,6 +51,17 @@ pub(crate) fn sessions_of(alloc: Global, commands: &[&[u8]]) -> Result<Vec<Sessi
         sessions.push(session_of(alloc, command)?)?;
     }
     Ok(sessions)
+}
+
+// A folder in which sessions of these commands take the lists of their steps between the calls of another.
+pub(crate) fn staged(
+    alloc: Global,
+    folder: MemoryFolder,
+    commands: &[&[u8]],
+    lists: Vec<Vec<Step>>,
+) -> Result<StagedFolder<Suite>, Fail> {
+    let sessions = sessions_of(alloc, commands)?;
+    Ok(StagedFolder::new(folder, sessions, lists))
 }
 
 // What sessions tell that hadn't begun, once they took the steps, and the locks that stand then.

@@ -64,7 +64,7 @@ fn a_stream_that_fails_is_told(rt: HostRuntime) -> Result<(), Fail> {
     let is_told = b"101 chpasswd: input fault\n".as_slice();
     let cases = [
         (Failing::Input, b"chpasswd -P R -e".as_slice(), is_told),
-        (Failing::Output, b"getsubids -P R bob", b"102 free\n"),
+        (Failing::Output, b"getsubids -P R bob", b"102 "),
         (Failing::Message, b"groupadd -P R sudo", b"102 free\n"),
     ];
     for (failing, command, wanted) in cases {
