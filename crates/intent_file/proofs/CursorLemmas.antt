@@ -141,12 +141,10 @@ other-decimal greatest number digits small most none same =
 pub between-lacks :
     (end least greatest : ℕ)
     → end < zero_digit
-    → greatest < 2 ^ 64
     → (number : ℕ)
     → IsBetween least greatest number
     → Lacks end (decimal number)
-between-lacks end least greatest low small number between =
-    let most = between.1 in decimal_lacks end number low (omega arith)
+between-lacks end least greatest low number between = decimal_lacks end number low
 
 -- Names.
 

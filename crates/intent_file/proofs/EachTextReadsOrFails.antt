@@ -1,7 +1,8 @@
 -- Claim: bytes read as an intent, or have a first part that doesn't stand
 -- (`each_text_reads_or_fails_holds`). Way: a part stands where the bytes begin with the one that
--- they spell, which a test decides (`decides`); the tables are tested one after the other.
-use Rattle.std.proofs.Common.{◌≡◌, refl, sym, ap, ◌∙◌, ℕ, zero, suc, ◌+◌, ◌<◌, ◌^◌, Bool, true, false, ◌&&◌, ◌⊎◌, inl, inr, nat_le, List, [], ◌∷◌, ◌++◌, length, take, drop, length-append, arith, true≢false, bytes_eq}
+-- they spell, which a test decides (`header_decides`, `decides`); the tables are tested one after the
+-- other.
+use Rattle.std.proofs.Common.{◌≡◌, refl, sym, ap, ap₂, ◌∙◌, ℕ, zero, suc, ◌+◌, ◌<◌, ◌^◌, Bool, true, false, ◌&&◌, ◌⊎◌, inl, inr, nat_le, List, [], ◌∷◌, ◌++◌, length, take, drop, length-append, arith, true≢false, bytes_eq}
 use Rattle.std.proofs.Math.Seq.{take-append_seam}
 use Rattle.std.proofs.lemmas.List.{take-append-drop}
 use Rattle.std.proofs.lemmas.Bool.{and_parts}
@@ -10,12 +11,12 @@ use Rattle.std.proofs.lemmas.Slice.Eq.{bytes_eq-Decides}
 use Rattle.acct_text.specs.Bytes.{Bytes}
 use Rattle.intent_file.specs.declared.cursor.Header.{Header}
 use Rattle.intent_file.specs.Cursor.{TakesTables}
-use Rattle.intent_file.specs.Intent.{NewTable, Intended, table_part, table_parts, end_part, is_in_order, is_within_limit, is_lock_number, ReadsIntent, spelled_number, spelled_count, spelled_table}
+use Rattle.intent_file.specs.Intent.{NewTable, Intended, table_part, table_parts, end_part, is_in_order, is_within_limit, is_lock_number, ReadsIntent, spelled_version, spelled_number, spelled_count, after_header, spelled_table}
 use Rattle.intent_file.specs.Laws.{EachTextReadsOrFails}
-use Rattle.intent_file.specs.Parts.{BeginsWith, BeginsWithNone, AreListed, IsHeader, IsNext, header_part, FirstFault, no_header, no_table}
+use Rattle.intent_file.specs.Parts.{BeginsWith, BeginsWithNone, AreListed, Headed, HeadedByNone, IsHeader, IsNext, header_part, FirstFault, no_header, no_table}
 use Rattle.intent_file.proofs.IntentLemmas.{front, end-fault, reads-intent}
 use Rattle.intent_file.proofs.PartsLemmas.{lock-small, within-small, listed-more, listed-none}
-use Rattle.intent_file.proofs.SpelledLemmas.{spelled_number-part, spelled_count-part, spelled_table-part}
+use Rattle.intent_file.proofs.SpelledLemmas.{spelled_version-part, spelled_number-part, spelled_count-part, after_header-part, spelled_table-part}
 
 -- the bytes begin with some part, or with none
 data Begins {Value : Type 0} (MayStand : Value → Type 0) (part : Value → Bytes)
@@ -84,7 +85,15 @@ module _ {Value : Type 0} (MayStand : Value → Type 0) (part : Value → Bytes)
 
 -- the header that bytes spell
 abbrev spelled_header : Bytes → Header
-spelled_header bytes = record { number = spelled_number bytes; count = spelled_count bytes }
+spelled_header bytes = record {
+  version = spelled_version bytes;
+  number = spelled_number bytes;
+  count = spelled_count (spelled_version bytes) bytes;
+}
+
+-- what follows it
+abbrev spelled_behind : Bytes → Bytes
+spelled_behind bytes = after_header (spelled_version bytes) bytes
 
 -- whether it may stand
 abbrev may_be_header : Header → Bool
@@ -113,18 +122,75 @@ header_tested head is_header = rw (is_header.number, least, most) refl
     most : nat_le head.count 6 ≡ true
     most = grind (arith, nat_tests, is_header.at_most_six)
 
--- bytes that begin with a header spell it
-spelled_header-part :
-    (head : Header) (rest : Bytes)
-    → IsHeader head
-    → spelled_header (header_part head ++ rest) ≡ head
-spelled_header-part head rest is_header =
-    let small = lock-small head.number is_header.number in
-    let most = is_header.at_most_six in
+-- bytes with a header, or with none
+data HasHeader (bytes : Bytes) : Type 0 where
+  headed : (head : Header) (behind : Bytes) → Headed bytes head behind → HasHeader bytes
+  headed_by_none : HeadedByNone bytes → HasHeader bytes
+
+-- a header and what follows it are spelled
+record SpellsHeader (bytes : Bytes) (head : Header) (behind : Bytes) : Type 0 where
+  header : spelled_header bytes ≡ head
+  behind_is : spelled_behind bytes ≡ behind
+
+-- so are those that bytes have
+spelled_headed :
+    (bytes : Bytes) (head : Header) (behind : Bytes)
+    → Headed bytes head behind
+    → SpellsHeader bytes head behind
+spelled_headed bytes head behind begun =
+    let total = length behind in
+    let small = lock-small head.number begun.stands.number in
+    let most = begun.stands.at_most_six in
     let few : head.count < 2 ^ 64 = omega arith in
-    let numbers = spelled_number-part head rest small few in
-    let counts = spelled_count-part head rest small few in
-    λ i. record { number = numbers i; count = counts i }
+    let versions = ap spelled_version begun.whole
+    ∙ spelled_version-part head total behind small few in
+    let numbers = ap spelled_number begun.whole ∙ spelled_number-part head total behind small few in
+    let counts = ap₂ spelled_count versions begun.whole
+    ∙ spelled_count-part head total behind small few in
+    let follows = ap₂ after_header versions begun.whole
+    ∙ after_header-part head total behind small few in
+    record {
+      header = λ i. record { version = versions i; number = numbers i; count = counts i };
+      behind_is = follows;
+    }
+
+-- the spelled header in front of as many bytes as follow it, and these
+abbrev pub spelled_whole : Bytes → Bytes
+spelled_whole bytes =
+    header_part (length (spelled_behind bytes)) (spelled_header bytes) ++ spelled_behind bytes
+
+-- bytes with a header are these
+pub headed_whole :
+    (bytes : Bytes) (head : Header) (behind : Bytes)
+    → Headed bytes head behind
+    → bytes ≡ spelled_whole bytes
+headed_whole bytes head behind begun =
+    let spells = spelled_headed bytes head behind begun in
+    begun.whole ∙ ap₂ (λ (h : Header) (b : Bytes). header_part (length b) h ++ b)
+    (sym spells.header) (sym spells.behind_is)
+
+-- bytes have the header that they spell, or none
+header_decides : (bytes : Bytes) → HasHeader bytes
+header_decides bytes =
+    by_tests (may_be_header (spelled_header bytes)) (bytes_eq bytes (spelled_whole bytes)) refl refl
+  where
+    by_tests :
+        (allowed same : Bool)
+        → may_be_header (spelled_header bytes) ≡ allowed
+        → bytes_eq bytes (spelled_whole bytes) ≡ same
+        → HasHeader bytes
+    by_tests true true allowed same =
+        headed (spelled_header bytes) (spelled_behind bytes) (record {
+          stands = header_stands (spelled_header bytes) allowed;
+          whole = (bytes_eq-Decides bytes (spelled_whole bytes)).0 same;
+        })
+    by_tests true false allowed other = headed_by_none (λ head behind begun.
+        true≢false (sym ((bytes_eq-Decides bytes (spelled_whole bytes)).1
+        (headed_whole bytes head behind begun)) ∙ other))
+    by_tests false same refused same' = headed_by_none (λ head behind begun.
+        true≢false
+        (sym (ap may_be_header (spelled_headed bytes head behind begun).header
+        ∙ header_tested head begun.stands) ∙ refused))
 
 -- Tables.
 module _ (before : List NewTable) where
@@ -159,7 +225,7 @@ ReadsOrFails bytes =
     ((intent : Intended) × ReadsIntent bytes intent) ⊎ ((part : ℕ) × FirstFault bytes part)
 
 module _ (bytes behind : Bytes) (head : Header)
-    (begun : BeginsWith IsHeader header_part bytes head behind) where
+    (begun : Headed bytes head behind) where
   -- bytes with all tables read, or the end doesn't stand
   with_all :
       (tables : List NewTable) (rest : Bytes)
@@ -211,15 +277,12 @@ module _ (bytes behind : Bytes) (head : Header)
           )
 
 each_text : (bytes : Bytes) → ReadsOrFails bytes
-each_text bytes =
-    by_header
-    (decides IsHeader header_part spelled_header may_be_header header_stands header_tested
-    spelled_header-part bytes)
+each_text bytes = by_header (header_decides bytes)
   where
-    by_header : Begins IsHeader header_part bytes → ReadsOrFails bytes
-    by_header (begins head behind begun) =
+    by_header : HasHeader bytes → ReadsOrFails bytes
+    by_header (headed head behind begun) =
         with_some bytes behind head begun head.count [] behind (listed-none behind) (omega arith)
-    by_header (begins_not none) = inr (_, no_header none)
+    by_header (headed_by_none none) = inr (_, no_header none)
 
 pub each_text_reads_or_fails_holds : EachTextReadsOrFails
 each_text_reads_or_fails_holds = each_text

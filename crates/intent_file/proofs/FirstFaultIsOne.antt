@@ -8,7 +8,7 @@ use Rattle.std.proofs.lemmas.Bool.Decides.{nat_tests}
 use Rattle.acct_text.specs.Bytes.{Bytes}
 use Rattle.acct_text.specs.Limits.{table_limit}
 use Rattle.acct_text.specs.Tables.{table_place}
-use Rattle.intent_file.specs.Intent.{NewTable, Intended, table_part, table_parts, end_part, is_in_order, is_within_limit, ReadsIntent}
+use Rattle.intent_file.specs.Intent.{NewTable, Intended, table_part, table_parts, end_part, body, is_in_order, is_within_limit, ReadsIntent}
 use Rattle.intent_file.specs.Laws.{FirstFaultIsOne}
 use Rattle.intent_file.specs.Parts.{BeginsWith, BeginsWithNone, IsNext, Front, FirstFault, no_header, no_table, no_end}
 use Rattle.intent_file.proofs.PartsLemmas.{header_cut, table_cut}
@@ -89,7 +89,8 @@ record Fronts {bytes : Bytes} (front other : Front bytes) : Type 0 where
 -- two fronts of the same bytes are such
 fronts : (bytes : Bytes) (front other : Front bytes) → Fronts front other
 fronts bytes front other =
-    let cut = header_cut front.head other.head front.behind other.behind
+    let cut = header_cut front.head other.head (length front.behind) (length other.behind)
+    front.behind other.behind
     front.header.stands other.header.stands (sym front.header.whole ∙ other.header.whole) in
     record {
       counts = ap (λ head. head.count) cut.values;
@@ -195,8 +196,12 @@ front_of : (bytes : Bytes) (intent : Intended) → ReadsIntent bytes intent → 
 front_of bytes intent reads =
     let parts = allowed_parts intent reads.allowed in
     record {
-      head = record { number = intent.number; count = length intent.tables };
-      behind = table_parts intent.tables ++ end_part;
+      head = record {
+        version = intent.version;
+        number = intent.number;
+        count = length intent.tables;
+      };
+      behind = body intent.tables;
       tables = intent.tables;
       rest = end_part;
       header = record {

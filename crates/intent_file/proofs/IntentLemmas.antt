@@ -12,8 +12,8 @@ use Rattle.intent_file.specs.declared.IntentFault.{IntentFault}
 use Rattle.intent_file.specs.declared.IntentFault.TheVariants.{Part, Memory}
 use Rattle.intent_file.specs.declared.cursor.Header.{Header}
 use Rattle.intent_file.specs.Cursor.{TakesTables, TellsLack}
-use Rattle.intent_file.specs.Intent.{NewTable, header, table_part, table_parts, end_part, is_allowed, ReadsIntent, Intended, intent_text, listed_in}
-use Rattle.intent_file.specs.Parts.{BeginsWith, AreListed, IsHeader, header_part, Front, FirstFault, no_table, no_end, TellsFault}
+use Rattle.intent_file.specs.Intent.{NewTable, header, header_of, table_part, table_parts, end_part, is_allowed, ReadsIntent, Intended, intent_text, listed_in}
+use Rattle.intent_file.specs.Parts.{BeginsWith, AreListed, Headed, Front, FirstFault, no_table, no_end, TellsFault}
 use Rattle.std.proofs.lemmas.Grind.{flat_map-append}
 
 -- Texts.
@@ -34,11 +34,12 @@ table_parts-step tables place default within =
 pub intent_text-front :
     (intent : Intended) (front text : Bytes) (count : ℕ)
     → length intent.tables ≤ count
-    → front ≡ header intent.number (length intent.tables) ++ table_parts (take count intent.tables)
+    → front ≡ header_of intent.version intent.number intent.tables
+    ++ table_parts (take count intent.tables)
     → text ≡ front ++ end_part
     → text ≡ intent_text intent
 intent_text-front intent front text count all front_is text_is =
-    let head = header intent.number (length intent.tables) in
+    let head = header_of intent.version intent.number intent.tables in
     text_is ∙ (ap (λ (b : Bytes). b ++ end_part)
     (front_is
     ∙ ap (λ (tables : List NewTable). head ++ table_parts tables)
@@ -94,7 +95,7 @@ missing-fault Tells (Some value) fault given result is_given none is_err told = 
 
 -- Readings.
 module _ (bytes behind : Bytes) (head : Header)
-    (begins : BeginsWith IsHeader header_part bytes head behind) where
+    (begins : Headed bytes head behind) where
   -- a header and tables are a front
   abbrev pub front :
       (tables : List NewTable) (rest : Bytes)
@@ -125,8 +126,12 @@ module _ (bytes behind : Bytes) (head : Header)
     pub end-fault : rest ≢ end_part → FirstFault bytes (head.count + 1)
     end-fault other = no_end (front tables rest takes.listed) takes.counted other
 
+    -- what was read
+    abbrev pub intent_read : Intended
+    intent_read = record { version = head.version; number = head.number; tables = tables }
+
     -- the tables are at least one, and allowed
-    pub read-allowed : is_allowed (record { number = head.number; tables = tables }) ≡ true
+    pub read-allowed : is_allowed intent_read ≡ true
     read-allowed =
         let size = takes.counted in
         let some = begins.stands.at_least_one in
@@ -142,11 +147,11 @@ module _ (bytes behind : Bytes) (head : Header)
         at_least_one count some = grind (arith, nat_tests, some)
 
     -- where the end follows, the bytes read as the intent
-    pub reads-intent : rest ≡ end_part → ReadsIntent bytes
-        (record { number = head.number; tables = tables })
+    pub reads-intent : rest ≡ end_part → ReadsIntent bytes intent_read
     reads-intent at_end = record {
       allowed = read-allowed;
       text = begins.whole
-          ∙ ap₂ (λ (count : ℕ) (b : Bytes). header head.number count ++ b) (sym takes.counted)
+          ∙ ap₂ (λ (count : ℕ) (b : Bytes).
+          header head.version head.number count (length b) ++ b) (sym takes.counted)
           (takes.listed.whole ∙ ap (λ b. table_parts tables ++ b) at_end);
     }

@@ -1,15 +1,15 @@
 -- The parts of an intent's text can be told apart: bytes begin with one header at most, and with
--- one table part at most, and then what follows is the same (`header_cut`, `table_cut`).
+-- one table part at most, and then what follows is the same (`header_cut`, `table_cut`). What a
+-- header says of the bytes that follow it plays no part in this.
 -- Way: a word ends with the first byte that ends words (`word_cut`); numbers and names are words;
 -- the bytes of a table are as many as its line says.
-use Rattle.std.proofs.Common.{append-nil, not, ◌==◌, ◌≡◌, ◌≢◌, refl, sym, ap, ap₂, ◌∙◌, ℕ, ◌<◌, ◌≤◌, ◌^◌, true, nat_le, List, [], ◌∷◌, ◌++◌, length, codes, decimal, append_assoc, arith, lit<}
+use Rattle.std.proofs.Common.{append-nil, not, ◌==◌, ◌≡◌, refl, sym, ap, ap₂, ◌∙◌, ℕ, zero, suc, ◌+◌, ◌/◌, ◌%◌, ◌<◌, ◌≤◌, ◌^◌, Bool, true, false, if◌then◌else◌, nat_le, nat_lt, List, [], ◌∷◌, ◌++◌, length, codes, decimal, append_assoc, arith, lit<}
 use Rattle.std.specs.List.{list_all}
-use Rattle.std.specs.Str.Parse.{AllDigits}
+use Rattle.std.specs.Fmt.{digits, digits_onto, digit_glyph}
 use Rattle.std.proofs.lemmas.Bool.{and_parts}
 use Rattle.std.proofs.lemmas.Grind.{flat_map-append}
-use Rattle.std.proofs.lemmas.Fmt.{decimal_is_IsNumeral, decimal_injective}
+use Rattle.std.proofs.lemmas.Fmt.{decimal_injective}
 use Rattle.std.proofs.lemmas.List.{append_cancel_left}
-use Rattle.std.proofs.lemmas.Str.Parse.{digit_from_value}
 use Rattle.std.proofs.lemmas.Bool.Decides.{nat_tests}
 use Rattle.acct_text.specs.declared.Tab.{Tab}
 use Rattle.acct_text.specs.declared.Tab.TheVariants.{Passwd, Shadow, Group, Gshadow, Subuid, Subgid}
@@ -18,9 +18,11 @@ use Rattle.acct_text.specs.Limits.{table_limit}
 use Rattle.acct_text.specs.Pieces.{Lacks}
 use Rattle.acct_text.specs.Tables.{table_name}
 use Rattle.acct_outside.specs.Names.{greatest_lock}
+use Rattle.intent_file.specs.declared.Version.{Version}
+use Rattle.intent_file.specs.declared.Version.TheVariants.{One, Two}
 use Rattle.intent_file.specs.declared.cursor.Header.{Header}
-use Rattle.intent_file.specs.Cursor.{zero_digit, word_part, number_part, name_part}
-use Rattle.intent_file.specs.Intent.{NewTable, table_part, table_parts, is_within_limit, is_lock_number, table_of_name}
+use Rattle.intent_file.specs.Cursor.{zero_digit, word_part, number_part, version_part, count_part, name_part}
+use Rattle.intent_file.specs.Intent.{NewTable, table_part, table_parts, is_within_limit, is_lock_number, table_of_name, version_number, version_of}
 use Rattle.intent_file.specs.Parts.{BeginsWith, AreListed, IsHeader, IsNext, header_part}
 
 -- two parts and what follows them are the same
@@ -58,22 +60,43 @@ bytes_cut (byte ∷ bytes) (first ∷ other) rest tail size same =
     record { values = ap₂ (λ (b : ℕ) (w : Bytes). b ∷ w) first_is cut.values; rests = cut.rests }
 
 -- no digit is a byte below the digits
-digits_lack : (end : ℕ) (digits : Bytes) → end < zero_digit → AllDigits 10 digits → Lacks end digits
-digits_lack end [] low all = tt
-digits_lack end (digit ∷ digits) low all = (other, digits_lack end digits low all.1)
+glyph_above : (digit : ℕ) → zero_digit ≤ digit_glyph false digit
+glyph_above digit = by_test (nat_lt digit 10)
   where
-    other : digit ≢ end
-    other same = let in_range =
-        digit_from_value digit all.0 in absurd (omega (arith, in_range, same, low))
+    by_test : (is_small : Bool) → zero_digit ≤ (if is_small then 48 + digit else 87 + digit)
+    by_test true = omega arith
+    by_test false = omega arith
+
+-- digits that are written in front of others have none either
+onto_lacks :
+    (end count number : ℕ) (digits : Bytes)
+    → end < zero_digit
+    → Lacks end digits
+    → Lacks end (digits_onto count 10 false number digits)
+onto_lacks end zero number digits low lacks = lacks
+onto_lacks end (suc count) number digits low lacks =
+    either (number / 10 == 0) more (onto_lacks end count (number / 10) (glyph ∷ digits) low more)
+  where
+    glyph : ℕ
+    glyph = digit_glyph false (number % 10)
+
+    more : Lacks end (glyph ∷ digits)
+    more = (
+      λ same. absurd (let above = glyph_above (number % 10) in omega (arith, same, above, low)),
+      lacks,
+    )
+
+    either : (is_last : Bool) → Lacks end (glyph ∷ digits)
+        → Lacks end (digits_onto count 10 false (number / 10) (glyph ∷ digits))
+        → Lacks end (if is_last then glyph ∷ digits
+        else digits_onto count 10 false (number / 10) (glyph ∷ digits))
+    either true here later = here
+    either false here later = later
 
 -- a number in decimal has no byte below the digits
-pub decimal_lacks :
-    (end number : ℕ)
-    → end < zero_digit
-    → number < 2 ^ 64
-    → Lacks end (decimal number)
-decimal_lacks end number low small =
-    digits_lack end (decimal number) low (decimal_is_IsNumeral number small).0.1
+pub decimal_lacks : (end number : ℕ) → end < zero_digit → Lacks end (decimal number)
+unfolding digits
+decimal_lacks end number low = onto_lacks end 64 number [] low tt
 
 -- bytes begin with one number at most before the byte that ends it
 pub number_cut :
@@ -84,9 +107,8 @@ pub number_cut :
     → number_part end number ++ rest ≡ number_part end other ++ tail
     → SameCut number other rest tail
 number_cut end number other rest tail low small small' same =
-    let lacks = decimal_lacks end number low small in
-    let lacks' = decimal_lacks end other low small' in
-    let cut = word_cut end (decimal number) (decimal other) rest tail lacks lacks' same in
+    let cut = word_cut end (decimal number) (decimal other) rest tail (decimal_lacks end number low)
+    (decimal_lacks end other low) same in
     record { values = decimal_injective number other small small' cut.values; rests = cut.rests }
 
 -- a text none of whose bytes is the end lacks it
@@ -137,16 +159,34 @@ name_cut table other rest tail same =
     (name_lacks other) same in
     record { values = name-injective table other cut.values; rests = cut.rests }
 
--- the words of a header
-abbrev pub version : Bytes
-version = codes "accounts-intent 1 "
+-- the first word of a header
+abbrev pub first_word : Bytes
+first_word = codes "accounts-intent "
 
--- a header is its version, its number and its count
+-- a header is its version, its number and its count with what ends it
 pub header_words :
-    (head : Header) (rest : Bytes)
-    → header_part head ++ rest
-    ≡ version ++ (number_part blank head.number ++ (number_part newline head.count ++ rest))
-header_words head rest = simp append_assoc refl
+    (head : Header) (total : ℕ) (rest : Bytes)
+    → header_part total head ++ rest
+    ≡ version_part head.version
+    ++ (number_part blank head.number ++ (count_part head.version total head.count ++ rest))
+header_words head total rest = simp append_assoc refl
+
+-- in version 2 the total stands behind the count
+pub count_words :
+    (count total : ℕ) (rest : Bytes)
+    → count_part Two total count ++ rest
+    ≡ number_part blank count ++ (number_part newline total ++ rest)
+count_words count total rest = simp append_assoc refl
+
+-- a version is found by its number
+pub version_of-number : (version : Version) → version_of (version_number version) ≡ version
+version_of-number One = refl
+version_of-number Two = refl
+
+-- the number of a version is small
+pub version-small : (version : Version) → version_number version < 2 ^ 64
+version-small One = lit< tt
+version-small Two = lit< tt
 
 -- a table part is a name, a length, the bytes and a newline
 pub table_words :
@@ -166,24 +206,70 @@ lock-small number is_lock =
     bound : nat_le number greatest_lock ≡ true → number ≤ greatest_lock
     bound is_below = grind (arith, nat_tests)
 
--- bytes begin with one header at most
+-- bytes begin with one version at most
+pub version_cut :
+    (version other : Version) (rest tail : Bytes)
+    → version_part version ++ rest ≡ version_part other ++ tail
+    → SameCut version other rest tail
+version_cut version other rest tail same =
+    let first = append_assoc first_word (number_part blank (version_number version)) rest in
+    let first' = append_assoc first_word (number_part blank (version_number other)) tail in
+    let cut = number_cut blank (version_number version) (version_number other) rest tail (lit< tt)
+    (version-small version) (version-small other)
+    (append_cancel_left first_word _ _ (sym first ∙ (same ∙ first'))) in
+    record {
+      values = sym (version_of-number version)
+          ∙ (ap version_of cut.values ∙ version_of-number other);
+      rests = cut.rests;
+    }
+
+-- and with one count at most, whatever its total
+pub count_cut :
+    (version : Version) (count other total total' : ℕ) (rest tail : Bytes)
+    → count < 2 ^ 64
+    → other < 2 ^ 64
+    → count_part version total count ++ rest ≡ count_part version total' other ++ tail
+    → SameCut count other rest tail
+count_cut One count other total total' rest tail small small' same =
+    number_cut newline count other rest tail (lit< tt) small small' same
+count_cut Two count other total total' rest tail small small' same =
+    let counts = number_cut blank count other (number_part newline total ++ rest)
+    (number_part newline total' ++ tail) (lit< tt) small small'
+    (sym (count_words count total rest) ∙ (same ∙ count_words other total' tail)) in
+    record {
+      values = counts.values;
+      rests = (word_cut newline (decimal total) (decimal total') rest tail
+          (decimal_lacks newline total (lit< tt)) (decimal_lacks newline total' (lit< tt))
+          counts.rests).rests;
+    }
+
+-- bytes begin with one header at most, whatever its total
 pub header_cut :
-    (head other : Header) (rest tail : Bytes)
+    (head other : Header) (total total' : ℕ) (rest tail : Bytes)
     → IsHeader head
     → IsHeader other
-    → header_part head ++ rest ≡ header_part other ++ tail
+    → header_part total head ++ rest ≡ header_part total' other ++ tail
     → SameCut head other rest tail
-header_cut head other rest tail is_header is_header' same =
-    let words =
-    append_cancel_left version _ _
-    (sym (header_words head rest) ∙ (same ∙ header_words other tail)) in
+header_cut head other total total' rest tail is_header is_header' same =
+    let versions = version_cut head.version other.version
+    (number_part blank head.number ++ (count_part head.version total head.count ++ rest))
+    (number_part blank other.number ++ (count_part other.version total' other.count ++ tail))
+    (sym (header_words head total rest) ∙ (same ∙ header_words other total' tail)) in
     let numbers = number_cut blank head.number other.number
-    (number_part newline head.count ++ rest) (number_part newline other.count ++ tail) (lit< tt)
-    (lock-small head.number is_header.number) (lock-small other.number is_header'.number) words in
-    let counts = number_cut newline head.count other.count rest tail (lit< tt)
-    (small head is_header) (small other is_header') numbers.rests in
+    (count_part head.version total head.count ++ rest)
+    (count_part other.version total' other.count ++ tail) (lit< tt)
+    (lock-small head.number is_header.number) (lock-small other.number is_header'.number)
+    versions.rests in
+    let counts = count_cut head.version head.count other.count total total' rest tail
+    (small head is_header) (small other is_header')
+    (numbers.rests
+    ∙ ap (λ v. count_part v total' other.count ++ tail) (sym versions.values)) in
     record {
-      values = λ i. record { number = numbers.values i; count = counts.values i };
+      values = λ i. record {
+        version = versions.values i;
+        number = numbers.values i;
+        count = counts.values i;
+      };
       rests = counts.rests;
     }
   where

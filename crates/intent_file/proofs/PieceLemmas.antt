@@ -17,7 +17,7 @@ use Rattle.acct_text.specs.Bytes.{Bytes}
 use Rattle.acct_text.specs.Tables.{table_name}
 use Rattle.acct_outside.specs.Pieces.{piece_limit, piece_at, piece_count, pieces_of}
 use Rattle.acct_outside.proofs.PieceLemmas.{pieces-join}
-use Rattle.intent_file.specs.Intent.{NewTable, Intended, header, table_parts, end_part, is_allowed}
+use Rattle.intent_file.specs.Intent.{NewTable, Intended, header_of, table_parts, end_part, is_allowed}
 use Rattle.intent_file.specs.Pieces.{table_line, lines_around, intent_lines, in_turn, IntentInPieces}
 use Rattle.intent_file.proofs.Reading.{allowed_parts, at_most_six}
 
@@ -127,7 +127,8 @@ pub few-lines : (intent : Intended) → is_allowed intent ≡ true
     → (length (intent_lines intent) ≤ 7) × (length intent.tables ≤ 6)
 few-lines intent allowed =
     let most = at_most_six intent.tables (allowed_parts intent allowed).in_order in
-    let size = lines-length (header intent.number (length intent.tables)) intent.tables in
+    let size = lines-length (header_of intent.version intent.number intent.tables)
+    intent.tables in
     (omega (arith, most, size), most)
 
 -- the pieces are those of the lines and those of the tables
@@ -192,6 +193,6 @@ texts-small (text ∷ texts) =
 pub intent-in-pieces : IntentInPieces
 intent-in-pieces = record {
   joined = λ intent. texts-join (in_turn (intent_lines intent) intent.tables)
-      ∙ turns-join (header intent.number (length intent.tables)) intent.tables;
+      ∙ turns-join (header_of intent.version intent.number intent.tables) intent.tables;
   small = λ intent. texts-small (in_turn (intent_lines intent) intent.tables);
 }

@@ -1,7 +1,7 @@
 -- Claim: bytes read as one intent at most, which `read_intent` computes, and no text of an intent
 -- is a proper prefix of another (`reading_is_unique_holds`). Way: bytes that begin with the text of
 -- an allowed intent spell it, whatever follows (`spelled_intent-text`).
-use Rattle.std.proofs.Common.{◌≡◌, refl, sym, ap, ap₂, subst, ◌∙◌, ℕ, ◌+◌, ◌<◌, ◌≤◌, min, Bool, true, false, ◌&&◌, if◌then◌else◌, nat_le, nat_lt, List, [], ◌∷◌, ◌++◌, length, Option, Some, None, unwrap_or, append_assoc, append-nil, arith, lit≤, bytes_eq}
+use Rattle.std.proofs.Common.{◌≡◌, refl, sym, ap, ap₂, subst, ◌∙◌, ℕ, ◌+◌, ◌<◌, ◌≤◌, ◌^◌, min, Bool, true, false, ◌&&◌, if◌then◌else◌, nat_le, nat_lt, List, [], ◌∷◌, ◌++◌, length, Option, Some, None, unwrap_or, append_assoc, append-nil, arith, lit≤, bytes_eq}
 use Rattle.std.proofs.lemmas.List.{append_cancel_left}
 use Rattle.std.proofs.lemmas.Bool.{and_parts}
 use Rattle.std.proofs.lemmas.Bool.Decides.{nat_tests}
@@ -11,11 +11,11 @@ use Rattle.acct_text.specs.declared.Tab.TheVariants.{Passwd, Shadow, Group, Gsha
 use Rattle.acct_text.specs.Bytes.{Bytes}
 use Rattle.acct_text.specs.Tables.{table_place}
 use Rattle.intent_file.specs.declared.cursor.Header.{Header}
-use Rattle.intent_file.specs.Intent.{NewTable, Intended, table_parts, end_part, intent_text, is_in_order, is_within_limit, is_lock_number, is_allowed, ReadsIntent, spelled_tables, spelled_intent, checked_intent, read_intent}
+use Rattle.intent_file.specs.Intent.{NewTable, Intended, table_parts, end_part, body, intent_text, is_in_order, is_within_limit, is_lock_number, is_allowed, ReadsIntent, spelled_tables, spelled_in, spelled_intent, checked_intent, read_intent}
 use Rattle.intent_file.specs.Laws.{ReadingIsUnique}
 use Rattle.intent_file.specs.Parts.{header_part}
 use Rattle.intent_file.proofs.PartsLemmas.{lock-small}
-use Rattle.intent_file.proofs.SpelledLemmas.{spelled_number-part, spelled_count-part, after_header-part, spelled_tables-parts}
+use Rattle.intent_file.proofs.SpelledLemmas.{spelled_version-part, spelled_number-part, spelled_count-part, after_header-part, spelled_tables-parts}
 
 -- a table's place is one of six
 place-most : (table : Tab) → table_place table ≤ 5
@@ -75,20 +75,35 @@ spelled_intent-text :
     → spelled_intent (intent_text intent ++ rest) ≡ intent
 spelled_intent-text intent rest allowed =
     let parts = allowed_parts intent allowed in
-    let head : Header = record { number = intent.number; count = length intent.tables } in
-    let behind = table_parts intent.tables ++ (end_part ++ rest) in
     let few = at_most_six intent.tables parts.in_order in
     let small = lock-small intent.number parts.number in
-    let numbers = spelled_number-part head behind small (omega arith) in
-    let counts = spelled_count-part head behind small (omega arith) in
-    let follows = after_header-part head behind small (omega arith) in
+    let few_tables : length intent.tables < 2 ^ 64 = omega arith in
+    let versions = spelled_version-part head total behind small few_tables in
+    let numbers = spelled_number-part head total behind small few_tables in
+    let counts = spelled_count-part head total behind small few_tables in
+    let follows = after_header-part head total behind small few_tables in
     let all : min 6 (length intent.tables) ≡ length intent.tables = omega arith in
-    ap spelled_intent (append_assoc (header_part head) (table_parts intent.tables ++ end_part) rest
-    ∙ ap (λ b. header_part head ++ b) (append_assoc (table_parts intent.tables) end_part rest))
-    ∙ ap₂ (λ (n : ℕ) (ts : List NewTable). record { number = n; tables = ts }) numbers
+    ap spelled_intent (append_assoc (header_part total head) (body intent.tables) rest
+    ∙ ap (λ b. header_part total head ++ b) (append_assoc (table_parts intent.tables) end_part rest))
+    ∙ (ap (λ v. spelled_in v (header_part total head ++ behind)) versions
+    ∙ ap₂ (λ (n : ℕ) (ts : List NewTable).
+    record { version = intent.version; number = n; tables = ts }) numbers
     (ap₂ (λ (n : ℕ) (b : Bytes). spelled_tables (min 6 n) b) counts follows
     ∙ (ap (λ n. spelled_tables n behind) all
-    ∙ spelled_tables-parts intent.tables (end_part ++ rest) parts.within_limit))
+    ∙ spelled_tables-parts intent.tables (end_part ++ rest) parts.within_limit)))
+  where
+    head : Header
+    head = record {
+      version = intent.version;
+      number = intent.number;
+      count = length intent.tables;
+    }
+
+    total : ℕ
+    total = length (body intent.tables)
+
+    behind : Bytes
+    behind = table_parts intent.tables ++ (end_part ++ rest)
 
 -- bytes that read as an intent spell it
 spelled_intent-reading :

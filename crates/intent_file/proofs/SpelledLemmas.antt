@@ -10,11 +10,13 @@ use Rattle.acct_text.specs.Bytes.{Bytes, newline, blank}
 use Rattle.acct_text.specs.Limits.{table_limit}
 use Rattle.acct_text.specs.Pieces.{Lacks}
 use Rattle.acct_text.specs.Tables.{table_name}
+use Rattle.intent_file.specs.declared.Version.{Version}
+use Rattle.intent_file.specs.declared.Version.TheVariants.{One, Two}
 use Rattle.intent_file.specs.declared.cursor.Header.{Header}
-use Rattle.intent_file.specs.Cursor.{word_part, number_part}
-use Rattle.intent_file.specs.Intent.{NewTable, table_part, table_parts, is_within_limit, before_byte, after_byte, table_of_name, listed_length, after_line, spelled_table, after_table, spelled_tables, after_version, spelled_number, spelled_count, after_header}
+use Rattle.intent_file.specs.Cursor.{word_part, number_part, count_part}
+use Rattle.intent_file.specs.Intent.{NewTable, table_part, table_parts, is_within_limit, before_byte, after_byte, table_of_name, listed_length, after_line, spelled_table, after_table, spelled_tables, version_number, version_of, after_first, spelled_version, after_version, spelled_number, after_number, count_end, spelled_count, after_count, after_header}
 use Rattle.intent_file.specs.Parts.{header_part}
-use Rattle.intent_file.proofs.PartsLemmas.{header_words, table_words, decimal_lacks, name_lacks, table_of_name-name, within-small}
+use Rattle.intent_file.proofs.PartsLemmas.{first_word, header_words, count_words, table_words, decimal_lacks, name_lacks, table_of_name-name, within-small, version-small, version_of-number}
 
 -- other bytes are told apart by the test
 other_byte : (byte end : ℕ) → byte ≢ end → (byte == end) ≡ false
@@ -61,12 +63,12 @@ module _ (end number : ℕ) (rest : Bytes) (low : end < 48) (small : number < 2 
   digits_value-number : digits_value 10 (before_byte end (number_part end number ++ rest)) ≡ number
   digits_value-number =
       ap (digits_value 10)
-      (before_byte-word end (decimal number) rest (decimal_lacks end number low small))
+      (before_byte-word end (decimal number) rest (decimal_lacks end number low))
       ∙ (decimal_is_IsNumeral number small).1
 
   -- behind the end stands what follows
   after_byte-number : after_byte end (number_part end number ++ rest) ≡ rest
-  after_byte-number = after_byte-word end (decimal number) rest (decimal_lacks end number low small)
+  after_byte-number = after_byte-word end (decimal number) rest (decimal_lacks end number low)
 
 -- Table parts.
 module _ (new : NewTable) (rest : Bytes) (small : length new.bytes < 2 ^ 64) where
@@ -136,37 +138,83 @@ spelled_tables-parts (first ∷ tables) rest within =
     ∙ ap (λ (ts : List NewTable). first ∷ ts) (spelled_tables-parts tables rest parts.1))
 
 -- Headers.
-module _ (head : Header) (rest : Bytes) (small_number : head.number < 2 ^ 64)
+module _ (head : Header) (total : ℕ) (rest : Bytes) (small_number : head.number < 2 ^ 64)
     (small_count : head.count < 2 ^ 64) where
-  -- the count with what follows
+  -- a header with what follows it
+  abbrev whole : Bytes
+  whole = header_part total head ++ rest
+
+  -- the count and the total with what follows
   abbrev behind_number : Bytes
-  behind_number = number_part newline head.count ++ rest
+  behind_number = count_part head.version total head.count ++ rest
+
+  -- the number with what follows
+  abbrev behind_version : Bytes
+  behind_version = number_part blank head.number ++ behind_number
+
+  -- behind the first word stands the version
+  first_is :
+      after_first whole ≡ number_part blank (version_number head.version) ++ behind_version
+  first_is =
+      ap after_first (header_words head total rest
+      ∙ append_assoc first_word (number_part blank (version_number head.version)) behind_version)
+
+  -- bytes that begin with a header spell its version
+  pub spelled_version-part : spelled_version whole ≡ head.version
+  spelled_version-part =
+      ap (λ b. version_of (digits_value 10 (before_byte blank b))) first_is
+      ∙ (ap version_of (digits_value-number blank (version_number head.version) behind_version
+      (lit< tt) (version-small head.version))
+      ∙ version_of-number head.version)
 
   -- behind the version stands the number
-  version_is :
-      after_version (header_part head ++ rest) ≡ number_part blank head.number ++ behind_number
-  version_is = ap after_version (header_words head rest)
+  version_is : after_version whole ≡ behind_version
+  version_is =
+      ap (after_byte blank) first_is
+      ∙ after_byte-number blank (version_number head.version) behind_version (lit< tt)
+      (version-small head.version)
 
-  -- behind the number stands the count
-  number_then : after_byte blank (after_version (header_part head ++ rest)) ≡ behind_number
-  number_then =
-      ap (after_byte blank) version_is
-      ∙ after_byte-number blank head.number behind_number (lit< tt) small_number
-
-  -- bytes that begin with a header spell its number
-  pub spelled_number-part : spelled_number (header_part head ++ rest) ≡ head.number
+  -- and its number
+  pub spelled_number-part : spelled_number whole ≡ head.number
   spelled_number-part =
       ap (λ b. digits_value 10 (before_byte blank b)) version_is
       ∙ digits_value-number blank head.number behind_number (lit< tt) small_number
 
+  -- behind the number stands the count
+  number_then : after_number whole ≡ behind_number
+  number_then =
+      ap (after_byte blank) version_is
+      ∙ after_byte-number blank head.number behind_number (lit< tt) small_number
+
+  -- the digits before the end of the count are its digits
+  count_is :
+      (version : Version)
+      → digits_value 10 (before_byte (count_end version)
+      (count_part version total head.count ++ rest))
+      ≡ head.count
+  count_is One = digits_value-number newline head.count rest (lit< tt) small_count
+  count_is Two =
+      ap (λ b. digits_value 10 (before_byte blank b)) (count_words head.count total rest)
+      ∙ digits_value-number blank head.count (number_part newline total ++ rest) (lit< tt)
+      small_count
+
+  -- behind the count and the total stands what follows
+  count_then :
+      (version : Version)
+      → after_count version (count_part version total head.count ++ rest) ≡ rest
+  count_then One = after_byte-number newline head.count rest (lit< tt) small_count
+  count_then Two =
+      ap (λ b. after_byte newline (after_byte blank b)) (count_words head.count total rest)
+      ∙ (ap (after_byte newline) (after_byte-number blank head.count
+      (number_part newline total ++ rest) (lit< tt) small_count)
+      ∙ after_byte-word newline (decimal total) rest (decimal_lacks newline total (lit< tt)))
+
   -- and its count
-  pub spelled_count-part : spelled_count (header_part head ++ rest) ≡ head.count
+  pub spelled_count-part : spelled_count head.version whole ≡ head.count
   spelled_count-part =
-      ap (λ b. digits_value 10 (before_byte newline b)) number_then
-      ∙ digits_value-number newline head.count rest (lit< tt) small_count
+      ap (λ b. digits_value 10 (before_byte (count_end head.version) b)) number_then
+      ∙ count_is head.version
 
   -- and what follows it is behind that header
-  pub after_header-part : after_header (header_part head ++ rest) ≡ rest
-  after_header-part =
-      ap (after_byte newline) number_then
-      ∙ after_byte-number newline head.count rest (lit< tt) small_count
+  pub after_header-part : after_header head.version whole ≡ rest
+  after_header-part = ap (after_count head.version) number_then ∙ count_then head.version

@@ -1,7 +1,8 @@
 -- What a cursor takes, word by word. A header is taken where its words are, and where one of them
--- isn't there, there is no header (`header-..`); the same for a table part (`table-..`).
+-- isn't there, there is no header (`header-..`); the same for its version (`version-..`), its count
+-- with the total (`count-..`, `total-..`), and for a table part (`table-..`).
 -- Way: bytes that begin with the whole begin with its words, and each word is one only.
-use Rattle.std.proofs.Common.{length-append, ◌≡◌, refl, sym, ap, ◌∙◌, ℕ, ◌+◌, ◌<◌, ◌≤◌, true, false, nat_le, nat_lt, List, [], ◌∷◌, ◌++◌, length, arith, lit<, true≢false}
+use Rattle.std.proofs.Common.{length-append, append_assoc, ◌≡◌, ◌≢◌, ◌==◌, refl, sym, ap, ◌∙◌, ℕ, ◌+◌, ◌<◌, ◌≤◌, Bool, true, false, if◌then◌else◌, nat_le, nat_lt, List, [], ◌∷◌, ◌++◌, length, decimal, arith, lit<, lit≤, true≢false}
 use Rattle.std.specs.Prelude.{⊤}
 use Rattle.std.proofs.lemmas.Bool.{and_parts}
 use Rattle.std.proofs.lemmas.Bool.Decides.{nat_tests}
@@ -9,13 +10,16 @@ use Rattle.std.proofs.lemmas.List.{append_cancel_left}
 use Rattle.acct_text.specs.declared.Tab.{Tab}
 use Rattle.acct_text.specs.Bytes.{Bytes, newline, blank}
 use Rattle.acct_text.specs.Limits.{table_limit}
+use Rattle.acct_text.specs.Pieces.{Lacks}
 use Rattle.acct_text.specs.Tables.{table_place}
 use Rattle.acct_outside.specs.Names.{greatest_lock}
+use Rattle.intent_file.specs.declared.Version.{Version}
+use Rattle.intent_file.specs.declared.Version.TheVariants.{One, Two}
 use Rattle.intent_file.specs.declared.cursor.Header.{Header}
-use Rattle.intent_file.specs.Cursor.{TakesTables, LacksTable, IsBetween, comes_behind, number_part, name_part}
-use Rattle.intent_file.specs.Intent.{NewTable, table_part, is_in_order, is_within_limit, is_lock_number}
-use Rattle.intent_file.specs.Parts.{BeginsWith, BeginsWithNone, IsHeader, IsNext, header_part}
-use Rattle.intent_file.proofs.PartsLemmas.{SameCut, within-limit, listed-more, number_cut, name_cut, bytes_cut, header_words, table_words, version, lock-small, within-small}
+use Rattle.intent_file.specs.Cursor.{TakesTables, LacksTable, IsBetween, comes_behind, word_part, number_part, version_part, count_part, name_part}
+use Rattle.intent_file.specs.Intent.{NewTable, table_part, is_in_order, is_within_limit, is_lock_number, version_number, version_of}
+use Rattle.intent_file.specs.Parts.{BeginsWith, BeginsWithNone, Headed, HeadedByNone, IsNext}
+use Rattle.intent_file.proofs.PartsLemmas.{SameCut, within-limit, listed-more, word_cut, number_cut, version_cut, name_cut, bytes_cut, header_words, count_words, table_words, first_word, decimal_lacks, lock-small, within-small}
 
 -- Headers.
 
@@ -35,67 +39,201 @@ between-lock number between = rw (at_least, at_most) refl
     at_most : nat_le number greatest_lock ≡ true
     at_most = grind (arith, nat_tests, between.1)
 
+-- a number that may be a version's is one
+version-number : (number : ℕ) → IsBetween 1 2 number → number ≡ version_number (version_of number)
+version-number number between = by_test (number == 1) refl
+  where
+    by_test :
+        (is_one : Bool)
+        → (number == 1) ≡ is_one
+        → number ≡ version_number (if is_one then One else Two)
+    by_test true is_one = grind (arith, nat_tests, is_one)
+    by_test false is_other = grind (arith, nat_tests, is_other, between.0, between.1)
+
+-- a version's number is 1 or 2
+version-between : (version : Version) → IsBetween 1 2 (version_number version)
+version-between One = (lit≤ tt, lit≤ tt)
+version-between Two = (lit≤ tt, lit≤ tt)
+
+module _ (bytes : Bytes) where
+  -- without the first word there is no version
+  pub version-no_word :
+      BeginsWithNone {Value = Unit {0}} (λ _. ⊤) (λ _. first_word) bytes
+      → BeginsWithNone (λ _. ⊤) version_part bytes
+  version-no_word none version rest begins = none tt _ (record {
+    stands = tt;
+    whole = begins.whole
+        ∙ append_assoc first_word (number_part blank (version_number version)) rest;
+  })
+
+  module _ (behind : Bytes) (begins_word : bytes ≡ first_word ++ behind) where
+    -- without its number there is none
+    pub version-no_number :
+        BeginsWithNone (IsBetween 1 2) (number_part blank) behind
+        → BeginsWithNone (λ _. ⊤) version_part bytes
+    version-no_number none version rest begins = none (version_number version) rest (record {
+      stands = version-between version;
+      whole = append_cancel_left first_word behind _ (sym begins_word ∙ (begins.whole
+          ∙ append_assoc first_word (number_part blank (version_number version)) rest));
+    })
+
+    -- with both there is one
+    pub version-stands :
+        (number : ℕ) (rest : Bytes)
+        → BeginsWith (IsBetween 1 2) (number_part blank) behind number rest
+        → BeginsWith (λ _. ⊤) version_part bytes (version_of number) rest
+    version-stands number rest begins = record {
+      stands = tt;
+      whole = begins_word ∙ (ap (λ b. first_word ++ b) (begins.whole
+          ∙ ap (λ n. number_part blank n ++ rest) (version-number number begins.stands))
+          ∙ sym (append_assoc first_word (number_part blank (version_number (version_of number)))
+          rest));
+    }
+
+-- The total.
+
+-- the bytes begin with no number of those that follow it
+abbrev pub NoTotal : Bytes → Type 0
+NoTotal bytes = (rest : Bytes) → bytes ≢ number_part newline (length rest) ++ rest
+
+-- without a word there is no total
+pub total-no_word : (bytes : Bytes)
+    → BeginsWithNone (Lacks newline) (word_part newline) bytes
+    → NoTotal bytes
+total-no_word bytes none rest is = none (decimal (length rest)) rest (record {
+  stands = decimal_lacks newline (length rest) (lit< tt);
+  whole = is;
+})
+
+module _ (bytes word behind : Bytes)
+    (begins : BeginsWith (Lacks newline) (word_part newline) bytes word behind) where
+  -- with another word than the number of the bytes behind it there is no total
+  pub total-other :
+      ((total : ℕ) → IsBetween (length behind) (length behind) total → word ≢ decimal total)
+      → NoTotal bytes
+  total-other other rest is =
+      let cut = word_cut newline word (decimal (length rest)) behind rest begins.stands
+      (decimal_lacks newline (length rest) (lit< tt)) (sym begins.whole ∙ is) in
+      other (length behind) (omega arith, omega arith)
+      (cut.values ∙ ap (λ b. decimal (length b)) (sym cut.rests))
+
+  -- with that number it is there
+  pub total-stands : (total : ℕ)
+      → IsBetween (length behind) (length behind) total
+      → word ≡ decimal total
+      → bytes ≡ number_part newline (length behind) ++ behind
+  total-stands total between is =
+      let least = between.0 in
+      let most = between.1 in
+      let same : total ≡ length behind = omega arith in
+      begins.whole ∙ ap (λ w. word_part newline w ++ behind) (is ∙ ap decimal same)
+
+-- The count of version 2.
+
+-- the bytes begin with no count of the version and what it says of the bytes that follow
+abbrev pub NoCount : Version → Bytes → Type 0
+NoCount version bytes =
+    (count : ℕ) (rest : Bytes)
+    → BeginsWith (IsBetween 1 6) (count_part version (length rest)) bytes count rest
+    → ⊥
+
+-- without its number there is none
+pub count-no_number : (bytes : Bytes)
+    → BeginsWithNone (IsBetween 1 6) (number_part blank) bytes
+    → NoCount Two bytes
+count-no_number bytes none count rest begins = none count _ (record {
+  stands = begins.stands;
+  whole = begins.whole ∙ count_words count (length rest) rest;
+})
+
+module _ (bytes behind : Bytes) (count : ℕ)
+    (begins : BeginsWith (IsBetween 1 6) (number_part blank) bytes count behind) where
+  -- without a total there is none
+  pub count-no_total : NoTotal behind → NoCount Two bytes
+  count-no_total none other rest begun =
+      let most = begins.stands.1 in
+      let most' = begun.stands.1 in
+      none rest (number_cut blank count other behind (number_part newline (length rest) ++ rest)
+      (lit< tt) (omega (arith, most)) (omega (arith, most'))
+      (sym begins.whole ∙ (begun.whole ∙ count_words other (length rest) rest))).rests
+
+  -- with both there is one
+  pub count-stands : (rest : Bytes)
+      → behind ≡ number_part newline (length rest) ++ rest
+      → BeginsWith (IsBetween 1 6) (count_part Two (length rest)) bytes count rest
+  count-stands rest is = record {
+    stands = begins.stands;
+    whole = begins.whole ∙ (ap (λ b. number_part blank count ++ b) is
+        ∙ sym (count_words count (length rest) rest));
+  }
+
+-- The header.
 module _ (bytes : Bytes) where
   -- without a version there is no header
-  pub header-no_version : BeginsWithNone {Value = Unit {0}} (λ _. ⊤)
-      (λ _. version) bytes → BeginsWithNone IsHeader header_part bytes
-  header-no_version none head rest begins =
-      none tt _ (record { stands = tt; whole = begins.whole ∙ header_words head rest })
+  pub header-no_version : BeginsWithNone (λ _. ⊤) version_part bytes → HeadedByNone bytes
+  header-no_version none head rest begins = none head.version _ (record {
+    stands = tt;
+    whole = begins.whole ∙ header_words head (length rest) rest;
+  })
 
-  module _ (behind : Bytes) (begins_version : bytes ≡ version ++ behind) where
+  module _ (version : Version) (behind : Bytes)
+      (begins_version : BeginsWith (λ _. ⊤) version_part bytes version behind) where
     -- what follows the version of a header
     after_version :
         (head : Header) (rest : Bytes)
-        → BeginsWith IsHeader header_part bytes head rest
-        → behind ≡ number_part blank head.number ++ (number_part newline head.count ++ rest)
+        → Headed bytes head rest
+        → SameCut version head.version behind
+        (number_part blank head.number ++ (count_part head.version (length rest) head.count ++ rest))
     after_version head rest begins =
-        append_cancel_left version behind _
-        (sym begins_version ∙ (begins.whole ∙ header_words head rest))
+        version_cut version head.version behind _
+        (sym begins_version.whole ∙ (begins.whole ∙ header_words head (length rest) rest))
 
     -- without a number there is no header
     pub header-no_number :
         BeginsWithNone (IsBetween 1 greatest_lock) (number_part blank) behind
-        → BeginsWithNone IsHeader header_part bytes
+        → HeadedByNone bytes
     header-no_number none head rest begins = none head.number _ (record {
       stands = lock-between head.number begins.stands.number;
-      whole = after_version head rest begins;
+      whole = (after_version head rest begins).rests;
     })
 
     module _ (number : ℕ) (behind_number : Bytes)
         (begins_number : BeginsWith (IsBetween 1 greatest_lock)
         (number_part blank) behind number behind_number) where
       -- without a count there is no header
-      pub header-no_count :
-          BeginsWithNone (IsBetween 1 6) (number_part newline) behind_number
-          → BeginsWithNone IsHeader header_part bytes
+      pub header-no_count : NoCount version behind_number → HeadedByNone bytes
       header-no_count none head rest begins =
           let most = begins_number.stands.1 in
+          let versions = after_version head rest begins in
           let cut =
           number_cut blank number head.number behind_number
-          (number_part newline head.count ++ rest)
+          (count_part head.version (length rest) head.count ++ rest)
           (lit< tt) (omega (arith, most)) (lock-small head.number begins.stands.number)
-          (sym begins_number.whole ∙ after_version head rest begins) in
+          (sym begins_number.whole ∙ versions.rests) in
           none head.count rest (record {
             stands = (begins.stands.at_least_one, begins.stands.at_most_six);
-            whole = cut.rests;
+            whole = cut.rests
+                ∙ ap (λ v. count_part v (length rest) head.count ++ rest) (sym versions.values);
           })
 
       -- with all of them there is one
       pub header-stands :
           (count : ℕ) (rest : Bytes)
-          → BeginsWith (IsBetween 1 6) (number_part newline) behind_number count rest
-          → BeginsWith IsHeader header_part bytes (record { number = number; count = count }) rest
-      header-stands count rest begins_count = record {
-        stands = record {
-          number = between-lock number begins_number.stands;
-          at_least_one = begins_count.stands.0;
-          at_most_six = begins_count.stands.1;
-        };
-        whole = begins_version
-            ∙ (ap (λ b. version ++ b)
-            (begins_number.whole ∙ ap (λ b. number_part blank number ++ b) begins_count.whole)
-            ∙ sym (header_words (record { number = number; count = count }) rest));
-      }
+          → BeginsWith (IsBetween 1 6) (count_part version (length rest)) behind_number count rest
+          → Headed bytes (record { version = version; number = number; count = count }) rest
+      header-stands count rest begins_count =
+          let head : Header = record { version = version; number = number; count = count } in
+          record {
+            stands = record {
+              number = between-lock number begins_number.stands;
+              at_least_one = begins_count.stands.0;
+              at_most_six = begins_count.stands.1;
+            };
+            whole = begins_version.whole
+                ∙ (ap (λ b. version_part version ++ b)
+                (begins_number.whole ∙ ap (λ b. number_part blank number ++ b) begins_count.whole)
+                ∙ sym (header_words head (length rest) rest));
+          }
 
 -- Table parts.
 

@@ -1,11 +1,12 @@
 -- What a cursor takes of a text: the part that its bytes begin with, or nothing.
-use Rattle.std.specs.Prelude.{◌≡◌, ◌≢◌, ℕ, ◌+◌, ◌<◌, ◌≤◌, Bool, true, nat_lt, List, [], ◌∷◌, ◌++◌, length, Option, MatchOption, slice_index, decimal, ⊤}
+use Rattle.std.specs.Prelude.{◌≡◌, ◌≢◌, ℕ, ◌+◌, ◌<◌, ◌≤◌, Bool, true, nat_lt, List, [], ◌∷◌, ◌++◌, length, Option, MatchOption, slice_index, codes, decimal, ⊤}
 use Rattle.acct_text.specs.declared.Tab.{Tab}
 use Rattle.acct_text.specs.Bytes.{Bytes, blank}
 use Rattle.acct_text.specs.Tables.{table_name, table_place}
 use Rattle.intent_file.specs.declared.IntentFault.{IntentFault}
+use Rattle.intent_file.specs.declared.Version.{Version}
 use Rattle.intent_file.specs.declared.IntentFault.TheVariants.{Part, Memory}
-use Rattle.intent_file.specs.Intent.{NewTable, table_part, table_parts}
+use Rattle.intent_file.specs.Intent.{NewTable, table_part, table_parts, total_word, version_number}
 use Rattle.intent_file.specs.Parts.{BeginsWith, BeginsWithNone, AreListed, IsNext}
 
 -- the cursor took the value whose part its bytes began with, and the rest is left to it;
@@ -17,6 +18,17 @@ Takes {Value} MayStand part old result new =
     MatchOption result
     (BeginsWithNone MayStand part old)
     (λ value. BeginsWith MayStand part old value new)
+
+-- the same for a part that says how many bytes follow it
+abbrev pub TakesBefore :
+    {Value : Type 0} → (Value → Type 0) → (ℕ → Value → Bytes)
+    → Bytes → Option Value → Bytes → Type 0
+TakesBefore {Value} MayStand part old result new =
+    MatchOption result
+    ((value : Value) (rest : Bytes)
+    → BeginsWith MayStand (part (length rest)) old value rest
+    → ⊥)
+    (λ value. BeginsWith MayStand (part (length new)) old value new)
 
 -- the text is the part of a value that may stand there, this one; or of none
 abbrev pub ReadsAs :
@@ -55,6 +67,14 @@ word_part end word = word ++ end ∷ []
 -- a number in decimal, and the byte that ends it
 abbrev pub number_part : ℕ → ℕ → Bytes
 number_part end number = word_part end (decimal number)
+
+-- the first words of a header
+abbrev pub version_part : Version → Bytes
+version_part version = codes "accounts-intent " ++ number_part blank (version_number version)
+
+-- the count of a header, and what ends its line in front of so many bytes
+abbrev pub count_part : Version → ℕ → ℕ → Bytes
+count_part version total count = decimal count ++ (total_word version total ++ codes "\n")
 
 -- the name of a table, and a blank
 abbrev pub name_part : Tab → Bytes

@@ -4,8 +4,8 @@ use Rattle.acct_text.specs.Bytes.{Bytes}
 use Rattle.intent_file.specs.Intent.{Intended, ReadsIntent, read_intent}
 use Rattle.intent_file.specs.Parts.{FirstFault}
 
--- Bytes read as at most one intent, which `read_intent` computes; and no text of an intent is a
--- proper prefix of another.
+-- Bytes read as at most one intent of either version, which `read_intent` computes; and no text of
+-- an intent is a proper prefix of another, whatever their versions.
 pub record ReadingIsUnique : Type 0 where
   pub one_intent :
       (bytes : Bytes) (intent other : Intended)

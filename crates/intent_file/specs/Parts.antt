@@ -1,5 +1,6 @@
--- The parts of an intent's text, and the first that doesn't stand. The header is part 0, the tables
--- are the parts from 1 to its count, and the end with all that follows is the last.
+-- The parts of an intent's text, and the first that doesn't stand. The header is part 0, which in
+-- version 2 stands only in front of as many bytes as it says; the tables are the parts from 1 to its
+-- count, and the end with all that follows is the last.
 use Rattle.std.specs.Prelude.{◌≡◌, ◌≢◌, ℕ, ◌+◌, ◌<◌, ◌≤◌, true, List, [], ◌∷◌, ◌++◌, length, ⊤}
 use Rattle.acct_text.specs.Bytes.{Bytes}
 use Rattle.intent_file.specs.declared.IntentFault.{IntentFault}
@@ -19,15 +20,23 @@ abbrev pub BeginsWithNone :
 BeginsWithNone {Value} MayStand part bytes =
     (value : Value) (rest : Bytes) → BeginsWith MayStand part bytes value rest → ⊥
 
--- the line of a header
-abbrev pub header_part : Header → Bytes
-header_part head = header head.number head.count
+-- the line of a header in front of so many bytes
+abbrev pub header_part : ℕ → Header → Bytes
+header_part total head = header head.version head.number head.count total
 
 -- the number is a lock's, and one to six tables follow
 pub record IsHeader (head : Header) : Type 0 where
   pub number : is_lock_number head.number ≡ true
   pub at_least_one : 1 ≤ head.count
   pub at_most_six : head.count ≤ 6
+
+-- the bytes are a header, in version 2 one that says how many bytes follow, and what follows it
+abbrev pub Headed : Bytes → Header → Bytes → Type 0
+Headed bytes head behind = BeginsWith IsHeader (header_part (length behind)) bytes head behind
+
+-- the bytes are those of no header and what follows it
+abbrev pub HeadedByNone : Bytes → Type 0
+HeadedByNone bytes = (head : Header) (behind : Bytes) → Headed bytes head behind → ⊥
 
 -- the tables stand in the fixed order, each at most once and within its limit
 pub record AreListed (tables : List NewTable) : Type 0 where
@@ -47,13 +56,13 @@ pub record Front (bytes : Bytes) : Type 0 where
   pub tables : List NewTable
   -- what follows these tables
   pub rest : Bytes
-  pub header : BeginsWith IsHeader header_part bytes head behind
+  pub header : Headed bytes head behind
   pub listed : BeginsWith AreListed table_parts behind tables rest
 
 -- the part is the first that doesn't stand: there is no header; no further table, though the header
 -- counts more; or all tables, and then not just the end
 pub data FirstFault (bytes : Bytes) : ℕ → Type 0 where
-  no_header : BeginsWithNone IsHeader header_part bytes → FirstFault bytes 0
+  no_header : HeadedByNone bytes → FirstFault bytes 0
   no_table :
       (front : Front bytes)
       → length front.tables < front.head.count

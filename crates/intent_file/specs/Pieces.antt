@@ -5,7 +5,7 @@ use Rattle.std.specs.List.{concat, flat_map}
 use Rattle.acct_text.specs.Bytes.{Bytes}
 use Rattle.acct_text.specs.Tables.{table_name}
 use Rattle.acct_outside.specs.Pieces.{piece_limit, pieces_of}
-use Rattle.intent_file.specs.Intent.{NewTable, Intended, header, end_part, intent_text}
+use Rattle.intent_file.specs.Intent.{NewTable, Intended, header_of, end_part, intent_text}
 
 -- `NAME LENGTH` on a line, in front of the bytes of a table
 abbrev pub table_line : NewTable → Bytes
@@ -20,7 +20,8 @@ lines_around before (new ∷ news) = (before ++ table_line new) ∷ lines_around
 
 -- those of an intent
 abbrev pub intent_lines : Intended → List Bytes
-intent_lines intent = lines_around (header intent.number (length intent.tables)) intent.tables
+intent_lines intent =
+    lines_around (header_of intent.version intent.number intent.tables) intent.tables
 
 -- each line, and the bytes of the table to which it leads
 abbrev pub in_turn : List Bytes → List NewTable → List Bytes

@@ -3,21 +3,24 @@
 // Where a call answers none, the text has no such part there, and the cursor is of no more use.
 ghost use Rattle.std.specs.Prelude.{◌≡◌, ◌≤◌, ◌<◌, ◌↔◌, true, IsTrue, IfOk, IfErr, ⊤, decimal, find, bytes_eq};
 ghost use Rattle.std.specs.Option.{option_copied};
+ghost use Rattle.acct_text.specs.Bytes.{newline};
 ghost use Rattle.acct_text.specs.Pieces.{Lacks};
-ghost use Rattle.intent_file.specs.Intent.{table_part, end_part, is_in_order};
+ghost use Rattle.intent_file.specs.Intent.{table_part, end_part, is_in_order, version_of};
 ghost use Rattle.acct_text.specs.Tables.{table_name, all_tables};
-ghost use Rattle.intent_file.specs.Cursor.{Takes, TakesTables, TellsLack, ReadsAs, HasLeadingZero, zero_digit, IsBetween, HasLength, word_part, number_part, name_part, comes_behind};
+ghost use Rattle.intent_file.specs.Cursor.{Takes, TakesBefore, TakesTables, TellsLack, ReadsAs, HasLeadingZero, zero_digit, IsBetween, HasLength, word_part, number_part, name_part, version_part, count_part, comes_behind};
 ghost use Rattle.intent_file.specs.Parts.{IsHeader, IsNext, header_part};
 
-use crate::IntentFault;
+use crate::{IntentFault, Version};
 use acct_outside::GREATEST_LOCK;
 use acct_text::{Bytes, NewTable, TABLE_LIMIT, Tab, cut_once, read_decimal};
 use std::alloc::{AllocError, Global};
 use std::marker::Model;
 
-/// What a header says.
+/// What a header says, but for the number of the bytes that follow it.
 #[derive(Clone, Copy, Debug, PartialEq, Eq)]
 pub struct Header {
+    /// The version of the text.
+    pub version: Version,
     /// The number of the lock, from 1 to 999999999999999999.
     pub number: u64,
     /// How many tables follow, from 1 to 6.
@@ -116,14 +119,49 @@ impl<'text> Cursor<'text> {
         table_named(name)
     }
 
-    /// Takes the header.
-    pub fn header(&mut self) -> Option<Header>
-        ensures { Takes IsHeader header_part self.old result self.new }
+    /// Takes the first words of a header, up to its version.
+    fn version(&mut self) -> Option<Version>
+        ensures { Takes (λ _. ⊤) version_part self.old result self.new }
     {
-        self.literal(b"accounts-intent 1 ")?;
+        self.literal(b"accounts-intent ")?;
+        let number = self.number(b' ', 1, 2)?;
+        Some(version_of(number))
+    }
+
+    /// Takes the number of the bytes that follow it, and a newline.
+    fn total(&mut self) -> Option<()>
+        ensures { TakesBefore (λ _. ⊤) (λ total _. number_part newline total)
+            self.old result self.new }
+    {
+        let digits = self.word(b'\n')?;
+        let total = self.rest.len() as u64;
+        number_written(digits, total, total)?;
+        Some(())
+    }
+
+    /// Takes the number of the tables, and what ends the header in the version.
+    fn count(&mut self, version: Version) -> Option<u64>
+        ensures { TakesBefore (IsBetween 1 6) (count_part version) self.old result self.new }
+    {
+        match version {
+            Version::One => self.number(b'\n', 1, 6),
+            Version::Two => {
+                let count = self.number(b' ', 1, 6)?;
+                self.total()?;
+                Some(count)
+            }
+        }
+    }
+
+    /// Takes the header. In version 2 it is one only if as many bytes follow as it says.
+    pub fn header(&mut self) -> Option<Header>
+        ensures { TakesBefore IsHeader header_part self.old result self.new }
+    {
+        let version = self.version()?;
         let number = self.number(b' ', 1, GREATEST_LOCK)?;
-        let count = self.number(b'\n', 1, 6)?;
+        let count = self.count(version)?;
         Some(Header {
+            version,
             number,
             count: count as u32,
         })
@@ -167,6 +205,17 @@ impl<'text> Cursor<'text> {
         ensures { IsTrue result ↔ (self.now ≡ end_part) }
     {
         self.rest == b"end\n".as_slice()
+    }
+}
+
+/// The version of this number, and version 2 for another number.
+fn version_of(number: u64) -> Version
+    ensures { result ≡ version_of number }
+{
+    if number == 1 {
+        Version::One
+    } else {
+        Version::Two
     }
 }
 

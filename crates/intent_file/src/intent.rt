@@ -5,22 +5,25 @@ ghost use Rattle.acct_text.specs.Contents.{IsChange};
 ghost use Rattle.acct_text.specs.Tables.{same_table};
 ghost use Rattle.acct_text.specs.Files.{table_of};
 ghost use Rattle.acct_text.specs.ChangedTables.{changed_bytes};
-ghost use Rattle.intent_file.specs.Intent.{ReadsIntent, header, intent_of, intent_text, is_allowed, is_lock_number, listed_in, table_part};
+ghost use Rattle.intent_file.specs.Intent.{ReadsIntent, intent_listing, intent_of, intent_text, is_allowed, is_lock_number, listed_in, table_part};
 ghost use Rattle.acct_outside.specs.Pieces.{pieces_of};
 ghost use Rattle.intent_file.specs.Parts.{TellsFault};
-ghost use Rattle.intent_file.specs.Pieces.{intent_pieces, lines_around, table_line};
+ghost use Rattle.intent_file.specs.Pieces.{intent_pieces, lines_around};
 
-use crate::IntentFault;
 use crate::cursor::Cursor;
+use crate::header::{header_of, push_table_line};
+use crate::{IntentFault, Version};
 use acct_outside::{piece_at, piece_count};
-use acct_text::{Bytes, Files, NewTable, Tab, push_decimal};
+use acct_text::{Bytes, Files, NewTable, Tab};
 use std::alloc::{AllocError, Global};
 use std::marker::Model;
 
 /// What one command commits as one file: the number of the lock under which it was made, and the
-/// tables that it changes, with all of their new bytes.
+/// tables that it changes, with all of their new bytes. It is made in version 2, and keeps the
+/// version that it was read in.
 #[derive(Debug, Drop)]
 pub struct Intent {
+    version: Version,
     number: u64,
     tables: Vec<NewTable>,
     /// The texts around the bytes of the tables.
@@ -34,10 +37,18 @@ impl Model for Intent {
 
     ghost Value = { Intended };
 
-    ghost view = { λ intent. record { number = intent.number; tables = intent.tables.items } };
+    ghost view = { λ intent. record {
+      version = intent.version;
+      number = intent.number;
+      tables = intent.tables.items;
+    } };
 
     ghost invariant = { λ intent.
-        let is : Intended = record { number = intent.number; tables = intent.tables.items } in
+        let is : Intended = record {
+          version = intent.version;
+          number = intent.number;
+          tables = intent.tables.items;
+        } in
         (is_allowed is ≡ true) × (intent.lines.items ≡ intent_lines is) };
 }
 
@@ -69,25 +80,42 @@ impl Intent {
     ///
     /// The error says that memory ran out.
     pub fn of(alloc: Global, number: u64, tables: Vec<NewTable>) -> Result<Self, AllocError>
-        requires { IsTrue (is_allowed (record { number = number; tables = tables.items })) }
-        ensures value { IfOk result (λ intent.
-            intent ≡ record { number = number; tables = tables.items }) }
+        requires { IsTrue (is_allowed (intent_listing number tables.items)) }
+        ensures value { IfOk result (λ intent. intent ≡ intent_listing number tables.items) }
         ensures reads { IfOk result (λ intent. ReadsIntent (intent_text intent) intent) }
     {
-        let lines = lines_of(alloc, number, &tables)?;
+        Intent::in_version(alloc, Version::Two, number, tables)
+    }
+
+    /// The same in a version.
+    fn in_version(
+        alloc: Global,
+        version: Version,
+        number: u64,
+        tables: Vec<NewTable>,
+    ) -> Result<Self, AllocError>
+        requires { IsTrue (is_allowed (
+            record { version = version; number = number; tables = tables.items })) }
+        ensures value { IfOk result (λ intent.
+            intent ≡ record { version = version; number = number; tables = tables.items }) }
+        ensures reads { IfOk result (λ intent. ReadsIntent (intent_text intent) intent) }
+    {
+        let header = header_of(alloc, version, number, &tables)?;
+        let lines = lines_of(alloc, header, &tables)?;
         Ok(Intent {
+            version,
             number,
             tables,
             lines,
         })
     }
 
-    /// The text of the intent, which reads back. The error says that memory ran out.
+    /// The text of the intent in its version, which reads back. The error says that memory ran out.
     pub fn print(&self, alloc: Global) -> Result<Bytes, AllocError>
         ensures text { IfOk result (λ text. text ≡ intent_text self.now) }
         ensures reads { IfOk result (λ text. ReadsIntent text self.now) }
     {
-        let mut text = header_of(alloc, self.number, self.tables.len())?;
+        let mut text = header_of(alloc, self.version, self.number, &self.tables)?;
         'tables: for table in &self.tables {
             push_table(&mut text, table)?;
         }
@@ -131,7 +159,7 @@ impl Intent {
         piece_or_rest(end.as_slice(), place).ok()
     }
 
-    /// The intent that the text reads as. It goes over the text once, and copies each table once.
+    /// The intent that the text reads as, in its version. It goes over the text once, and copies each table once.
     ///
     /// At `Part` the text is no intent's: its parts stand up to this one, which doesn't. At `Memory`
     /// memory ran out.
@@ -145,7 +173,8 @@ impl Intent {
         if !cursor.is_at_end() {
             return Err(IntentFault::Part(header.count + 1));
         }
-        Ok(Intent::of(alloc, header.number, tables)?)
+        let intent = Intent::in_version(alloc, header.version, header.number, tables)?;
+        Ok(intent)
     }
 
     /// The tables that the intent lists, in the fixed order.
@@ -190,25 +219,12 @@ fn changed_bytes<'new>(table: Tab, old: &Files, new: &'new Files) -> Option<&'ne
     }
 }
 
-/// The header's line.
-fn header_of(alloc: Global, number: u64, count: usize) -> Result<Bytes, AllocError>
-    ensures { IfOk result (λ text. text ≡ header number count) }
-{
-    let mut text = Bytes::of(alloc, b"accounts-intent 1 ")?;
-    push_decimal(&mut text, number)?;
-    text.push(b" ")?;
-    push_decimal(&mut text, count as u64)?;
-    text.push(b"\n")?;
-    Ok(text)
-}
-
-/// The texts around the bytes of the tables, under the lock of this number.
-fn lines_of(alloc: Global, number: u64, tables: &[NewTable]) -> Result<Vec<Bytes>, AllocError>
-    ensures { IfOk result (λ lines.
-        lines.items ≡ lines_around (header number (length tables.now)) tables.now) }
+/// The texts around the bytes of the tables, behind the header in front of the first.
+fn lines_of(alloc: Global, header: Bytes, tables: &[NewTable]) -> Result<Vec<Bytes>, AllocError>
+    ensures { IfOk result (λ lines. lines.items ≡ lines_around header tables.now) }
 {
     let mut lines = Vec::new(alloc);
-    let mut line = header_of(alloc, number, tables.len())?;
+    let mut line = header;
     'tables: for table in tables {
         push_table_line(&mut line, table)?;
         lines.push(line)?;
@@ -217,16 +233,6 @@ fn lines_of(alloc: Global, number: u64, tables: &[NewTable]) -> Result<Vec<Bytes
     line.push(b"end\n")?;
     lines.push(line)?;
     Ok(lines)
-}
-
-/// Adds the line in front of the bytes of a table.
-fn push_table_line(text: &mut Bytes, table: &NewTable) -> Result<(), AllocError>
-    ensures { OnOk result (text.new ≡ text.old ++ table_line table.now) }
-{
-    text.push(table.table.name().as_bytes())?;
-    text.push(b" ")?;
-    push_decimal(text, table.bytes.as_slice().len() as u64)?;
-    text.push(b"\n")
 }
 
 /// Adds the part of a table.

@@ -5,12 +5,22 @@ ghost use Rattle.intent_file.specs.Laws.{EachTextReadsOrFails, FirstFaultIsOne, 
 ghost use Rattle.intent_file.specs.Pieces.{IntentInPieces};
 
 mod cursor;
+mod header;
 mod intent;
 
 pub use acct_text::NewTable;
 pub use intent::Intent;
 use std::alloc::{AllocError, AllocFailed};
 use thiserror::Error;
+
+/// How the text of an intent is laid out. A new intent is in version 2; both are read.
+#[derive(Clone, Copy, Debug, PartialEq, Eq)]
+pub enum Version {
+    /// The header says how many tables follow it.
+    One,
+    /// It also says how many bytes follow it, so that a text that was cut has no header.
+    Two,
+}
 
 /// Why a text couldn't be read as an intent.
 #[derive(Clone, Copy, Debug, PartialEq, Eq, Error)]
@@ -46,7 +56,8 @@ impl<T: Drop> From<AllocFailed<T>> for IntentFault {
     }
 }
 
-/// Bytes read as at most one intent, and no text of an intent is a proper prefix of another.
+/// Bytes read as at most one intent of either version, and no text of an intent is a proper prefix
+/// of another.
 pub fn reading_is_unique()
     ensures { ReadingIsUnique }
 {}

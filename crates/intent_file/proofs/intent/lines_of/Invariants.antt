@@ -1,5 +1,4 @@
-use Rattle.std.proofs.Common.{◌≡◌, ◌++◌, length, drop}
-use Rattle.intent_file.specs.Intent.{header}
+use Rattle.std.proofs.Common.{◌≡◌, ◌++◌, drop}
 use Rattle.intent_file.specs.Pieces.{lines_around}
 use Rattle.intent_file.proofs.intent.lines_of.Given as goal
 
@@ -7,4 +6,4 @@ use Rattle.intent_file.proofs.intent.lines_of.Given as goal
 abbrev pub invariant-tables : goal.invariant-tables
 invariant-tables l =
     l.lines.items ++ lines_around l.line (drop l.table-index l.tables)
-    ≡ lines_around (header l.number (length l.tables)) l.tables
+    ≡ lines_around l.fn.header l.tables

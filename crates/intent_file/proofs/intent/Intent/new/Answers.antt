@@ -5,7 +5,7 @@ use Rattle.acct_text.specs.declared.Tab.TheVariants.{Passwd}
 use Rattle.acct_text.specs.Bytes.{Bytes}
 use Rattle.acct_text.specs.Files.{table_of}
 use Rattle.acct_text.specs.ChangedTables.{changed_among, changed_tables, with_new_table}
-use Rattle.intent_file.specs.Intent.{NewTable, is_allowed}
+use Rattle.intent_file.specs.Intent.{NewTable, intent_listing, is_allowed}
 use Rattle.intent_file.proofs.ChangedTablesLemmas.{changed-step, changed-end, changed-allowed}
 use Rattle.intent_file.proofs.intent.Intent.new.Goals as goal
 use Rattle.intent_file.proofs.intent.Intent.new.Goals.{in-Some+in_ok-bytes+in_ok-push, in_default}
@@ -43,8 +43,7 @@ of-requires-2 c =
     let size = ap length c.all-table-items.ensures in
     let all = changed-end c.all-table-items.result old new c.tables.table-index
     c.tables.tables.items (changed_tables old new) (omega arith) c.tables.invariant in
-    ap (λ (tables : List NewTable). is_allowed
-    (record { number = c.args.number; tables = tables })) all
+    ap (λ (tables : List NewTable). is_allowed (intent_listing c.args.number tables)) all
     ∙ changed-allowed c.args.number old new c.requires.number c.requires.change
 
 pub returns-clause-value : goal.returns-clause-value
@@ -55,5 +54,5 @@ returns-clause-value c =
     let all = changed-end c.all-table-items.result old new c.tables.table-index
     c.tables.tables.items (changed_tables old new) (omega arith) c.tables.invariant in
     IfOk-weaker c.of-2.result _ _ (λ intent is. is
-    ∙ ap (λ (tables : List NewTable). record { number = c.args.number; tables = tables }) all)
+    ∙ ap (λ (tables : List NewTable). intent_listing c.args.number tables) all)
     c.of-2.ensures.value

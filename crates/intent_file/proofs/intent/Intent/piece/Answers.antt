@@ -4,7 +4,7 @@ use Rattle.std.specs.Option.{option_copied}
 use Rattle.std.specs.Slice.Iter.{iter_rest}
 use Rattle.acct_text.specs.Bytes.{Bytes}
 use Rattle.acct_outside.specs.Pieces.{pieces_of}
-use Rattle.intent_file.specs.Intent.{header}
+use Rattle.intent_file.specs.Intent.{header_of}
 use Rattle.intent_file.specs.Pieces.{intent_lines, in_turn}
 use Rattle.intent_file.proofs.PieceLemmas.{piece-found, piece-passed, turn-start, turn-end, last-piece, lines-length}
 use Rattle.intent_file.proofs.intent.Intent.piece.Goals as goal
@@ -16,7 +16,8 @@ tables-init c =
     ∙ (c.self.invariant.1 ∙ ap intent_lines c.self.view_is)) in (
       ap (λ (lines : List Bytes). slice_get (flat_map pieces_of (in_turn lines intent.tables))
           c.args.place) rest,
-      ap length rest ∙ lines-length (header intent.number (length intent.tables)) intent.tables,
+      ap length rest ∙ lines-length (header_of intent.version intent.number intent.tables)
+          intent.tables,
     )
 
 pub returns-in-Ok : goal.returns-in-Ok

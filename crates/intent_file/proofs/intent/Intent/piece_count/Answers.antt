@@ -3,7 +3,7 @@ use Rattle.std.specs.List.{sum_by}
 use Rattle.std.proofs.lemmas.List.{take_all}
 use Rattle.acct_text.specs.Bytes.{Bytes}
 use Rattle.acct_outside.specs.Pieces.{piece_count}
-use Rattle.intent_file.specs.Intent.{NewTable, header, is_allowed}
+use Rattle.intent_file.specs.Intent.{NewTable, header_of, is_allowed}
 use Rattle.intent_file.specs.Pieces.{intent_lines}
 use Rattle.intent_file.proofs.PieceLemmas.{few-lines, pieces-counted}
 use Rattle.intent_file.proofs.intent.Intent.piece_count.Goals as goal
@@ -54,4 +54,4 @@ returns c =
     ∙ (ap (λ (tables : List NewTable). sum_by piece_count (intent_lines intent)
     + sum_by (λ new. piece_count new.bytes) tables)
     (take_all c.loop-table.table-index intent.tables (omega (arith, items, past)))
-    ∙ sym (pieces-counted (header intent.number (length intent.tables)) intent.tables))
+    ∙ sym (pieces-counted (header_of intent.version intent.number intent.tables) intent.tables))

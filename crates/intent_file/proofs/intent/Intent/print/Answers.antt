@@ -1,22 +1,38 @@
 use Rattle.std.proofs.Common.{◌++◌, ◌∙◌, ℕ, sym, ap, ap₂, List, length, get_or, take, arith, append-nil, append_assoc}
 use Rattle.acct_text.specs.Bytes.{Bytes}
-use Rattle.intent_file.specs.Intent.{NewTable, header, is_allowed, table_part, table_parts}
+use Rattle.intent_file.specs.Intent.{NewTable, header_of, is_allowed, is_in_order, is_within_limit, table_part, table_parts}
+use Rattle.intent_file.specs.declared.Version.{Version}
+use Rattle.intent_file.proofs.Reading.{allowed_parts}
 use Rattle.intent_file.proofs.IntentLemmas.{table_parts-step, intent_text-front}
 use Rattle.intent_file.proofs.intent.Intent.print.Goals as goal
 
+pub header_of-requires-clause-in_order : goal.header_of-requires-clause-in_order
+header_of-requires-clause-in_order c =
+    let allowed = ap is_allowed (sym c.self.view_is) ∙ c.self.invariant.0 in
+    let items = c.deref.ensures.value ∙ ap (λ i. i.tables) c.self.view_is in
+    ap is_in_order items ∙ (allowed_parts c.args.self.now allowed).in_order
+
+pub header_of-requires-clause-within_limit : goal.header_of-requires-clause-within_limit
+header_of-requires-clause-within_limit c =
+    let allowed = ap is_allowed (sym c.self.view_is) ∙ c.self.invariant.0 in
+    let items = c.deref.ensures.value ∙ ap (λ i. i.tables) c.self.view_is in
+    ap is_within_limit items ∙ (allowed_parts c.args.self.now allowed).within_limit
+
 pub tables-init : goal.tables-init
 tables-init c =
-    let numbers = ap (λ i. i.number) c.self.view_is in
-    let items = c.deref-table-items.ensures.value ∙ ap (λ i. i.tables) c.self.view_is in
-    let count = c.len.ensures ∙ (sym c.deref-table-items.ensures.len ∙ ap length items) in
-    c.in_ok-text.ensures ∙ (ap₂ (λ (n k : ℕ). header n k) numbers count
-    ∙ sym (append-nil (header c.args.self.now.number (length c.args.self.now.tables))))
+    let intent = c.args.self.now in
+    let items = c.deref.ensures.value ∙ ap (λ i. i.tables) c.self.view_is in
+    c.in_ok-text.ensures
+    ∙ (ap₂ (λ (v : Version) (n : ℕ). header_of v n c.deref.result.now)
+    (ap (λ i. i.version) c.self.view_is) (ap (λ i. i.number) c.self.view_is)
+    ∙ (ap (λ (tables : List NewTable). header_of intent.version intent.number tables) items
+    ∙ sym (append-nil (header_of intent.version intent.number intent.tables))))
 
 pub tables-preserved : goal.tables-preserved
 tables-preserved c =
     let tables = c.args.self.now.tables in
     let place = c.tables.table-index in
-    let head = header c.args.self.now.number (length tables) in
+    let head = header_of c.args.self.now.version c.args.self.now.number tables in
     let items = c.deref-table-items.ensures.value ∙ ap (λ i. i.tables) c.self.view_is in
     let size = ap length items in
     let item =
