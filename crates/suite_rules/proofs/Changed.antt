@@ -11,7 +11,7 @@ use Rattle.acct_text.specs.Limits.{table_limit}
 use Rattle.acct_text.specs.Tables.{all_tables, table_place, same_table}
 use Rattle.acct_text.specs.Contents.{Contents, same_content, IsChange}
 use Rattle.acct_outside.specs.Names.{greatest_lock}
-use Rattle.intent_file.specs.Intent.{NewTable, intent_text, is_in_order, is_within_limit, is_lock_number, ReadsIntent, listed_in}
+use Rattle.intent_file.specs.Intent.{NewTable, intent_of, intent_text, is_in_order, is_within_limit, is_lock_number, ReadsIntent, listed_in}
 use Rattle.acct_text.specs.ChangedTables.{with_new_table, changed_among, changed_tables}
 use Rattle.suite_rules.proofs.Names.{table-is, table-same, table-turned}
 
@@ -217,8 +217,7 @@ module _ (old new : Contents) where
 
   -- the intent of a deed reads
   pub deed-intent : (number : ℕ) → 0 < number → number ≤ greatest_lock → IsChange old new →
-      ReadsIntent (intent_text (record { number = number; tables = changed_tables old new }))
-      (record { number = number; tables = changed_tables old new })
+      ReadsIntent (intent_text (intent_of number old new)) (intent_of number old new)
   deed-intent number above below change = record {
     allowed = and-true (is_lock_number number)
         (nat_le 1 (length (changed_tables old new))

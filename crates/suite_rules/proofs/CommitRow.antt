@@ -87,7 +87,7 @@ backed_up = own (renames BackupStage (Backup Group)) tt ∷ staged_backup
 -- it writes the first piece of the intent
 abbrev pub begun_intent : History
 begun_intent =
-    own (writes IntentStage (codes "accounts-intent 1 1 1\ngroup 14\n")) tt ∷ backed_up
+    own (writes IntentStage (codes "accounts-intent 2 1 1 28\ngroup 14\n")) tt ∷ backed_up
 
 -- it appends the bytes of the table
 abbrev pub longer_intent : History

@@ -12,6 +12,7 @@ use Rattle.acct_outside.specs.Folder.{Folder, greatest}
 use Rattle.acct_outside.specs.Calls.{Call, Answer, lists, reads, asks, creates, writes, appends, renames, removes, answers, done, failed, happened, found_absent, found_bytes}
 use Rattle.acct_outside.specs.History.{Event, History}
 use Rattle.intent_file.specs.Intent.{Intended, ReadsIntent, listed_in}
+use Rattle.intent_file.specs.declared.Version.TheVariants.{Two}
 use Rattle.suite_rules.proofs.Intents.{one-intent}
 use Rattle.suite_rules.specs.Deeds.{SuiteDeeds}
 use Rattle.suite_rules.specs.OwnLock.{lock_uncalled, lock_kept}
@@ -147,11 +148,12 @@ drops_intent deeds first next = cases next.keeps.permitted
 
 -- an intent of two tables
 abbrev two_intent : Bytes
-two_intent = codes "accounts-intent 1 1 2\ngroup 14\nstaff:!:1500:\n\ngshadow 0\n\nend\n"
+two_intent = codes "accounts-intent 2 1 2 39\ngroup 14\nstaff:!:1500:\n\ngshadow 0\n\nend\n"
 
 -- what it says
 abbrev two_intended : Intended
 two_intended = record {
+  version = Two;
   number = 1;
   tables = record { table = Group; bytes = staff_line } ∷ record { table = Gshadow; bytes = [] }
       ∷ [];

@@ -12,7 +12,7 @@ use Rattle.acct_outside.specs.Names.{is_staging, greatest_lock}
 use Rattle.acct_outside.specs.Tokens.{Token}
 use Rattle.acct_outside.specs.Folder.{Folder}
 use Rattle.acct_outside.specs.Life.{Life, running}
-use Rattle.intent_file.specs.Intent.{Intended, intent_text, ReadsIntent, listed_in}
+use Rattle.intent_file.specs.Intent.{Intended, intent_of, intent_text, ReadsIntent, listed_in}
 use Rattle.suite_rules.proofs.Intents.{intent-read}
 use Rattle.acct_text.specs.ChangedTables.{changed_tables}
 use Rattle.suite_rules.specs.Deeds.{SuiteDeeds}
@@ -97,10 +97,7 @@ module _ (deeds : SuiteDeeds) (token : Token) (before after : Folder) (life : Li
       was table = settled-none before table none.intent ∙ table-seen table
 
       intent : Intended
-      intent = record {
-        number = keeper.number;
-        tables = changed_tables rule.has_seen.files rule.new;
-      }
+      intent = intent_of keeper.number rule.has_seen.files rule.new
 
       reads-it : ReadsIntent (intent_text intent) intent
       reads-it =

@@ -14,7 +14,7 @@ use Rattle.acct_outside.specs.Folder.{Folder, IsFolder}
 use Rattle.acct_outside.specs.Calls.{Command, renames, removes, done}
 use Rattle.acct_outside.specs.History.{History, after}
 use Rattle.acct_outside.specs.Life.{running, life}
-use Rattle.intent_file.specs.Intent.{Intended, ReadsIntent, listed_in}
+use Rattle.intent_file.specs.Intent.{Intended, ReadsIntent, intent_listing, listed_in}
 use Rattle.suite_rules.specs.Deeds.{SuiteDeeds}
 use Rattle.suite_rules.specs.Standing.{standing}
 use Rattle.suite_rules.specs.Rules.{KeeperRule, KnowsIntent, install_rule, clear_rule}
@@ -191,11 +191,11 @@ is-token-m2 = two-bytes _ _ (lit≤ tt, lit≤ tt) (lit≤ tt, lit≤ tt)
 
 -- the intent of the deed, as it is committed under lock 1
 abbrev pub staff_intent : Bytes
-staff_intent = codes "accounts-intent 1 1 1\ngroup 14\nstaff:!:1500:\n\nend\n"
+staff_intent = codes "accounts-intent 2 1 1 28\ngroup 14\nstaff:!:1500:\n\nend\n"
 
 -- what it says
 abbrev pub staff_intended : Intended
-staff_intended = record { number = 1; tables = record { table = Group; bytes = staff_line } ∷ [] }
+staff_intended = intent_listing 1 (record { table = Group; bytes = staff_line } ∷ [])
 
 -- it reads so
 pub staff-reads : ReadsIntent staff_intent staff_intended

@@ -14,8 +14,7 @@ use Rattle.acct_outside.specs.Folder.{greatest}
 use Rattle.acct_outside.specs.Calls.{Command, Call, begins, lists, reads, asks, creates, writes, appends, renames, removes, answers}
 use Rattle.acct_outside.specs.Life.{Life, MayCall}
 use Rattle.acct_outside.specs.declared.CommitStage.TheVariants.{Before, Committed}
-use Rattle.intent_file.specs.Intent.{Intended, intent_text, ReadsIntent, listed_in}
-use Rattle.acct_text.specs.ChangedTables.{changed_tables}
+use Rattle.intent_file.specs.Intent.{Intended, intent_of, intent_text, ReadsIntent, listed_in}
 use Rattle.suite_rules.specs.Deeds.{SuiteDeeds}
 use Rattle.suite_rules.specs.OwnLock.{lock_uncalled, lock_kept, made_number}
 use Rattle.suite_rules.specs.Listing.{Listing}
@@ -70,7 +69,7 @@ pub record CommitRule (deeds : SuiteDeeds) (standing : Standing) (number : ℕ) 
   pub new : Contents
   pub is_deed : deeds.deed has_seen.command has_seen.files has_seen.defs ≡ Some new
   pub staged : standing.staged IntentStage
-      ≡ Some (intent_text (record { number = number; tables = changed_tables has_seen.files new }))
+      ≡ Some (intent_text (intent_of number has_seen.files new))
   pub backed : (table : Tab) → new table ≢ has_seen.files table → seen.backed table ≡ true
 
 -- the session knows an intent that reads, and has put these tables in place
