@@ -59,8 +59,9 @@ pub record HasSeen (asked : Option Command) (seen : Seen) : Type 0 where
   pub settings : seen.file Defs ≡ Some defs
 
 -- Commit at most once, and only where the session knows of no intent and has seen the six tables
--- and login.defs; where its deed on these is new files; where the staged intent has its number and
--- the tables that differ, with their new bytes; and where each of these tables is backed up.
+-- and login.defs; where its deed on these is new files; where the staged text is that of version 2
+-- of its number and the tables that differ, with their new bytes; and where each of these tables is
+-- backed up.
 pub record CommitRule (deeds : SuiteDeeds) (standing : Standing) (number : ℕ) : Type 0 where
   pub first : standing.commit ≡ Before
   pub seen : Seen
