@@ -36,7 +36,7 @@ use Rattle.suite_rules.proofs.Settles.{file-facts, lawful-settles}
 use Rattle.suite_rules.proofs.Places.{places-stay}
 use Rattle.suite_session.specs.Backing.{IsToChange, BacksUpChange, BackedUpChanges}
 use Rattle.suite_session.specs.Deeds.{AreOfTools}
-use Rattle.suite_course.specs.Top.{IsAlone, IsBackedUp}
+use Rattle.suite_course.specs.Alone.{IsAlone, IsBackedUp}
 use Rattle.suite_course.proofs.AloneLemmas.{no-events, same-token}
 use Rattle.suite_course.proofs.AloneStays.{created-same, removed-same, written-same, appended-same, moved-same, event-permitted}
 use Rattle.suite_course.proofs.BackupLemmas.{begun-stays, moves-active, begun-asked, Makes, makes-one, IsMoved, IsUncommitted, BackupsAlone, leaves-one, leaves-all}

@@ -34,7 +34,8 @@ use Rattle.suite_session.specs.Answers.{IsAnswerOn}
 use Rattle.suite_session.specs.Deeds.{files_of}
 use Rattle.suite_session.specs.Due.{WasKeeper}
 use Rattle.suite_session.proofs.GrowsLemmas.{second-empty}
-use Rattle.suite_course.specs.Top.{AnswersAlone, IsAlone, IsAnswerAt}
+use Rattle.suite_course.specs.Alone.{AnswersAlone, IsAlone}
+use Rattle.suite_course.specs.Shows.{IsAnswerAt}
 
 -- ---- Two moments of one history
 

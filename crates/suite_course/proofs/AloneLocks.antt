@@ -4,7 +4,7 @@
 -- Way: call by call (`alone-along`). A lock that stands is its own, or one that it has listed and
 -- not removed since (`known-step`); so in the end no other stands, and one does, as the greatest
 -- number never falls. It is free, as a freed lock is free or gone (`freed-step`).
-use Rattle.std.proofs.Common.{◌≡◌, ◌⊎◌, refl, sym, ap, subst, ◌∙◌, ◌∷◌, ◌++◌, [], ℕ, ◌<◌, ◌≤◌, Bool, true, false, ◌==◌, ◌||◌, nat_lt, cond, if◌then◌else◌, List, AllPairs, filter, inl, inr, Option, Some, None, is_some, IsSome, IfSome, option_map, true≢false, arith}
+use Rattle.std.proofs.Common.{◌≡◌, ◌⊎◌, refl, sym, ap, subst, ◌∙◌, ◌∷◌, ◌++◌, [], ℕ, ◌<◌, ◌≤◌, Bool, true, false, ◌==◌, ◌||◌, ◌&&◌, nat_lt, cond, if◌then◌else◌, List, AllPairs, filter, inl, inr, Option, Some, None, is_some, IsSome, IfSome, option_map, true≢false, arith}
 use Rattle.std.proofs.lemmas.Bool.Decides.{nat_tests, Decides-eqb}
 use Rattle.std.proofs.lemmas.List.{append-nil}
 use Rattle.acct_text.specs.Bytes.{Bytes}
@@ -21,7 +21,8 @@ use Rattle.acct_outside.specs.History.{History, after}
 use Rattle.acct_outside.specs.Gives.{GivesResult}
 use Rattle.suite_rules.specs.Deeds.{SuiteDeeds}
 use Rattle.suite_rules.specs.OwnLock.{OwnLock, lock_uncalled, lock_kept, lock_freed, made_number, create_step, free_step}
-use Rattle.suite_rules.specs.Listing.{Listing, with_text, text_step, verdict_step, before_create, with_removed}
+use Rattle.suite_rules.specs.Knowledge.{is_watched}
+use Rattle.suite_rules.specs.Listing.{Listing, with_text, text_step, verdict_step, watch_step, watched_with, before_create, with_removed}
 use Rattle.suite_rules.specs.Standing.{Standing, standing, standing_step}
 use Rattle.suite_rules.specs.Rules.{moves_backup, moves_free, Permits, free_begin, free_listing, free_read, free_verdict, create_rule, staging_rule, append_rule, commit_rule, install_rule, clear_rule, move_rule, unlock_rule, answer_rule}
 use Rattle.suite_rules.specs.Lawful.{Lawful}
@@ -30,7 +31,7 @@ use Rattle.suite_rules.proofs.Names.{fails-apart}
 use Rattle.suite_rules.proofs.Numbers.{greatest-stands, has-most}
 use Rattle.suite_rules.proofs.Whole.{invariant}
 use Rattle.lock_steps.specs.Stands.{KnowsNone, HasFreed}
-use Rattle.suite_course.specs.Top.{IsAlone, IsOnlyLock}
+use Rattle.suite_course.specs.Alone.{IsAlone, IsOnlyLock}
 use Rattle.suite_course.proofs.AloneFreed.{StaysFreed, freed-step}
 use Rattle.suite_course.proofs.AloneSteps.{noted, there}
 use Rattle.suite_course.proofs.AloneStays.{alone-along, event-permitted, appended-same, moved-same, removed-same, written-same}
@@ -116,6 +117,16 @@ text-known made number lock text one is = cases (lock == greatest one.numbers)
     cases true = is
     cases false = is
 
+-- so does what was watched
+watch-known : (made : Option ℕ) (number : ℕ) (name : Name) (found : Found) (one : Listing) →
+    IsKnown made number one → IsKnown made number (watch_step name found one)
+watch-known made number name found one is = cases (is_watched name && one.is_judged)
+  where
+    cases : (watches : Bool) → IsKnown made number
+        (if watches then record one { watched = watched_with name found one.watched } else one)
+    cases true = is
+    cases false = is
+
 -- so does a verdict
 verdict-known : (made : Option ℕ) (number : ℕ) (asked : Token) (verdict : Verdict)
     (one : Listing) → IsKnown made number one → IsKnown made number (verdict_step asked verdict one)
@@ -159,15 +170,26 @@ module _ (deeds : SuiteDeeds) (past : History) (token : Token) (folder : Folder)
   list-known (failed effect) gives stands = held number stands
   list-known (died effect) gives stands = held number stands
 
+  -- a read that isn't of the text of a lock
+  watched-known : (name : Name) (found : Found) → IsSome (folder.file (Lock number)) →
+      IfSome (option_map (watch_step name found) stood.listing)
+      (IsKnown (made_number stood.own) number)
+  watched-known name found stands =
+      noted (IsKnown (made_number stood.own) number) (IsKnown (made_number stood.own) number)
+      (watch_step name found) (watch-known (made_number stood.own) number name found)
+      stood.listing (held number stands)
+
   -- a read
   read-known : (name : Name) (result : CallResult Found) → KnownAfter (reads name) result
   read-known (Lock lock) (done (found_bytes text)) stands =
       noted (IsKnown (made_number stood.own) number) (IsKnown (made_number stood.own) number)
       (text_step lock text) (text-known (made_number stood.own) number lock text) stood.listing
       (held number stands)
-  read-known (Lock lock) (done found_absent) stands = held number stands
-  read-known (Lock lock) (done found_too_large) stands = held number stands
-  read-known _ (done found) stands = held number stands
+  read-known (Lock lock) (done found_absent) stands =
+      watched-known (Lock lock) found_absent stands
+  read-known (Lock lock) (done found_too_large) stands =
+      watched-known (Lock lock) found_too_large stands
+  read-known name (done found) stands = watched-known name found stands
   read-known _ (failed effect) stands = held number stands
   read-known _ (died effect) stands = held number stands
 

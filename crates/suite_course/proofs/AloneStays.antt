@@ -23,7 +23,7 @@ use Rattle.suite_rules.specs.Rules.{moves_backup, moves_free, Permits, free_begi
 use Rattle.suite_rules.specs.Lawful.{KeepsRulesOrNone, IsNext, Lawful, goes_on}
 use Rattle.suite_rules.proofs.Names.{else-is, fails-apart}
 use Rattle.suite_rules.proofs.Settles.{uncalled-before}
-use Rattle.suite_course.specs.Top.{IsAlone}
+use Rattle.suite_course.specs.Alone.{IsAlone}
 use Rattle.suite_course.proofs.AloneLemmas.{no-events}
 use Rattle.suite_course.proofs.AloneSteps.{LocksAlone, locks-step}
 

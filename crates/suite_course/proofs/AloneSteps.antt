@@ -4,7 +4,7 @@
 -- since.
 -- Way: only a create leads on from where a session began, with a number above all; and the next
 -- listing makes its session keeper.
-use Rattle.std.proofs.Common.{◌≡◌, refl, sym, ap, subst, ◌∙◌, ℕ, ◌<◌, Bool, true, false, ◌==◌, if◌then◌else◌, List, Option, Some, None, IfSome, option_map, true≢false, arith}
+use Rattle.std.proofs.Common.{◌≡◌, refl, sym, ap, subst, ◌∙◌, ℕ, ◌<◌, Bool, true, false, ◌==◌, ◌&&◌, if◌then◌else◌, List, Option, Some, None, IfSome, option_map, true≢false, arith}
 use Rattle.std.specs.List.{AllByRecursion}
 use Rattle.std.proofs.lemmas.Bool.Decides.{Decides-eqb}
 use Rattle.acct_text.specs.Bytes.{Bytes}
@@ -21,7 +21,8 @@ use Rattle.acct_outside.specs.History.{History}
 use Rattle.acct_outside.specs.Gives.{GivesResult}
 use Rattle.suite_rules.specs.Deeds.{SuiteDeeds}
 use Rattle.suite_rules.specs.OwnLock.{OwnLock, lock_uncalled, lock_called, lock_unsure, lock_made, lock_kept, lock_freed, made_number, has_called_create, confirm_step, create_step, free_step}
-use Rattle.suite_rules.specs.Listing.{Listing, new_listing, with_text, text_step, verdict_step, before_create}
+use Rattle.suite_rules.specs.Knowledge.{is_watched}
+use Rattle.suite_rules.specs.Listing.{Listing, new_listing, with_text, text_step, verdict_step, watch_step, watched_with, before_create}
 use Rattle.suite_rules.specs.Standing.{Standing, standing_step}
 use Rattle.suite_rules.specs.Rules.{CreateRule, KeeperRule, moves_backup, moves_free, unlocks_below, unlocks_own, Permits, free_begin, free_listing, free_read, free_verdict, create_rule, staging_rule, append_rule, commit_rule, install_rule, clear_rule, move_rule, unlock_rule, answer_rule}
 use Rattle.suite_rules.proofs.Effects.{bytes-stand}
@@ -134,6 +135,28 @@ text-follows number text one is = cases (number == greatest one.numbers)
     cases true = is
     cases false = is
 
+-- what was watched leaves the listing
+watch-noted : (entry : Folder) (name : Name) (found : Found) (one : Listing) →
+    IsListingOf entry one → IsListingOf entry (watch_step name found one)
+watch-noted entry name found one is = cases (is_watched name && one.is_judged)
+  where
+    cases : (watches : Bool) → IsListingOf entry
+        (if watches then record one { watched = watched_with name found one.watched } else one)
+    cases true = record { numbers = is.numbers; texts = is.texts }
+    cases false = is
+
+watch-follows : (name : Name) (found : Found) (one : Listing) → one.follows_create ≡ false →
+    (watch_step name found one).follows_create ≡ false
+watch-follows name found one is = cases (is_watched name && one.is_judged)
+  where
+    noted_by : Bool → Listing
+    noted_by watches =
+        if watches then record one { watched = watched_with name found one.watched } else one
+
+    cases : (watches : Bool) → (noted_by watches).follows_create ≡ false
+    cases true = is
+    cases false = is
+
 -- so does a verdict, which leaves all that is asked
 verdict-noted : (entry : Folder) (token : Token) (verdict : Verdict) (one : Listing) →
     IsListingOf entry one → IsListingOf entry (verdict_step token verdict one)
@@ -159,6 +182,13 @@ module _ (deeds : SuiteDeeds) (history : History) (token : Token) (entry folder 
       (standing_step call result stood).listing (standing_step call result stood).own
 
   module _ (held : LocksAlone entry folder stood.listing stood.own) where
+    -- a read that isn't of the text of a lock
+    watch-locks : (name : Name) (found : Found) →
+        LocksAlone entry folder (option_map (watch_step name found) stood.listing) stood.own
+    watch-locks name found = note-alone entry folder stood.listing (watch_step name found)
+        (λ one same is. watch-noted entry name found one is) (watch-follows name found) stood.own
+        held
+
     -- a read
     read-locks : (name : Name) (result : CallResult Found) →
         GivesResult folder history token (reads name) result → LocksAfter (reads name) result
@@ -168,9 +198,10 @@ module _ (deeds : SuiteDeeds) (history : History) (token : Token) (entry folder 
         (subst (λ (one : Folder). one.file (Lock number) ≡ Some text) same
         (bytes-stand (name_limit (Lock number)) (folder.file (Lock number)) text gives)) one is)
         (text-follows number text) stood.own held
-    read-locks (Lock number) (done found_absent) gives = held
-    read-locks (Lock number) (done found_too_large) gives = held
-    read-locks _ (done found) gives = held
+    read-locks (Lock number) (done found_absent) gives = watch-locks (Lock number) found_absent
+    read-locks (Lock number) (done found_too_large) gives =
+        watch-locks (Lock number) found_too_large
+    read-locks name (done found) gives = watch-locks name found
     read-locks _ (failed effect) gives = held
     read-locks _ (died effect) gives = held
 

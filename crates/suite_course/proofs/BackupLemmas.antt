@@ -17,7 +17,7 @@ use Rattle.suite_rules.specs.Deeds.{SuiteDeeds}
 use Rattle.suite_rules.specs.Standing.{command_step}
 use Rattle.suite_rules.specs.Lawful.{KeepsRulesOrNone}
 use Rattle.suite_rules.specs.Settled.{settled}
-use Rattle.suite_course.specs.Top.{IsBackedUp}
+use Rattle.suite_course.specs.Alone.{IsBackedUp}
 
 -- ---- The life of a session
 

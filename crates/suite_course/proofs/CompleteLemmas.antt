@@ -45,7 +45,9 @@ use Rattle.suite_session.specs.Stands.{IsDiskFault}
 use Rattle.suite_course.specs.Open.{StandsOpen}
 use Rattle.suite_course.specs.Streams.{Streams, Serves}
 use Rattle.suite_course.specs.Supplies.{Supplies, IsTooMuch, IsUnsupplied, LacksNothing}
-use Rattle.suite_course.specs.Top.{Answered, AnswersOnOld, EndsEarly, EndsUnsupplied, ExtendsLawfully, IfLawful, IsAlone, IsShownAt, RunsOrNot, StreamsServe, WhereLawful}
+use Rattle.suite_course.specs.Alone.{AnswersOnOld, IsAlone}
+use Rattle.suite_course.specs.Shows.{IsShownAt}
+use Rattle.suite_course.specs.Top.{Answered, EndsEarly, EndsUnsupplied, ExtendsLawfully, IfLawful, RunsOrNot, StreamsServe, WhereLawful}
 use Rattle.suite_course.proofs.OpenLemmas.{some-event, never-last, never-gone, never-damaged, never-held, never-raced, never-outrun, never-unread, never-large}
 
 -- ---- A session that was alone
@@ -78,7 +80,7 @@ module _ (deeds : SuiteDeeds) (asked : Question) (first : Folder)
   answers-as (Raced number) is commits says inside shown =
       absurd (never-raced deeds first old new token lawful alone opened number shown)
   answers-as (Outrun number other) is commits says inside shown =
-      absurd (never-outrun deeds first old new token lawful alone opened number other shown)
+      absurd (never-outrun deeds first old new token lawful alone opened asked number other shown)
   answers-as (LockDamaged number) is commits says inside shown =
       absurd (never-damaged deeds first old new token lawful alone opened number shown)
   answers-as Exhausted is commits says inside shown =

@@ -1,15 +1,13 @@
--- Claims: where a keeper found the next file too large, that is the tool's answer on all files that
--- agree with what it had read (`large-answers`), so also on those of its place (`large-stayed`).
--- Way: the files before it are sound, so it is their first problem (`large-first`); and while no intent
--- stands the tables of the folder are those of a keeper's place (`place-stands`).
-use Rattle.std.proofs.Common.{◌≡◌, refl, sym, ap, subst, ◌∙◌, ◌<◌, ◌∷◌, ◌++◌, [], ℕ, Bool, true, false, nat_lt, length, List, Option, Some, None, if◌then◌else◌, true≢false, arith}
-use Rattle.std.specs.Prelude.{IsSome, unwrap_or}
+-- Claim: where a keeper found the next file too large, the tool's answer on the files of its place says so
+-- (`large-stayed`).
+-- Way: the files before it are sound, so it is the first problem of all files that agree with what was read
+-- (`large-first` of suite_session); and while no intent stands the tables of the folder are those of a
+-- keeper's place (`place-stands`).
+use Rattle.std.proofs.Common.{◌≡◌, refl, sym, ap, subst, ◌∙◌, ◌<◌, ◌∷◌, ◌++◌, [], ℕ, true, List, Option, Some, None, arith}
 use Rattle.std.specs.Option.{option_or}
-use Rattle.std.proofs.lemmas.Bool.{lt-leb, ltb-true}
 use Rattle.std.proofs.lemmas.List.{append_assoc}
 use Rattle.std.proofs.lemmas.List.Elements.{recursion_from_All}
 use Rattle.acct_text.specs.declared.Tab.{Tab}
-use Rattle.acct_text.specs.declared.Tab.TheVariants.{Passwd, Shadow, Group, Gshadow, Subuid, Subgid}
 use Rattle.acct_text.specs.declared.files.Files.{Files}
 use Rattle.acct_text.specs.Bytes.{Bytes}
 use Rattle.acct_text.specs.Limits.{table_limit}
@@ -19,11 +17,11 @@ use Rattle.acct_outside.specs.declared.Name.TheVariants.{Table, Defs}
 use Rattle.acct_outside.specs.Names.{name_limit}
 use Rattle.acct_outside.specs.Tokens.{Token}
 use Rattle.acct_outside.specs.Folder.{Folder, settings_file, tables}
-use Rattle.acct_outside.specs.Calls.{reads, done, found_bytes, found_too_large, found_within}
+use Rattle.acct_outside.specs.Calls.{reads, done, found_too_large, found_within}
 use Rattle.acct_outside.specs.History.{Event, History, after}
 use Rattle.acct_outside.specs.Life.{Life, running, life, MayCall}
 use Rattle.acct_outside.specs.declared.CommitStage.TheVariants.{Before}
-use Rattle.account_model.specs.Answer.{FileProblem, TableTooLarge, SettingsTooLarge, Answer as ToolAnswer, must_stand, table_problem, settings_problem, files_problem, unusable}
+use Rattle.account_words.specs.Request.{is_report}
 use Rattle.intent_file.specs.Intent.{listed_in}
 use Rattle.suite_rules.specs.Deeds.{SuiteDeeds}
 use Rattle.suite_rules.specs.OwnLock.{kept_number}
@@ -41,142 +39,20 @@ use Rattle.suite_rules.proofs.Once.{committed-once, kept-stays}
 use Rattle.suite_rules.proofs.Cut.{lawful-prefix}
 use Rattle.suite_rules.proofs.Settles.{file-facts, lawful-settles}
 use Rattle.suite_rules.proofs.Whole.{invariant}
-use Rattle.commit_steps.specs.States.{AreSound, is_before, next_name}
+use Rattle.commit_steps.specs.States.{next_name}
 use Rattle.suite_answers.specs.declared.cause.Which.TheVariants.{File}
 use Rattle.suite_answers.specs.declared.cause.Cause.TheVariants.{TooLarge}
 use Rattle.suite_answers.specs.declared.answer.Answer.{Answer}
 use Rattle.suite_session.specs.Runner.{Question, Runner}
-use Rattle.suite_session.specs.Answers.{answer_on, cause_of_answer, IsAnswerOn, given_for}
+use Rattle.suite_session.specs.Answers.{IsAnswerOn, given_for}
 use Rattle.suite_session.specs.Deeds.{files_of}
+use Rattle.suite_session.specs.Reports.{RunsFree}
 use Rattle.suite_session.specs.Due.{AnswersLarge}
-use Rattle.suite_session.proofs.AnswerLemmas.{first-is, first-skips, problem-answers, sound-table}
-use Rattle.suite_course.specs.Top.{HasStayed, IsAnswerAt}
+use Rattle.suite_session.proofs.ProblemLemmas.{IsLarge, content_next, large-answers, large-first, large-within}
+use Rattle.suite_course.specs.Shows.{HasStayed, IsAnswerAt}
 use Rattle.suite_course.proofs.AloneLemmas.{answers-alone}
+use Rattle.suite_course.proofs.ReportLemmas.{kept-number-of}
 use Rattle.suite_course.proofs.DeedLemmas.{files-have}
-
--- the content has more bytes than a table may have
-abbrev IsLarge : Option Bytes → Type 0
-IsLarge content = (bytes : Bytes) × (content ≡ Some bytes) × (table_limit < length bytes)
-
--- what stands at the next name
-abbrev content_next : Option Tab → Files → Option Bytes → Option Bytes
-content_next None files defs = defs
-content_next (Some table) files defs = table_of files table
-
--- the problem where that is too large
-abbrev large_problem : Option Tab → FileProblem
-large_problem None = SettingsTooLarge
-large_problem (Some table) = TableTooLarge table
-
--- ---- The first problem
-
--- a large table is a problem
-large-table : (table : Tab) (content : Option Bytes) → IsLarge content →
-    table_problem table content ≡ Some (TableTooLarge table)
-large-table table content large = ap (table_problem table) large.1
-    ∙ rw (lt-leb (length large.0) table_limit large.2) refl
-
--- so are large settings
-large-settings : (defs : Option Bytes) → IsLarge defs →
-    settings_problem (unwrap_or defs []) ≡ Some SettingsTooLarge
-large-settings defs large = ap (λ (content : Option Bytes). settings_problem (unwrap_or content []))
-    large.1
-    ∙ rw (lt-leb (length large.0) table_limit large.2) refl
-
--- a table that must stand does so before the next
-stands-before : (next : Option Tab) (read : Files) → AreSound next read → (table : Tab) →
-    is_before table next ≡ true → must_stand table ≡ true → IsSome (table_of read table)
-stands-before next read sound Passwd before must = sound.passwd before
-stands-before next read sound Group before must = sound.group before
-stands-before next read sound _ before must = absurd (true≢false (sym must))
-
-module _ (read files : Files) (defs : Option Bytes) where
-  -- the tables before the next are as they were read
-  abbrev AgreeBefore : Option Tab → Type 0
-  AgreeBefore next =
-      (table : Tab) → is_before table next ≡ true → table_of files table ≡ table_of read table
-
-  -- those have no problem
-  before-sound : (next : Option Tab) → AreSound next read → AgreeBefore next → (table : Tab) →
-      is_before table next ≡ true → table_problem table (table_of files table) ≡ None
-  before-sound next sound agree table before = ap (table_problem table) (agree table before)
-      ∙ sound-table table (table_of read table) (stands-before next read sound table before)
-      (sound.small table)
-
-  -- so the first problem is that the next is too large
-  large-first : (next : Option Tab) → AreSound next read → AgreeBefore next →
-      IsLarge (content_next next files defs) → files_problem files defs ≡ Some (large_problem next)
-  large-first (Some Passwd) sound agree large =
-      first-is _ _ _ (large-table Passwd files.passwd large)
-  large-first (Some Shadow) sound agree large =
-      let skips = before-sound (Some Shadow) sound agree in
-      first-skips _ _ (skips Passwd refl)
-      ∙ first-is _ _ _ (large-table Shadow files.shadow large)
-  large-first (Some Group) sound agree large =
-      let skips = before-sound (Some Group) sound agree in
-      first-skips _ _ (skips Passwd refl) ∙ (first-skips _ _ (skips Shadow refl)
-      ∙ first-is _ _ _ (large-table Group files.group large))
-  large-first (Some Gshadow) sound agree large =
-      let skips = before-sound (Some Gshadow) sound agree in
-      first-skips _ _ (skips Passwd refl) ∙ (first-skips _ _ (skips Shadow refl)
-      ∙ (first-skips _ _ (skips Group refl)
-      ∙ first-is _ _ _ (large-table Gshadow files.gshadow large)))
-  large-first (Some Subuid) sound agree large =
-      let skips = before-sound (Some Subuid) sound agree in
-      first-skips _ _ (skips Passwd refl) ∙ (first-skips _ _ (skips Shadow refl)
-      ∙ (first-skips _ _ (skips Group refl) ∙ (first-skips _ _ (skips Gshadow refl)
-      ∙ first-is _ _ _ (large-table Subuid files.subuid large))))
-  large-first (Some Subgid) sound agree large =
-      let skips = before-sound (Some Subgid) sound agree in
-      first-skips _ _ (skips Passwd refl) ∙ (first-skips _ _ (skips Shadow refl)
-      ∙ (first-skips _ _ (skips Group refl) ∙ (first-skips _ _ (skips Gshadow refl)
-      ∙ (first-skips _ _ (skips Subuid refl)
-      ∙ first-is _ _ _ (large-table Subgid files.subgid large)))))
-  large-first None sound agree large =
-      let skips = before-sound None sound agree in
-      first-skips _ _ (skips Passwd refl) ∙ (first-skips _ _ (skips Shadow refl)
-      ∙ (first-skips _ _ (skips Group refl) ∙ (first-skips _ _ (skips Gshadow refl)
-      ∙ (first-skips _ _ (skips Subuid refl) ∙ (first-skips _ _ (skips Subgid refl)
-      ∙ first-is _ _ _ (large-settings defs large))))))
-
-  -- and the answer is that
-  large-answers : (asked : Question) (next : Option Tab) →
-      files_problem files defs ≡ Some (large_problem next) →
-      IsAnswerOn asked files defs
-      (given_for asked.request.tool (TooLarge (File (next_name next))))
-  large-answers asked next is = by-next next (problem-answers asked.request asked.command.input
-      asked.command.day files defs (large_problem next) is)
-    where
-      by-next : (one : Option Tab) →
-          answer_on asked files defs ≡ unusable asked.request.tool (large_problem one) →
-          IsAnswerOn asked files defs
-          (given_for asked.request.tool (TooLarge (File (next_name one))))
-      by-next None whole = record {
-        has_cause = ap (λ (other : ToolAnswer). cause_of_answer other.cause) (sym whole);
-        has_status = ap (λ (other : ToolAnswer). other.status) (sym whole);
-        has_out = ap (λ (other : ToolAnswer). other.output) (sym whole);
-        has_err = ap (λ (other : ToolAnswer). other.error) (sym whole);
-      }
-      by-next (Some table) whole = record {
-        has_cause = ap (λ (other : ToolAnswer). cause_of_answer other.cause) (sym whole);
-        has_status = ap (λ (other : ToolAnswer). other.status) (sym whole);
-        has_out = ap (λ (other : ToolAnswer). other.output) (sym whole);
-        has_err = ap (λ (other : ToolAnswer). other.error) (sym whole);
-      }
-
--- ---- The read in a lawful history
-
--- a read that found too much found a large content
-large-within : (content : Option Bytes) → found_too_large ≡ found_within table_limit content →
-    IsLarge content
-large-within None is = absurd (cc is)
-large-within (Some bytes) is = cases (nat_lt table_limit (length bytes)) refl is
-  where
-    cases : (more : Bool) → nat_lt table_limit (length bytes) ≡ more →
-        found_too_large ≡ (if more then found_too_large else found_bytes bytes) →
-        IsLarge (Some bytes)
-    cases true more same = (bytes, refl, ltb-true table_limit (length bytes) more)
-    cases false more same = absurd (cc same)
 
 -- the limit of the next name is that of a table
 limit-next : (next : Option Tab) → name_limit (next_name next) ≡ table_limit
@@ -227,9 +103,10 @@ pub large-stayed : (deeds : SuiteDeeds) (first : Folder) (history : History) →
     Lawful deeds first history → (asked : Question) (runner : Runner) (answer : Answer) →
     (name : Name) → runner.asked ≡ asked →
     (standing runner.token history).commit ≡ Before →
+    (is_report asked.request ≡ true → RunsFree runner.token history) →
     AnswersLarge runner answer history name →
     HasStayed deeds asked first history runner.token answer
-large-stayed deeds first history lawful asked runner answer name question uncalled large =
+large-stayed deeds first history lawful asked runner answer name question uncalled free large =
     let met = large.met in
     let reader = large.reader in
     let event : Event = record {
@@ -290,7 +167,7 @@ large-stayed deeds first history lawful asked runner answer name question uncall
     step.1.gives))))) in
     record {
       number = number;
-      kept = kept;
+      has_number = kept-number-of asked runner.token history number free kept;
       none = committed-once.none deeds first history lawful runner.token uncalled;
       at_place = there;
       alone = answers-alone deeds first history lawful asked runner.token answer number kept

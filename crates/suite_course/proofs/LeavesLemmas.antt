@@ -1,13 +1,15 @@
 -- Claim: a session that answered, and was alone since a moment, leaves its lock alone and free, no intent
--- where its tool decided, and backups of what it changed (`leaves-alone`).
+-- where its tool decided, and backups of what it changed; and a report the folder as it was
+-- (`leaves-alone`).
 -- Way: what it has left by its own events (`HasLeft`, `BackedUpChanges`) is so in the folder, as nobody
 -- else touched that (AloneLocks, AloneBackups).
-use Rattle.std.proofs.Common.{◌≡◌, refl, sym, ap, ◌∙◌, [], ◌∷◌, ℕ, Option, Some, None}
+use Rattle.std.proofs.Common.{◌≡◌, refl, sym, ap, ◌∙◌, [], ◌∷◌, ℕ, true, false, Option, Some, None}
 use Rattle.acct_outside.specs.declared.Name.TheVariants.{Table, Defs}
 use Rattle.acct_outside.specs.Tokens.{Token}
 use Rattle.acct_outside.specs.Folder.{Folder}
 use Rattle.acct_outside.specs.History.{History}
 use Rattle.acct_outside.specs.Moment.{Past}
+use Rattle.account_words.specs.Request.{is_report}
 use Rattle.suite_rules.specs.Deeds.{SuiteDeeds}
 use Rattle.suite_rules.specs.OwnLock.{kept_number}
 use Rattle.suite_rules.specs.Standing.{standing}
@@ -22,10 +24,14 @@ use Rattle.suite_answers.specs.Reasons.{stage_of}
 use Rattle.suite_session.specs.Runner.{Question}
 use Rattle.suite_session.specs.Backing.{BackedUpChanges}
 use Rattle.suite_session.specs.Deeds.{AreOfTools}
+use Rattle.suite_session.specs.Reports.{RunsFree}
 use Rattle.suite_session.specs.Stands.{HasLeft, IsDecided, IsStopped}
-use Rattle.suite_course.specs.Top.{IsAlone, IsShownAt, Leaves}
+use Rattle.suite_session.proofs.FreeLemmas.{free-uncalled}
+use Rattle.suite_course.specs.Alone.{IsAlone, Leaves}
+use Rattle.suite_course.specs.Shows.{IsShownAt}
 use Rattle.suite_course.proofs.AloneLocks.{alone-lock, alone-intent-none}
 use Rattle.suite_course.proofs.AloneBackups.{alone-backups}
+use Rattle.suite_course.proofs.ReportLemmas.{folder-stays}
 
 -- a tool's answer isn't stopped
 decided-quiet : (cause : Cause) → IsDecided cause → IsStopped cause → ⊥
@@ -40,12 +46,12 @@ decided-quiet cause decided stopped = absurd decided
 
 module _ (deeds : SuiteDeeds) (asked : Question) (first : Folder) (past : Past) (token : Token)
     (given : Answer) (lawful : Lawful deeds first past.history) where
-  -- a session with an answer of its tool kept a lock
-  was-keeper : (cause : Cause) → IsDecided cause →
+  -- a command that is no report, with an answer of its tool, kept a lock
+  was-keeper : is_report asked.request ≡ false → (cause : Cause) → IsDecided cause →
       (standing token past.history).commit ≡ stage_of cause →
       IsShownAt deeds asked first past.history token given cause →
       (number : ℕ) × (kept_number (standing token past.history).own ≡ Some number)
-  was-keeper Changed decided commits shown =
+  was-keeper no_report Changed decided commits shown =
       cases (kept_number (standing token past.history).own) refl
     where
       cases : (kept : Option ℕ) → kept_number (standing token past.history).own ≡ kept →
@@ -62,28 +68,37 @@ module _ (deeds : SuiteDeeds) (asked : Question) (first : Folder) (past : Past) 
           ∙ ap (λ (kept : Option ℕ).
           commitment_of token kept (standing token past.history).command) none) in
           absurd (cc wrong)
-  was-keeper Same decided commits shown = (shown.number, shown.kept)
-  was-keeper (Refused refusal) decided commits shown = (shown.number, shown.kept)
-  was-keeper (NoTable table) decided commits shown = (shown.number, shown.kept)
-  was-keeper (BadSetting line) decided commits shown = (shown.number, shown.kept)
-  was-keeper (TooLarge (File (Table table))) decided commits shown = (shown.number, shown.kept)
-  was-keeper (TooLarge (File Defs)) decided commits shown = (shown.number, shown.kept)
-  was-keeper cause decided commits shown = absurd decided
+  was-keeper no_report Same decided commits shown =
+      (shown.number, shown.has_number.keeper no_report)
+  was-keeper no_report (Refused refusal) decided commits shown =
+      (shown.number, shown.has_number.keeper no_report)
+  was-keeper no_report (NoTable table) decided commits shown =
+      (shown.number, shown.has_number.keeper no_report)
+  was-keeper no_report (BadSetting line) decided commits shown =
+      (shown.number, shown.has_number.keeper no_report)
+  was-keeper no_report (TooLarge (File (Table table))) decided commits shown =
+      (shown.number, shown.has_number.keeper no_report)
+  was-keeper no_report (TooLarge (File Defs)) decided commits shown =
+      (shown.number, shown.has_number.keeper no_report)
+  was-keeper no_report cause decided commits shown = absurd decided
 
   -- the claim
   pub leaves-alone : AreOfTools deeds → (old : History) → IsAlone token old past.history →
       (cause : Cause) → (standing token past.history).commit ≡ stage_of cause →
       IsShownAt deeds asked first past.history token given cause →
       ((IsStopped cause → ⊥) → HasLeft token cause past) → BackedUpChanges token past.history →
-      Leaves first old past.history token cause
-  leaves-alone ours old alone cause commits shown left backed = record {
+      (is_report asked.request ≡ true → RunsFree token past.history) →
+      Leaves asked first old past.history token cause
+  leaves-alone ours old alone cause commits shown left backed free = record {
+    report = λ is. folder-stays deeds first past.history lawful asked token
+        (free-uncalled token past.history (free is).free) old alone;
     lock = λ quiet number kept. alone-lock deeds first token old past.history alone lawful number
         ((left quiet).freed number kept);
-    intent = λ decided.
-        let kept = was-keeper cause decided commits shown in
+    intent = λ no_report decided.
+        let kept = was-keeper no_report cause decided commits shown in
         let leaves = left (decided-quiet cause decided) in
         alone-intent-none deeds first token old past.history alone lawful kept.0
-        (leaves.freed kept.0 kept.1) (leaves.clean decided);
+        (leaves.freed kept.0 kept.1) (leaves.clean kept decided);
     backups = λ is. alone-backups deeds ours first past.history lawful token old alone
         (commits ∙ ap stage_of is) backed;
   }

@@ -19,3 +19,5 @@ pub mod RanLemmas
 mod StreamsLemmas
 pub mod SuppliesLemmas
 mod TurnedLemmas
+mod ReportLemmas
+mod FreeLemmas

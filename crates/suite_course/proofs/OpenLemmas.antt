@@ -4,7 +4,7 @@
 -- (`never-outrun`), and no intent that doesn't read (`never-unread`, `never-large`).
 -- Way: it met each of these at one call. By then it had only listed and read the locks, or made its
 -- own and not listed them since, or read the intent before its commit (AloneStays); so what the call
--- answered is what stood at the moment.
+-- answered is what stood at the moment. So it is with what a report watched (`report_view`).
 use Rattle.std.proofs.Common.{◌≡◌, refl, sym, ap, subst, ◌∙◌, ◌∷◌, ◌++◌, [], ℕ, ◌+◌, ◌<◌, ◌≤◌, Bool, true, false, ◌||◌, nat_lt, if◌then◌else◌, length, bytes_eq, codes, List, inl, inr, Option, Some, None, is_some, true≢false, arith, lit≤}
 use Rattle.std.specs.Prelude.{IsSome}
 use Rattle.std.specs.List.{AllByRecursion}
@@ -22,9 +22,11 @@ use Rattle.acct_outside.specs.Folder.{Folder, IsFolder, greatest, has_number, to
 use Rattle.acct_outside.specs.Calls.{Call, Answer, Found, lists, reads, asks, creates, removes, done, found_absent, found_bytes, found_too_large, found_within}
 use Rattle.acct_outside.specs.History.{Event, History, after, is_of, own_events}
 use Rattle.acct_outside.specs.declared.CommitStage.TheVariants.{Before}
+use Rattle.account_words.specs.Request.{is_report}
+use Rattle.intent_file.specs.Parts.{FirstFault}
 use Rattle.intent_file.proofs.FirstFaultIsOne.{first_fault_is_one_holds}
 use Rattle.suite_rules.specs.Deeds.{SuiteDeeds}
-use Rattle.suite_rules.specs.OwnLock.{OwnLock, lock_uncalled, lock_made}
+use Rattle.suite_rules.specs.OwnLock.{OwnLock, lock_uncalled, lock_made, made_number}
 use Rattle.suite_rules.specs.Listing.{Listing, is_held_in}
 use Rattle.suite_rules.specs.Standing.{Standing, standing, standing_step}
 use Rattle.suite_rules.specs.Lawful.{IsNext, Lawful, goes_on}
@@ -34,10 +36,12 @@ use Rattle.suite_rules.proofs.Numbers.{greatest-stands, has-most}
 use Rattle.suite_rules.proofs.Settles.{uncalled-before}
 use Rattle.suite_rules.proofs.Whole.{invariant}
 use Rattle.lock_steps.specs.Stands.{HasListed, HasLooked, HasJudged, WasOvertaken}
-use Rattle.suite_session.specs.Causes.{Met, HasKept, HasListedNone, IsNoLockText, MetLast, MetNoLock, MetDamage, MetHolder, MetNext, MetGreater, MetBadIntent, MetLargeIntent, lister}
+use Rattle.suite_session.specs.Causes.{Met, HasKept, HasListedNone, IsNoLockText, MetLast, MetNoLock, MetDamage, MetHolder, MetNext, MetChange, MetGreater, MetShown, MetBadIntent, MetLargeIntent, HasWatched, lister}
 use Rattle.suite_session.proofs.GrowsLemmas.{second-empty}
+use Rattle.suite_session.specs.Runner.{Question}
 use Rattle.suite_course.specs.Open.{LetsPass, NeverToldAlive, StandsOpen}
-use Rattle.suite_course.specs.Top.{IsAlone}
+use Rattle.suite_course.specs.Alone.{IsAlone}
+use Rattle.suite_course.specs.Shows.{WasOutrun}
 use Rattle.suite_course.proofs.AloneLemmas.{all-rest, suffixes}
 use Rattle.suite_course.proofs.AloneSteps.{IsListingOf, LocksAlone, there}
 use Rattle.suite_course.proofs.AloneStays.{IsIntentOf, alone-intent, alone-locks}
@@ -313,14 +317,74 @@ module _ (deeds : SuiteDeeds) (first : Folder) (old new : History) (token : Toke
       absurd (omega (arith, most, is, next))
 
   -- no greater lock than its own came
-  pub never-outrun : (number other : ℕ) → MetGreater token number other new → ⊥
-  never-outrun number other met =
+  never-greater : (number other : ℕ) → MetGreater token number other new → ⊥
+  never-greater number other met =
       let call = faced (removes (Lock number)) tt
       (WasOvertaken (record { token = token; number = number; greatest = other })) met.1 in
       let locks = locks-then (removes (Lock number)) tt _ met.1.older call (lock_made number)
       call.stood.owns in
       true≢false (sym call.stood.is_such ∙ there (λ one. one.follows_create ≡ false)
       (standing token met.1.older).listing call.stood.listing call.stood.listed locks.1)
+
+  -- no greater lock than the one that it had judged came
+  never-changed : (number other : ℕ) → MetChange token number other new → ⊥
+  never-changed number other met =
+      let call = faced lists met.0 (HasJudged (lister token number)) met.3 in
+      let seen = seen-top lists met.0 number _ met.3.older call in
+      let now : greatest met.0 ≡ top entry = ap greatest call.next.gives ∙ ap top seen.same in
+      let is = seen.is_top in
+      let listed = met.1 in
+      absurd (met.2 (omega (arith, now, is, listed)))
+
+  -- so it wasn't outrun
+  pub never-outrun : (asked : Question) (number other : ℕ) →
+      WasOutrun asked token number other new → ⊥
+  never-outrun asked number other outrun = cases (is_report asked.request) refl
+    where
+      cases : (reports : Bool) → is_report asked.request ≡ reports → ⊥
+      cases true is = never-changed number other (outrun.report is)
+      cases false is = never-greater number other (outrun.keeper is)
+
+  -- ---- The intent
+
+  -- an intent that stood at the moment reads
+  unread-stands : (part : ℕ) (bytes : Bytes) → FirstFault bytes part →
+      entry.file Intent ≡ Some bytes → ⊥
+  unread-stands part bytes fault is =
+      let reading = opened.intent bytes is in
+      first_fault_is_one_holds.none_if_read bytes part reading.0 fault reading.1
+
+  -- so it isn't too large
+  large-stands : (content : Option Bytes) →
+      ((bytes : Bytes) → content ≡ Some bytes → entry.file Intent ≡ Some bytes) →
+      found_too_large ≡ found_within intent_limit content → ⊥
+  large-stands content stood is =
+      let large = large-some intent_limit content is in
+      let reading = opened.intent large.0 (stood large.0 large.1) in
+      let whole : found_too_large ≡ found_bytes large.0 = is
+      ∙ (ap (found_within intent_limit) large.1
+      ∙ found-whole intent_limit large.0 (readable-within large.0 reading.0 reading.1)) in
+      absurd (cc whole)
+
+  -- what a report found of it stood at the moment
+  shown-stood : (found : Found) → MetShown token Intent found new →
+      found ≡ found_within intent_limit (entry.file Intent)
+  shown-stood found met =
+      let Stood = HasWatched (greatest met.0) Intent found in
+      let call = faced lists met.0 Stood met.1 in
+      let seen = seen-top lists met.0 (greatest met.0) _ met.1.older call in
+      let listing = call.stood.listing in
+      let top_is : top (after first met.1.older) ≡ greatest met.0 =
+      ap top seen.same ∙ seen.is_top in
+      let was = call.stood.is_greatest in
+      let view = (invariant deeds first met.1.older call.lawful_then).report_view in
+      elim (view token listing call.stood.listed call.stood.is_such.0
+      (ap made_number call.stood.owns)) [
+        | inl less ↦ absurd (omega (arith, less, top_is, was))
+        | inr stands ↦ subst (λ (folder : Folder).
+            found ≡ found_within intent_limit (folder.file Intent)) seen.same
+            (stands Intent found call.stood.is_such.1)
+      ]
 
   module _ (uncalled : (standing token new).commit ≡ Before) where
     -- before its commit it reads the intent of the moment, or none
@@ -345,19 +409,18 @@ module _ (deeds : SuiteDeeds) (first : Folder) (old new : History) (token : Toke
 
     -- the intent reads
     pub never-unread : (part : ℕ) → MetBadIntent token part new → ⊥
-    never-unread part met =
-        let call = faced (reads Intent) (found_bytes met.0) HasKept met.2 in
-        let reading = opened.intent met.0 (read-stood (found_bytes met.0) met.2 met.0
-        (bytes-stand intent_limit _ met.0 call.next.gives)) in
-        first_fault_is_one_holds.none_if_read met.0 part reading.0 met.1 reading.1
+    never-unread part (bytes, fault, inl met) =
+        let call = faced (reads Intent) (found_bytes bytes) HasKept met in
+        unread-stands part bytes fault (read-stood (found_bytes bytes) met bytes
+        (bytes-stand intent_limit _ bytes call.next.gives))
+    never-unread part (bytes, fault, inr shown) = unread-stands part bytes fault
+        (bytes-stand intent_limit (entry.file Intent) bytes (shown-stood (found_bytes bytes) shown))
 
     -- so it isn't too large
     pub never-large : MetLargeIntent token new → ⊥
-    never-large met =
+    never-large (inl met) =
         let call = faced (reads Intent) found_too_large HasKept met in
-        let large = large-some intent_limit ((after first met.older).file Intent) call.next.gives in
-        let reading = opened.intent large.0 (read-stood found_too_large met large.0 large.1) in
-        let whole : found_too_large ≡ found_bytes large.0 = call.next.gives
-        ∙ (ap (found_within intent_limit) large.1
-        ∙ found-whole intent_limit large.0 (readable-within large.0 reading.0 reading.1)) in
-        absurd (cc whole)
+        large-stands ((after first met.older).file Intent)
+        (read-stood found_too_large met) call.next.gives
+    never-large (inr shown) = large-stands (entry.file Intent) (λ bytes is. is)
+        (shown-stood found_too_large shown)

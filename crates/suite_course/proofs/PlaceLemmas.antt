@@ -3,7 +3,7 @@
 -- the session's commit came as far as it says (`shows-at`).
 -- Way: what a session has seen is the fold of its place and the first login.defs (`places-stay`); the
 -- place stays whatever was committed since; and a session commits at most once (`committed-once`).
-use Rattle.std.proofs.Common.{◌≡◌, refl, sym, ap, subst, ap₂, ◌∙◌, [], ◌∷◌, ℕ, inl, inr, List, Option, Some, arith}
+use Rattle.std.proofs.Common.{◌≡◌, refl, sym, ap, subst, ap₂, ◌∙◌, [], ◌∷◌, ℕ, ◌<◌, true, inl, inr, List, Option, Some, true≢false, arith}
 use Rattle.acct_text.specs.declared.Tab.{Tab}
 use Rattle.acct_text.specs.declared.Tab.TheVariants.{Passwd, Shadow, Group, Gshadow, Subuid, Subgid}
 use Rattle.acct_outside.specs.declared.CommitStage.{CommitStage}
@@ -12,12 +12,13 @@ use Rattle.acct_text.specs.declared.files.Files.{Files}
 use Rattle.acct_text.specs.Bytes.{Bytes}
 use Rattle.acct_text.specs.Contents.{Contents}
 use Rattle.acct_text.specs.Files.{table_of}
-use Rattle.acct_outside.specs.declared.Name.TheVariants.{Table, Defs}
+use Rattle.acct_outside.specs.declared.Name.TheVariants.{Table, Defs, Lock}
 use Rattle.acct_outside.specs.Tokens.{Token}
 use Rattle.acct_outside.specs.Folder.{Folder, greatest, settings_file, top}
 use Rattle.acct_outside.specs.Calls.{Command, lists, done}
 use Rattle.acct_outside.specs.History.{Event, History, after}
 use Rattle.acct_outside.specs.declared.CommitStage.TheVariants.{Before, Committed}
+use Rattle.account_words.specs.Request.{is_report}
 use Rattle.suite_rules.specs.Deeds.{SuiteDeeds}
 use Rattle.suite_rules.specs.OwnLock.{kept_number, made_number}
 use Rattle.suite_rules.specs.Knowledge.{Seen}
@@ -37,14 +38,16 @@ use Rattle.suite_answers.specs.declared.answer.Answer.{Answer}
 use Rattle.suite_answers.specs.Reasons.{stage_of}
 use Rattle.suite_session.specs.Runner.{Question, Runner}
 use Rattle.suite_session.specs.Answers.{IsAnswerOn}
-use Rattle.suite_session.specs.Causes.{MetLoss}
+use Rattle.suite_session.specs.Causes.{MetChange, MetLoss}
 use Rattle.suite_session.specs.Deeds.{files_of}
-use Rattle.suite_session.specs.Due.{AnswersAll, AnswersSome, AnsweredAll, WasKeeper, ShowsLarge, IsShown}
+use Rattle.suite_session.specs.Due.{AnswersAll, AnswersSome, AnsweredAll, WasKeeper, ShowsAll, ShowsSome, ShowsLarge, ShowsOutrun, IsReported, IsShown}
+use Rattle.suite_session.specs.Reports.{RunsFree}
 use Rattle.suite_course.proofs.AloneLemmas.{answers-alone}
 use Rattle.suite_course.proofs.DeedLemmas.{files-have}
 use Rattle.suite_course.proofs.LargeLemmas.{large-stayed, last-next}
+use Rattle.suite_course.proofs.ReportLemmas.{kept-number-of, never-removes, reported-stayed}
 use Rattle.suite_course.proofs.SuccessLemmas.{changed-succeeds}
-use Rattle.suite_course.specs.Top.{HasChanged, HasStayed, IsAnswerAt, IsShownAt, ReachesStage, Shows}
+use Rattle.suite_course.specs.Shows.{HasChanged, HasStayed, IsAnswerAt, IsShownAt, ReachesStage, Shows, WasOutrun}
 
 -- files are those of their contents
 files-same : (files : Files) (contents : Contents) →
@@ -78,53 +81,51 @@ module _ (deeds : SuiteDeeds) (first : Folder) (history : History)
         subst (λ (one : Files). IsAnswerOn asked one (settings_file first) answer) same
         (subst (λ (one : Option Bytes). IsAnswerOn asked files one answer) stands is)
 
-  -- a session that stayed, and has seen all
-  all-stayed : (runner : Runner) (answer : Answer) → runner.token ≡ token → runner.asked ≡ asked →
-      (standing token history).commit ≡ Before →
-      AnswersAll runner answer (standing token history) → WasKeeper token history →
-      HasStayed deeds asked first history token answer
-  all-stayed runner answer same question uncalled all was =
-      let there = seen-all all.number all.seen
-      (record { kept = all.kept; uncommitted = uncalled; clean = all.clean })
-      all.files all.defs answer all.all.each_table all.all.settings
-      (subst (λ (one : Question). IsAnswerOn one all.files all.defs answer) question
-      all.is_answer) in
-      record {
-        number = all.number;
-        kept = all.kept;
-        none = committed-once.none deeds first history lawful token uncalled;
-        at_place = there;
-        alone = answers-alone deeds first history lawful asked token answer all.number all.kept was
-            there;
-      }
+  module _ (free : is_report asked.request ≡ true → RunsFree token history)
+      (uncalled : (standing token history).commit ≡ Before) (runner : Runner) (answer : Answer)
+      (same : runner.token ≡ token) (question : runner.asked ≡ asked) where
+    -- a keeper that stayed, and has seen all
+    all-stayed : AnswersAll runner answer (standing token history) → WasKeeper token history →
+        HasStayed deeds asked first history token answer
+    all-stayed all was =
+        let there = seen-all all.number all.seen
+        (record { kept = all.kept; uncommitted = uncalled; clean = all.clean })
+        all.files all.defs answer all.all.each_table all.all.settings
+        (subst (λ (one : Question). IsAnswerOn one all.files all.defs answer) question
+        all.is_answer) in
+        record {
+          number = all.number;
+          has_number = kept-number-of asked token history all.number free all.kept;
+          none = committed-once.none deeds first history lawful token uncalled;
+          at_place = there;
+          alone = answers-alone deeds first history lawful asked token answer all.number all.kept
+              was there;
+        }
 
-  -- one that stayed, and has seen some
-  some-stayed : (runner : Runner) (answer : Answer) → runner.token ≡ token → runner.asked ≡ asked →
-      (standing token history).commit ≡ Before →
-      AnswersSome runner answer (standing token history) → WasKeeper token history →
-      HasStayed deeds asked first history token answer
-  some-stayed runner answer same question uncalled some was =
-      let looked : HasLooked history token some.number some.seen =
-      record { kept = some.kept; uncommitted = uncalled; clean = some.clean } in
-      let there : IsAnswerAt deeds asked first history some.number answer =
-      subst (λ (one : Question).
-      IsAnswerOn one (files_of (at_place some.number)) (settings_file first) answer) question
-      (some.is_answer (files_of (at_place some.number)) (settings_file first) (record {
-        each_table = λ table content is. places-stay.has_seen deeds first history lawful token
-            some.number some.seen looked table content is
-            ∙ sym (files-have (at_place some.number) table);
-        settings = places-stay.settings deeds first history lawful token some.number some.seen
-            looked;
-      })) in
-      record {
-        number = some.number;
-        kept = some.kept;
-        none = committed-once.none deeds first history lawful token uncalled;
-        at_place = there;
-        alone = answers-alone deeds first history lawful asked token answer
-            some.number some.kept was
-            there;
-      }
+    -- one that stayed, and has seen some
+    some-stayed : AnswersSome runner answer (standing token history) → WasKeeper token history →
+        HasStayed deeds asked first history token answer
+    some-stayed some was =
+        let looked : HasLooked history token some.number some.seen =
+        record { kept = some.kept; uncommitted = uncalled; clean = some.clean } in
+        let there : IsAnswerAt deeds asked first history some.number answer =
+        subst (λ (one : Question).
+        IsAnswerOn one (files_of (at_place some.number)) (settings_file first) answer) question
+        (some.is_answer (files_of (at_place some.number)) (settings_file first) (record {
+          each_table = λ table content is. places-stay.has_seen deeds first history lawful token
+              some.number some.seen looked table content is
+              ∙ sym (files-have (at_place some.number) table);
+          settings = places-stay.settings deeds first history lawful token some.number some.seen
+              looked;
+        })) in
+        record {
+          number = some.number;
+          has_number = kept-number-of asked token history some.number free some.kept;
+          none = committed-once.none deeds first history lawful token uncalled;
+          at_place = there;
+          alone = answers-alone deeds first history lawful asked token answer some.number some.kept
+              was there;
+        }
 
 -- one that has changed its files
 changed-at : (deeds : SuiteDeeds) (first : Folder) (history : History) →
@@ -173,18 +174,6 @@ changed-at deeds first history lawful asked token runner answer same question be
           }) there;
     }
 
--- one that found a file too large
-large-at : (deeds : SuiteDeeds) (first : Folder) (history : History) → Lawful deeds first history →
-    (asked : Question) (runner : Runner) (answer : Answer) (name : Name) → runner.asked ≡ asked →
-    (standing runner.token history).commit ≡ Before →
-    ShowsLarge runner answer history name →
-    HasStayed deeds asked first history runner.token answer
-large-at deeds first history lawful asked runner answer name question is (inl all) =
-    all-stayed deeds first history lawful asked runner.token runner answer refl
-    question is all.0 all.1
-large-at deeds first history lawful asked runner answer name question is (inr large) =
-    large-stayed deeds first history lawful asked runner answer name question is large
-
 -- a session's own lock is listed, or a greater one
 never-lost : (deeds : SuiteDeeds) (first : Folder) (history : History) →
     Lawful deeds first history → (token : Token) (number other : ℕ) →
@@ -199,45 +188,88 @@ never-lost deeds first history lawful token number other lost =
     let top_is : top (after first met.older) ≡ other = sym (ap greatest step.1.gives) ∙ lost.1 in
     absurd (omega (arith, most, top_is, lost.2))
 
--- what own events show of a cause the history shows of the place
-pub shown-at : (deeds : SuiteDeeds) (first : Folder) (history : History) →
-    Lawful deeds first history → (asked : Question) (runner : Runner) (answer : Answer) →
-    runner.asked ≡ asked → (standing runner.token history).command ≡ Some asked.command →
-    (cause : Cause) → answer.outcome.cause ≡ cause →
-    (standing runner.token history).commit ≡ stage_of cause →
-    IsShown runner answer history cause →
-    IsShownAt deeds asked first history runner.token answer cause
-shown-at deeds first history lawful asked runner answer question began Changed told is shown =
-    changed-at deeds first history lawful asked runner.token runner answer refl question began is
-    told shown
-shown-at deeds first history lawful asked runner answer question began Same told is shown =
-    all-stayed deeds first history lawful asked runner.token runner answer refl
-    question is shown.0 shown.1
-shown-at deeds first history lawful asked runner answer question began
-    (Refused refusal) told is shown =
-    all-stayed deeds first history lawful asked runner.token runner answer refl
-    question is shown.0 shown.1
-shown-at deeds first history lawful asked runner answer question began
-    (BadSetting line) told is shown =
-    all-stayed deeds first history lawful asked runner.token runner answer refl
-    question is shown.0 shown.1
-shown-at deeds first history lawful asked runner answer question began
-    (NoTable table) told is shown =
-    some-stayed deeds first history lawful asked runner.token runner answer refl
-    question is shown.0 shown.1
-shown-at deeds first history lawful asked runner answer question began
-    (TooLarge (File (Table table))) told is shown =
-    large-at deeds first history lawful asked runner answer (Table table) question is shown
-shown-at deeds first history lawful asked runner answer question began
-    (TooLarge (File Defs)) told is shown =
-    large-at deeds first history lawful asked runner answer Defs question is shown
-shown-at deeds first history lawful asked runner answer question began
-    (Outrun number other) told is (inl met) =
-    met
-shown-at deeds first history lawful asked runner answer question began
-    (Outrun number other) told is (inr lost) =
-    absurd (never-lost deeds first history lawful runner.token number other lost)
-shown-at deeds first history lawful asked runner answer question began cause told is shown = shown
+-- where a session without a lock had judged the greatest one, a listing shows that or a greater one
+changed-above : (deeds : SuiteDeeds) (first : Folder) (history : History) →
+    Lawful deeds first history → (token : Token) (number other : ℕ) →
+    MetChange token number other history → number < other
+changed-above deeds first history lawful token number other change =
+    let met = change.3 in
+    let event : Event = record { token = token; call = lists; result = done change.0 } in
+    let step = last-next deeds first event met.older (lawful-prefix deeds first met.newer
+    (event ∷ met.older) (subst (Lawful deeds first) met.parts lawful)) in
+    let most = (lock-facts deeds first met.older step.0).listed_most token met.stood.listing
+    met.stood.listed in
+    let top_is : top (after first met.older) ≡ other = sym (ap greatest step.1.gives) ∙ change.1 in
+    let was = met.stood.is_greatest in
+    let differs = change.2 in
+    grind (arith, most, top_is, was, differs)
+
+module _ (deeds : SuiteDeeds) (first : Folder) (history : History)
+    (lawful : Lawful deeds first history) (asked : Question) (runner : Runner) (answer : Answer)
+    (question : runner.asked ≡ asked)
+    (began : (standing runner.token history).command ≡ Some asked.command)
+    (free : is_report asked.request ≡ true → RunsFree runner.token history) where
+  module _ (uncalled : (standing runner.token history).commit ≡ Before) where
+    -- a report that stayed
+    reported-at : IsReported runner answer history →
+        HasStayed deeds asked first history runner.token answer
+    reported-at shown = reported-stayed deeds first history lawful asked runner.token runner answer
+        question uncalled shown
+
+    -- one that has seen all, or has shown them
+    all-at : ShowsAll runner answer history →
+        HasStayed deeds asked first history runner.token answer
+    all-at (inl all) = all-stayed deeds first history lawful asked runner.token free uncalled runner
+        answer refl question all.0 all.1
+    all-at (inr shown) = reported-at shown
+
+    -- one that has seen some
+    some-at : ShowsSome runner answer history →
+        HasStayed deeds asked first history runner.token answer
+    some-at (inl some) = some-stayed deeds first history lawful asked runner.token free uncalled
+        runner answer refl question some.0 some.1
+    some-at (inr shown) = reported-at shown
+
+    -- one that found a file too large
+    large-at : (name : Name) → ShowsLarge runner answer history name →
+        HasStayed deeds asked first history runner.token answer
+    large-at name (inl all) = all-at all
+    large-at name (inr large) = large-stayed deeds first history lawful asked runner answer name
+        question uncalled free large
+
+  -- one that was outrun
+  outrun-at : (number other : ℕ) → ShowsOutrun runner number other history →
+      WasOutrun asked runner.token number other history
+  outrun-at number other (inl (inl met)) = record {
+    above = met.0;
+    report = λ is. absurd (never-removes runner.token (Lock number) history _ (free is) met.1);
+    keeper = λ is. met;
+  }
+  outrun-at number other (inl (inr lost)) =
+      absurd (never-lost deeds first history lawful runner.token number other lost)
+  outrun-at number other (inr change) = record {
+    above = changed-above deeds first history lawful runner.token number other change.1;
+    report = λ is. change.1;
+    keeper = λ is. absurd (true≢false
+        (sym (subst (λ (one : Question). is_report one.request ≡ true) question change.0) ∙ is));
+  }
+
+  -- what own events show of a cause the history shows of the place
+  shown-at : (cause : Cause) → answer.outcome.cause ≡ cause →
+      (standing runner.token history).commit ≡ stage_of cause →
+      IsShown runner answer history cause →
+      IsShownAt deeds asked first history runner.token answer cause
+  shown-at Changed told is shown =
+      changed-at deeds first history lawful asked runner.token runner answer refl question began is
+      told shown
+  shown-at Same told is shown = all-at is shown
+  shown-at (Refused refusal) told is shown = all-at is shown
+  shown-at (BadSetting line) told is shown = all-at is shown
+  shown-at (NoTable table) told is shown = some-at is shown
+  shown-at (TooLarge (File (Table table))) told is shown = large-at is (Table table) shown
+  shown-at (TooLarge (File Defs)) told is shown = large-at is Defs shown
+  shown-at (Outrun number other) told is shown = outrun-at number other shown
+  shown-at cause told is shown = shown
 
 -- and how far the session came with its commit
 reaches-stage : (deeds : SuiteDeeds) (first : Folder) (history : History) →
@@ -265,12 +297,13 @@ reaches-stage deeds first history lawful asked token stage began commits = recor
 pub shows-at : (deeds : SuiteDeeds) (first : Folder) (history : History) →
     Lawful deeds first history → (asked : Question) (runner : Runner) (answer : Answer) →
     runner.asked ≡ asked → (standing runner.token history).command ≡ Some asked.command →
+    (is_report asked.request ≡ true → RunsFree runner.token history) →
     (standing runner.token history).commit ≡ stage_of answer.outcome.cause →
     IsShown runner answer history answer.outcome.cause →
     Shows deeds asked first history runner.token answer
-shows-at deeds first history lawful asked runner answer question began commits shown = record {
+shows-at deeds first history lawful asked runner answer question began free commits shown = record {
   stage = reaches-stage deeds first history lawful asked runner.token
       (stage_of answer.outcome.cause) began commits;
-  shown = shown-at deeds first history lawful asked runner answer question began
+  shown = shown-at deeds first history lawful asked runner answer question began free
       answer.outcome.cause refl commits shown;
 }

@@ -1,7 +1,7 @@
 -- Claim: a session that finished ran as the top call says (`finished-ran`).
 -- Way: its turns keep a history lawful, so it settles to the fold; its last event is the answer, and
 -- PlaceLemmas has what the history shows of that; or its begin gave no token, and told that.
-use Rattle.std.proofs.Common.{◌≡◌, refl, sym, ap, subst, ◌∙◌, ◌⊎◌, ◌++◌, ◌∷◌, [], ◌≤◌, ◌+◌, ℕ, inl, inr, Option, Some, None, IfSome, Result, Ok, Err}
+use Rattle.std.proofs.Common.{◌≡◌, refl, sym, ap, subst, ◌∙◌, ◌⊎◌, ◌++◌, ◌∷◌, [], ◌≤◌, ◌+◌, ℕ, true, inl, inr, Option, Some, None, IfSome, Result, Ok, Err}
 use Rattle.acct_outside.specs.declared.CommitStage.TheVariants.{Before}
 use Rattle.acct_outside.specs.declared.FolderFault.TheVariants.{Memory as NoFolderMemory}
 use Rattle.acct_outside.specs.declared.streams.SinkFault.{SinkFault}
@@ -23,21 +23,25 @@ use Rattle.suite_answers.specs.declared.cause.Cause.TheVariants.{DiskFault}
 use Rattle.suite_answers.specs.declared.cause.Outcome.{Outcome}
 use Rattle.suite_answers.specs.declared.answer.Answer.{Answer}
 use Rattle.suite_answers.specs.Reasons.{stage_of}
+use Rattle.account_words.specs.Request.{is_report}
 use Rattle.suite_session.specs.Runner.{Question, Runner}
+use Rattle.suite_session.specs.Reports.{RunsFree}
 use Rattle.acct_outside.specs.Moment.{Past, Moment, Narrows}
 use Rattle.suite_rules.proofs.Parts.{StaysLawfulWhere}
 use Rattle.suite_session.specs.Deeds.{AreOfTools}
 use Rattle.suite_session.specs.Turning.{HasAnswered, IsNew, IsUnbegun}
-use Rattle.suite_session.specs.Answers.{after_streams, memory_answer}
+use Rattle.suite_session.specs.Answers.{Says, after_streams, memory_answer}
 use Rattle.suite_session.specs.Grows.{Grew, Grows}
 use Rattle.suite_session.proofs.Parts.{StaysOursWhere}
 use Rattle.suite_session.specs.Stands.{Extends, IsDiskFault, IsOutside, TurnsTo}
 use Rattle.suite_session.proofs.GrowsLemmas.{grew-extends, grew-nothing}
 use Rattle.suite_course.specs.Streams.{Streams, Serves}
 use Rattle.suite_course.specs.Course.{AnsweredAs, Finished}
-use Rattle.suite_course.specs.Top.{Answered, ExtendsLawfully, HasRun, IfLawful, IsAlwaysSettled, Ran, RunsOrNot, Shows}
+use Rattle.suite_course.specs.Shows.{IsAlwaysSettled, Shows}
+use Rattle.suite_course.specs.Top.{Answered, ExtendsLawfully, HasRun, IfLawful, Ran, RunsOrNot}
 use Rattle.suite_course.proofs.PlaceLemmas.{shows-at}
 use Rattle.suite_course.proofs.CompleteLemmas.{ran-complete}
+use Rattle.suite_course.proofs.FreeLemmas.{reports-freely}
 use Rattle.suite_course.proofs.LeavesLemmas.{leaves-alone}
 use Rattle.suite_course.proofs.CourseLemmas.{turns-as, turns-none, turns-then, unbegun-from}
 
@@ -77,7 +81,8 @@ module _ (asked : Question) (entry now : Moment) where
       (lawful-prefix deeds first newer older (subst (Lawful deeds first) parts lawful)) table
 
   module _ (outcome : Outcome) (given : Answer) (put : Result (Unit {0}) SinkFault)
-      (ends : outcome ≡ (after_streams put given).outcome) where
+      (ends : outcome ≡ (after_streams put given).outcome)
+      (says : Says asked given given.outcome.cause) where
     abbrev last_status : ℕ
     last_status = (after_streams put given).outcome.status
 
@@ -96,6 +101,13 @@ module _ (asked : Question) (entry now : Moment) where
           ∙ ap (λ (one : Outcome). stage_of one.cause) (sym ends);
     }
 
+    -- a report has changed no name
+    free-of : (runner : Runner) (past : Past) → runner.asked ≡ asked →
+        HasAnswered runner given last_status past → is_report asked.request ≡ true →
+        RunsFree runner.token past.history
+    free-of runner past same answered is = answered.ended.free
+        (subst (λ (one : Question). is_report one.request ≡ true) (sym same) is)
+
     -- what a lawful history shows of the session that answered
     answered-shows : (runner : Runner) (past : Past) → runner.asked ≡ asked →
         HasAnswered runner given last_status past → (deeds : SuiteDeeds) (first : Folder) →
@@ -104,7 +116,7 @@ module _ (asked : Question) (entry now : Moment) where
     answered-shows runner past same answered deeds first lawful =
         shows-at deeds first past.history lawful asked runner given same
         (answered.ended.due.asked ∙ ap (λ (one : Question). Some one.command) same)
-        answered.ended.due.commits answered.ended.due.shown
+        (free-of runner past same answered) answered.ended.due.commits answered.ended.due.shown
 
     -- the session that answered has run
     has-run : (runner : Runner) (was past : Past) (made : ℕ) → runner.asked ≡ asked →
@@ -120,12 +132,16 @@ module _ (asked : Question) (entry now : Moment) where
       shows = λ deeds ours others lawful. answered-shows runner past same answered deeds was.first
           (stays deeds ours others lawful);
       drops_nothing = answered.ended.drops_nothing;
+      free_reports = λ is. reports-freely runner given past.history
+          (free-of runner past same answered is)
+          (subst (λ (one : Question). Says one given given.outcome.cause) (sym same) says)
+          answered.ended.due.shown answered.ended.drops_nothing;
       leaves = λ deeds ours others lawful earlier alone.
           let lawful_now = stays deeds ours others lawful in
           leaves-alone deeds asked was.first past runner.token given lawful_now ours earlier alone
           given.outcome.cause answered.ended.due.commits
           (answered-shows runner past same answered deeds was.first lawful_now).shown
-          answered.ended.left answered.ended.backed;
+          answered.ended.left answered.ended.backed (free-of runner past same answered);
     }
 
     -- it has run, or its begin gave no token
@@ -171,7 +187,8 @@ finished-ran asked entry now was holds outcome finished =
     record { newer = newer; parts = parts; lawful = lawful })
     entry.told now.told extends turns.lawful in
     let session = runs-or-not asked entry now outcome finished.given finished.put finished.ends
-    finished.token finished.made entry.told now.told refl refl turns.stands turns.grew turns.lawful in
+    finished.says finished.token finished.made entry.told now.told refl refl turns.stands turns.grew
+    turns.lawful in
     let failed : IsDiskFault finished.given.outcome.cause → HasRisen entry.faults now.faults =
     λ fault. turns.risen (disk-outside finished.given.outcome.cause fault) in
     record {

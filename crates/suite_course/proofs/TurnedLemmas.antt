@@ -2,7 +2,7 @@
 -- answer to give, or gave it (`answers-keep-promises`).
 -- Way: what its own events show a lawful history shows of its place (PlaceLemmas), and where it was alone
 -- of the folder as it stood (CompleteLemmas, LeavesLemmas).
-use Rattle.std.proofs.Common.{◌⊎◌, inl, inr, refl, subst, Option, Some, None, IfSome, arith}
+use Rattle.std.proofs.Common.{◌⊎◌, inl, inr, refl, subst, true, ◌≡◌, Option, Some, None, IfSome, arith}
 use Rattle.acct_outside.specs.Tokens.{Token}
 use Rattle.acct_outside.specs.History.{History}
 use Rattle.acct_outside.specs.Moment.{Past, Moment}
@@ -14,11 +14,13 @@ use Rattle.suite_answers.specs.declared.answer.Answer.{Answer}
 use Rattle.suite_session.specs.declared.state.State.TheVariants.{Answering}
 use Rattle.suite_session.specs.declared.session.Phase.{Phase}
 use Rattle.suite_session.specs.declared.session.Phase.TheVariants.{Begun, Over, Unbegun}
+use Rattle.account_words.specs.Request.{is_report}
 use Rattle.suite_session.specs.Runner.{Runner}
+use Rattle.suite_session.specs.Reports.{RunsFree}
 use Rattle.suite_session.specs.Answers.{Says}
 use Rattle.suite_session.specs.Backing.{BackedUpChanges}
 use Rattle.suite_session.specs.Belongs.{Belongs, CameTo}
-use Rattle.suite_session.specs.Bound.{HasCalled, IsWithin}
+use Rattle.suite_session.specs.Bound.{HasCalled, HasCalledFree, IsWithin}
 use Rattle.suite_session.specs.Counts.{CountsLower}
 use Rattle.suite_session.specs.Deeds.{AreOfTools}
 use Rattle.suite_session.specs.Due.{IsDue}
@@ -28,6 +30,7 @@ use Rattle.suite_session.proofs.MetLemmas.{told-as}
 use Rattle.suite_session.proofs.StreamLemmas.{left-given}
 use Rattle.suite_course.specs.Turned.{AnswersKeepPromises, KeepsPromises, Promises}
 use Rattle.suite_course.proofs.CompleteLemmas.{answers-as}
+use Rattle.suite_course.proofs.FreeLemmas.{reports-freely}
 use Rattle.suite_course.proofs.LeavesLemmas.{leaves-alone}
 use Rattle.suite_course.proofs.PlaceLemmas.{shows-at}
 
@@ -45,6 +48,14 @@ called-within token answer history called = by-counts called.counts
       appended = omega (arith, called.appended);
     }
 
+-- so a report has changed no name by the end of its way
+called-free : (token : Token) (answer : Answer) (history : History) →
+    HasCalledFree token (Answering answer) history → RunsFree token history
+called-free token answer history called = record {
+  free = called.free;
+  within = omega (arith, called.within);
+}
+
 module _ (deeds : SuiteDeeds) (ours : AreOfTools deeds) where
   module _ (runner : Runner) (answer : Answer) where
     -- of an answer that is due
@@ -53,10 +64,11 @@ module _ (deeds : SuiteDeeds) (ours : AreOfTools deeds) where
         ((IsStopped answer.outcome.cause → ⊥) → HasLeft runner.token answer.outcome.cause past) →
         DropsNothing runner.token answer.outcome.cause past.history →
         IsWithin runner.token past.history → BackedUpChanges runner.token past.history →
+        (is_report runner.asked.request ≡ true → RunsFree runner.token past.history) →
         Promises deeds runner answer past
-    promises-of past lawful says due left drops within backed =
+    promises-of past lawful says due left drops within backed free =
         let shows = shows-at deeds past.first past.history lawful runner.asked runner answer refl
-        due.asked due.commits due.shown in
+        due.asked free due.commits due.shown in
         record {
           says = says;
           settles = λ newer older parts table. lawful-settles.is_fold deeds past.first older
@@ -65,8 +77,11 @@ module _ (deeds : SuiteDeeds) (ours : AreOfTools deeds) where
           shows = shows;
           drops_nothing = drops;
           within = within;
+          free_reports = λ is.
+              reports-freely runner answer past.history (free is) says due.shown drops;
           leaves = λ old alone. leaves-alone deeds runner.asked past.first past runner.token
-              answer lawful ours old alone answer.outcome.cause due.commits shows.shown left backed;
+              answer lawful ours old alone answer.outcome.cause due.commits shows.shown left backed
+              free;
           complete = λ old alone opened inside. answers-as deeds runner.asked past.first old
               past.history runner.token lawful alone opened answer answer.outcome.cause refl
               due.commits says inside shows.shown;
@@ -84,6 +99,7 @@ module _ (deeds : SuiteDeeds) (ours : AreOfTools deeds) where
     promises-told says (Some past) due left came =
         λ lawful. promises-of past lawful says due left came.remembers
         (called-within runner.token answer past.history came.called) came.backed
+        (λ is. called-free runner.token answer past.history (came.free is))
 
   -- of none that has no answer
   nothing-promised : (told : Option Past) → IfSome told (λ past. Lawful deeds past.first past.history →
@@ -119,7 +135,7 @@ module _ (deeds : SuiteDeeds) (ours : AreOfTools deeds) where
     left = belongs.left;
     texted = belongs.texted;
     promises = promises-of runner belongs.given past lawful belongs.says ended.due ended.left
-        ended.drops_nothing ended.within ended.backed;
+        ended.drops_nothing ended.within ended.backed ended.free;
   }) belongs.ended
   keeps-promises now (Unbegun tool answer) belongs = untold-promised now.told belongs
   keeps-promises now session belongs = nothing-promised now.told

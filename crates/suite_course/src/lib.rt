@@ -2,7 +2,8 @@
 //!
 //! It takes the input and asks the clock for the day, enters the folder, turns its session to the
 //! answer, and serves the streams. What the history of the folder then promises of a session that
-//! answers stands in `specs/Top`, with its proof (`answers_keep_promises`).
+//! answers stands in `specs/Shows`, of one that was alone in `specs/Alone`, and of the whole call in
+//! `specs/Top`; the law of it is `answers_keep_promises`.
 #![tactic(auto)]
 
 mod course;
