@@ -7,13 +7,16 @@
 use Rattle.std.proofs.Common.{◌≡◌, ◌∙◌, refl, sym, ap, ap₂, subst, ℕ, ◌+◌, Bool, true, false, List, [], Option, Some, None, Result, Ok, Err}
 use Rattle.std.specs.Prelude.{if◌then◌else◌, unwrap_or, IfOk}
 use Rattle.acct_text.specs.Bytes.{Bytes}
+use Rattle.acct_outside.specs.declared.Name.TheVariants.{Intent}
+use Rattle.acct_outside.specs.Folder.{Folder}
+use Rattle.acct_outside.specs.Logged.{folder_after}
 use Rattle.acct_outside.specs.Moment.{Past}
 use Rattle.acct_outside.specs.Streams.{WhereBytesTold}
 use Rattle.account_words.specs.declared.tool.Tool.{Tool}
 use Rattle.account_words.specs.declared.word_fault.WordFault.{WordFault}
 use Rattle.account_model.specs.Answer.{Answer, AnswerCause, Unusable, Refused, Same, Changed, TableTooLarge, SettingsTooLarge, TableAbsent, BadSettingAt, answer, new_files}
 use Rattle.account_words.specs.Options.{Word}
-use Rattle.account_words.specs.Request.{Request}
+use Rattle.account_words.specs.Request.{Request, is_report}
 use Rattle.account_words.specs.Words.{Asks}
 use Rattle.account_words.proofs.AsksLaws.{asks_iff_read}
 use Rattle.suite_answers.specs.declared.cause.Outcome.{Outcome}
@@ -76,6 +79,17 @@ module _ (words : List Word) (old new : Past) (outcome : Outcome) (before now : 
       (on-day asked day (sym gave ∙ supplied.on_day))
       ∙ ap (λ (defs : Option Bytes). answer request [] rehearsal_day (files_at old) defs) settings
 
+  -- a report leaves the folder, and any other command no intent
+  no-intent : (request : Request) → (folder_after old).file Intent ≡ None →
+      (is_report request ≡ false → (folder_after new).file Intent ≡ None) →
+      (is_report request ≡ true → folder_after new ≡ folder_after old) →
+      (folder_after new).file Intent ≡ None
+  no-intent request none intent report = cases (is_report request) refl
+    where
+      cases : (reports : Bool) → is_report request ≡ reports → (folder_after new).file Intent ≡ None
+      cases true is = ap (λ (folder : Folder). folder.file Intent) (report is) ∙ none
+      cases false is = intent is
+
   -- so it is with what tells whether it changed the tables
   is-answered : (changes : Bool) → IsDecided outcome.cause →
       changes ≡ is_changed outcome.cause →
@@ -93,7 +107,7 @@ module _ (words : List Word) (old new : Past) (outcome : Outcome) (before now : 
       ∙ (ap (λ (one : Answer). is_changed (cause_of_answer one.cause)) (sym same)
       ∙ (ap is_changed (sym step.3.cause) ∙ sym is)) in
       record {
-        intent = step.3.intent;
+        intent = λ none. no-intent request none step.3.intent step.3.report;
         leaves = λ changed.
             let was : Reached = record { files = files_at old; changed = changed } in
             ap (λ (read : Result Request WordFault). after_read read was)

@@ -55,6 +55,7 @@ has-files deeds ours files past contents stand laid is folder =
       lawful = starts-lawfully deeds ours past (ap (λ (one : Past). one.history) is) folder;
       files = ap files_at begins ∙ laid-files files stand;
       settings = ap defs_at begins;
+      intent = ap (λ (one : Past). (folder_after one).file Intent) begins;
     }
 
 -- ---- Out of a folder

@@ -30,9 +30,9 @@ abbrev pub contents_of : Files → List (Name × Bytes)
 contents_of files = contents_among files all_tables
 
 -- A command with these words ran alone between two moments of a folder: what it found there became what
--- its answer makes of it, whatever had changed before; and no intent stands.
+-- its answer makes of it, whatever had changed before; and no intent stands where none did.
 pub record IsAnswered (words : List Word) (old new : Past) (changes : Bool) : Type 0 where
-  pub intent : (folder_after new).file Intent ≡ None
+  pub intent : (folder_after old).file Intent ≡ None → (folder_after new).file Intent ≡ None
   pub leaves : (changed : ℕ) →
       after_words words (record { files = files_at old; changed = changed })
       ≡ record {

@@ -53,7 +53,9 @@ use Rattle.suite_session.specs.Grows.{Grows, none_new, others_new, own_new}
 use Rattle.suite_session.specs.Stands.{IsDecided}
 use Rattle.suite_course.specs.Streams.{Streams}
 use Rattle.suite_course.specs.Supplies.{Supplies, IsUnsupplied}
-use Rattle.suite_course.specs.Top.{EndsEarly, EndsUnsupplied, HasChanged, HasNotRun, HasRun, HasStayed, IsAlone, IsShownAt, Ran, RunsOrNot}
+use Rattle.suite_course.specs.Alone.{IsAlone, Leaves}
+use Rattle.suite_course.specs.Shows.{HasChanged, HasStayed, IsShownAt}
+use Rattle.suite_course.specs.Top.{EndsEarly, EndsUnsupplied, HasNotRun, HasRun, Ran, RunsOrNot}
 use Rattle.suite_clients.specs.Alone.{IsLawful, IsStep}
 
 -- ---- Causes that no tool decides
@@ -262,21 +264,23 @@ module _ (deeds : SuiteDeeds) (ours : AreOfTools deeds) (asked : Question)
     answer-by (inl changed) = (changed.alone old alone).is_answer
     answer-by (inr stayed) = (stayed.0.alone old alone).is_answer
 
-    -- so it was one step, where no intent stands
+    -- so it was one step, where it leaves no intent, or as a report the folder
     step-of : Lawful deeds first old → Lawful deeds first new →
         ChangedOrStayed deeds asked first new token given given.outcome.cause →
-        (after first new).file Intent ≡ None →
+        IsDecided given.outcome.cause →
+        Leaves asked first old new token given.outcome.cause →
         IsStep asked.request asked.command.input asked.command.day
         (record { first = first; history = old })
         (record { first = first; history = new }) given.outcome
-    step-of before lawful shown none = record {
+    step-of before lawful shown decided leaves = record {
       cause = (answer-by shown).has_cause;
       status = (answer-by shown).has_status;
       files = files-are (settled (after first new)) (unwrap_or made (files_of was))
           (settled-by shown);
       settings = (file-facts deeds first new lawful).settings
           ∙ sym (file-facts deeds first old before).settings;
-      intent = none;
+      intent = λ no_report. leaves.intent no_report decided;
+      report = leaves.report;
     }
 
 -- ---- The run
@@ -339,8 +343,8 @@ module _ (asked : Question) (old new : Past) (one other : ℕ) (was holds : Stre
       let longer = ran.lawful.1 is.0 is.1 others is.2 in
       let step = step-of is.0 is.1 asked asks old.first old.history new.history who.token ran.given
       who.alone is.2 longer.lawful (decided-shown is.0 asked old.first new.history who.token
-      ran.given ran.given.outcome.cause own (who.run.shows is.0 is.1 others is.2).shown)
-      ((who.run.leaves is.0 is.1 others is.2 old.history who.alone).intent own) in
+      ran.given ran.given.outcome.cause own (who.run.shows is.0 is.1 others is.2).shown) own
+      (who.run.leaves is.0 is.1 others is.2 old.history who.alone) in
       subst (λ (last : Outcome). Step old new last) (sym same)
       (subst (λ (first : Folder). Step old (record { first = first; history = new.history })
       ran.given.outcome) (sym ran.lawful.0) step)

@@ -8,7 +8,8 @@ use Rattle.std.specs.Fmt.{digits}
 use Rattle.acct_text.specs.Bytes.{Bytes, newline}
 use Rattle.acct_text.specs.declared.files.Files.{Files}
 use Rattle.acct_outside.specs.Folder.{IsFolder}
-use Rattle.acct_outside.specs.History.{History}
+use Rattle.acct_outside.specs.declared.Name.TheVariants.{Intent}
+use Rattle.acct_outside.specs.History.{History, after}
 use Rattle.acct_outside.specs.Store.{folder_with}
 use Rattle.acct_outside.specs.Moment.{Past}
 use Rattle.account_model.specs.declared.refusal.Refusal.TheVariants.{GidInUse}
@@ -146,4 +147,5 @@ begins-empty deeds ours past is folder = record {
   lawful = starts-lawfully deeds ours past (ap (λ (one : Past). one.history) is) folder;
   files = ap files_at is;
   settings = ap defs_at is;
+  intent = ap (λ (one : Past). (after one.first one.history).file Intent) is;
 }

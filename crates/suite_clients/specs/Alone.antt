@@ -1,12 +1,12 @@
 -- A command that is alone in its folder: what it answers, and what it makes of the files.
-use Rattle.std.specs.Prelude.{◌≡◌, ℕ, Option, None, unwrap_or}
+use Rattle.std.specs.Prelude.{◌≡◌, ℕ, true, false, Option, None, unwrap_or}
 use Rattle.acct_text.specs.Bytes.{Bytes}
 use Rattle.acct_text.specs.declared.files.Files.{Files}
 use Rattle.acct_outside.specs.declared.Name.TheVariants.{Intent}
 use Rattle.acct_outside.specs.Folder.{settings_file}
 use Rattle.acct_outside.specs.History.{after}
 use Rattle.acct_outside.specs.Moment.{Past}
-use Rattle.account_words.specs.Request.{Request}
+use Rattle.account_words.specs.Request.{Request, is_report}
 use Rattle.account_model.specs.Answer.{answer, deed}
 use Rattle.suite_rules.specs.Deeds.{SuiteDeeds}
 use Rattle.suite_rules.specs.Lawful.{Lawful}
@@ -29,14 +29,16 @@ files_at past = files_of (settled (after past.first past.history))
 abbrev pub defs_at : Past → Option Bytes
 defs_at past = settings_file (after past.first past.history)
 
--- a lawful history, after which these files are settled, and no login.defs stands
+-- a lawful history, after which these files are settled, and neither login.defs nor an intent stands
 pub record HasFiles (settles : Files) (past : Past) : Type 0 where
   pub lawful : IsLawful past
   pub files : files_at past ≡ settles
   pub settings : defs_at past ≡ None
+  pub intent : (after past.first past.history).file Intent ≡ None
 
 -- The outcome is that of the request's answer, with this input and on this day, on the settled files of
--- before, and these became what the answer makes of them. No intent stands, and login.defs stays.
+-- before, and these became what the answer makes of them. login.defs stays, and no intent stands; but a
+-- report leaves the folder as it was.
 pub record IsStep (request : Request) (input : Bytes) (day : ℕ) (old new : Past) (outcome : Outcome)
     : Type 0 where
   pub cause : outcome.cause
@@ -45,7 +47,8 @@ pub record IsStep (request : Request) (input : Bytes) (day : ℕ) (old new : Pas
   pub files : files_at new
       ≡ unwrap_or (deed request input day (files_at old) (defs_at old)) (files_at old)
   pub settings : defs_at new ≡ defs_at old
-  pub intent : (after new.first new.history).file Intent ≡ None
+  pub intent : is_report request ≡ false → (after new.first new.history).file Intent ≡ None
+  pub report : is_report request ≡ true → after new.first new.history ≡ after old.first old.history
 
 -- so it is with some input, on some day
 abbrev pub IsSomeStep : Request → Past → Past → Outcome → Type 0

@@ -15,7 +15,8 @@ use suite_core::{Outcome, run_suite};
 ///
 /// Where its tool decided, the words ask for something; the outcome is that of the account model's
 /// answer, to the input and the day that came, on the settled files of before; the settled files
-/// afterwards are those that the model makes of them, and no intent stands.
+/// afterwards are those that the model makes of them, and no intent stands. A report leaves the folder as
+/// it was.
 pub fn run_alone<S: Source, O: Sink, E: Sink, C: Clock>(
     alloc: Global,
     words: &[Word],
