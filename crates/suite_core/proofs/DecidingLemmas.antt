@@ -143,36 +143,41 @@ module _ (old new : Contents)
       list_all (λ table. same_content (old table) (new table)) tables ≡ true
   none-differs [] none = refl
   none-differs (table ∷ tables) none =
-      cases (same_content (old table) (new table)) refl (new table) refl none
+      cases (none-differs tables) (same_content (old table) (new table)) refl (new table) refl none
     where
       absent : (one other : Option Bytes) → is_some other ≡ is_some one → other ≡ None →
           same_content one other ≡ true
       absent None other standing is = rw is refl
       absent (Some bytes) other standing is = absurd (cc (sym standing ∙ ap is_some is))
 
-      cases : (same : Bool) → same_content (old table) (new table) ≡ same →
+      cases : (changed_among tables old new ≡ [] →
+          list_all (λ other. same_content (old other) (new other)) tables ≡ true) →
+          (same : Bool) → same_content (old table) (new table) ≡ same →
           (content : Option Bytes) → new table ≡ content →
           (if same then changed_among tables old new
           else with_new_table table content (changed_among tables old new)) ≡ [] →
           (same && list_all (λ other. same_content (old other) (new other)) tables) ≡ true
-      cases true same content is empty = none-differs tables empty
-      cases false differs None is empty =
+      cases rest true same content is empty = rest empty
+      cases rest false differs None is empty =
           absurd (cc (sym differs ∙ absent (old table) (new table) (stands table) is))
-      cases false differs (Some bytes) is empty = absurd (cc empty)
+      cases rest false differs (Some bytes) is empty = absurd (cc empty)
 
   -- where each is the same, none differs
   all-same : (tables : List Tab) →
       list_all (λ table. same_content (old table) (new table)) tables ≡ true →
       changed_among tables old new ≡ []
   all-same [] same = refl
-  all-same (table ∷ tables) same = by-test (same_content (old table) (new table)) same
+  all-same (table ∷ tables) same =
+      by-test (all-same tables) (same_content (old table) (new table)) same
     where
-      by-test : (is_same : Bool) →
+      by-test : (list_all (λ other. same_content (old other) (new other)) tables ≡ true →
+          changed_among tables old new ≡ []) →
+          (is_same : Bool) →
           (is_same && list_all (λ other. same_content (old other) (new other)) tables) ≡ true →
           (if is_same then changed_among tables old new
           else with_new_table table (new table) (changed_among tables old new)) ≡ []
-      by-test true rest = all-same tables rest
-      by-test false rest = absurd (cc rest)
+      by-test rest true same = rest same
+      by-test rest false same = absurd (cc same)
 
 -- what a tool made are the files after its edits
 made-files : (action : Action) (files : Files) (made : Made) → outcome_of action files ≡ Ok made →
@@ -188,7 +193,8 @@ made-files action files made = by (first_some action.refusals) (multiple_entries
     ]) ≡ Ok made → files_after action.script files ≡ made.files
     by (Some refusal) multiple is = absurd (cc is)
     by None (Some refusal) is = absurd (cc is)
-    by None None is = ap (λ (one : Made). one.files) (cc is)
+    by None None is =
+        let same : made_by action files ≡ made = cc is in ap (λ (one : Made). one.files) same
 
 -- ---- The answer
 
