@@ -1,12 +1,10 @@
 -- Claims: a file after the edits of a slice is that after the edits of its list (`listed-file`), and one
--- that is absent or has no edits isn't listed (`absent-unlisted`, `unedited-unlisted`).
-use Rattle.std.proofs.Common.{◌≡◌, ◌∙◌, ◌++◌, append-nil, ℕ, true, List, [], Option, Some, None, ap, refl, sym}
+-- without edits isn't listed (`unedited-unlisted`). Way: its bytes are those of its lines.
+use Rattle.std.proofs.Common.{◌≡◌, ◌∙◌, ◌++◌, append-nil, ℕ, Bool, if◌then◌else◌, List, [], Option, Some, None, ap, refl, sym}
 use Rattle.acct_text.specs.declared.Tab.{Tab}
 use Rattle.acct_text.specs.declared.new_tables.NewTable.{NewTable}
 use Rattle.acct_text.specs.ChangedTables.{changed_bytes, with_new_table}
-use Rattle.acct_text.specs.Contents.{same_content}
 use Rattle.acct_text.proofs.LinesLaws.{lines_of-are}
-use Rattle.account_formats.specs.Edits.{Edit as RecordEdit}
 use Rattle.account_formats.specs.Format.{Format}
 use Rattle.account_formats.specs.Tables.{table_after}
 use Rattle.account_formats.proofs.SameLaws.{bytes-self}
@@ -28,18 +26,23 @@ listed-file format becomes slice items table file before after same is =
     is ∙ ap (λ edits. before ++ adds table file (table_after format (seen_edits becomes edits) file))
     same
 
--- an absent table isn't listed
-pub absent-unlisted :
-    {R : Type 0} (format : Format R) (edits : List (RecordEdit R)) (table : Tab)
-    (before : List NewTable)
-    → before ≡ before ++ adds table None (table_after format edits None)
-absent-unlisted format edits table before = sym (append-nil before)
+-- a table stays without edits
+unedited-same :
+    {R : Type 0} (format : Format R) (file : Option (List ℕ))
+    → changed_bytes file (table_after format [] file) ≡ None
+unedited-same format None = refl
+unedited-same format (Some text) =
+    ap (λ (new : List ℕ). changed_bytes (Some text) (Some new)) (lines_of-are text).joined
+    ∙ ap (λ (is_same : Bool). if is_same then None else Some text) (bytes-self text)
 
--- nor is one without edits, which stays byte for byte
+-- so it isn't listed where it was read from a slice that has none
 pub unedited-unlisted :
-    {R : Type 0} (format : Format R) (table : Tab) (text : List ℕ) (before : List NewTable)
-    → before ≡ before ++ adds table (Some text) (table_after format [] (Some text))
-unedited-unlisted format table text before =
-    sym (ap (λ (new : Option (List ℕ)). before ++ adds table (Some text) new)
-    (ap Some (lines_of-are text).joined)
-    ∙ (rw (bytes-self text) refl ∙ append-nil before))
+    {R C : Type 0} (format : Format R) (becomes : C → R → List R) (edits : List (Edit R C))
+    (table : Tab) (file : Option (List ℕ)) (before : List NewTable)
+    → edits ≡ []
+    → before ≡ before ++ adds table file (table_after format (seen_edits becomes edits) file)
+unedited-unlisted format becomes edits table file before none =
+    sym (ap (λ edits. before ++ adds table file (table_after format (seen_edits becomes edits) file))
+    none
+    ∙ (ap (λ (new : Option (List ℕ)). before ++ with_new_table table new [])
+    (unedited-same format file) ∙ append-nil before))
