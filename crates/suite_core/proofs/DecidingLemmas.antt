@@ -21,10 +21,10 @@ use Rattle.account_words.specs.declared.tool.Tool.{Tool}
 use Rattle.account_formats.specs.Text.{first_some}
 use Rattle.account_formats.specs.Tables.{files_after}
 use Rattle.account_model.specs.Action.{Action, Made, made_by, multiple_entries, outcome_of}
-use Rattle.account_model.proofs.DeedLaws.{files-stand}
+use Rattle.account_model.proofs.DeedLaws.{deed-is, files-stand}
 use Rattle.account_model.specs.Change.{action_of}
 use Rattle.account_words.specs.Settings.{bad_line, settings_of}
-use Rattle.account_model.specs.Answer.{FileProblem, TableTooLarge, BadSettingAt, Same, Changed, Answer as ToolAnswer, answer_outcome, succeeding, unusable, passes_limit, must_stand, table_problem, settings_problem, files_problem, new_table_problem, new_problem, files_eq, cause_of}
+use Rattle.account_model.specs.Answer.{FileProblem, TableTooLarge, BadSettingAt, Same, Changed, Answer as ToolAnswer, answer_outcome, succeeding, unusable, passes_limit, must_stand, table_problem, settings_problem, files_problem, new_table_problem, new_problem, files_eq, cause_of, new_files}
 use Rattle.std.specs.Prelude.{IfOk}
 use Rattle.std.specs.Result.{result_err}
 use Rattle.login_defs.specs.declared.defs.Defs.{Defs}
@@ -44,7 +44,6 @@ use Rattle.suite_session.specs.Runner.{Question}
 use Rattle.suite_session.specs.Answers.{answer_on, cause_of_answer, given_for, IsAnswerOn}
 use Rattle.suite_session.specs.Deeds.{is_change}
 use Rattle.suite_session.specs.Loading.{DecidesOn}
-use Rattle.suite_session.proofs.LoadingTurns.{change-is}
 use Rattle.suite_core.specs.Deciding.{bad_line as bad_line_of, AnswersDecision, large_table, settings_text}
 
 -- ---- The files that were loaded
@@ -304,7 +303,8 @@ module _ (asked : Question) (files : Files) (defs : Option Bytes) where
           ∙ ap (λ (one : Bool). succeeding tool (if one then Same else Changed made.files) made)
           differs in
           let cause = ap (λ (one : ToolAnswer). one.cause) told in
-          let allowed = change-is asked files defs made.files cause in
+          let allowed = deed-is asked.request asked.command.input asked.command.day files defs
+          made.files (ap new_files cause) in
           subst (λ (one : List NewTable). DecidesOn asked files defs (Changes one given))
           (are ∙ sym shown.0) (
             subst (λ (one : Answer). IsAnswerOn asked files defs one) (sym shown.2)
