@@ -1,1 +1,2 @@
 pub mod UserdelLemmas
+mod FoundOnes

@@ -2,9 +2,9 @@ use Rattle.std.proofs.Common.{◌≡◌, true, false, refl, sym, ap, ◌∙◌}
 use Rattle.std.specs.Prelude.{is_some}
 use Rattle.account_model.specs.Userdel.{is_shared}
 use Rattle.account_model.specs.Users.{other_users}
-use Rattle.command_values.proofs.OptionLemmas.{is_some-find}
 use Rattle.user_removal.specs.Others.{has_id}
 use Rattle.user_removal.specs.declared.others.AccountId.TheVariants.{Uid}
+use Rattle.user_removal.proofs.FoundOnes.{is_some-find}
 use Rattle.user_removal.proofs.removal.unshared.Goals as goal
 
 pub returns-then-is_some : goal.returns-then-is_some
