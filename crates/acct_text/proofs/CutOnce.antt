@@ -17,7 +17,10 @@ use Rattle.acct_text.proofs.Cut.{cut_at-is}
 
 -- a test that isn't passed is failed
 failed : (passed : Bool) → ¬ (passed ≡ true) → passed ≡ false
-failed passed not_passed = elim (cases_Bool passed) [ inl yes_is ↦ absurd (not_passed yes_is) | inr no_is ↦ no_is ]
+failed passed not_passed = elim (cases_Bool passed) [
+  | inl yes_is ↦ absurd (not_passed yes_is)
+  | inr no_is ↦ no_is
+]
 
 -- bytes of which none passes the test
 all-failed :
@@ -25,10 +28,13 @@ all-failed :
     → end < length text + 1
     → Nowhere (Passes test text) 0 end
     → All (λ byte. test byte ≡ false) (take end text)
-all-failed test text end within nowhere = All-from_get_or (λ byte. test byte ≡ false) (take end text) 0
+all-failed test text end within nowhere =
+    All-from_get_or (λ byte. test byte ≡ false) (take end text) 0
     (λ place low.
     let same : get_or (take end text) place 0 ≡ get_or text place 0 = grind (arith, common_steps) in
-    subst (λ byte. test byte ≡ false) (sym same) (failed (test (get_or text place 0)) (nowhere place (omega arith) (grind (arith, common_steps)))))
+    let not_passed : ¬ (test (get_or text place 0) ≡ true) =
+    nowhere place (omega arith) (grind (arith, common_steps)) in
+    subst (λ byte. test byte ≡ false) (sym same) (failed (test (get_or text place 0)) not_passed))
 
 -- a text without the separator is one piece
 pub cut-at_none :
@@ -48,9 +54,11 @@ pub cut-at_first :
 cut-at_first separator text end first =
     let inside : end < length text = first.0.high in
     let whole : text ≡ take end text ++ (slice_index text end ∷ drop (end + 1) text) =
-    sym (take-append-drop end text) ∙ ap (λ rest. take end text ++ rest) (drop_more text end 0 inside)
+    sym (take-append-drop end text)
+    ∙ ap (λ rest. take end text ++ rest) (drop_more text end 0 inside)
     in ap (cut_at separator) whole
-    ∙ slice_split_at (is_byte separator) (take end text) (slice_index text end) (drop (end + 1) text)
+    ∙ slice_split_at
+    (is_byte separator) (take end text) (slice_index text end) (drop (end + 1) text)
     (all-failed (is_byte separator) text end (omega arith) first.0.before) first.1
 
 module _ (separator : ℕ) where
@@ -62,7 +70,8 @@ module _ (separator : ℕ) where
   first-joined :
       (first : List ℕ) (pieces : List (List ℕ))
       → 0 < length pieces
-      → join_with_byte separator (first ∷ pieces) ≡ first ++ separator ∷ join_with_byte separator pieces
+      → join_with_byte separator (first ∷ pieces)
+      ≡ first ++ separator ∷ join_with_byte separator pieces
   first-joined first [] some = absurd (lt_irrefl 0 some)
   first-joined first (next ∷ rest) some = refl
 
@@ -74,7 +83,8 @@ module _ (separator : ℕ) where
   first-place [] behind lacks = rw (eq-eqb separator separator refl) refl
   first-place (byte ∷ before) behind lacks =
       let later = first-place before behind lacks.1 in
-      let more : 1 + position_or_len separates (before ++ separator ∷ behind) ≡ suc (length before) =
+      let more : 1 + position_or_len separates (before ++ separator ∷ behind)
+      ≡ suc (length before) =
       omega (arith, later) in
       rw (ne_eqb byte separator lacks.0) more
 
@@ -138,14 +148,16 @@ module _ (separator : ℕ) where
         let size : length front ≡ length before + 1 =
         omega (arith, length-append before (separator ∷ [])) in
         ap (λ place. drop (place + 1) text) cut-place
-        ∙ ap (drop (length before + 1)) (cut-whole ∙ sym (append_assoc before (separator ∷ []) behind))
+        ∙ ap (drop (length before + 1))
+        (cut-whole ∙ sym (append_assoc before (separator ∷ []) behind))
         ∙ drop_at front behind (length before + 1) size
 
   -- A text that can't be cut.
   module _ (text : List ℕ) (uncut : cut_at separator text ≡ text ∷ []) where
     -- no byte is the separator
     pub uncut-lacks : Lacks separator text
-    uncut-lacks = (subst (AllByRecursion (Lacks separator)) uncut (cut_at-is separator text).apart).0
+    uncut-lacks =
+        (subst (AllByRecursion (Lacks separator)) uncut (cut_at-is separator text).apart).0
 
     -- it has none
     pub uncut-has : list_any separates text ≡ false

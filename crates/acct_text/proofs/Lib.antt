@@ -7,6 +7,7 @@ pub mod PartPlaces
 pub mod PieceTexts
 pub mod LinePlaces
 pub mod Digits
+pub mod FoundOnes
 pub mod Rows
 pub mod FilesLemmas
 pub mod ChangedTablesLemmas

@@ -1,2 +1,1 @@
 pub mod UserdelLemmas
-mod FoundOnes

@@ -12,7 +12,8 @@ join-more :
 join-more separator first [] part = refl
 join-more separator first (next ∷ rest) part =
     ap (λ text. first ++ (separator ∷ text)) (join-more separator next rest part)
-    ∙ sym (append_assoc first (separator ∷ join_with_byte separator (next ∷ rest)) (separator ∷ part))
+    ∙ sym (append_assoc
+    first (separator ∷ join_with_byte separator (next ∷ rest)) (separator ∷ part))
 
 -- a separator and the next part make the text of one part more
 pub loop-part-preserved : goal.loop-part-preserved

@@ -4,7 +4,7 @@ use Rattle.account_model.specs.Userdel.{is_shared}
 use Rattle.account_model.specs.Users.{other_users}
 use Rattle.user_removal.specs.Others.{has_id}
 use Rattle.user_removal.specs.declared.others.AccountId.TheVariants.{Uid}
-use Rattle.user_removal.proofs.FoundOnes.{is_some-find}
+use Rattle.acct_text.proofs.FoundOnes.{is_some-find}
 use Rattle.user_removal.proofs.removal.unshared.Goals as goal
 
 pub returns-then-is_some : goal.returns-then-is_some
