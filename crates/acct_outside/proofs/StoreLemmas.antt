@@ -10,9 +10,14 @@ use Rattle.acct_outside.specs.Folder.{Folder, with_file}
 use Rattle.acct_outside.specs.Store.{file_in, folder_of, with_files}
 use Rattle.acct_outside.proofs.NameLemmas.{same_name-true, same_name-self}
 
+-- a name that isn't another isn't it the other way round either
 else_back : (name other : Name) → same_name other name ≡ false → same_name name other ≡ false
 else_back name other isnt = elim (cases_Bool (same_name name other)) [
-  | inl hit ↦ absurd (let same : name ≡ other = same_name-true name other hit in let at : same_name other name ≡ true = subst (λ n. same_name other n ≡ true) (sym same) (same_name-self other) in cc (at, isnt))
+  | inl hit ↦ absurd (
+      let same : name ≡ other = same_name-true name other hit in
+      let at : same_name other name ≡ true =
+      subst (λ n. same_name other n ≡ true) (sym same) (same_name-self other) in
+      cc (at, isnt))
   | inr miss ↦ miss
 ]
 
@@ -22,16 +27,32 @@ module _ (name : Name) where
   others_of files = filter (λ file. not (same_name file.0 name)) files
 
   -- a test that holds of this name tells another one apart
-  apart : (here other : Name) → same_name here name ≡ true → same_name other name ≡ false → same_name here other ≡ false
+  apart :
+      (here other : Name)
+      → same_name here name ≡ true
+      → same_name other name ≡ false
+      → same_name here other ≡ false
   apart here other is isnt = elim (cases_Bool (same_name here other)) [
-    | inl hit ↦ absurd (let same : here ≡ other = same_name-true here other hit in let at : same_name other name ≡ true = subst (λ n. same_name n name ≡ true) same is in cc (at, isnt))
+    | inl hit ↦ absurd (
+        let same : here ≡ other = same_name-true here other hit in
+        let at : same_name other name ≡ true = subst (λ n. same_name n name ≡ true) same is in
+        cc (at, isnt))
     | inr miss ↦ miss
   ]
 
-  else_apart : (here other : Name) → same_name here name ≡ false → same_name here other ≡ true → same_name other name ≡ false
-  else_apart here other isnt hit = subst (λ n. same_name n name ≡ false) (same_name-true here other hit) isnt
+  -- what is the same as another than this name isn't this name either
+  else_apart :
+      (here other : Name)
+      → same_name here name ≡ false
+      → same_name here other ≡ true
+      → same_name other name ≡ false
+  else_apart here other isnt hit =
+      subst (λ n. same_name n name ≡ false) (same_name-true here other hit) isnt
 
-  pub file_in-others : (files : List (Name × Bytes)) (other : Name) → file_in (others_of files) other ≡ cond (same_name other name) None (file_in files other)
+  -- at the name nothing is left, and at others what stood
+  pub file_in-others :
+      (files : List (Name × Bytes)) (other : Name)
+      → file_in (others_of files) other ≡ cond (same_name other name) None (file_in files other)
   file_in-others [] other = elim (cases_Bool (same_name other name)) [
     | inl hit ↦ sym (cond-true _ _ _ hit)
     | inr miss ↦ sym (cond-false _ _ _ miss)
@@ -52,11 +73,15 @@ abbrev or_else : Option Bytes → Option Bytes → Option Bytes
 or_else None second = second
 or_else (Some bytes) second = Some bytes
 
+-- without a second it is the first
 or_else-none : (first : Option Bytes) → or_else first None ≡ first
 or_else-none None = refl
 or_else-none (Some bytes) = refl
 
-file_in-append : (front back : List (Name × Bytes)) (other : Name) → file_in (front ++ back) other ≡ or_else (file_in front other) (file_in back other)
+-- the files in front come first
+file_in-append :
+    (front back : List (Name × Bytes)) (other : Name)
+    → file_in (front ++ back) other ≡ or_else (file_in front other) (file_in back other)
 file_in-append [] back other = refl
 file_in-append (file ∷ front) back other = elim (cases_Bool (same_name file.0 other)) [
   | inl here ↦ rw here refl
@@ -64,19 +89,26 @@ file_in-append (file ∷ front) back other = elim (cases_Bool (same_name file.0 
 ]
 
 -- a file put behind the others
-pub file_in-put : (files : List (Name × Bytes)) (name : Name) (bytes : Bytes) (other : Name) (old : Option Bytes) → file_in files other ≡ cond (same_name other name) None old
+pub file_in-put :
+    (files : List (Name × Bytes)) (name : Name) (bytes : Bytes) (other : Name) (old : Option Bytes)
+    → file_in files other ≡ cond (same_name other name) None old
     → file_in (files ++ (name, bytes) ∷ []) other ≡ cond (same_name other name) (Some bytes) old
-file_in-put files name bytes other old before = file_in-append files ((name, bytes) ∷ []) other ∙ elim (cases_Bool (same_name other name)) [
-  | inl is ↦
-      let same : other ≡ name = same_name-true other name is in
-      let back : same_name name other ≡ true = subst (λ n. same_name name n ≡ true) (sym same) (same_name-self name) in
-      ap (λ (o : Option Bytes). or_else o (cond (same_name name other) (Some bytes) None)) (before ∙ cond-true _ _ _ is)
-      ∙ cond-true _ _ _ back ∙ sym (cond-true _ _ _ is)
-  | inr isnt ↦
-      let back : same_name name other ≡ false = else_back name other isnt in
-      ap (λ (o : Option Bytes). or_else o (cond (same_name name other) (Some bytes) None)) (before ∙ cond-false _ _ _ isnt)
-      ∙ ap (or_else old) (cond-false _ _ _ back) ∙ or_else-none old ∙ sym (cond-false _ _ _ isnt)
-]
+file_in-put files name bytes other old before =
+    let put : Option Bytes → Option Bytes =
+    λ o. or_else o (cond (same_name name other) (Some bytes) None) in
+    file_in-append files ((name, bytes) ∷ []) other ∙ elim (cases_Bool (same_name other name)) [
+      | inl is ↦
+          let same : other ≡ name = same_name-true other name is in
+          let back : same_name name other ≡ true =
+          subst (λ n. same_name name n ≡ true) (sym same) (same_name-self name) in
+          ap put (before ∙ cond-true _ _ _ is)
+          ∙ cond-true _ _ _ back ∙ sym (cond-true _ _ _ is)
+      | inr isnt ↦
+          let back : same_name name other ≡ false = else_back name other isnt in
+          ap put (before ∙ cond-false _ _ _ isnt)
+          ∙ ap (or_else old) (cond-false _ _ _ back)
+          ∙ or_else-none old ∙ sym (cond-false _ _ _ isnt)
+    ]
 
 -- files and lock numbers that are those of a folder make it
 pub folder_of-is : (files : List (Name × Bytes)) (locks : List ℕ) (folder : Folder)
@@ -88,7 +120,8 @@ folder_of-is files locks folder same_files same_locks =
 
 -- one more file put in a folder
 pub with_files-push : (files : List (Name × Bytes)) (file : Name × Bytes) (folder : Folder)
-    → with_files (files ++ file ∷ []) folder ≡ with_file file.0 (Some file.1) (with_files files folder)
+    → with_files (files ++ file ∷ []) folder
+    ≡ with_file file.0 (Some file.1) (with_files files folder)
 with_files-push [] file folder = refl
 with_files-push (other ∷ files) file folder =
     with_files-push files file (with_file other.0 (Some other.1) folder)

@@ -3,7 +3,9 @@ use Rattle.std.proofs.Common.{◌≡◌, ℕ, zero, suc, ◌+◌, ◌-◌, ◌<�
 use Rattle.std.proofs.lemmas.List.{drop-drop, take_all, length-drop}
 
 -- a list is its front and the rest behind it
-front-rest : (room : ℕ) (list : List ℕ) → list ≡ take room list ++ drop (length (take room list)) list
+front-rest :
+    (room : ℕ) (list : List ℕ)
+    → list ≡ take room list ++ drop (length (take room list)) list
 front-rest zero list = refl
 front-rest (suc room) [] = refl
 front-rest (suc room) (byte ∷ list) = ap (λ (l : List ℕ). byte ∷ l) (front-rest room list)

@@ -65,7 +65,8 @@ impl Folder for MemoryFolder {
 
     fn read(&mut self, by: &Token, name: Name, limit: u64) -> Result<Found, FolderFault>
         requires { IsName name }
-        ensures told { TellsRead (moment_of self.old) (moment_of self.new) by.now name limit result }
+        ensures told { TellsRead (moment_of self.old) (moment_of self.new) by.now name limit
+            result }
         ensures limit { IfOk result (IsWithinLimit limit) }
         ensures faults { CountsFailure FolderFault.Failed (faults_of self.old)
             (faults_of self.new) result }

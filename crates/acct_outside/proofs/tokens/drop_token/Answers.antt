@@ -9,6 +9,8 @@ use Rattle.acct_outside.proofs.tokens.drop_token.Goals as goal
 pub returns-clause-rest : goal.returns-clause-rest
 returns-clause-rest c = λ other.
     let token = c.args.token.now in
-    let kept : c.retain.new.self.items ≡ filter (λ x. not (bytes_eq x token)) c.args.tokens.now.items =
-    filter_same _ (λ x. not (bytes_eq x token)) _ (λ x b q r. search rules) _ _ c.retain.ensures.filtered in
-    ap (has_token other) kept ∙ without token other c.args.tokens.now.items
+    let tokens = c.args.tokens.now.items in
+    let kept : c.retain.new.self.items ≡ filter (λ x. not (bytes_eq x token)) tokens =
+    filter_same _ (λ x. not (bytes_eq x token)) _ (λ x b q r. search rules) _ _
+    c.retain.ensures.filtered in
+    ap (has_token other) kept ∙ without token other tokens

@@ -19,7 +19,8 @@ returns-in-Ok-clause-told c =
     let actual : effect_in c.actual-effect.result
     ≡ actual_effect folder call (effect_in c.args.effect) =
     c.actual-effect.ensures
-    ∙ ap (λ (f : Folder). actual_effect f call (effect_in c.args.effect)) c.args.self.now.log.stands in
+    ∙ ap (λ (f : Folder). actual_effect f call (effect_in c.args.effect))
+    c.args.self.now.log.stands in
     told_failed old (past_in c.record.new.self) by call (gives_after by call)
     (effect_in c.actual-effect.result) c.in-Ok.ensures.ok
     (subst (λ (e : Effect). GivesResult folder old.history by call (failed e)) (sym actual)

@@ -48,19 +48,20 @@ returns-in-Ok-None-clause-told c =
       day = c.in-Ok.ensures.day i;
     }) in
     subst (λ (command : Command). Begins old new command c.start.result) is
-    (begin_started old new (alive_of c.args.self.now) (command_of c.in-Ok.command) c.start.result c.start.ensures.ok
-    c.start.ensures.is_token c.start.ensures.token c.start.ensures.memory c.start.ensures.same)
+    (begin_started old new (alive_of c.args.self.now) (command_of c.in-Ok.command)
+    c.start.result c.start.ensures.ok c.start.ensures.is_token
+    c.start.ensures.token c.start.ensures.memory c.start.ensures.same)
 
 pub returns-in-Ok-None-clause-runs : goal.returns-in-Ok-None-clause-runs
 returns-in-Ok-None-clause-runs c =
-    starts (past_of c.args.self.now) c.start.new.self (alive_of c.args.self.now) (command_of c.in-Ok.command) c.start.result
-    c.start.ensures.ok c.start.ensures.token
+    starts (past_of c.args.self.now) c.start.new.self (alive_of c.args.self.now)
+    (command_of c.in-Ok.command) c.start.result c.start.ensures.ok c.start.ensures.token
 
 pub returns-in-Ok-None-clause-acts : goal.returns-in-Ok-None-clause-acts
 returns-in-Ok-None-clause-acts c =
     may_call c.start.new.self c.start.result
-    (starts (past_of c.args.self.now) c.start.new.self (alive_of c.args.self.now) (command_of c.in-Ok.command) c.start.result
-    c.start.ensures.ok c.start.ensures.token)
+    (starts (past_of c.args.self.now) c.start.new.self (alive_of c.args.self.now)
+    (command_of c.in-Ok.command) c.start.result c.start.ensures.ok c.start.ensures.token)
 
 pub returns-in-Ok-Some-clause-told : goal.returns-in-Ok-Some-clause-told
 returns-in-Ok-Some-clause-told c =

@@ -7,7 +7,8 @@ use Rattle.acct_outside.proofs.store.Store.apply.Goals as goal
 pub returns-in-Done-clause-ok : goal.returns-in-Done-clause-ok
 returns-in-Done-clause-ok c =
     sym (after-exists c.args.by.now c.args.call.now c.args.outcome.now c.in-Done.answer
-    (folder_in c.args.self.now) c.in-Done.is (sym c.answers_exists.ensures ∙ c.if-answers_exists.true))
+    (folder_in c.args.self.now) c.in-Done.is
+    (sym c.answers_exists.ensures ∙ c.if-answers_exists.true))
 
 pub returns-in-Done-2-clause-ok : goal.returns-in-Done-2-clause-ok
 returns-in-Done-2-clause-ok c =

@@ -40,7 +40,8 @@ moves c =
     sym c.get.ensures ∙ ap option_copied c.in-Some.is
     ∙ ap (λ (b : Bytes). Some b) (sym c.in_ok-bytes.ensures) in
     renamed c
-    ∙ ap (λ (content : Option Bytes). moved_content content c.args.from c.args.to folder) (sym stands)
+    ∙ ap (λ (content : Option Bytes). moved_content content c.args.from c.args.to folder)
+    (sym stands)
 
 pub invariant_of-self-2 : goal.invariant_of-self-2
 invariant_of-self-2 c =
