@@ -1,8 +1,9 @@
--- The lines after an edit are the lines of their own bytes.
-use Rattle.std.proofs.Common.{◌≡◌, ℕ, ◌<◌, Bool, true, false, List, [], ◌∷◌, ◌++◌, length, map, refl, sym, ◌∙◌, ap, subst, arith, append-nil}
+-- Claim: the lines after an edit are the lines of their own bytes (`edited-lines`), so the records of
+-- the new file are those of the old one, edited (`table-edited`). Way: each edit leaves no newline in
+-- a text, and an end behind each line but the last (`fine-edit`).
+use Rattle.std.proofs.Common.{◌≡◌, ℕ, ◌<◌, Bool, true, false, List, [], ◌∷◌, ◌++◌, length, map, refl, sym, ◌∙◌, ap, arith}
 use Rattle.std.specs.Prelude.{Option, Some, None, flat_map, nat_le, is_some, option_map, fold, if◌then◌else◌}
 use Rattle.std.specs.List.{AllByRecursion, cons_option}
-use Rattle.std.proofs.lemmas.Bool.{true≢false}
 use Rattle.acct_text.specs.Bytes.{newline}
 use Rattle.acct_text.specs.Pieces.{Lacks}
 use Rattle.acct_text.specs.Lines.{Line, AreEnded, AreLines, file_bytes, lines_of}
@@ -10,67 +11,10 @@ use Rattle.account_formats.specs.Format.{Format, records_of, is_named, has_named
 use Rattle.account_formats.specs.Edits.{Edit, Become, Add, AddMissing, Put, Arrange, line_becomes, becomes, as_ended, with_line, put_first, edited, edited_by, Keyed, keyed_texts, insert_by_key, sorted_by_key, in_places}
 use Rattle.account_formats.specs.Written.{IsWritten}
 use Rattle.account_formats.specs.Tables.{table_records, table_after}
-use Rattle.acct_text.proofs.LinesLaws.{lines_of-are, lines_of-only}
+use Rattle.acct_text.proofs.LinesLaws.{lines_of-only}
 use Rattle.account_formats.proofs.EditLaws.{edit-is}
+use Rattle.account_formats.proofs.FineLines.{AllEnded, AreApart, Fine, Good, all-append, all-are, ended-append, fine-lines, fine-rest, fine-step, good-itself}
 use Rattle.account_formats.specs.RecordEdits.{records_edited, IsWrittenEdit, TellsSame}
-
--- no text has a newline
-abbrev pub AreApart : List Line → Type 0
-AreApart lines = AllByRecursion (λ line. Lacks newline line.text) lines
-
--- all lines have an end
-abbrev AllEnded : List Line → Type 0
-AllEnded lines = AllByRecursion (λ line. line.ended ≡ true) lines
-
--- what holds of two lists holds of both together
-all-append :
-    {X : Type 0} (P : X → Type 0) (a b : List X)
-    → AllByRecursion P a
-    → AllByRecursion P b
-    → AllByRecursion P (a ++ b)
-all-append P [] b all_a all_b = all_b
-all-append P (x ∷ a) b all_a all_b = (all_a.0, all-append P a b all_a.1 all_b)
-
--- ---- Ends
-
--- an ended line in front of lines
-ended-cons :
-    (line : Line) (rest : List Line)
-    → line.ended ≡ true
-    → AreEnded rest
-    → AreEnded (line ∷ rest)
-ended-cons line [] ended are = λ e. absurd (true≢false (sym ended ∙ e))
-ended-cons line (next ∷ rest) ended are = (ended, are)
-
--- ended lines in front of lines
-ended-append : (a b : List Line) → AllEnded a → AreEnded b → AreEnded (a ++ b)
-ended-append [] b all are = are
-ended-append (line ∷ a) b all are = ended-cons line (a ++ b) all.0 (ended-append a b all.1 are)
-
--- lines of which all have an end
-all-are : (a : List Line) → AllEnded a → AreEnded a
-all-are [] all = tt
-all-are (line ∷ a) all = ended-cons line a all.0 (all-are a all.1)
-
--- the lines behind the first
-ended-rest : (line : Line) (rest : List Line) → AreEnded (line ∷ rest) → AreEnded rest
-ended-rest line [] are = tt
-ended-rest line (next ∷ rest) are = are.1
-
--- a line gives way to others: of an ended line all have ends, and of the last one they are ended as lines are
-ended-step :
-    (line : Line) (rest front new : List Line)
-    → AreEnded (line ∷ rest)
-    → (line.ended ≡ true → AllEnded front)
-    → (AreEnded (line ∷ []) → AreEnded front)
-    → (rest ≡ [] → new ≡ [])
-    → AreEnded new
-    → AreEnded (front ++ new)
-ended-step line [] front new are all last none ended =
-    subst (λ n. AreEnded (front ++ n)) (sym (none refl))
-    (subst (λ lines. AreEnded lines) (sym (append-nil front)) (last are))
-ended-step line (next ∷ rest) front new are all last none ended =
-    ended-append front new (all are.0) ended
 
 -- ---- Printed records
 
@@ -164,21 +108,6 @@ line-last format none line r (s ∷ t ∷ rest) written are = all-are
     (map (λ u. record { text = format.print u; ended = true }) (s ∷ t ∷ rest))
     (printed-ended format (s ∷ t ∷ rest))
 
--- what a line becomes keeps the ends, and has no newline
-record Good (line : Line) (front : List Line) : Type 0 where
-  apart : Lacks newline line.text → AreApart front
-  all : line.ended ≡ true → AllEnded front
-  last : AreEnded (line ∷ []) → AreEnded front
-
--- a line that stays
-good-itself : (line : Line) → Good line (line ∷ [])
-good-itself line = record {
-  apart = λ apart. (apart, tt);
-  all = λ ended.
-      (ended, tt);
-  last = λ are. are;
-}
-
 -- a line of a record
 good-line :
     {R : Type 0} (format : Format R)
@@ -205,29 +134,6 @@ good-becomes :
 good-becomes format none f line None apart read written = good-itself line
 good-becomes format none f line (Some r) apart read written =
     good-line format none line r (f r) (written line.text r apart read)
-
--- the lines are apart and ended
-pub record Fine (lines : List Line) : Type 0 where
-  pub apart : AreApart lines
-  pub ended : AreEnded lines
-
--- the lines behind the first
-fine-rest : (line : Line) (rest : List Line) → Fine (line ∷ rest) → Fine rest
-fine-rest line rest fine = record { apart = fine.apart.1; ended = ended-rest line rest fine.ended }
-
--- a line gives way to others
-fine-step :
-    (line : Line) (rest front new : List Line)
-    → Fine (line ∷ rest)
-    → Good line front
-    → (rest ≡ [] → new ≡ [])
-    → Fine new
-    → Fine (front ++ new)
-fine-step line rest front new fine good none after = record {
-  apart = all-append (λ line. Lacks newline line.text) front new
-      (good.apart fine.apart.0) after.apart;
-  ended = ended-step line rest front new fine.ended good.all good.last none after.ended;
-}
 
 -- records that become others
 fine-become :
@@ -496,9 +402,8 @@ pub edited-lines :
     → AreLines (file_bytes (edited_by format edits (lines_of bytes)))
     (edited_by format edits (lines_of bytes))
 edited-lines format none edits bytes written =
-    let fine = fine-edits format none edits (lines_of bytes) written
-    (record { apart = (lines_of-are bytes).apart; ended = (lines_of-are bytes).ended })
-    in record { joined = refl; apart = fine.apart; ended = fine.ended }
+    let fine = fine-edits format none edits (lines_of bytes) written (fine-lines bytes) in
+    record { joined = refl; apart = fine.apart; ended = fine.ended }
 
 -- the records after edits in their order
 edited-records :
@@ -516,10 +421,6 @@ edited-records format tells none (edit ∷ edits) lines fine written =
     (fine-edit format none edit lines written.0 fine) written.1
     ∙ ap (λ records. fold (records_edited format) records edits)
     (edit-is format tells edit lines fine.apart written.0)
-
--- the lines of a file are apart and ended
-pub fine-lines : (bytes : List ℕ) → Fine (lines_of bytes)
-fine-lines bytes = record { apart = (lines_of-are bytes).apart; ended = (lines_of-are bytes).ended }
 
 -- the records of a table after its edits are those of the table, edited
 pub table-edited :

@@ -13,6 +13,7 @@ use Rattle.account_formats.specs.Faults.{field_at, fields_fault, is_days_text, i
 
 -- ---- passwd
 
+-- a record of passwd is there exactly where no field of it has a fault, by what these read as
 passwd-at :
     (name password comment home shell : List ℕ) (u g : Option ℕ)
     → is_some (passwd_with name password u g comment home shell)
@@ -24,6 +25,7 @@ passwd-at name password comment home shell (Some u) None = refl
 passwd-at [] password comment home shell (Some u) (Some g) = refl
 passwd-at (b ∷ name) password comment home shell (Some u) (Some g) = refl
 
+-- pieces are a record of passwd exactly where they have no fault
 passwd-by :
     (pieces : List (List ℕ))
     → is_some (passwd_of_fields pieces) ≡ is_none
@@ -32,11 +34,13 @@ passwd-by (name ∷ password ∷ uid ∷ gid ∷ comment ∷ home ∷ shell ∷ 
     passwd-at name password comment home shell (read_id uid) (read_id gid)
 passwd-by pieces = rw (ne_eqb (length pieces) 7 (λ e. omega (arith, e))) refl
 
+-- a text is a record of passwd exactly where it has no fault
 pub passwd-fault : (text : List ℕ) → is_some (passwd_format.read text) ≡ is_none (passwd_fault text)
 passwd-fault text = passwd-by (cut_at colon text)
 
 -- ---- shadow
 
+-- a record of shadow is there exactly where no field of it has a fault, by what these read as
 shadow-at :
     (name hash rest : List ℕ) (a b c d e f : Option (Option ℕ))
     → is_some (shadow_with name hash a b c d e f rest)
@@ -56,6 +60,7 @@ shadow-at name hash rest (Some a) (Some b) (Some c) (Some d) (Some e) None = ref
 shadow-at [] hash rest (Some a) (Some b) (Some c) (Some d) (Some e) (Some f) = refl
 shadow-at (x ∷ name) hash rest (Some a) (Some b) (Some c) (Some d) (Some e) (Some f) = refl
 
+-- pieces are a record of shadow exactly where they have no fault
 shadow-by :
     (pieces : List (List ℕ))
     → is_some (shadow_of_fields pieces) ≡ is_none
@@ -67,11 +72,13 @@ shadow-by (name ∷ hash ∷ last_change ∷ minimum ∷ maximum ∷ warning ∷
     (read_days warning) (read_days inactive) (read_days expiration)
 shadow-by pieces = rw (ne_eqb (length pieces) 9 (λ e. omega (arith, e))) refl
 
+-- a text is a record of shadow exactly where it has no fault
 pub shadow-fault : (text : List ℕ) → is_some (shadow_format.read text) ≡ is_none (shadow_fault text)
 shadow-fault text = shadow-by (cut_at colon text)
 
 -- ---- group
 
+-- a record of group is there exactly where no field of it has a fault, by what these read as
 group-at : (name password members : List ℕ) (o : Option ℕ)
     → is_some {T = GroupRecord} (if is_empty name then None
     else option_map (λ g. record {
@@ -87,17 +94,20 @@ group-at [] password members (Some g) = refl
 group-at (b ∷ name) password members None = refl
 group-at (b ∷ name) password members (Some g) = refl
 
+-- pieces are a record of group exactly where they have no fault
 group-by :
     (pieces : List (List ℕ))
     → is_some (group_of_fields pieces) ≡ is_none (fields_fault 4 ((3, is_id) ∷ []) None pieces)
 group-by (name ∷ password ∷ gid ∷ members ∷ []) = group-at name password members (read_id gid)
 group-by pieces = rw (ne_eqb (length pieces) 4 (λ e. omega (arith, e))) refl
 
+-- a text is a record of group exactly where it has no fault
 pub group-fault : (text : List ℕ) → is_some (group_format.read text) ≡ is_none (group_fault text)
 group-fault text = group-by (cut_at colon text)
 
 -- ---- gshadow
 
+-- pieces are a record of gshadow exactly where they have no fault
 gshadow-by :
     (pieces : List (List ℕ))
     → is_some (gshadow_of_fields pieces) ≡ is_none (fields_fault 4 [] None pieces)
@@ -105,6 +115,7 @@ gshadow-by ([] ∷ password ∷ administrators ∷ members ∷ []) = refl
 gshadow-by ((b ∷ name) ∷ password ∷ administrators ∷ members ∷ []) = refl
 gshadow-by pieces = rw (ne_eqb (length pieces) 4 (λ e. omega (arith, e))) refl
 
+-- a text is a record of gshadow exactly where it has no fault
 pub gshadow-fault :
     (text : List ℕ)
     → is_some (gshadow_format.read text) ≡ is_none (gshadow_fault text)
@@ -112,6 +123,7 @@ gshadow-fault text = gshadow-by (cut_at colon text)
 
 -- ---- subuid and subgid
 
+-- an owner with a range is a record exactly where neither has a fault
 subid-tests : (owner : List ℕ) (f n : ℕ) (none small : Bool)
     → is_some {T = SubidRecord} (if is_empty owner || (none || not small) then None
     else Some (record { owner = owner; first = f; count = n }))
@@ -122,6 +134,7 @@ subid-tests (b ∷ owner) f n true small = refl
 subid-tests (b ∷ owner) f n false true = refl
 subid-tests (b ∷ owner) f n false false = refl
 
+-- a record of subuid or subgid is there exactly where no field of it has a fault, by what these read as
 subid-at :
     (owner : List ℕ) (f n : Option ℕ)
     → is_some (subid_with owner f n) ≡ is_none
@@ -132,6 +145,7 @@ subid-at owner None n = refl
 subid-at owner (Some f) None = refl
 subid-at owner (Some f) (Some n) = subid-tests owner f n (n == 0) (nat_le (f + n - 1) greatest_id)
 
+-- pieces are a record of subuid or subgid exactly where they have no fault
 subid-by :
     (pieces : List (List ℕ))
     → is_some (subid_of_fields pieces) ≡ is_none
@@ -140,5 +154,6 @@ subid-by :
 subid-by (owner ∷ first ∷ count ∷ []) = subid-at owner (read_id first) (read_count count)
 subid-by pieces = rw (ne_eqb (length pieces) 3 (λ e. omega (arith, e))) refl
 
+-- a text is a record of subuid or subgid exactly where it has no fault
 pub subid-fault : (text : List ℕ) → is_some (subid_format.read text) ≡ is_none (subid_fault text)
 subid-fault text = subid-by (cut_at colon text)

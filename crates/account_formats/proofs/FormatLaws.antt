@@ -2,7 +2,7 @@
 -- Way: what is read can be held by a line, and what a line can hold is printed so that it is
 -- read again (`HeldLaws`); that equality is told is `SameLaws`, that faults are, `FaultLaws`.
 use Rattle.std.proofs.Common.{◌≡◌, ℕ, List}
-use Rattle.std.specs.Prelude.{Option, Some, is_some, is_none}
+use Rattle.std.specs.Prelude.{Option, is_some, is_none}
 use Rattle.account_formats.specs.declared.fault.LineFault.{LineFault}
 use Rattle.account_formats.specs.Format.{Format}
 use Rattle.account_formats.specs.Records.{passwd_format, shadow_format, group_format, gshadow_format, subid_format}

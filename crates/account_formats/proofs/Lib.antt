@@ -1,3 +1,4 @@
+pub mod FieldReads
 pub mod ReadsLaws
 pub mod WrittenLaws
 pub mod ListLaws
@@ -5,6 +6,7 @@ pub mod ScriptLaws
 pub mod EditLaws
 pub mod SameLaws
 pub mod EditLines
+pub mod FineLines
 pub mod FaultRows
 pub mod FaultLaws
 pub mod HeldLaws

@@ -6,7 +6,8 @@ use Rattle.acct_text.specs.Bytes.{newline}
 use Rattle.acct_text.specs.Pieces.{Lacks}
 use Rattle.acct_text.specs.Lines.{Line, lines_of, file_bytes}
 use Rattle.acct_text.proofs.LinesLaws.{lines_of-only}
-use Rattle.account_formats.proofs.EditLines.{Fine, fine-edit, fine-lines, edited-lines}
+use Rattle.account_formats.proofs.EditLines.{fine-edit, edited-lines}
+use Rattle.account_formats.proofs.FineLines.{Fine, fine-lines}
 use Rattle.account_formats.specs.Format.{Format, records_of, is_named, has_named}
 use Rattle.account_formats.specs.Edits.{Edit, Become, Add, AddMissing, Put, Arrange, line_becomes, becomes, as_ended, with_line, put_first, edited, edited_by, Keyed, keyed_texts, insert_by_key, sorted_by_key, in_places}
 use Rattle.account_formats.specs.Written.{IsWritten}

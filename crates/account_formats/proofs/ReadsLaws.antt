@@ -1,10 +1,7 @@
 -- The reader of each format finds exactly the record that a text is.
-use Rattle.std.proofs.Common.{◌≡◌, zero, suc, ◌+◌, ◌-◌, ◌||◌, ℕ, ◌<◌, ◌≤◌, Bool, true, false, not, List, [], ◌∷◌, length, refl, sym, ◌∙◌, ap, subst, arith, inl, inr, lt_irrefl}
-use Rattle.std.specs.Prelude.{◌==◌, Option, Some, None, nat_le, bytes_eq, codes, option_map, if◌then◌else◌}
-use Rattle.std.specs.Char.{digit_value}
-use Rattle.std.proofs.lemmas.Bool.Decides.{eqb_tells}
+use Rattle.std.proofs.Common.{◌≡◌, ◌+◌, ◌-◌, ◌||◌, ℕ, ◌<◌, ◌≤◌, Bool, true, false, not, List, [], ◌∷◌, length, refl, ◌∙◌, ap, subst, lt_irrefl}
+use Rattle.std.specs.Prelude.{◌==◌, Option, Some, None, nat_le, option_map, if◌then◌else◌}
 use Rattle.std.proofs.lemmas.Bool.{ne_eqb, leb-true, le-leb}
-use Rattle.std.proofs.lemmas.Slice.Eq.{bytes_eq-Decides}
 use Rattle.account_formats.specs.declared.records.PasswdRecord.{PasswdRecord}
 use Rattle.account_formats.specs.declared.records.ShadowRecord.{ShadowRecord}
 use Rattle.account_formats.specs.declared.records.GroupRecord.{GroupRecord}
@@ -13,24 +10,15 @@ use Rattle.account_formats.specs.declared.records.SubidRecord.{SubidRecord}
 use Rattle.acct_text.specs.Bytes.{colon, is_empty}
 use Rattle.acct_text.specs.Pieces.{cut_at, AreCutAt}
 use Rattle.acct_text.specs.Numbers.{number_within, IsNumber}
-use Rattle.account_formats.specs.Text.{comma, nonempty}
-use Rattle.account_formats.specs.Records.{greatest_id, greatest_days, read_id, read_days, read_names, passwd_format, passwd_of_fields, passwd_with, shadow_format, shadow_of_fields, shadow_with, group_format, group_of_fields, gshadow_format, gshadow_of_fields, subid_format, subid_of_fields, subid_with}
+use Rattle.account_formats.specs.Records.{greatest_id, read_id, read_days, read_names, passwd_format, passwd_of_fields, passwd_with, shadow_format, shadow_of_fields, shadow_with, group_format, group_of_fields, gshadow_format, gshadow_of_fields, subid_format, subid_of_fields, subid_with}
 use Rattle.account_formats.specs.Reads.{IsDays, AreNames, ReadsPasswd, ReadsShadow, ReadsGroup, ReadsGshadow, ReadsSubid}
+use Rattle.account_formats.proofs.FieldReads.{names-found, names-are, days-found, days-is, some-number}
 use Rattle.acct_text.proofs.NumberLaws.{some-inj, empty-no, empty-some, number-found, number-is}
 use Rattle.acct_text.proofs.Cut.{cut_at-is, cut_at-only}
 
 -- ---- group
 
-names-found :
-    (text : List ℕ) (names : List (List ℕ))
-    → AreNames text names
-    → read_names text ≡ names
-names-found text names are = ap nonempty (cut_at-only comma text are.pieces
-    are.cut) ∙ sym are.dropped
-
-names-are : (text : List ℕ) → AreNames text (read_names text)
-names-are text = record { pieces = cut_at comma text; cut = cut_at-is comma text; dropped = refl }
-
+-- the fields of a record of group are that record
 group-fields : (name password gid members : List ℕ) (id : ℕ)
     (names : List (List ℕ)) → 0 < length name
     → IsNumber greatest_id gid id → AreNames members names
@@ -44,6 +32,7 @@ group-fields name password gid members id names named number are =
           members names are,
     ) refl
 
+-- a text that is a record of group reads as it
 pub group-found :
     (text : List ℕ) (r : GroupRecord)
     → ReadsGroup text r
@@ -54,6 +43,7 @@ group-found text r reads =
     ∙ group-fields r.name r.password reads.gid reads.members r.gid r.members reads.named
     reads.gid_reads reads.members_read
 
+-- what the fields of group read as, by what each reads as
 group-by : (text name password gid members : List ℕ) (r : GroupRecord)
     (empty : Bool) (id : Option ℕ)
     → AreCutAt colon text (name ∷ password ∷ gid ∷ members ∷ []) → is_empty name
@@ -85,6 +75,7 @@ group-by text name password gid members r false (Some id) cut empty number found
     }
     in subst (λ s. ReadsGroup text s) (some-inj found) reads
 
+-- what the pieces of a text read as, it is as a record of group
 group-of :
     (text : List ℕ) (pieces : List (List ℕ)) (r : GroupRecord)
     → AreCutAt colon text pieces
@@ -94,6 +85,7 @@ group-of text (name ∷ password ∷ gid ∷ members ∷ []) r cut found =
     group-by text name password gid members r (is_empty name) (read_id gid) cut refl refl found
 group-of text pieces r cut found = cc
 
+-- a text is the record of group that it reads as
 pub group-is :
     (text : List ℕ) (r : GroupRecord)
     → group_format.read text ≡ Some r
@@ -102,6 +94,7 @@ group-is text r found = group-of text (cut_at colon text) r (cut_at-is colon tex
 
 -- ---- passwd
 
+-- the fields of a record of passwd are that record
 passwd-fields : (name password uid gid comment home shell : List ℕ) (u g : ℕ) → 0 < length name
     → IsNumber greatest_id uid u → IsNumber greatest_id gid g
     → passwd_of_fields (name ∷ password ∷ uid ∷ gid ∷ comment ∷ home ∷ shell ∷ [])
@@ -121,6 +114,7 @@ passwd-fields name password uid gid comment home shell u g named is_uid is_gid =
       empty-no name named,
     ) refl
 
+-- a text that is a record of passwd reads as it
 pub passwd-found :
     (text : List ℕ) (r : PasswdRecord)
     → ReadsPasswd text r
@@ -131,6 +125,7 @@ passwd-found text r reads =
     ∙ passwd-fields r.name r.password reads.uid reads.gid r.comment r.home r.shell r.uid r.gid
     reads.named reads.uid_reads reads.gid_reads
 
+-- what the fields of passwd read as, by what each reads as
 passwd-by :
     (text name password uid gid comment home shell : List ℕ) (r : PasswdRecord)
     (u g : Option ℕ) (empty : Bool)
@@ -166,6 +161,7 @@ passwd-by text name password uid gid comment home shell r (Some u) (Some g) fals
     }
     in subst (λ s. ReadsPasswd text s) (some-inj (rw none at found)) reads
 
+-- what the pieces of a text read as, it is as a record of passwd
 passwd-of :
     (text : List ℕ) (pieces : List (List ℕ)) (r : PasswdRecord)
     → AreCutAt colon text pieces
@@ -176,6 +172,7 @@ passwd-of text (name ∷ password ∷ uid ∷ gid ∷ comment ∷ home ∷ shell
     (is_empty name) cut refl refl refl found
 passwd-of text pieces r cut found = cc
 
+-- a text is the record of passwd that it reads as
 pub passwd-is :
     (text : List ℕ) (r : PasswdRecord)
     → passwd_format.read text ≡ Some r
@@ -184,6 +181,7 @@ passwd-is text r found = passwd-of text (cut_at colon text) r (cut_at-is colon t
 
 -- ---- gshadow
 
+-- the fields of a record of gshadow are that record
 gshadow-fields : (name password administrators members : List ℕ)
     (ads names : List (List ℕ)) → 0 < length name
     → AreNames administrators ads → AreNames members names
@@ -197,6 +195,7 @@ gshadow-fields name password administrators members ads names named are_ads are 
           members names are,
     ) refl
 
+-- a text that is a record of gshadow reads as it
 pub gshadow-found :
     (text : List ℕ) (r : GshadowRecord)
     → ReadsGshadow text r
@@ -207,6 +206,7 @@ gshadow-found text r reads =
     ∙ gshadow-fields r.name r.password reads.administrators reads.members r.administrators r.members
     reads.named reads.administrators_read reads.members_read
 
+-- what the fields of gshadow read as, by what each reads as
 gshadow-by : (text name password administrators members : List ℕ) (r : GshadowRecord) (empty : Bool)
     → AreCutAt colon text (name ∷ password ∷ administrators ∷ members ∷ []) → is_empty name ≡ empty
     → (if empty then None else Some (record {
@@ -233,6 +233,7 @@ gshadow-by text name password administrators members r false cut empty found =
     }
     in subst (λ s. ReadsGshadow text s) (some-inj found) reads
 
+-- what the pieces of a text read as, it is as a record of gshadow
 gshadow-of :
     (text : List ℕ) (pieces : List (List ℕ)) (r : GshadowRecord)
     → AreCutAt colon text pieces
@@ -242,6 +243,7 @@ gshadow-of text (name ∷ password ∷ administrators ∷ members ∷ []) r cut 
     gshadow-by text name password administrators members r (is_empty name) cut refl found
 gshadow-of text pieces r cut found = cc
 
+-- a text is the record of gshadow that it reads as
 pub gshadow-is :
     (text : List ℕ) (r : GshadowRecord)
     → gshadow_format.read text ≡ Some r
@@ -250,39 +252,7 @@ gshadow-is text r found = gshadow-of text (cut_at colon text) r (cut_at-is colon
 
 -- ---- shadow
 
-no-minus : (b : ℕ) (text : List ℕ) → digit_value b < 10 → bytes_eq (b ∷ text) (codes "-1") ≡ false
-no-minus b text digit = elim (eqb_tells b 45) [
-  | inl at ↦ let wrong : 36 < 10 = rw at.1 at digit in absurd (lt_irrefl 9 (omega (arith, wrong)))
-  | inr past ↦ rw past.0 refl
-]
-
-days-found : (text : List ℕ) (days : Option ℕ) → IsDays text days → read_days text ≡ Some days
-days-found text None (inl empty) = rw empty refl
-days-found text None (inr minus) = rw minus refl
-days-found [] (Some days) number = absurd (lt_irrefl 0 number.digits.0)
-days-found (b ∷ text) (Some days) number =
-    rw (no-minus b text number.digits.1.0, number-found greatest_days (b ∷ text) days number) refl
-
-days-by :
-    (b : ℕ) (text : List ℕ) (days : Option ℕ) (minus : Bool) (number : Option ℕ)
-    → bytes_eq (b ∷ text) (codes "-1") ≡ minus
-    → number_within greatest_days (b ∷ text) ≡ number
-    → (if minus then Some None else option_map Some number) ≡ Some days
-    → IsDays (b ∷ text) days
-days-by b text days true number is_minus is_number found =
-    subst (λ d. IsDays (b ∷ text) d) (some-inj found)
-    (inr ((bytes_eq-Decides (b ∷ text) (codes "-1")).0 is_minus))
-days-by b text days false None is_minus is_number found = cc
-days-by b text days false (Some n) is_minus is_number found =
-    subst (λ d. IsDays (b ∷ text) d) (some-inj found)
-    (number-is greatest_days (b ∷ text) n is_number)
-
-days-is : (text : List ℕ) (days : Option ℕ) → read_days text ≡ Some days → IsDays text days
-days-is [] days found = subst (λ d. IsDays [] d) (some-inj found) (inl refl)
-days-is (b ∷ text) days found =
-    days-by b text days (bytes_eq (b ∷ text) (codes "-1"))
-    (number_within greatest_days (b ∷ text)) refl refl found
-
+-- the fields of a record of shadow are that record
 shadow-fields : (name hash last_change minimum maximum warning inactive expiration rest : List ℕ)
     (a b c d e f : Option ℕ) → 0 < length name → IsDays last_change a → IsDays minimum b
     → IsDays maximum c → IsDays warning d → IsDays inactive e → IsDays expiration f
@@ -310,6 +280,7 @@ shadow-fields name hash last_change minimum maximum warning inactive expiration 
       empty-no name named,
     ) refl
 
+-- a text that is a record of shadow reads as it
 pub shadow-found :
     (text : List ℕ) (r : ShadowRecord)
     → ReadsShadow text r
@@ -323,6 +294,7 @@ shadow-found text r reads =
     r.inactive r.expiration reads.named reads.last_change_reads reads.minimum_reads
     reads.maximum_reads reads.warning_reads reads.inactive_reads reads.expiration_reads
 
+-- what the fields of shadow read as, by what each reads as
 shadow-by :
     (text name hash last_change minimum maximum warning inactive expiration rest : List ℕ)
     (r : ShadowRecord) (oa ob oc od oe of : Option (Option ℕ)) (empty : Bool)
@@ -383,6 +355,7 @@ shadow-by text name hash last_change minimum maximum warning inactive expiration
     }
     in subst (λ s. ReadsShadow text s) (some-inj (rw none at found)) reads
 
+-- what the pieces of a text read as, it is as a record of shadow
 shadow-of :
     (text : List ℕ) (pieces : List (List ℕ)) (r : ShadowRecord)
     → AreCutAt colon text pieces
@@ -396,6 +369,7 @@ shadow-of text (name ∷ hash ∷ last_change ∷ minimum ∷ maximum ∷ warnin
     refl refl refl found
 shadow-of text pieces r cut found = cc
 
+-- a text is the record of shadow that it reads as
 pub shadow-is :
     (text : List ℕ) (r : ShadowRecord)
     → shadow_format.read text ≡ Some r
@@ -404,6 +378,7 @@ shadow-is text r found = shadow-of text (cut_at colon text) r (cut_at-is colon t
 
 -- ---- subuid and subgid
 
+-- the fields of a record of subuid or subgid are that record
 subid-fields : (owner first count : List ℕ) (f n : ℕ) → 0 < length owner
     → IsNumber greatest_id first f → IsNumber (greatest_id + 1) count n
     → 0 < n → f + n - 1 ≤ greatest_id → subid_of_fields (owner ∷ first ∷ count ∷ [])
@@ -417,6 +392,7 @@ subid-fields owner first count f n named is_first is_count some last =
       le-leb (f + n - 1) greatest_id last,
     ) refl
 
+-- a text that is a record of subuid or subgid reads as it
 pub subid-found :
     (text : List ℕ) (r : SubidRecord)
     → ReadsSubid text r
@@ -426,10 +402,7 @@ subid-found text r reads =
     ∙ subid-fields r.owner reads.first reads.count r.first r.count reads.named reads.first_reads
     reads.count_reads reads.some reads.last
 
-some-number : (n : ℕ) → (n == 0) ≡ false → 0 < n
-some-number zero e = cc
-some-number (suc n) e = omega arith
-
+-- what three fields with numbers read as, by the tests of owner and range
 subid-tests : (text owner first count : List ℕ) (r : SubidRecord) (f n : ℕ)
     (empty none small : Bool) → AreCutAt colon text (owner ∷ first ∷ count ∷ [])
     → read_id first ≡ Some f → number_within (greatest_id + 1) count ≡ Some n → is_empty owner
@@ -456,6 +429,7 @@ subid-tests text owner first count r f n false false true cut is_first is_count 
     }
     in subst (λ s. ReadsSubid text s) (some-inj found) reads
 
+-- what the fields of subuid or subgid read as, by what each reads as
 subid-by :
     (text owner first count : List ℕ) (r : SubidRecord) (f n : Option ℕ)
     → AreCutAt colon text (owner ∷ first ∷ count ∷ [])
@@ -469,6 +443,7 @@ subid-by text owner first count r (Some f) (Some n) cut is_first is_count found 
     subid-tests text owner first count r f n (is_empty owner) (n == 0)
     (nat_le (f + n - 1) greatest_id) cut is_first is_count refl refl refl found
 
+-- what the pieces of a text read as, it is as a record of subuid or subgid
 subid-of :
     (text : List ℕ) (pieces : List (List ℕ)) (r : SubidRecord)
     → AreCutAt colon text pieces
@@ -479,6 +454,7 @@ subid-of text (owner ∷ first ∷ count ∷ []) r cut found =
     (number_within (greatest_id + 1) count) cut refl refl found
 subid-of text pieces r cut found = cc
 
+-- a text is the record of subuid or subgid that it reads as
 pub subid-is :
     (text : List ℕ) (r : SubidRecord)
     → subid_format.read text ≡ Some r

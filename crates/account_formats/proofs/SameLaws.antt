@@ -92,19 +92,12 @@ passwd-self r = rw (
 pub passwd-tells : TellsSame passwd_format
 passwd-tells r s = (
   (λ e.
-      let p6 = and_parts (bytes_eq r.name s.name && bytes_eq r.password s.password
-      && (r.uid == s.uid) && (r.gid == s.gid) && bytes_eq r.comment s.comment
-      && bytes_eq r.home s.home) (bytes_eq r.shell s.shell) e
-      in let p5 = and_parts (bytes_eq r.name s.name && bytes_eq r.password s.password
-      && (r.uid == s.uid) && (r.gid == s.gid) && bytes_eq r.comment s.comment)
-      (bytes_eq r.home s.home) p6.0
-      in let p4 = and_parts (bytes_eq r.name s.name && bytes_eq r.password s.password
-      && (r.uid == s.uid) && (r.gid == s.gid)) (bytes_eq r.comment s.comment) p5.0
-      in let p3 = and_parts (bytes_eq r.name s.name && bytes_eq r.password s.password
-      && (r.uid == s.uid)) ((r.gid == s.gid)) p4.0
-      in let p2 = and_parts (bytes_eq r.name s.name && bytes_eq r.password s.password)
-      ((r.uid == s.uid)) p3.0
-      in let p1 = and_parts (bytes_eq r.name s.name) (bytes_eq r.password s.password) p2.0
+      let p6 = and_parts _ _ e
+      in let p5 = and_parts _ _ p6.0
+      in let p4 = and_parts _ _ p5.0
+      in let p3 = and_parts _ _ p4.0
+      in let p2 = and_parts _ _ p3.0
+      in let p1 = and_parts _ _ p2.0
       in passwd-path r s
       (bytes-same r.name s.name p1.0)
       (bytes-same r.password s.password p1.1)
@@ -164,30 +157,14 @@ shadow-self r = rw (
 pub shadow-tells : TellsSame shadow_format
 shadow-tells r s = (
   (λ e.
-      let p8 = and_parts (bytes_eq r.name s.name && bytes_eq r.hash s.hash
-      && days_eq r.last_change s.last_change && days_eq r.minimum s.minimum
-      && days_eq r.maximum s.maximum && days_eq r.warning s.warning
-      && days_eq r.inactive s.inactive && days_eq r.expiration s.expiration)
-      (bytes_eq r.rest s.rest) e
-      in let p7 = and_parts (bytes_eq r.name s.name && bytes_eq r.hash s.hash
-      && days_eq r.last_change s.last_change && days_eq r.minimum s.minimum
-      && days_eq r.maximum s.maximum && days_eq r.warning s.warning
-      && days_eq r.inactive s.inactive) (days_eq r.expiration s.expiration) p8.0
-      in let p6 = and_parts (bytes_eq r.name s.name && bytes_eq r.hash s.hash
-      && days_eq r.last_change s.last_change && days_eq r.minimum s.minimum
-      && days_eq r.maximum s.maximum && days_eq r.warning s.warning)
-      (days_eq r.inactive s.inactive) p7.0
-      in let p5 = and_parts (bytes_eq r.name s.name && bytes_eq r.hash s.hash
-      && days_eq r.last_change s.last_change && days_eq r.minimum s.minimum
-      && days_eq r.maximum s.maximum) (days_eq r.warning s.warning) p6.0
-      in let p4 = and_parts (bytes_eq r.name s.name && bytes_eq r.hash s.hash
-      && days_eq r.last_change s.last_change && days_eq r.minimum s.minimum)
-      (days_eq r.maximum s.maximum) p5.0
-      in let p3 = and_parts (bytes_eq r.name s.name && bytes_eq r.hash s.hash
-      && days_eq r.last_change s.last_change) (days_eq r.minimum s.minimum) p4.0
-      in let p2 = and_parts (bytes_eq r.name s.name && bytes_eq r.hash s.hash)
-      (days_eq r.last_change s.last_change) p3.0
-      in let p1 = and_parts (bytes_eq r.name s.name) (bytes_eq r.hash s.hash) p2.0
+      let p8 = and_parts _ _ e
+      in let p7 = and_parts _ _ p8.0
+      in let p6 = and_parts _ _ p7.0
+      in let p5 = and_parts _ _ p6.0
+      in let p4 = and_parts _ _ p5.0
+      in let p3 = and_parts _ _ p4.0
+      in let p2 = and_parts _ _ p3.0
+      in let p1 = and_parts _ _ p2.0
       in shadow-path r s
       (bytes-same r.name s.name p1.0)
       (bytes-same r.hash s.hash p1.1)
@@ -223,11 +200,9 @@ group-self r =
 pub group-tells : TellsSame group_format
 group-tells r s = (
   (λ e.
-      let p3 = and_parts (bytes_eq r.name s.name && bytes_eq r.password s.password
-      && (r.gid == s.gid)) (names_eq r.members s.members) e
-      in let p2 = and_parts (bytes_eq r.name s.name && bytes_eq r.password s.password)
-      ((r.gid == s.gid)) p3.0
-      in let p1 = and_parts (bytes_eq r.name s.name) (bytes_eq r.password s.password) p2.0
+      let p3 = and_parts _ _ e
+      in let p2 = and_parts _ _ p3.0
+      in let p1 = and_parts _ _ p2.0
       in group-path r s
       (bytes-same r.name s.name p1.0)
       (bytes-same r.password s.password p1.1)
@@ -262,11 +237,9 @@ gshadow-self r = rw (
 pub gshadow-tells : TellsSame gshadow_format
 gshadow-tells r s = (
   (λ e.
-      let p3 = and_parts (bytes_eq r.name s.name && bytes_eq r.password s.password
-      && names_eq r.administrators s.administrators) (names_eq r.members s.members) e
-      in let p2 = and_parts (bytes_eq r.name s.name && bytes_eq r.password s.password)
-      (names_eq r.administrators s.administrators) p3.0
-      in let p1 = and_parts (bytes_eq r.name s.name) (bytes_eq r.password s.password) p2.0
+      let p3 = and_parts _ _ e
+      in let p2 = and_parts _ _ p3.0
+      in let p1 = and_parts _ _ p2.0
       in gshadow-path r s
       (bytes-same r.name s.name p1.0)
       (bytes-same r.password s.password p1.1)
@@ -289,8 +262,8 @@ subid-self r = rw (bytes-self r.owner, number-self r.first, number-self r.count)
 pub subid-tells : TellsSame subid_format
 subid-tells r s = (
   (λ e.
-      let p2 = and_parts (bytes_eq r.owner s.owner && (r.first == s.first)) ((r.count == s.count)) e
-      in let p1 = and_parts (bytes_eq r.owner s.owner) ((r.first == s.first)) p2.0
+      let p2 = and_parts _ _ e
+      in let p1 = and_parts _ _ p2.0
       in subid-path r s
       (bytes-same r.owner s.owner p1.0)
       (eqb-true r.first s.first p1.1)

@@ -21,10 +21,12 @@ use Rattle.account_formats.proofs.ReadsLaws.{passwd-found, shadow-found, group-f
 
 -- ---- Bytes that a text lacks
 
+-- two texts that lack a byte lack it together
 lacks-append : (c : ℕ) (a b : List ℕ) → Lacks c a → Lacks c b → Lacks c (a ++ b)
 lacks-append c [] b no_a no_b = no_b
 lacks-append c (x ∷ a) b no_a no_b = (no_a.0, lacks-append c a b no_a.1 no_b)
 
+-- pieces that lack a byte lack it joined, if the separator is another
 pub lacks-join :
     (c separator : ℕ)
     → separator ≢ c
@@ -37,6 +39,7 @@ lacks-join c separator other (piece ∷ next ∷ rest) lack =
     lacks-append c piece (separator ∷ join_with_byte separator (next ∷ rest)) lack.0
     (other, lacks-join c separator other (next ∷ rest) lack.1)
 
+-- digits lack a byte that is none
 digits-lack : (c : ℕ) (text : List ℕ) → 10 ≤ digit_value c → AllDigits 10 text → Lacks c text
 digits-lack c [] no_digit all = tt
 digits-lack c (b ∷ text) no_digit all = (
@@ -45,6 +48,7 @@ digits-lack c (b ∷ text) no_digit all = (
   digits-lack c text no_digit all.1,
 )
 
+-- and so does a number as it is printed
 pub decimal-lacks :
     (c n bound : ℕ)
     → 10 ≤ digit_value c
@@ -56,6 +60,7 @@ decimal-lacks c n bound no_digit small within =
 
 -- ---- Fields
 
+-- a printed number reads as itself, up to the bound
 pub decimal-number : (bound n : ℕ) → bound < 2 ^ 64 → n ≤ bound → IsNumber bound (decimal n) n
 decimal-number bound n small within = record {
   digits = (decimal_is_IsNumeral n (omega (arith, small, within))).0;
@@ -63,12 +68,14 @@ decimal-number bound n small within = record {
   bounded = within;
 }
 
+-- names that a list can hold are all kept when it is read
 names-nonempty : (names : List (List ℕ)) → AllByRecursion IsListed names → nonempty names ≡ names
 names-nonempty [] listed = refl
 names-nonempty ([] ∷ names) listed = absurd (lt_irrefl 0 listed.0.name_field.some)
 names-nonempty ((b ∷ name) ∷ names) listed =
     ap (λ rest. (b ∷ name) ∷ rest) (names-nonempty names listed.1)
 
+-- they lack what each of them lacks
 names-lack :
     (c : ℕ)
     → ((name : List ℕ) → IsListed name → Lacks c name)
@@ -78,6 +85,7 @@ names-lack :
 names-lack c each [] listed = tt
 names-lack c each (name ∷ names) listed = (each name listed.0, names-lack c each names listed.1)
 
+-- a printed list of names lists them
 pub names-written :
     (names : List (List ℕ))
     → AllByRecursion IsListed names
@@ -98,6 +106,7 @@ names-written (name ∷ names) listed = record {
   dropped = sym (names-nonempty (name ∷ names) listed);
 }
 
+-- a printed list of names has no colon
 pub names-no_colon :
     (names : List (List ℕ))
     → AllByRecursion IsListed names
@@ -105,6 +114,7 @@ pub names-no_colon :
 names-no_colon names listed = lacks-join colon comma (λ e. cc) names
     (names-lack colon (λ name is. is.name_field.field.no_colon) names listed)
 
+-- nor a newline
 pub names-no_newline :
     (names : List (List ℕ))
     → AllByRecursion IsListed names
@@ -112,10 +122,12 @@ pub names-no_newline :
 names-no_newline names listed = lacks-join newline comma (λ e. cc) names
     (names-lack newline (λ name is. is.name_field.field.no_newline) names listed)
 
+-- printed days say these
 days-written : (days : Option ℕ) → IsDaysNumber days → IsDays (print_days days) days
 days-written None within = inl refl
 days-written (Some days) within = decimal-number greatest_days days (lit< tt) within
 
+-- printed days lack what is no digit
 days-lack :
     (c : ℕ) (days : Option ℕ)
     → 10 ≤ digit_value c
@@ -127,6 +139,7 @@ days-lack c (Some days) no_digit within =
 
 -- ---- passwd
 
+-- a printed record of passwd is that record
 passwd-written : (r : PasswdRecord) → IsPasswd r → ReadsPasswd (print_passwd r) r
 passwd-written r is = record {
   uid = decimal r.uid;
@@ -153,6 +166,7 @@ passwd-written r is = record {
   gid_reads = decimal-number greatest_id r.gid (lit< tt) is.gid;
 }
 
+-- its text is one line, and reads as it
 pub passwd-is-written : (r : PasswdRecord) → IsPasswd r → IsWritten passwd_format r
 passwd-is-written r is = record {
   one_line = lacks-join newline colon (λ e. cc)
@@ -174,6 +188,7 @@ passwd-is-written r is = record {
 
 -- ---- shadow
 
+-- a printed record of shadow is that record
 shadow-written : (r : ShadowRecord) → IsShadow r → ReadsShadow (print_shadow r) r
 shadow-written r is = record {
   last_change = print_days r.last_change;
@@ -220,6 +235,7 @@ shadow-written r is = record {
   expiration_reads = days-written r.expiration is.expiration;
 }
 
+-- its text is one line, and reads as it
 pub shadow-is-written : (r : ShadowRecord) → IsShadow r → IsWritten shadow_format r
 shadow-is-written r is = record {
   one_line = lacks-join newline colon (λ e. cc)
@@ -254,6 +270,7 @@ shadow-is-written r is = record {
 
 -- ---- group
 
+-- a printed record of group is that record
 group-written : (r : GroupRecord) → IsGroup r → ReadsGroup (print_group r) r
 group-written r is = record {
   gid = decimal r.gid;
@@ -277,6 +294,7 @@ group-written r is = record {
   members_read = names-written r.members is.members;
 }
 
+-- its text is one line, and reads as it
 pub group-is-written : (r : GroupRecord) → IsGroup r → IsWritten group_format r
 group-is-written r is = record {
   one_line = lacks-join newline colon (λ e. cc)
@@ -295,6 +313,7 @@ group-is-written r is = record {
 
 -- ---- gshadow
 
+-- a printed record of gshadow is that record
 gshadow-written : (r : GshadowRecord) → IsGshadow r → ReadsGshadow (print_gshadow r) r
 gshadow-written r is = record {
   administrators = print_names r.administrators;
@@ -318,6 +337,7 @@ gshadow-written r is = record {
   members_read = names-written r.members is.members;
 }
 
+-- its text is one line, and reads as it
 pub gshadow-is-written : (r : GshadowRecord) → IsGshadow r → IsWritten gshadow_format r
 gshadow-is-written r is = record {
   one_line = lacks-join newline colon (λ e. cc)
@@ -334,14 +354,17 @@ gshadow-is-written r is = record {
   reads = gshadow-found (print_gshadow r) r (gshadow-written r is);
 }
 
+-- the first ID of a range is one
 first-within : (r : SubidRecord) → IsSubid r → r.first ≤ greatest_id
 first-within r is = omega (arith, is.some, is.last)
 
+-- and its count is at most that of all IDs
 count-within : (r : SubidRecord) → IsSubid r → r.count ≤ greatest_id + 1
 count-within r is = omega (arith, is.some, is.last)
 
 -- ---- subid
 
+-- a printed record of subuid or subgid is that record
 subid-written : (r : SubidRecord) → IsSubid r → ReadsSubid (print_subid r) r
 subid-written r is = record {
   first = decimal r.first;
@@ -369,6 +392,7 @@ subid-written r is = record {
   last = is.last;
 }
 
+-- its text is one line, and reads as it
 pub subid-is-written : (r : SubidRecord) → IsSubid r → IsWritten subid_format r
 subid-is-written r is = record {
   one_line = lacks-join newline colon (λ e. cc) (r.owner ∷ decimal r.first ∷ decimal r.count ∷ []) (
