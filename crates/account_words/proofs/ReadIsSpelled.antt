@@ -20,10 +20,12 @@ Extends table word given (Some letter) = (value : Word) (words : List Word) (opt
     Spelled table words options operands → Spelled table (word ∷ value ∷ words)
     (given ++ (as_value letter value ∷ options)) operands
 
+-- what a word reads as gives options as it spells them
 abbrev pub ReadsOptions : List OptionForm → Word → WordReading → Type 0
 ReadsOptions table word (Ok options) = Extends table word options.given options.waiting
 ReadsOptions table word (Err fault) = Unit {0}
 
+-- the word has the meaning that it spells
 abbrev pub Means : List OptionForm → Word → Meaning → Type 0
 Means table word is_an_operand = is_operand word ≡ true
 Means table word ends_options = word ≡ codes "--"
@@ -31,6 +33,7 @@ Means table word (has_options reading) = ReadsOptions table word reading
 
 -- ---- Letters
 
+-- a flag in front of a bundle that gives options gives one more
 pub flag_extends :
     (table : List OptionForm) (letter next : ℕ) (more : Word)
     → HasLetter table letter false
@@ -46,6 +49,7 @@ flag_extends table letter next more has other given (Some waiting) extends =
     letter_bundle has (λ same. cc (ap (λ n. n == hyphen) same, other))
     (extends value words options operands spelled)
 
+-- what a bundle reads as, with a flag before it
 pub flag_reads :
     (table : List OptionForm) (letter next : ℕ) (more : Word)
     → HasLetter table letter false
@@ -57,6 +61,7 @@ flag_reads table letter next more has other (Ok options) reads =
     flag_extends table letter next more has other options.given options.waiting reads
 flag_reads table letter next more has other (Err fault) reads = tt
 
+-- a letter with a value reads as its rest, or waits for the next word
 pub value_reads :
     (table : List OptionForm) (letter : ℕ) (rest : Word)
     → HasLetter table letter true
@@ -72,6 +77,7 @@ RestReads table [] = Unit {0}
 RestReads table (next ∷ more) = (next == hyphen) ≡ false
     → ReadsOptions table (hyphen ∷ next ∷ more) (letters_reading table (next ∷ more))
 
+-- no letter is `-`, so a bundle with one in it is a fault
 pub no_hyphen_option :
     (table : List OptionForm) (word more : Word) (next letter : ℕ)
     → IsTable table
@@ -82,6 +88,7 @@ no_hyphen_option table word more next letter is same =
     subst (λ form. ReadsOptions table word (flag_before letter
     (letter_reading next form more (letters_reading table more)))) (sym missing) tt
 
+-- a flag and the rest behind it are read as they spell
 pub flag_is_read :
     (table : List OptionForm) (letter : ℕ) (rest : Word)
     → IsTable table
@@ -96,6 +103,7 @@ flag_is_read table letter (next ∷ more) is has rest = elim (cases_Bool (next =
       (letters_reading table (next ∷ more)) (rest other)
 ]
 
+-- a letter of the table, by whether it takes a value
 pub letter_is_read :
     (table : List OptionForm) (letter : ℕ) (rest : Word)
     → IsTable table
@@ -112,6 +120,7 @@ letter_is_read table letter rest is reads form found true value =
 letter_is_read table letter rest is reads form found false value =
     flag_is_read table letter rest is (record { form = form; found = found; value = value }) reads
 
+-- a letter, by whether the table has it
 pub letter_form_is_read :
     (table : List OptionForm) (letter : ℕ) (rest : Word)
     → IsTable table
@@ -124,6 +133,7 @@ letter_form_is_read table letter rest is reads None found = tt
 letter_form_is_read table letter rest is reads (Some form) found =
     letter_is_read table letter rest is reads form found form.takes_value refl
 
+-- the rest of a bundle is read as it spells
 pub rest_reads : (table : List OptionForm) → IsTable table → (rest : Word) → RestReads table rest
 rest_reads table is [] = tt
 rest_reads table is (next ∷ more) = λ other. letter_form_is_read table next more is
@@ -131,6 +141,7 @@ rest_reads table is (next ∷ more) = λ other. letter_form_is_read table next m
 
 -- ---- Long names
 
+-- a text with `=` is what stands before the first, that, and what stands behind
 pub cut_at_equals :
     (text : Word)
     → has_byte equals_sign text ≡ true
@@ -145,6 +156,7 @@ cut_at_equals (c ∷ text) has = elim (cases_Bool (c == equals_sign)) [
       (rw suc-add (ap (λ rest. c ∷ rest) (cut_at_equals text h))))
 ]
 
+-- what stands before the first has none
 pub before_equals_plain :
     (text : Word)
     → has_byte equals_sign (before_first (λ c. c == equals_sign) text) ≡ false
@@ -154,6 +166,7 @@ before_equals_plain (c ∷ text) = elim (cases_Bool (c == equals_sign)) [
   | inr other ↦ rw other (rw one-add (rw other (before_equals_plain text)))
 ]
 
+-- a long name of the table without `=`, by whether it takes a value
 pub name_is_read :
     (table : List OptionForm) (name : Word)
     → has_byte equals_sign name ≡ false
@@ -180,6 +193,7 @@ name_is_read table name plain form found false value = λ words options operands
       value = value;
     }) spelled
 
+-- a long name without `=`, by whether the table has it
 pub name_form_is_read :
     (table : List OptionForm) (name : Word)
     → has_byte equals_sign name ≡ false
@@ -190,6 +204,7 @@ name_form_is_read table name plain None found = tt
 name_form_is_read table name plain (Some form) found =
     name_is_read table name plain form found form.takes_value refl
 
+-- a long name of the table with `=`, by whether it takes a value
 pub value_is_read :
     (table : List OptionForm) (text name given : Word)
     → text ≡ name ++ equals_sign ∷ given
@@ -211,6 +226,7 @@ value_is_read table text name given cut plain form found true value =
     }) spelled
 value_is_read table text name given cut plain form found false value = tt
 
+-- a long name with `=`, by whether the table has it
 pub value_form_is_read :
     (table : List OptionForm) (text name given : Word)
     → text ≡ name ++ equals_sign ∷ given
@@ -222,6 +238,7 @@ value_form_is_read table text name given cut plain None found = tt
 value_form_is_read table text name given cut plain (Some form) found =
     value_is_read table text name given cut plain form found form.takes_value refl
 
+-- a long name is read as it spells, by whether it has `=`
 pub long_is_read :
     (table : List OptionForm) (text : Word) (has : Bool)
     → has_byte equals_sign text ≡ has
@@ -235,6 +252,7 @@ long_is_read table text true has = value_form_is_read table text
     (form_of_name table (before_first (λ d. d == equals_sign) text)) refl
 long_is_read table text false has = name_form_is_read table text has (form_of_name table text) refl
 
+-- what begins with `--` means what it is read as
 pub long_means :
     (table : List OptionForm) (text : Word)
     → Means table (hyphen ∷ hyphen ∷ text) (long_meaning table text)
@@ -243,6 +261,7 @@ long_means table (c ∷ rest) = long_is_read table (c ∷ rest) (has_byte equals
 
 -- ---- Words
 
+-- a word of two bytes or more, by its first two
 pub two_bytes_mean :
     (table : List OptionForm)
     → IsTable table
@@ -263,6 +282,7 @@ two_bytes_mean table is c d rest true false e f =
     subst (λ n. ReadsOptions table (n ∷ d ∷ rest) (letters_reading table (d ∷ rest))) (sym first)
     (rest_reads table is (d ∷ rest) f)
 
+-- each word means what it is read as
 pub word_means :
     (table : List OptionForm)
     → IsTable table
@@ -279,6 +299,7 @@ IsReading table words room (Ok arguments) =
     Spelled table words arguments.0 arguments.1 × (length arguments.1 ≤ room)
 IsReading table words room (Err fault) = Unit {0}
 
+-- an operand before words that are read as they spell
 pub operand_is_read :
     (table : List OptionForm) (word : Word) (words : List Word) (room : ℕ)
     → is_operand word ≡ true
@@ -289,6 +310,7 @@ operand_is_read table word words room test (Ok arguments) reads =
     let fits : length arguments.1 ≤ room = reads.1 in (operand test reads.0, omega arith)
 operand_is_read table word words room test (Err fault) reads = tt
 
+-- and options before them
 pub options_are_read :
     (table : List OptionForm) (word : Word) (words : List Word) (room : ℕ) (given : List Given)
     → Extends table word given None
@@ -299,6 +321,7 @@ options_are_read table word words room given extends (Ok arguments) reads =
     (extends words arguments.0 arguments.1 reads.0, reads.1)
 options_are_read table word words room given extends (Err fault) reads = tt
 
+-- and options whose last takes the next word as its value
 pub value_is_taken :
     (table : List OptionForm) (word value : Word) (words : List Word) (room : ℕ)
     (given : List Given) (letter : ℕ)
@@ -311,10 +334,12 @@ value_is_taken table word value words room given letter extends (Ok arguments) r
     (extends value words arguments.0 arguments.1 reads.0, reads.1)
 value_is_taken table word value words room given letter extends (Err fault) reads = tt
 
+-- what was read are these words as operands, and there is room for them
 abbrev pub IsOperands : List Word → ℕ → Result Arguments WordFault → Type 0
 IsOperands words room (Ok arguments) = (arguments ≡ ([], words)) × (length words ≤ room)
 IsOperands words room (Err fault) = Unit {0}
 
+-- one word more before words that are all operands
 pub one_more_operand :
     (word : Word) (words : List Word) (room : ℕ) (read : Result Arguments WordFault)
     → IsOperands words room read
@@ -325,6 +350,7 @@ one_more_operand word words room (Ok arguments) reads =
     (ap (λ (a : Arguments). (a.0, word ∷ a.1)) same, omega arith)
 one_more_operand word words room (Err fault) reads = tt
 
+-- behind `--` all words are operands
 pub operands_are_read :
     (room place : ℕ) (words : List Word)
     → IsOperands words room (read_operands room place words)
@@ -333,6 +359,7 @@ operands_are_read zero place (word ∷ words) = tt
 operands_are_read (suc room) place (word ∷ words) = one_more_operand word words room
     (read_operands room (suc place) words) (operands_are_read room (suc place) words)
 
+-- so `--` and what stands behind it are read as they spell
 pub end_is_read :
     (table : List OptionForm) (word : Word) (words : List Word) (room : ℕ)
     → word ≡ codes "--"
@@ -355,6 +382,7 @@ last_options_are_read table word given None room place extends =
     options_are_read table word [] room given extends (Ok ([], [])) (nothing, omega arith)
 last_options_are_read table word given (Some letter) room place extends = tt
 
+-- the last word, by what it means
 pub last_word_is_read :
     (table : List OptionForm) (word : Word) (meaning : Meaning) (room place : ℕ)
     → Means table word meaning
@@ -369,6 +397,7 @@ last_word_is_read table word (has_options (Ok options)) room place means =
     last_options_are_read table word options.given options.waiting room (suc place) means
 last_word_is_read table word (has_options (Err fault)) room place means = tt
 
+-- options before two words or more
 pub more_options_are_read :
     (table : List OptionForm) (word value : Word) (words : List Word) (given : List Given)
     (waiting : Option ℕ) (room place : ℕ)
@@ -386,6 +415,7 @@ more_options_are_read table word value words given (Some letter) room place exte
     value_is_taken table word value words room given letter extends
     (read_arguments table None room (suc place) words) (behind_value room (suc place))
 
+-- a word before others, by what it means
 pub next_word_is_read :
     (table : List OptionForm) (word value : Word) (words : List Word)
     (meaning : Meaning) (room place : ℕ)

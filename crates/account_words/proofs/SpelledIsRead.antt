@@ -37,6 +37,7 @@ pub meaning_of_letters :
     ≡ has_options (letters_reading table (letter ∷ rest))
 meaning_of_letters table letter rest other = rw other refl
 
+-- an operand means one
 pub meaning_of_operand :
     (table : List OptionForm) (word : Word)
     → is_operand word ≡ true
@@ -55,6 +56,7 @@ reading_of_flag {table = table} {letter = letter} rest has =
     ∙ ap (λ b. cond b (value_behind letter rest)
     (flag_before letter (letters_reading table rest))) has.value
 
+-- the first letter takes a value
 pub reading_of_value :
     {table : List OptionForm} {letter : ℕ} (rest : Word)
     → HasLetter table letter true
@@ -82,16 +84,18 @@ meaning_of_name {table = table} {letter = letter} {takes_value = takes_value} (c
     ∙ ap (λ n. has_options (cond takes_value (waits_for_value n)
     (complete (as_flag n)))) has.letter_is
 
--- a name, `=` and a value are cut at the `=`
+-- neither of two holds, where not one of them does
 pub both_false : (a b : Bool) → a || b ≡ false → (a ≡ false) × (b ≡ false)
 both_false true b e = cc
 both_false false b e = (refl, e)
 
+-- a name, `=` and a value have `=`
 pub has_equals : (name value : Word) → has_byte equals_sign (name ++ equals_sign ∷ value) ≡ true
 has_equals [] value = refl
 has_equals (c ∷ name) value = ap (λ b. (c == equals_sign) || b) (has_equals name value)
     ∙ or-true (c == equals_sign)
 
+-- the name stands before it
 pub before_equals :
     (name value : Word)
     → has_byte equals_sign name ≡ false
@@ -102,6 +106,7 @@ before_equals (c ∷ name) value plain =
     let first = parts.0 in
     rw first (rw one-add (ap (λ rest. c ∷ rest) (before_equals name value parts.1)))
 
+-- and the value behind
 pub after_equals :
     (name value : Word)
     → has_byte equals_sign name ≡ false
@@ -131,6 +136,7 @@ reading_of_name_with_value {table = table} {letter = letter} name value has =
     ∙ ap (λ b. cond b (complete (as_value has.form.letter value)) (Err UnexpectedValue)) has.value
     ∙ ap (λ n. complete (as_value n value)) has.letter_is
 
+-- what begins with `--` and has `=` means a long name
 pub meaning_of_text :
     (table : List OptionForm) (name value : Word)
     → word_meaning table (hyphen ∷ hyphen ∷ (name ++ equals_sign ∷ value))
@@ -138,6 +144,7 @@ pub meaning_of_text :
 meaning_of_text table [] value = refl
 meaning_of_text table (c ∷ name) value = refl
 
+-- a long name with a value means it
 pub meaning_of_name_with_value :
     {table : List OptionForm} {letter : ℕ} (name text value : Word)
     → text ≡ name ++ equals_sign ∷ value

@@ -16,16 +16,20 @@ use Rattle.account_words.specs.Words.{request_of, fault}
 abbrev words_of : String → List Word
 words_of text = slice_split (λ c. c == 32) (codes text)
 
+-- an option that is a flag
 abbrev flagged : String → Given
 flagged letter = record { letter = byte letter; value = None }
 
+-- an option with its value
 abbrev valued : String → String → Given
 valued letter value = record { letter = byte letter; value = Some (codes value) }
 
+-- a request with the prefix R
 abbrev request : Tool → List Given → List Word → Result Request WordFault
 request tool options operands = Ok (record
     { tool = tool; prefix = codes "R"; options = options; operands = operands })
 
+-- one operand
 abbrev one : String → List Word
 one operand = codes operand ∷ []
 
@@ -63,6 +67,7 @@ asks_userdel = refl
 asks_groupdel : request_of (words_of "groupdel -P R -- -f") ≡ request Groupdel ([]) (one "-f")
 asks_groupdel = refl
 
+-- `-` alone, without `--`
 asks_groupdel_2 : request_of (words_of "groupdel -P R -") ≡ request Groupdel ([]) (one "-")
 asks_groupdel_2 = refl
 
@@ -78,6 +83,7 @@ asks_usermod_2 :
     ≡ request Usermod (valued "l" "bea" ∷ []) (one "ann")
 asks_usermod_2 = refl
 
+-- and `-l` of chage is the flag
 asks_chage :
     request_of (words_of "chage -P R -l bob") ≡ request Chage (flagged "l" ∷ []) (one "bob")
 asks_chage = refl
@@ -86,21 +92,26 @@ asks_chage = refl
 asks_chpasswd : request_of (words_of "chpasswd -P R -e") ≡ request Chpasswd (flagged "e" ∷ []) []
 asks_chpasswd = refl
 
+-- a bundle before the prefix, and no operand
 asks_pwck : request_of (words_of "pwck -qr -P R") ≡ request Pwck (flagged "q" ∷ flagged "r" ∷ []) []
 asks_pwck = refl
 
+-- a long name that is a flag
 asks_grpck : request_of (words_of "grpck -P R --sort") ≡ request Grpck (flagged "s" ∷ []) []
 asks_grpck = refl
 
+-- a bundle whose last letter is the prefix, with the next word
 asks_getsubids :
     request_of (words_of "getsubids -gP R root") ≡ request Getsubids (flagged "g" ∷ []) (one "root")
 asks_getsubids = refl
 
+-- a flag in front of a value, and one behind it
 asks_groupadd :
     request_of (words_of "groupadd -P R -f -g 27 -o dev")
     ≡ request Groupadd (flagged "f" ∷ valued "g" "27" ∷ flagged "o" ∷ []) (one "dev")
 asks_groupadd = refl
 
+-- two values
 asks_groupmod :
     request_of (words_of "groupmod -P R -g 2000 -n staff bob")
     ≡ request Groupmod (valued "g" "2000" ∷ valued "n" "staff" ∷ []) (one "bob")
@@ -164,9 +175,11 @@ faulty_getsubids = refl
 faulty_useradd_2 : fault (words_of "useradd ann -P") ≡ Some (MissingValue 2)
 faulty_useradd_2 = refl
 
+-- also behind a flag of its bundle
 faulty_useradd_3 : fault (words_of "useradd ann -rP") ≡ Some (MissingValue 2)
 faulty_useradd_3 = refl
 
+-- and behind a long name
 faulty_useradd_4 : fault (words_of "useradd ann --prefix") ≡ Some (MissingValue 2)
 faulty_useradd_4 = refl
 
@@ -210,9 +223,11 @@ faulty_useradd_8 = refl
 faulty_useradd_9 : fault (words_of "useradd -P R -g 5 -U ann") ≡ Some (Clash 1)
 faulty_useradd_9 = refl
 
+-- `-N` with `-U`
 faulty_useradd_10 : fault (words_of "useradd -P R -NU ann") ≡ Some (Clash 2)
 faulty_useradd_10 = refl
 
+-- `-o` without `-u`
 faulty_useradd_11 : fault (words_of "useradd -P R -o ann") ≡ Some (Clash 3)
 faulty_useradd_11 = refl
 
@@ -224,15 +239,19 @@ faulty_useradd_12 = refl
 faulty_usermod_2 : fault (words_of "usermod -P R -a ann") ≡ Some (Clash 1)
 faulty_usermod_2 = refl
 
+-- `-o` without `-u`
 faulty_usermod_3 : fault (words_of "usermod -P R -o ann") ≡ Some (Clash 2)
 faulty_usermod_3 = refl
 
+-- `-L` with `-U`
 faulty_usermod_4 : fault (words_of "usermod -P R -LU ann") ≡ Some (Clash 3)
 faulty_usermod_4 = refl
 
+-- and with `-p`
 faulty_usermod_5 : fault (words_of "usermod -P R -L -p h ann") ≡ Some (Clash 3)
 faulty_usermod_5 = refl
 
+-- no option at all
 faulty_usermod_6 : fault (words_of "usermod -P R ann") ≡ Some (Clash 4)
 faulty_usermod_6 = refl
 
@@ -244,6 +263,7 @@ faulty_groupadd_4 = refl
 faulty_groupmod : fault (words_of "groupmod -P R -o -p h staff") ≡ Some (Clash 1)
 faulty_groupmod = refl
 
+-- no option at all
 faulty_groupmod_2 : fault (words_of "groupmod -P R staff") ≡ Some (Clash 2)
 faulty_groupmod_2 = refl
 
@@ -251,9 +271,11 @@ faulty_groupmod_2 = refl
 faulty_gpasswd : fault (words_of "gpasswd -P R sudo") ≡ Some (Clash 1)
 faulty_gpasswd = refl
 
+-- `-a` with `-M`
 faulty_gpasswd_2 : fault (words_of "gpasswd -P R -a bob -M bob sudo") ≡ Some (Clash 2)
 faulty_gpasswd_2 = refl
 
+-- `-r` with `-R`
 faulty_gpasswd_3 : fault (words_of "gpasswd -P R -r -R sudo") ≡ Some (Clash 2)
 faulty_gpasswd_3 = refl
 
@@ -261,6 +283,7 @@ faulty_gpasswd_3 = refl
 faulty_chage : fault (words_of "chage -P R bob") ≡ Some (Clash 1)
 faulty_chage = refl
 
+-- `-l` with another option
 faulty_chage_2 : fault (words_of "chage -P R -l -d 0 bob") ≡ Some (Clash 2)
 faulty_chage_2 = refl
 
@@ -272,12 +295,15 @@ faulty_chpasswd = refl
 faulty_pwck_4 : fault (words_of "pwck -P R -q") ≡ Some (Clash 1)
 faulty_pwck_4 = refl
 
+-- `-r` with `-s`
 faulty_pwck_5 : fault (words_of "pwck -P R -r -s") ≡ Some (Clash 2)
 faulty_pwck_5 = refl
 
+-- neither of them
 faulty_grpck : fault (words_of "grpck -P R") ≡ Some (Clash 1)
 faulty_grpck = refl
 
+-- both of them
 faulty_grpck_2 : fault (words_of "grpck -P R -sr") ≡ Some (Clash 2)
 faulty_grpck_2 = refl
 
@@ -289,11 +315,14 @@ no_words = refl
 word_513 : fault (replicate 513 []) ≡ Some (WordLimit 512)
 word_513 = refl
 
+-- 512 words are few enough
 words_512 : fault (replicate 512 []) ≡ Some UnknownTool
 words_512 = refl
 
+-- 4,097 bytes are too many
 long_word : fault (codes "adduser" ∷ replicate 4097 0 ∷ []) ≡ Some (WordLimit 1)
 long_word = refl
 
+-- and 4,096 are not
 longest_word : fault (codes "adduser" ∷ replicate 4096 0 ∷ []) ≡ Some UnknownTool
 longest_word = refl
