@@ -1,11 +1,11 @@
 -- chage from its words to its answer, each row decided by computing.
-use Rattle.std.specs.Prelude.{◌≡◌, [], codes, refl, Some}
+use Rattle.std.specs.Prelude.{◌≡◌, [], ◌++◌, codes, refl, Some}
 use Rattle.std.specs.Fmt.{digits}
 use Rattle.std.specs.Str.{byte}
 use Rattle.acct_text.specs.declared.Tab.TheVariants.{Shadow}
 use Rattle.account_model.specs.declared.refusal.Refusal.TheVariants.{BadValue, NoUser, NoShadow, Multiple}
 use Rattle.account_model.proofs.Image.{image}
-use Rattle.account_model.proofs.Commands.{words, lines, on, plainly_on, changed, same, refused, reported, image_shadow_with, small, nothing}
+use Rattle.account_model.proofs.Commands.{words, lines, on, plainly_on, changed, same, refused, printed, image_shadow_with, small, nothing}
 
 -- `chage -P R -M -1 bob`: `-1` empties the field
 no_maximum : on image (words "chage -P R -M -1 bob")
@@ -103,46 +103,55 @@ two_shadow_lines = refl
 
 -- `chage -P R -l bob`
 listed : on image (words "chage -P R -l bob")
-    ≡ reported 0
-    "last change: 2024-03-18|password expires: never|minimum days: 0|maximum days: 99999|warning days: 7|inactive days: none|account expires: never"
+    ≡ printed 0
+    (lines "last change: 2024-03-18|password expires: never|minimum days: 0"
+    ++ lines "maximum days: 99999|warning days: 7|inactive days: none|account expires: never")
 unfolding digits
 listed = refl
 
 -- `chage -P R -l messagebus`
 listed_system : on image (words "chage -P R -l messagebus")
-    ≡ reported 0
-    "last change: 2023-12-09|password expires: never|minimum days: none|maximum days: none|warning days: none|inactive days: none|account expires: never"
+    ≡ printed 0
+    (lines "last change: 2023-12-09|password expires: never|minimum days: none"
+    ++ lines "maximum days: none|warning days: none|inactive days: none|account expires: never")
 unfolding digits
 listed_system = refl
 
 -- `chage -P R -l a`: a last change on day 0
 must_change : plainly_on (record (small "a:x:1:1::/:" "")
     { shadow = Some (lines "a:!:0:1:90:::20000:") }) (words "chage -P R -l a")
-    ≡ reported 0
-    "last change: must change|password expires: must change|minimum days: 1|maximum days: 90|warning days: none|inactive days: none|account expires: 2024-10-04"
+    ≡ printed 0
+    (lines "last change: must change|password expires: must change|minimum days: 1"
+    ++ lines "maximum days: 90|warning days: none|inactive days: none"
+    ++ lines "account expires: 2024-10-04")
 unfolding digits
 must_change = refl
 
 -- `chage -P R -l a`: 9999 days do expire, and a day past 9999-12-31 is printed as its number
 expires : plainly_on (record (small "a:x:1:1::/:" "")
     { shadow = Some (lines "a:!:20000::9999:::2932897:") }) (words "chage -P R -l a")
-    ≡ reported 0
-    "last change: 2024-10-04|password expires: 2052-02-19|minimum days: none|maximum days: 9999|warning days: none|inactive days: none|account expires: 2932897"
+    ≡ printed 0
+    (lines "last change: 2024-10-04|password expires: 2052-02-19|minimum days: none"
+    ++ lines "maximum days: 9999|warning days: none|inactive days: none"
+    ++ lines "account expires: 2932897")
 unfolding digits
 expires = refl
 
 -- `chage -P R -l a`: 10000 days don't
 endless : plainly_on (record (small "a:x:1:1::/:" "")
     { shadow = Some (lines "a:!:20000::10000::::") }) (words "chage -P R -l a")
-    ≡ reported 0
-    "last change: 2024-10-04|password expires: never|minimum days: none|maximum days: 10000|warning days: none|inactive days: none|account expires: never"
+    ≡ printed 0
+    (lines "last change: 2024-10-04|password expires: never|minimum days: none"
+    ++ lines "maximum days: 10000|warning days: none|inactive days: none"
+    ++ lines "account expires: never")
 unfolding digits
 endless = refl
 
 -- `chage -P R -l a`: without a line of shadow
 nothing_known :
     plainly_on (record (small "a:x:1:1::/:" "") { shadow = Some [] }) (words "chage -P R -l a")
-    ≡ reported 0
-    "last change: never|password expires: never|minimum days: none|maximum days: none|warning days: none|inactive days: none|account expires: never"
+    ≡ printed 0
+    (lines "last change: never|password expires: never|minimum days: none|maximum days: none"
+    ++ lines "warning days: none|inactive days: none|account expires: never")
 unfolding digits
 nothing_known = refl

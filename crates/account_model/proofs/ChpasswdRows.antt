@@ -1,5 +1,5 @@
 -- chpasswd from its input to its answer, each row decided by computing.
-use Rattle.std.specs.Prelude.{◌≡◌, [], codes, refl, Some, None}
+use Rattle.std.specs.Prelude.{◌≡◌, [], ◌++◌, codes, refl, Some, None}
 use Rattle.std.specs.Fmt.{digits}
 use Rattle.acct_text.specs.declared.Tab.TheVariants.{Passwd}
 use Rattle.account_model.specs.declared.refusal.Refusal.TheVariants.{BadLine, Multiple}
@@ -34,7 +34,10 @@ two_hashes :
     answer_with (lines "root:h1|bob:h2") (words "chpasswd -P R -e") image (Some (file image_defs))
     ≡ changed (record image {
       shadow = Some (lines
-          "root:h1:20000:0:99999:7:::|daemon:*:19700:0:99999:7:::|bin:*:19700:0:99999:7:::|www-data:*:19700:0:99999:7:::|_apt:*:19700:0:99999:7:::|messagebus:!:19700::::::|nobody:*:19700:0:99999:7:::|bob:h2:20000:0:99999:7:::");
+          "root:h1:20000:0:99999:7:::|daemon:*:19700:0:99999:7:::|bin:*:19700:0:99999:7:::"
+          ++ lines "www-data:*:19700:0:99999:7:::|_apt:*:19700:0:99999:7:::"
+          ++ lines "messagebus:!:19700::::::|nobody:*:19700:0:99999:7:::"
+          ++ lines "bob:h2:20000:0:99999:7:::");
     })
 unfolding digits
 two_hashes = refl

@@ -72,10 +72,14 @@ unusable status problem text =
           text ++ newline ∷ [];
     })
 
--- a report, with its status; no table changes
+-- a report that prints these bytes, with its status; no table changes
+abbrev pub printed : ℕ → List ℕ → Result Answer WordFault
+printed status output =
+    Ok (record { cause = Same; status = status; output = output; error = [] })
+
+-- a report of the lines of a text
 abbrev pub reported : ℕ → String → Result Answer WordFault
-reported status text =
-    Ok (record { cause = Same; status = status; output = lines text; error = [] })
+reported status text = printed status (lines text)
 
 -- the lines of group in the image, with other members of sudo
 abbrev pub image_group_with : String → List ℕ

@@ -1,5 +1,5 @@
 -- groupdel from its words to its answer, each row decided by computing.
-use Rattle.std.specs.Prelude.{◌≡◌, codes, refl, Some}
+use Rattle.std.specs.Prelude.{◌≡◌, ◌++◌, codes, refl, Some}
 use Rattle.std.specs.Fmt.{digits}
 use Rattle.acct_text.specs.declared.Tab.TheVariants.{Group, Gshadow}
 use Rattle.account_model.specs.declared.refusal.Refusal.TheVariants.{NoGroup, PrimaryGroup, Multiple}
@@ -17,9 +17,11 @@ primary_group = refl
 forced_deletion : on image (words "groupdel -P R -f bob")
     ≡ changed (record image {
       group = Some (lines
-          "root:x:0:|daemon:x:1:|bin:x:2:|sudo:x:27:bob|www-data:x:33:|users:x:100:|messagebus:x:101:|nogroup:x:65534:");
+          "root:x:0:|daemon:x:1:|bin:x:2:|sudo:x:27:bob|www-data:x:33:|users:x:100:"
+          ++ lines "messagebus:x:101:|nogroup:x:65534:");
       gshadow = Some (lines
-          "root:*::|daemon:*::|bin:*::|sudo:*::bob|www-data:*::|users:*::|messagebus:!::|nogroup:*::");
+          "root:*::|daemon:*::|bin:*::|sudo:*::bob|www-data:*::|users:*::"
+          ++ lines "messagebus:!::|nogroup:*::");
     })
 unfolding digits
 forced_deletion = refl

@@ -13,14 +13,18 @@ abbrev with_staff : Files
 with_staff = record image {
   passwd = Some (lines
       "root:x:0:0:root:/root:/bin/bash|daemon:x:1:1:daemon:/usr/sbin:/usr/sbin/nologin"
-      ++ lines "bin:x:2:2:bin:/bin:/usr/sbin/nologin|www-data:x:33:33:www-data:/var/www:/usr/sbin/nologin"
-      ++ lines "_apt:x:100:65534::/nonexistent:/usr/sbin/nologin|messagebus:x:101:101::/nonexistent:/usr/sbin/nologin"
-      ++ lines "nobody:x:65534:65534:nobody:/nonexistent:/usr/sbin/nologin|bob:x:1000:2000:Bob,,,:/home/bob:/bin/bash");
+      ++ lines "bin:x:2:2:bin:/bin:/usr/sbin/nologin"
+      ++ lines "www-data:x:33:33:www-data:/var/www:/usr/sbin/nologin"
+      ++ lines "_apt:x:100:65534::/nonexistent:/usr/sbin/nologin"
+      ++ lines "messagebus:x:101:101::/nonexistent:/usr/sbin/nologin"
+      ++ lines "nobody:x:65534:65534:nobody:/nonexistent:/usr/sbin/nologin"
+      ++ lines "bob:x:1000:2000:Bob,,,:/home/bob:/bin/bash");
   group = Some (lines
       "root:x:0:|daemon:x:1:|bin:x:2:|sudo:x:27:bob|www-data:x:33:|users:x:100:|messagebus:x:101:"
       ++ lines "nogroup:x:65534:|staff:x:2000:");
   gshadow = Some (lines
-      "root:*::|daemon:*::|bin:*::|sudo:*::bob|www-data:*::|users:*::|messagebus:!::|nogroup:*::|staff:!::");
+      "root:*::|daemon:*::|bin:*::|sudo:*::bob|www-data:*::|users:*::|messagebus:!::"
+      ++ lines "nogroup:*::|staff:!::");
 }
 
 -- `groupmod -P R -g 2000 -n staff bob`: the users of the group follow

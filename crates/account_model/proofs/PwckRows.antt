@@ -4,7 +4,7 @@ use Rattle.std.specs.Fmt.{digits}
 use Rattle.acct_text.specs.declared.files.Files.{Files}
 use Rattle.account_model.specs.Answer.{Same, BadSettingAt}
 use Rattle.account_model.proofs.Image.{image}
-use Rattle.account_model.proofs.Commands.{words, lines, answer_to, on, plainly_on, changed, same, unusable, reported, with_ann, small, nothing}
+use Rattle.account_model.proofs.Commands.{words, lines, answer_to, on, plainly_on, changed, same, unusable, printed, reported, with_ann, small, nothing}
 
 -- `pwck -P R -r`: nothing to report
 clean_users : on image (words "pwck -P R -r")
@@ -40,18 +40,17 @@ problem_users =
 
 -- `pwck -P R -r`: the problems of one line come in their order
 all_user_problems : plainly_on problem_users (words "pwck -P R -r")
-    ≡ Ok (record {
-      cause = Same;
-      status = 2;
-      output = lines "passwd:4: duplicate name a|passwd:4: user a has no primary group 7"
-          ++ lines "passwd:4: password of user a is not in shadow"
-          ++ lines "passwd:6: invalid user name 3|passwd:6: user 3 has no primary group 8"
-          ++ lines "passwd:6: user 3 has no shadow entry|passwd:6: password of user 3 is not in shadow"
-          ++ lines "shadow:1: user b has no passwd entry|shadow:2: last change of user a is in the future"
-          ++ lines "shadow:3: invalid entry|shadow:4: duplicate name b|shadow:4: user b has no passwd entry"
-          ++ lines "shadow:4: last change of user b is in the future";
-      error = [];
-    })
+    ≡ printed 2
+    (lines "passwd:4: duplicate name a|passwd:4: user a has no primary group 7"
+    ++ lines "passwd:4: password of user a is not in shadow"
+    ++ lines "passwd:6: invalid user name 3|passwd:6: user 3 has no primary group 8"
+    ++ lines "passwd:6: user 3 has no shadow entry"
+    ++ lines "passwd:6: password of user 3 is not in shadow"
+    ++ lines "shadow:1: user b has no passwd entry"
+    ++ lines "shadow:2: last change of user a is in the future"
+    ++ lines "shadow:3: invalid entry|shadow:4: duplicate name b"
+    ++ lines "shadow:4: user b has no passwd entry"
+    ++ lines "shadow:4: last change of user b is in the future")
 unfolding digits
 all_user_problems = refl
 

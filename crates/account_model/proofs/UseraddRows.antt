@@ -9,7 +9,7 @@ use Rattle.account_words.specs.declared.word_fault.WordFault.TheVariants.{Unknow
 use Rattle.account_model.specs.Answer.{BadSettingAt}
 use Rattle.account_model.proofs.Image.{image, image_passwd, image_shadow}
 use Rattle.account_words.proofs.SettingsImage.{file}
-use Rattle.account_model.proofs.Commands.{words, lines, answer_to, on, plainly_on, changed, refused, unusable, with_ann, image_and, small, nothing}
+use Rattle.account_model.proofs.Commands.{words, lines, answer_to, on, plainly_on, changed, refused, unusable, image_group_with, image_gshadow_with, with_ann, image_and, small, nothing}
 
 -- `useradd -P R -c "Ann Lee" -G sudo ann`: a user with a comment and a group
 new_user : on image (words "useradd -P R -c" ++ codes "Ann Lee" ∷ words "-G sudo ann")
@@ -135,10 +135,8 @@ group_by_gid :
     ≡ changed (record image {
       passwd = Some (file image_passwd ++ lines "x:x:1001:100::/home/x:");
       shadow = Some (file image_shadow ++ lines "x:!:20000:0:99999:7:::");
-      group = Some (lines
-          "root:x:0:|daemon:x:1:|bin:x:2:|sudo:x:27:bob,x|www-data:x:33:|users:x:100:|messagebus:x:101:|nogroup:x:65534:|bob:x:1000:");
-      gshadow = Some (lines
-          "root:*::|daemon:*::|bin:*::|sudo:*::bob,x|www-data:*::|users:*::|messagebus:!::|nogroup:*::|bob:!::");
+      group = Some (image_group_with "bob,x");
+      gshadow = Some (image_gshadow_with "bob,x");
     })
 unfolding digits
 group_by_gid = refl

@@ -1,5 +1,5 @@
 -- What usermod refuses, in the order in which it is tested, each row decided by computing.
-use Rattle.std.specs.Prelude.{◌≡◌, [], codes, refl, Some}
+use Rattle.std.specs.Prelude.{◌≡◌, [], ◌++◌, codes, refl, Some}
 use Rattle.std.specs.Fmt.{digits}
 use Rattle.std.specs.Str.{byte}
 use Rattle.acct_text.specs.declared.Tab.TheVariants.{Subuid}
@@ -8,15 +8,15 @@ use Rattle.account_model.proofs.Image.{image}
 use Rattle.account_model.proofs.Commands.{words, lines, on, plainly_on, same, refused, small}
 
 -- `usermod -P R -W 1-4294967295 -w 1- -V 1 -v 2-1 -u -1 -l -x -p a:b -s sh -f -2 -e x -d home -c : ann`: the refusals of usermod, in their order
-usermod_value_c : on image (words
-    "usermod -P R -W 1-4294967295 -w 1- -V 1 -v 2-1 -u -1 -l -x -p a:b -s sh -f -2 -e x -d home -c : ann")
+usermod_value_c : on image (words "usermod -P R -W 1-4294967295 -w 1- -V 1 -v 2-1 -u -1 -l -x"
+    ++ words "-p a:b -s sh -f -2 -e x -d home -c : ann")
     ≡ refused 3 (BadValue (byte "c") (codes ":")) "usermod: invalid value for -c: :"
 unfolding digits
 usermod_value_c = refl
 
 -- `usermod -P R -W 1-4294967295 -w 1- -V 1 -v 2-1 -u -1 -l -x -p a:b -s sh -f -2 -e x -d home ann`
-usermod_value_d : on image (words
-    "usermod -P R -W 1-4294967295 -w 1- -V 1 -v 2-1 -u -1 -l -x -p a:b -s sh -f -2 -e x -d home ann")
+usermod_value_d : on image (words "usermod -P R -W 1-4294967295 -w 1- -V 1 -v 2-1 -u -1 -l -x"
+    ++ words "-p a:b -s sh -f -2 -e x -d home ann")
     ≡ refused 3 (BadValue (byte "d") (codes "home")) "usermod: invalid value for -d: home"
 unfolding digits
 usermod_value_d = refl

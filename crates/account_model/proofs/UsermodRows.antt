@@ -5,7 +5,7 @@ use Rattle.acct_text.specs.declared.Tab.TheVariants.{Passwd, Group, Subuid, Subg
 use Rattle.account_model.specs.declared.refusal.Refusal.TheVariants.{Meets, NoShadow, Multiple}
 use Rattle.account_model.proofs.Image.{image, image_passwd, image_shadow}
 use Rattle.account_words.proofs.SettingsImage.{file}
-use Rattle.account_model.proofs.Commands.{words, lines, on, plainly_on, changed, same, refused, with_ann, small, nothing}
+use Rattle.account_model.proofs.Commands.{words, lines, on, plainly_on, changed, same, refused, image_group_with, image_gshadow_with, image_shadow_with, with_ann, small, nothing}
 
 -- `usermod -P R -v 165535-165540 ann`: the range of `-v` meets one that stands
 range_meets : on with_ann (words "usermod -P R -v 165535-165540 ann")
@@ -50,10 +50,8 @@ renamed : on with_ann (words "usermod -P R -l bea ann")
     ≡ changed (record {
       passwd = Some (file image_passwd ++ lines "bea:x:1001:1001:Ann Lee:/home/ann:");
       shadow = Some (file image_shadow ++ lines "bea:!:20000:0:99999:7:::");
-      group = Some (lines
-          "root:x:0:|daemon:x:1:|bin:x:2:|sudo:x:27:bob,bea|www-data:x:33:|users:x:100:|messagebus:x:101:|nogroup:x:65534:|bob:x:1000:|ann:x:1001:");
-      gshadow = Some (lines
-          "root:*::|daemon:*::|bin:*::|sudo:*::bob,bea|www-data:*::|users:*::|messagebus:!::|nogroup:*::|bob:!::|ann:!::");
+      group = Some (image_group_with "bob,bea" ++ lines "ann:x:1001:");
+      gshadow = Some (image_gshadow_with "bob,bea" ++ lines "ann:!::");
       subuid = Some (lines "bob:100000:65536|bea:165536:65536");
       subgid = Some (lines "bob:100000:65536|bea:165536:65536");
     })
@@ -102,10 +100,8 @@ two_lines_untouched = refl
 -- `usermod -P R -aGsudo www-data`
 bundled_groups : on image (words "usermod -P R -aGsudo www-data")
     ≡ changed (record image {
-      group = Some (lines
-          "root:x:0:|daemon:x:1:|bin:x:2:|sudo:x:27:bob,www-data|www-data:x:33:|users:x:100:|messagebus:x:101:|nogroup:x:65534:|bob:x:1000:");
-      gshadow = Some (lines
-          "root:*::|daemon:*::|bin:*::|sudo:*::bob,www-data|www-data:*::|users:*::|messagebus:!::|nogroup:*::|bob:!::");
+      group = Some (image_group_with "bob,www-data");
+      gshadow = Some (image_gshadow_with "bob,www-data");
     })
 unfolding digits
 bundled_groups = refl
@@ -118,10 +114,7 @@ groups_left = refl
 
 -- `usermod -P R -L bob`
 locked : on image (words "usermod -P R -L bob")
-    ≡ changed (record image {
-      shadow = Some (lines
-          "root:*:19700:0:99999:7:::|daemon:*:19700:0:99999:7:::|bin:*:19700:0:99999:7:::|www-data:*:19700:0:99999:7:::|_apt:*:19700:0:99999:7:::|messagebus:!:19700::::::|nobody:*:19700:0:99999:7:::|bob:!$y$hash:19800:0:99999:7:::");
-    })
+    ≡ changed (record image { shadow = Some (image_shadow_with "bob:!$y$hash:19800:0:99999:7:::") })
 unfolding digits
 locked = refl
 
@@ -152,10 +145,7 @@ no_shadow = refl
 
 -- `usermod -P R -p new bob`: `-p` sets the last change too
 new_hash : on image (words "usermod -P R -p new bob")
-    ≡ changed (record image {
-      shadow = Some (lines
-          "root:*:19700:0:99999:7:::|daemon:*:19700:0:99999:7:::|bin:*:19700:0:99999:7:::|www-data:*:19700:0:99999:7:::|_apt:*:19700:0:99999:7:::|messagebus:!:19700::::::|nobody:*:19700:0:99999:7:::|bob:new:20000:0:99999:7:::");
-    })
+    ≡ changed (record image { shadow = Some (image_shadow_with "bob:new:20000:0:99999:7:::") })
 unfolding digits
 new_hash = refl
 

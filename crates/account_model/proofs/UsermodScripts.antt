@@ -1,6 +1,6 @@
 -- usermod prints only records that read back, where it doesn't refuse: `usermod-written`. Way: the refusals show that
 -- each value can stand in a line, and then each edit keeps that; a range that is cut keeps its bounds.
-use Rattle.std.proofs.Common.{◌≡◌, ℕ, ◌≤◌, Bool, true, false, ◌&&◌, ◌||◌, not, List, [], ◌∷◌, ◌++◌, map, refl, sym, ◌∙◌}
+use Rattle.std.proofs.Common.{◌≡◌, ℕ, ◌≤◌, Bool, true, false, ◌||◌, not, List, [], ◌∷◌, ◌++◌, map, refl, sym, ◌∙◌}
 use Rattle.std.specs.Prelude.{Option, Some, None, codes, bytes_eq, drop, unwrap_or, if◌then◌else◌}
 use Rattle.std.specs.List.{AllByRecursion}
 use Rattle.std.proofs.lemmas.Bool.{true≢false}
@@ -23,7 +23,7 @@ use Rattle.account_formats.specs.WrittenScript.{IsWrittenScript}
 use Rattle.account_words.specs.Values.{is_field, is_folder, is_shell, is_days_value, is_expiration_value, days_value, expiration_value}
 use Rattle.account_model.specs.GivenGroups.{given_groups, unknown_group, unknown_groups}
 use Rattle.account_model.specs.Hashes.{locked, demand_shadow, each_user_hash}
-use Rattle.account_model.specs.Members.{with_name, without_name, renamed_in}
+use Rattle.account_model.specs.Members.{with_name, without_name}
 use Rattle.account_words.specs.Request.{Request, has_option, value_of, values_of, operand}
 use Rattle.account_model.specs.Refusals.{bad_value, missing_user, bad_list_name}
 use Rattle.account_model.specs.UsermodHash.{sets_hash, sets_aging, locked_hash, unlocked_hash, relocked_hash, hash_after, hash_script}

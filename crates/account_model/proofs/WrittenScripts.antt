@@ -1,6 +1,6 @@
 -- Scripts that several tools use print only records that read back: scripts one after another (`order-written`), of an
 -- option or a flag, of members, of hashes and of lines on demand.
-use Rattle.std.proofs.Common.{◌≡◌, ℕ, Bool, true, false, List, [], ◌∷◌, ◌++◌, refl}
+use Rattle.std.proofs.Common.{◌≡◌, ℕ, Bool, true, false, List, [], ◌∷◌, refl}
 use Rattle.std.specs.Prelude.{Option, Some, None, is_some, if◌then◌else◌}
 use Rattle.std.specs.List.{AllByRecursion}
 use Rattle.acct_text.specs.declared.files.Files.{Files}
@@ -8,7 +8,6 @@ use Rattle.account_formats.specs.declared.records.PasswdRecord.{PasswdRecord}
 use Rattle.account_formats.specs.declared.records.ShadowRecord.{ShadowRecord}
 use Rattle.account_formats.specs.declared.records.GroupRecord.{GroupRecord}
 use Rattle.account_formats.specs.declared.records.GshadowRecord.{GshadowRecord}
-use Rattle.account_formats.specs.Text.{is_listed}
 use Rattle.account_formats.specs.Format.{is_named}
 use Rattle.account_formats.specs.Edits.{Edit, each_where}
 use Rattle.account_formats.specs.Records.{passwd_format, shadow_format, group_format, gshadow_format, hash_alone}
