@@ -18,11 +18,11 @@ use Rattle.acct_text.proofs.ChangedTablesLemmas.{changed_among-cons, with_new_ta
 use Rattle.intent_file.specs.Intent.{NewTable, intent_of, is_in_order, is_within_limit, is_lock_number, is_allowed}
 
 -- the same content is one
-content_is : (old new : Option Bytes) → same_content old new ≡ true → new ≡ old
-content_is None None same = refl
-content_is (Some b) (Some c) same = ap (λ (x : Bytes). Some x) (sym ((bytes_eq-Decides b c).0 same))
-content_is None (Some c) same = absurd (true≢false (sym same))
-content_is (Some b) None same = absurd (true≢false (sym same))
+pub content-is : (old new : Option Bytes) → same_content old new ≡ true → new ≡ old
+content-is None None same = refl
+content-is (Some b) (Some c) same = ap (λ (x : Bytes). Some x) (sym ((bytes_eq-Decides b c).0 same))
+content-is None (Some c) same = absurd (true≢false (sym same))
+content-is (Some b) None same = absurd (true≢false (sym same))
 
 -- each table has the place or a later one, and they are in order
 abbrev is_from : ℕ → List NewTable → Bool
@@ -158,7 +158,7 @@ none-changed (table ∷ tables) old new standing none =
         → (if is_same then changed_among tables old new else with_new_table table now
         (changed_among tables old new)) ≡ []
         → AllByRecursion (λ t. new t ≡ old t) (table ∷ tables)
-    by_test later true same now is empty = (content_is (old table) (new table) same, later empty)
+    by_test later true same now is empty = (content-is (old table) (new table) same, later empty)
     by_test later false other None is empty =
         (both_absent (old table) (new table) (standing table) is, later empty)
     by_test later false other (Some bytes) is empty = absurd (cc)

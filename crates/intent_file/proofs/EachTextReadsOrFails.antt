@@ -276,6 +276,7 @@ module _ (bytes behind : Bytes) (head : Header)
                 (omega (arith, sizes)) none,
           )
 
+-- each text reads as an intent, or has a first part that fails
 each_text : (bytes : Bytes) → ReadsOrFails bytes
 each_text bytes = by_header (header_decides bytes)
   where
@@ -284,5 +285,6 @@ each_text bytes = by_header (header_decides bytes)
         with_some bytes behind head begun head.count [] behind (listed-none behind) (omega arith)
     by_header (headed_by_none none) = inr (_, no_header none)
 
+-- the law
 pub each_text_reads_or_fails_holds : EachTextReadsOrFails
 each_text_reads_or_fails_holds = each_text

@@ -253,5 +253,6 @@ none_if_read bytes _ intent (no_end front all end) reads =
         let sum = length-append intent.tables (next ∷ news) in
         omega (arith, counts, all)
 
+-- the law
 pub first_fault_is_one_holds : FirstFaultIsOne
 first_fault_is_one_holds = record { one_part = one_part; none_if_read = none_if_read }

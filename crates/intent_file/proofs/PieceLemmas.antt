@@ -63,7 +63,8 @@ piece-found text texts place piece is =
 -- the pieces behind those of the first text
 pub piece-passed : (text : Bytes) (texts : List Bytes) (place rest : ℕ)
     → place ≡ length (pieces_of text) + rest
-    → slice_get (flat_map pieces_of (text ∷ texts)) place ≡ slice_get (flat_map pieces_of texts) rest
+    → slice_get (flat_map pieces_of (text ∷ texts)) place
+    ≡ slice_get (flat_map pieces_of texts) rest
 piece-passed text texts place rest is =
     get-right (pieces_of text) (flat_map pieces_of texts) place rest is
 

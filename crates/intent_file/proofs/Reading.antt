@@ -84,7 +84,8 @@ spelled_intent-text intent rest allowed =
     let follows = after_header-part head total behind small few_tables in
     let all : min 6 (length intent.tables) ≡ length intent.tables = omega arith in
     ap spelled_intent (append_assoc (header_part total head) (body intent.tables) rest
-    ∙ ap (λ b. header_part total head ++ b) (append_assoc (table_parts intent.tables) end_part rest))
+    ∙ ap (λ b. header_part total head ++ b)
+    (append_assoc (table_parts intent.tables) end_part rest))
     ∙ (ap (λ v. spelled_in v (header_part total head ++ behind)) versions
     ∙ ap₂ (λ (n : ℕ) (ts : List NewTable).
     record { version = intent.version; number = n; tables = ts }) numbers
@@ -173,6 +174,7 @@ no_prefix bytes more intent other reads longer =
     append_cancel_left bytes more []
     (longer.text ∙ (ap intent_text same ∙ (sym reads.text ∙ sym (append-nil bytes))))
 
+-- the law
 pub reading_is_unique_holds : ReadingIsUnique
 reading_is_unique_holds = record {
   one_intent = one_intent;

@@ -183,7 +183,8 @@ module _ (bytes : Bytes) where
         (head : Header) (rest : Bytes)
         → Headed bytes head rest
         → SameCut version head.version behind
-        (number_part blank head.number ++ (count_part head.version (length rest) head.count ++ rest))
+        (number_part blank head.number
+        ++ (count_part head.version (length rest) head.count ++ rest))
     after_version head rest begins =
         version_cut version head.version behind _
         (sym begins_version.whole ∙ (begins.whole ∙ header_words head (length rest) rest))

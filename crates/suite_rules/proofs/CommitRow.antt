@@ -13,7 +13,7 @@ use Rattle.acct_outside.specs.History.{Event, History, after}
 use Rattle.suite_rules.specs.Knowledge.{Seen}
 use Rattle.suite_rules.specs.Listing.{new_listing}
 use Rattle.suite_rules.specs.Standing.{standing}
-use Rattle.suite_rules.specs.Rules.{CommitRule, HasSeen, moves_backup, answers_changed, free_begin, create_rule, commit_rule, move_rule, answer_rule}
+use Rattle.suite_rules.specs.Rules.{CommitRule, HasSeen, moves_backup, answers_changed, commit_rule, move_rule, answer_rule}
 use Rattle.suite_rules.specs.Lawful.{Lawful, starts, goes_on}
 use Rattle.suite_rules.specs.Settled.{settled}
 use Rattle.suite_rules.specs.Committed.{committed, folded}
@@ -219,13 +219,9 @@ nothing_happened-lawful = starts is-folder
 
 -- the session begins: lawful
 pub begun-lawful : Lawful staff_deeds first begun
-begun-lawful = goes_on _ _ nothing_happened-lawful (record {
-  keeps = record {
-    life_rule = tt;
-    permitted = free_begin groupadd_staff;
-  };
-  gives = (is-token-m1, refl);
-})
+begun-lawful =
+    begin-lawful staff_deeds first m1 nothing_happened nothing_happened-lawful refl groupadd_staff
+    is-token-m1 refl
 
 -- it lists no lock: lawful
 pub listed-lawful : Lawful staff_deeds first listed
@@ -234,20 +230,15 @@ listed-lawful =
 
 -- it creates lock 1: lawful
 pub created-lawful : Lawful staff_deeds first created
-created-lawful = goes_on _ _ listed-lawful (record {
-  keeps = record {
-    life_rule = tt;
-    permitted = create_rule 1 (record {
+created-lawful =
+    create-lawful staff_deeds first m1 listed listed-lawful refl 1 (record {
       listing = new_listing false [];
       listed = refl;
       first = refl;
       one_above = refl;
       judged = refl;
       not_exhausted = lit≤ tt;
-    });
-  };
-  gives = refl;
-})
+    }) refl
 
 -- it lists its lock as the greatest, and is keeper: lawful
 pub became_keeper-lawful : Lawful staff_deeds first became_keeper

@@ -15,7 +15,8 @@ knows-next call result stood number keeps = ap (λ (before : OwnLock).
     (knows_step stood.staged call result stood.knows) stood.knows) keeps
 
 -- what a keeper has staged takes its step
-pub staged-next : (call : Call) (result : CallResult (Answer call)) (stood : Standing) (number : ℕ) →
+pub staged-next : (call : Call) (result : CallResult (Answer call)) (stood : Standing)
+    (number : ℕ) →
     stood.own ≡ lock_kept number →
     (standing_step call result stood).staged ≡ staged_step call result stood.staged
 staged-next call result stood number keeps = ap (λ (before : OwnLock).

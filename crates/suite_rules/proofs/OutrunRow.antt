@@ -15,9 +15,9 @@ use Rattle.acct_outside.specs.Calls.{Command, Call, Answer, begins, lists, reads
 use Rattle.acct_outside.specs.History.{Event, History, after}
 use Rattle.suite_rules.specs.Deeds.{SuiteDeeds}
 use Rattle.suite_rules.specs.OwnLock.{lock_made, lock_kept}
-use Rattle.suite_rules.specs.Listing.{new_listing, nothing_watched}
+use Rattle.suite_rules.specs.Listing.{new_listing}
 use Rattle.suite_rules.specs.Standing.{standing}
-use Rattle.suite_rules.specs.Rules.{unlocks_below, unlocks_own, free_begin, create_rule, unlock_rule}
+use Rattle.suite_rules.specs.Rules.{unlocks_own, unlock_rule}
 use Rattle.suite_rules.specs.Lawful.{Lawful, starts, goes_on}
 use Rattle.suite_rules.specs.Committed.{committed}
 use Rattle.suite_rules.proofs.Staff.{two-bytes}
@@ -223,13 +223,9 @@ module _ (deeds : SuiteDeeds) where
 
   -- a begins: lawful
   a_begun-lawful : Lawful deeds first a_begun
-  a_begun-lawful = goes_on _ _ nothing_happened-lawful (record {
-    keeps = record {
-      life_rule = tt;
-      permitted = free_begin command;
-    };
-    gives = (is-token-a, refl);
-  })
+  a_begun-lawful =
+      begin-lawful deeds first a1 nothing_happened nothing_happened-lawful refl command
+      is-token-a refl
 
   -- a lists lock 4: lawful
   a_listed-lawful : Lawful deeds first a_listed
@@ -249,13 +245,9 @@ module _ (deeds : SuiteDeeds) where
 
   -- b begins: lawful
   b_begun-lawful : Lawful deeds first b_begun
-  b_begun-lawful = goes_on _ _ a_judged-lawful (record {
-    keeps = record {
-      life_rule = tt;
-      permitted = free_begin command;
-    };
-    gives = (is-token-b, refl);
-  })
+  b_begun-lawful =
+      begin-lawful deeds first b1 a_judged a_judged-lawful refl command
+      is-token-b refl
 
   -- b lists lock 4: lawful
   b_listed-lawful : Lawful deeds first b_listed
@@ -275,27 +267,15 @@ module _ (deeds : SuiteDeeds) where
 
   -- a creates lock 5: lawful
   a_created-lawful : Lawful deeds first a_created
-  a_created-lawful = goes_on _ _ b_judged-lawful (record {
-    keeps = record {
-      life_rule = tt;
-      permitted = create_rule 5 (record {
-        listing = record {
-          numbers = 4 ∷ [];
-          texts = codes "held z\n" ∷ [];
-          is_judged = true;
-          watched = nothing_watched;
-          follows_create = false;
-          removed = [];
-        };
+  a_created-lawful =
+      create-lawful deeds first a1 b_judged b_judged-lawful refl 5 (record {
+        listing = judged_listing (4 ∷ []) (codes "held z\n" ∷ []);
         listed = refl;
         first = refl;
         one_above = refl;
         judged = refl;
         not_exhausted = lit≤ tt;
-      });
-    };
-    gives = refl;
-  })
+      }) refl
 
   -- a lists its lock as the greatest, and is keeper: lawful
   a_kept-lawful : Lawful deeds first a_kept
@@ -304,14 +284,9 @@ module _ (deeds : SuiteDeeds) where
 
   -- a removes the lower lock: lawful
   a_unlocked-lawful : Lawful deeds first a_unlocked
-  a_unlocked-lawful = goes_on _ _ a_kept-lawful (record {
-    keeps = record {
-      life_rule = tt;
-      permitted = unlock_rule 4
-          (unlocks_below (record { number = 5; keeps = refl }) (lit≤ tt));
-    };
-    gives = tt;
-  })
+  a_unlocked-lawful =
+      unlock-lawful deeds first a1 a_kept a_kept-lawful refl
+      (record { number = 5; keeps = refl }) 4 (lit≤ tt)
 
   -- a writes the free text: lawful
   a_staged_free-lawful : Lawful deeds first a_staged_free
@@ -333,13 +308,9 @@ module _ (deeds : SuiteDeeds) where
 
   -- c begins: lawful
   c_begun-lawful : Lawful deeds first c_begun
-  c_begun-lawful = goes_on _ _ a_answered-lawful (record {
-    keeps = record {
-      life_rule = tt;
-      permitted = free_begin command;
-    };
-    gives = (is-token-c, refl);
-  })
+  c_begun-lawful =
+      begin-lawful deeds first c1 a_answered a_answered-lawful refl command
+      is-token-c refl
 
   -- c lists lock 5: lawful
   c_listed-lawful : Lawful deeds first c_listed
@@ -354,27 +325,15 @@ module _ (deeds : SuiteDeeds) where
 
   -- c creates lock 6: lawful
   c_created-lawful : Lawful deeds first c_created
-  c_created-lawful = goes_on _ _ c_judged-lawful (record {
-    keeps = record {
-      life_rule = tt;
-      permitted = create_rule 6 (record {
-        listing = record {
-          numbers = 5 ∷ [];
-          texts = free_text ∷ [];
-          is_judged = true;
-          watched = nothing_watched;
-          follows_create = false;
-          removed = [];
-        };
+  c_created-lawful =
+      create-lawful deeds first c1 c_judged c_judged-lawful refl 6 (record {
+        listing = judged_listing (5 ∷ []) (free_text ∷ []);
         listed = refl;
         first = refl;
         one_above = refl;
         judged = refl;
         not_exhausted = lit≤ tt;
-      });
-    };
-    gives = refl;
-  })
+      }) refl
 
   -- c lists its lock as the greatest, and is keeper: lawful
   c_kept-lawful : Lawful deeds first c_kept
@@ -383,38 +342,21 @@ module _ (deeds : SuiteDeeds) where
 
   -- c removes the lower lock: lawful
   c_unlocked-lawful : Lawful deeds first c_unlocked
-  c_unlocked-lawful = goes_on _ _ c_kept-lawful (record {
-    keeps = record {
-      life_rule = tt;
-      permitted = unlock_rule 5
-          (unlocks_below (record { number = 6; keeps = refl }) (lit≤ tt));
-    };
-    gives = tt;
-  })
+  c_unlocked-lawful =
+      unlock-lawful deeds first c1 c_kept c_kept-lawful refl
+      (record { number = 6; keeps = refl }) 5 (lit≤ tt)
 
   -- b creates lock 5 once more: lawful
   b_created-lawful : Lawful deeds first b_created
-  b_created-lawful = goes_on _ _ c_unlocked-lawful (record {
-    keeps = record {
-      life_rule = tt;
-      permitted = create_rule 5 (record {
-        listing = record {
-          numbers = 4 ∷ [];
-          texts = codes "held z\n" ∷ [];
-          is_judged = true;
-          watched = nothing_watched;
-          follows_create = false;
-          removed = [];
-        };
+  b_created-lawful =
+      create-lawful deeds first b1 c_unlocked c_unlocked-lawful refl 5 (record {
+        listing = judged_listing (4 ∷ []) (codes "held z\n" ∷ []);
         listed = refl;
         first = refl;
         one_above = refl;
         judged = refl;
         not_exhausted = lit≤ tt;
-      });
-    };
-    gives = refl;
-  })
+      }) refl
 
   -- b lists a greater lock than its own, and is no keeper: lawful
   b_outrun-lawful : Lawful deeds first b_outrun

@@ -41,7 +41,8 @@ TellsReadWhere admits before now token name limit result =
     WhereTold before now
     (λ first old new.
     TellsCall admits token (reads name)
-    (λ between given. GivesRead limit (after first between) name given) (found_result result) old new)
+    (λ between given. GivesRead limit (after first between) name given)
+    (found_result result) old new)
 
 -- this holds of the session's standing
 abbrev pub StandsWhere : Admission → Option Past → Token → (Standing → Type 0) → Type 0

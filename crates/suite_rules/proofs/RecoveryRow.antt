@@ -10,8 +10,7 @@ use Rattle.acct_outside.specs.declared.Verdict.TheVariants.{Dead}
 use Rattle.acct_outside.specs.Tokens.{free_text}
 use Rattle.acct_outside.specs.Calls.{Call, Answer, begins, lists, reads, asks, creates, writes, renames, removes, answers, done, died, happened, found_bytes}
 use Rattle.acct_outside.specs.History.{Event, History, after}
-use Rattle.suite_rules.specs.Listing.{nothing_watched}
-use Rattle.suite_rules.specs.Rules.{unlocks_below, free_begin, create_rule, commit_rule, unlock_rule}
+use Rattle.suite_rules.specs.Rules.{commit_rule}
 use Rattle.suite_rules.specs.Lawful.{Lawful, goes_on}
 use Rattle.suite_rules.specs.Settled.{settled}
 use Rattle.suite_rules.specs.Committed.{committed}
@@ -119,13 +118,9 @@ died_in_commit-lawful = goes_on _ _ staged_intent-lawful (record {
 
 -- the second session begins: lawful
 pub second_begun-lawful : Lawful staff_deeds first second_begun
-second_begun-lawful = goes_on _ _ died_in_commit-lawful (record {
-  keeps = record {
-    life_rule = tt;
-    permitted = free_begin groupadd_staff;
-  };
-  gives = (is-token-m2, refl);
-})
+second_begun-lawful =
+    begin-lawful staff_deeds first m2 died_in_commit died_in_commit-lawful refl groupadd_staff
+    is-token-m2 refl
 
 -- it lists lock 1: lawful
 pub listed_dead-lawful : Lawful staff_deeds first listed_dead
@@ -145,27 +140,15 @@ told_dead-lawful =
 
 -- it creates lock 2: lawful
 pub created_above-lawful : Lawful staff_deeds first created_above
-created_above-lawful = goes_on _ _ told_dead-lawful (record {
-  keeps = record {
-    life_rule = tt;
-    permitted = create_rule 2 (record {
-      listing = record {
-        numbers = 1 ∷ [];
-        texts = codes "held m1\n" ∷ [];
-        is_judged = true;
-        watched = nothing_watched;
-        follows_create = false;
-        removed = [];
-      };
+created_above-lawful =
+    create-lawful staff_deeds first m2 told_dead told_dead-lawful refl 2 (record {
+      listing = judged_listing (1 ∷ []) (codes "held m1\n" ∷ []);
       listed = refl;
       first = refl;
       one_above = refl;
       judged = refl;
       not_exhausted = lit≤ tt;
-    });
-  };
-  gives = refl;
-})
+    }) refl
 
 -- it lists its lock as the greatest, and is keeper: lawful
 pub took_over-lawful : Lawful staff_deeds first took_over
@@ -200,14 +183,9 @@ cleared_intent-lawful =
 
 -- it removes the lower lock: lawful
 pub unlocked_below-lawful : Lawful staff_deeds first unlocked_below
-unlocked_below-lawful = goes_on _ _ cleared_intent-lawful (record {
-  keeps = record {
-    life_rule = tt;
-    permitted = unlock_rule 1
-        (unlocks_below (record { number = 2; keeps = refl }) (lit≤ tt));
-  };
-  gives = tt;
-})
+unlocked_below-lawful =
+    unlock-lawful staff_deeds first m2 cleared_intent cleared_intent-lawful refl
+    (record { number = 2; keeps = refl }) 1 (lit≤ tt)
 
 -- it writes the free text: lawful
 pub staged_its_free-lawful : Lawful staff_deeds first staged_its_free

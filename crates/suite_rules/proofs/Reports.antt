@@ -35,7 +35,7 @@ use Rattle.suite_rules.proofs.Sessions.{each, own-standing, other-standing}
 use Rattle.suite_rules.proofs.Effects.{whole-stands}
 use Rattle.suite_rules.proofs.LockFacts.{moment, LockFacts, HeldByOrPast}
 use Rattle.suite_rules.proofs.LockKept.{held-stays}
-use Rattle.suite_rules.proofs.Changed.{and-parts}
+use Rattle.std.proofs.lemmas.Bool.{and_parts}
 use Rattle.suite_rules.proofs.Keepers.{event-moves, lock-facts, never-falls}
 use Rattle.suite_rules.proofs.Commitments.{each-follows, place-below, place-append}
 use Rattle.suite_rules.proofs.Settles.{Committer, FileFacts, file-facts, new-facts}
@@ -118,7 +118,7 @@ module _ (deeds : SuiteDeeds) (first : Folder) where
           }) else None) ≡ Some shown → WasShown first history shown
       cases false neither is = absurd (cc)
       cases true both is =
-          let parts = and-parts now.listing.is_judged
+          let parts = and_parts now.listing.is_judged
           (top (after first history) == greatest now.listing.numbers) both in
           subst (WasShown first history) (cc is)
           (stands parts.0 (number-is (top (after first history)) (greatest now.listing.numbers)
@@ -229,7 +229,8 @@ module _ (deeds : SuiteDeeds) (first : Folder) where
       omega (arith, most, is))
       (file-facts deeds first older lawful).committers)
   place-stays (event ∷ newer) older (goes_on _ _ lawful next) shown was =
-      let most : shown.number ≤ top (after first older) = (let is = was.is_top in omega (arith, is)) in
+      let most : shown.number ≤ top (after first older) =
+      (let is = was.is_top in omega (arith, is)) in
       place-step event (newer ++ older) lawful next shown.number
       (let falls = never-falls deeds first newer older lawful in omega (arith, falls, most))
       (none-holds newer older lawful shown.number most was.none_holds)
@@ -263,7 +264,8 @@ module _ (deeds : SuiteDeeds) (first : Folder) where
           (subst (Lawful deeds first) past.is_then known) shown past.was))
 
 -- what was found whole, and what was found there
-whole-found : (shown : Shown) (name : Name) (whole : Option Bytes) → whole_at shown name ≡ Some whole →
+whole-found : (shown : Shown) (name : Name) (whole : Option Bytes) →
+    whole_at shown name ≡ Some whole →
     (found : Found) × (shown.file name ≡ Some found) × (whole_content found ≡ Some whole)
 whole-found shown name whole = cases (shown.file name) refl
   where

@@ -1,21 +1,46 @@
--- Steps of an active session that the rows share, each lawful: listings, reads, verdicts, writes,
--- appends, the move of the free text, and refusals.
-use Rattle.std.proofs.Common.{◌≡◌, ◌≢◌, ℕ, List, ◌∷◌, Some, IsSome}
+-- Steps of a session that the rows share, each lawful: its begin, and while it runs listings, reads,
+-- verdicts, creates, writes, appends, removed locks, the move of the free text, and refusals.
+use Rattle.std.proofs.Common.{◌≡◌, ◌≢◌, ℕ, ◌<◌, true, false, List, [], ◌∷◌, Some, IsSome}
 use Rattle.acct_text.specs.Bytes.{Bytes}
 use Rattle.acct_outside.specs.declared.Name.{Name}
 use Rattle.acct_outside.specs.declared.Name.TheVariants.{FreeStage, Lock}
+use Rattle.acct_outside.specs.declared.Created.TheVariants.{Done}
 use Rattle.acct_outside.specs.declared.Verdict.{Verdict}
 use Rattle.acct_outside.specs.Names.{name_limit}
-use Rattle.acct_outside.specs.Tokens.{Token, free_text}
+use Rattle.acct_outside.specs.Tokens.{Token, IsToken, free_text}
 use Rattle.acct_outside.specs.Folder.{Folder}
-use Rattle.acct_outside.specs.Calls.{Found, found_within, lists, reads, asks, writes, appends, renames, answers, done}
-use Rattle.acct_outside.specs.History.{History, after}
-use Rattle.acct_outside.specs.Life.{running, life}
-use Rattle.acct_outside.specs.Gives.{GivesVerdict}
+use Rattle.acct_outside.specs.Calls.{Command, Found, found_within, begins, lists, reads, asks, creates, writes, appends, renames, removes, answers, done}
+use Rattle.acct_outside.specs.History.{History, after, own_events}
+use Rattle.acct_outside.specs.Life.{unbegun, running, life}
+use Rattle.acct_outside.specs.Gives.{GivesResult, GivesVerdict}
 use Rattle.suite_rules.specs.Deeds.{SuiteDeeds}
+use Rattle.suite_rules.specs.Listing.{Listing, nothing_watched}
 use Rattle.suite_rules.specs.Standing.{standing}
-use Rattle.suite_rules.specs.Rules.{KeeperRule, StagingRule, AppendRule, moves_free, answers_refusal, free_listing, free_read, free_verdict, staging_rule, append_rule, move_rule, answer_rule}
+use Rattle.suite_rules.specs.Rules.{CreateRule, KeeperRule, StagingRule, AppendRule, moves_free, unlocks_below, answers_refusal, free_begin, free_listing, free_read, free_verdict, create_rule, staging_rule, append_rule, move_rule, unlock_rule, answer_rule}
 use Rattle.suite_rules.specs.Lawful.{Lawful, goes_on}
+
+-- a listing before the create, of which the greatest lock was judged by the texts that were read of it
+abbrev pub judged_listing : List ℕ → List Bytes → Listing
+judged_listing numbers texts = record {
+  numbers = numbers;
+  texts = texts;
+  is_judged = true;
+  watched = nothing_watched;
+  follows_create = false;
+  removed = [];
+}
+
+-- a begin of a token that no begin has given
+pub begin-lawful : (deeds : SuiteDeeds) (first : Folder) (token : Token) (history : History) →
+    Lawful deeds first history → life token history ≡ unbegun → (command : Command) →
+    IsToken token → own_events token history ≡ [] →
+    Lawful deeds first
+    (record { token = token; call = begins command; result = done tt } ∷ history)
+begin-lawful deeds first token history lawful fresh command is_token unused =
+    goes_on _ _ lawful (record {
+      keeps = record { life_rule = rw fresh tt; permitted = free_begin command };
+      gives = (is_token, unused);
+    })
 
 module _ (deeds : SuiteDeeds) (first : Folder) (token : Token) (history : History)
     (lawful : Lawful deeds first history) (runs : life token history ≡ running) where
@@ -44,6 +69,29 @@ module _ (deeds : SuiteDeeds) (first : Folder) (token : Token) (history : Histor
   verdict-lawful asked verdict given = goes_on _ _ lawful (record {
     keeps = record { life_rule = rw runs tt; permitted = free_verdict asked };
     gives = given;
+  })
+
+  -- a create
+  pub create-lawful : (number : ℕ) → CreateRule (standing token history) number →
+      GivesResult (after first history) history token (creates number) (done Done) →
+      Lawful deeds first
+      (record { token = token; call = creates number; result = done Done } ∷ history)
+  create-lawful number rule given = goes_on _ _ lawful (record {
+    keeps = record { life_rule = rw runs tt; permitted = create_rule number rule };
+    gives = given;
+  })
+
+  -- a keeper's removal of a lower lock
+  pub unlock-lawful : (keeper : KeeperRule (standing token history)) (number : ℕ) →
+      number < keeper.number →
+      Lawful deeds first
+      (record { token = token; call = removes (Lock number); result = done tt } ∷ history)
+  unlock-lawful keeper number below = goes_on _ _ lawful (record {
+    keeps = record {
+      life_rule = rw runs tt;
+      permitted = unlock_rule number (unlocks_below keeper below);
+    };
+    gives = tt;
   })
 
   -- a keeper's write at a staging name

@@ -26,7 +26,8 @@ use Rattle.suite_rules.specs.Invariant.{NoneStands, BytesStand, KnownStands, Kee
 use Rattle.suite_rules.proofs.Names.{table-is, fails-apart}
 use Rattle.suite_rules.proofs.Effects.{FileMoved}
 use Rattle.suite_rules.proofs.FileSteps.{FileEffect, files_stay, file_written, intent_committed, table_installed, table_backed_up, intent_cleared, lock_given_back}
-use Rattle.suite_rules.proofs.Changed.{content-is, content-differs, listed-changed, deed-intent}
+use Rattle.intent_file.proofs.ChangedTablesLemmas.{content-is}
+use Rattle.suite_rules.proofs.Changed.{content-differs, listed-changed, deed-intent}
 
 -- without an intent the tables are settled as they stand
 pub settled-none : (folder : Folder) (table : Tab) → folder.file Intent ≡ None →
@@ -286,7 +287,7 @@ module _ (deeds : SuiteDeeds) (token : Token) (before after : Folder) (life : Li
           ⊎ (after.file (Backup table) ≡ settled after table)
       cases true same =
           backup-same table held stays (commit.is table ∙ (sym (commit.deed table)
-          ∙ sym (content-is (settled before table) _ same))) is
+          ∙ content-is (settled before table) _ same)) is
       cases false differs =
           let changed : rule.new table ≢ rule.has_seen.files table = λ equal.
           content-differs (settled before table) _ differs

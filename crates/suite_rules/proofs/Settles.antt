@@ -69,8 +69,9 @@ done-keeps deeds history token (begins command) answer keeps = keeps
 done-keeps deeds history token _ answer keeps = keeps
 
 -- what an event did to the files, also a begin that gave no token
-pub effect-of : (deeds : SuiteDeeds) (history : History) (token : Token) (folder : Folder) (call : Call)
-    (result : CallResult (Answer call)) → KeepsRulesOrNone deeds history token call result →
+pub effect-of : (deeds : SuiteDeeds) (history : History) (token : Token) (folder : Folder)
+    (call : Call) (result : CallResult (Answer call)) →
+    KeepsRulesOrNone deeds history token call result →
     GivesResult folder history token call result →
     FileEffect deeds token folder (changed_by token call (effect_of call result) folder)
     (life token history) (standing token history)

@@ -194,7 +194,8 @@ module _ (before_admits admits : Admission) (narrows : Narrows before_admits adm
   pub stands-done : (Holds : Standing → Type 0) (answer : Answer call) →
       ((stood : Standing) → Held stood → Holds (standing_step call (done answer) stood)) →
       (before now : Option Past) → StandsWhere before_admits before token Held →
-      TellsWhere before_admits before now token call (Ok answer) → StandsWhere admits now token Holds
+      TellsWhere before_admits before now token call (Ok answer) →
+      StandsWhere admits now token Holds
   stands-done Holds answer follows None None stands tells = tt
   stands-done Holds answer follows (Some before) (Some now) stands tells =
       let step = stepped before_admits token stands.own call (done answer) _
@@ -227,7 +228,8 @@ module _ (before_admits admits : Admission) (narrows : Narrows before_admits adm
 
   -- want of memory leaves the condition as it was
   pub stands-memory : (before now : Option Past) → StandsWhere before_admits before token Held →
-      TellsWhere before_admits before now token call (Err Memory) → StandsWhere admits now token Held
+      TellsWhere before_admits before now token call (Err Memory) →
+      StandsWhere admits now token Held
   stands-memory None None stands tells = tt
   stands-memory (Some before) (Some now) stands tells =
       let stay = stayed before_admits token stands.own before.history now.history tells.1 in
@@ -290,7 +292,8 @@ module _ (before_admits admits : Admission) (narrows : Narrows before_admits adm
 -- the step that shows the answer of its call makes this call
 pub makes-call : (before now : Moment) → Narrows before.admits now.admits → (token : Token)
     (call : Call) → IsNoAnswer call → (Held : Standing → Type 0)
-    (Shows : Result (Answer call) FolderFault → Type 0) (answer : Result (Answer call) FolderFault) →
+    (Shows : Result (Answer call) FolderFault → Type 0)
+    (answer : Result (Answer call) FolderFault) →
     StandsIn before token Held → Tells before now token call answer → Shows answer →
     MakesCall before now token call Shows
 makes-call before now narrows token call no_answer Held Shows answer stands tells shown = record {
@@ -452,7 +455,8 @@ pub takes-step : {State Fault Part : Type 0} (before now : Moment) →
     TakesStep before now token call Shows Holds part failure result
 takes-step before now narrows token call no_answer may Held permits part same Shows Holds failure
     result answer stands tells shown next faults = record {
-      call = makes-call before now narrows token call no_answer Held Shows answer stands tells shown;
+      call = makes-call before now narrows token call no_answer Held Shows answer stands tells
+          shown;
       next = next;
       left = leaves before.admits now.admits narrows token call no_answer Held part same answer
           before.told now.told stands tells;

@@ -30,7 +30,7 @@ use Rattle.suite_rules.proofs.Effects.{SameFiles}
 use Rattle.suite_rules.proofs.LockSteps.{LockStep, lock_quiet, lock_listed, lock_read, lock_watched, lock_told, lock_tried, lock_created, lock_given_up, lock_removed}
 use Rattle.suite_rules.proofs.LockOrigins.{watched_where, map-origin, unmade-before}
 use Rattle.suite_rules.proofs.LockFacts.{moment, LockFacts, HeldByOrPast, top-rises}
-use Rattle.suite_rules.proofs.Changed.{and-parts}
+use Rattle.std.proofs.lemmas.Bool.{and_parts}
 use Rattle.suite_rules.proofs.Keepers.{own-step, event-moves, lock-facts}
 use Rattle.suite_rules.proofs.Settles.{effect-of, effect-others}
 
@@ -98,7 +98,8 @@ module _ (history : History) (token : Token) (before after : Folder) (standing l
       ((one : Listing) → LeavesWatched (note one) one) →
       later.listing ≡ option_map note standing.listing →
       WatchedOrigin before standing listing name found
-  noted-watched note leaves same = cases (map-origin note standing.listing listing (sym same ∙ known))
+  noted-watched note leaves same =
+      cases (map-origin note standing.listing listing (sym same ∙ known))
     where
       cases : (old : Listing) × (standing.listing ≡ Some old) × (listing ≡ note old) →
           WatchedOrigin before standing listing name found
@@ -139,7 +140,7 @@ module _ (history : History) (token : Token) (before after : Folder) (standing l
           listing ≡ watched_where watches asked sight old →
           WatchedOrigin before standing listing name found
       cases old had true both new =
-          let parts = and-parts (is_watched asked) old.is_judged both in
+          let parts = and_parts (is_watched asked) old.is_judged both in
           at old had parts.0 parts.1 new (same_name name asked) refl
           (sym (ap (λ (one : Listing). one.watched name) new) ∙ watched)
       cases old had false neither new =

@@ -27,7 +27,8 @@ whole_at shown name = option_and_then whole_content (shown.file name)
 -- the intent that was found is absent, or reads
 pub record ShowsIntent (shown : Shown) (intent : Option Bytes) : Type 0 where
   pub is_found : whole_at shown Intent ≡ Some intent
-  pub reads : (bytes : Bytes) → intent ≡ Some bytes → (intended : Intended) × ReadsIntent bytes intended
+  pub reads : (bytes : Bytes) → intent ≡ Some bytes →
+      (intended : Intended) × ReadsIntent bytes intended
 
 -- a listing confirms what was watched since the last one, where that has the same greatest lock, which
 -- was judged
