@@ -1,6 +1,6 @@
 -- Claim: a line begins with its first field (`begins-first`), so one that begins otherwise has
 -- another (`other-first`). Way: the fields, with a colon between each two, give the line.
-use Rattle.std.proofs.Common.{◌≡◌, ◌∙◌, ℕ, ◌<◌, Bool, true, false, List, [], ◌∷◌, ◌++◌, length, refl, sym, ap, lt_irrefl, append-nil}
+use Rattle.std.proofs.Common.{◌≡◌, ◌∙◌, ℕ, ◌<◌, true, false, List, [], ◌∷◌, ◌++◌, length, refl, sym, ap, lt_irrefl, append-nil}
 use Rattle.std.specs.Prelude.{◌==◌, bytes_eq}
 use Rattle.std.specs.List.{join_with_byte, starts_with}
 use Rattle.std.proofs.lemmas.Bool.{false_from_ne_true, true≢false}
@@ -37,5 +37,6 @@ other-first line text other =
     let begun = begins-first line in
     sym (false_from_ne_true (bytes_eq (first_field line) text) (λ same.
     let is = (bytes_eq-Decides (first_field line) text).0 same in
-    true≢false (sym ((starts_is Decides-eqb line text (starts_with (λ a b. a == b) line text) refl).1
+    let begins = starts_is Decides-eqb line text (starts_with (λ a b. a == b) line text) refl in
+    true≢false (sym (begins.1
     begun.0 (begun.1 ∙ ap (λ front. front ++ begun.0) is)) ∙ other)))

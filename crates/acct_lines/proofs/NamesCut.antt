@@ -11,7 +11,8 @@ pub pushed-piece :
     → new ≡ names ++ nonempty (piece ∷ [])
     → new ++ nonempty pieces ≡ names ++ nonempty (piece ∷ pieces)
 pushed-piece names new [] pieces push = rw push (rw append-nil refl)
-pushed-piece names new (byte ∷ piece) pieces push = rw push (append_assoc names ((byte ∷ piece) ∷ []) (nonempty pieces))
+pushed-piece names new (byte ∷ piece) pieces push =
+    rw push (append_assoc names ((byte ∷ piece) ∷ []) (nonempty pieces))
 
 -- nothing more
 or-false : (b : Bool) → (b || false) ≡ b

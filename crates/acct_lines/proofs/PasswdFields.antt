@@ -39,7 +39,16 @@ pub passwd-read :
     → passwd_format.read line ≡ Some r
 passwd-read line fields r are uid gid name named password comment home shell =
     ap passwd_of_fields (sym are.cut) ∙ fields-at fields are.counted
-    ∙ (rw (← name, ← password, ← comment, ← home, ← shell, read-some _ _ _ uid, read-some _ _ _ gid, named) refl)
+    ∙ (rw (
+      ← name,
+      ← password,
+      ← comment,
+      ← home,
+      ← shell,
+      read-some _ _ _ uid,
+      read-some _ _ _ gid,
+      named,
+    ) refl)
 
 module _ (line : List ℕ) (fields : List (List ℕ)) (are : AreFields 7 line fields) where
   -- the fault, by what is read of the numbers

@@ -91,5 +91,34 @@ pub nine-taken :
     → AreFields 9 line (a ∷ b ∷ c ∷ d ∷ e ∷ f ∷ g ∷ h ∷ i ∷ [])
 nine-taken {a = a} {b = b} {c = c} {d = d} {e = e} {f = f} {g = g} {h = h} {i = i} are
     e1 e2 e3 e4 e5 e6 e7 e8 e9 =
-    are-taken 9 _ _ (a ∷ b ∷ c ∷ d ∷ e ∷ f ∷ g ∷ h ∷ i ∷ []) are refl
-    (_, (e1, (_, (e2, (_, (e3, (_, (e4, (_, (e5, (_, (e6, (_, (e7, (_, (e8, (_, (e9, tt))))))))))))))))))
+    are-taken 9 _ _ (a ∷ b ∷ c ∷ d ∷ e ∷ f ∷ g ∷ h ∷ i ∷ []) are refl (
+      _,
+      (
+        e1,
+        (
+          _,
+          (
+            e2,
+            (
+              _,
+              (
+                e3,
+                (
+                  _,
+                  (
+                    e4,
+                    (
+                      _,
+                      (
+                        e5,
+                        (_, (e6, (_, (e7, (_, (e8, (_, (e9, tt)))))))),
+                      ),
+                    ),
+                  ),
+                ),
+              ),
+            ),
+          ),
+        ),
+      ),
+    )

@@ -50,8 +50,12 @@ macro_rules! print_fields {
 // A field of one kind, added behind those of its line so far.
 macro_rules! print_field {
     (text $alloc:ident $line:ident $field:expr) => { $line.push($field.as_slice())? };
-    (names $alloc:ident $line:ident $field:expr) => { parts::push_names($alloc, &mut $line, &$field)? };
-    (days $alloc:ident $line:ident $field:expr) => { parts::push_days($alloc, &mut $line, $field)? };
+    (names $alloc:ident $line:ident $field:expr) => {
+        parts::push_names($alloc, &mut $line, &$field)?
+    };
+    (days $alloc:ident $line:ident $field:expr) => {
+        parts::push_days($alloc, &mut $line, $field)?
+    };
     ($number:ident $alloc:ident $line:ident $field:expr) => {
         parts::push_number($alloc, &mut $line, $field)?
     };

@@ -70,7 +70,8 @@ moves-seen : (table : Tab) (bytes : Bytes) (staged : Option Bytes) (knows : Know
     seen.file (Table table) ≡ Some (Some bytes) →
     backup_step table staged knows
     ≡ knows_none (record seen { backed = table_with table seen.backed })
-moves-seen table bytes staged knows seen is clean file = rw (is, clean, file, bytes_eq-self bytes) refl
+moves-seen table bytes staged knows seen is clean file =
+    rw (is, clean, file, bytes_eq-self bytes) refl
 
 -- a session that has loaded backs up from the first table on
 pub starts-backing : (change : Change) (stood : Standing) → HasLoaded change.inputs stood →
@@ -118,7 +119,8 @@ module _ (walker : Walker) (next : NewTable)
       (subst (λ (count : ℕ). 0 < count) old-pieces some)
     where
       cases : (begun : Bool) → has_staged walker ≡ begun →
-          0 < (if begun then piece_count (old_bytes walker.change next.table) - walker.staged else 0) →
+          0 < (if begun then piece_count (old_bytes walker.change next.table) - walker.staged
+          else 0) →
           has_staged walker ≡ true
       cases true is left = is
       cases false is left = absurd (omega (arith, left))

@@ -144,7 +144,8 @@ module _ (stager : Stager) (whole : intent_left stager ≡ 0) where
       uncalled now.told (stands-memory before.admits now.admits narrows token commit_call tt
       (HasStagedIntent stager) before.told now.told stands tells)
     where
-      uncalled : (told : Option Past) → IfSome told (Stands now.admits token (HasStagedIntent stager)) →
+      uncalled : (told : Option Past) →
+          IfSome told (Stands now.admits token (HasStagedIntent stager)) →
           StandsUnsure told token came
       uncalled None stands = tt
       uncalled (Some past) stands = stands.holds.uncommitted

@@ -36,7 +36,8 @@ module _ (walker : Walker) where
         (subst (λ (count : ℕ). 0 < count) (pieces-are walker next is_next) some))
 
     -- with none left it is the next step for that table
-    pub installs-some : install_pieces walker ≡ 0 → installing_call walker ≡ install_call walker next
+    pub installs-some : install_pieces walker ≡ 0 →
+        installing_call walker ≡ install_call walker next
     installs-some none =
         ap (next_or (removes Intent) (installs_table walker)) is_next
         ∙ ap (λ (count : ℕ).

@@ -116,7 +116,8 @@ seeing name found seen = record seen { file = seen_with name (whole_content foun
 input-seen : (next : Option Tab) (found : Found) (knows : Knowledge) (seen : Seen) →
     knows ≡ knows_none seen →
     read_step (next_name next) found knows ≡ knows_none (seeing (next_name next) found seen)
-input-seen None found knows seen clean = ap (λ (known : Knowledge). input_step Defs found known) clean
+input-seen None found knows seen clean =
+    ap (λ (known : Knowledge). input_step Defs found known) clean
 input-seen (Some table) found knows seen clean =
     ap (λ (known : Knowledge). input_step (Table table) found known) clean
 
@@ -296,24 +297,27 @@ module _ (keeper : Kept) (files : Files) where
         → IfErr result (StandsEnded now token)
     load-refuses next (Ok found_too_large) (Err (TooLarge name kept)) sound shown stands tells =
         handed-back next found_too_large kept shown.1 stands tells
-    load-refuses (Some table) (Ok found_absent) (Err (NoTable missing kept)) sound shown stands tells =
+    load-refuses (Some table) (Ok found_absent) (Err (NoTable missing kept))
+        sound shown stands tells =
         table-missed table missing kept shown.1 shown.2 sound stands tells
     load-refuses (Some table) (Ok (found_bytes bytes)) (Err (NoTable missing kept))
         sound shown stands tells = absurd (never-missing table bytes shown.0)
     load-refuses None (Ok found_absent) (Err (NoTable missing kept)) sound shown stands tells =
         absurd shown
-    load-refuses None (Ok (found_bytes bytes)) (Err (NoTable missing kept)) sound shown stands tells =
-        absurd shown
-    load-refuses (Some table) (Ok found_absent) (Err (TooLarge name kept)) sound shown stands tells =
-        absurd shown
+    load-refuses None (Ok (found_bytes bytes)) (Err (NoTable missing kept))
+        sound shown stands tells = absurd shown
+    load-refuses (Some table) (Ok found_absent) (Err (TooLarge name kept))
+        sound shown stands tells = absurd shown
     load-refuses (Some table) (Ok (found_bytes bytes)) (Err (TooLarge name kept))
         sound shown stands tells = absurd shown
-    load-refuses None (Ok found_absent) (Err (TooLarge name kept)) sound shown stands tells = absurd shown
+    load-refuses None (Ok found_absent) (Err (TooLarge name kept)) sound shown stands tells =
+        absurd shown
     load-refuses None (Ok (found_bytes bytes)) (Err (TooLarge name kept)) sound shown stands tells =
         absurd shown
     load-refuses next (Ok found_too_large) (Err (NoTable missing kept)) sound shown stands tells =
         absurd shown
     load-refuses next (Err fault) (Err (TooLarge name kept)) sound shown stands tells = absurd shown
-    load-refuses next (Err fault) (Err (NoTable missing kept)) sound shown stands tells = absurd shown
+    load-refuses next (Err fault) (Err (NoTable missing kept)) sound shown stands tells =
+        absurd shown
     load-refuses next answer (Err (Fault fault)) sound shown stands tells = tt
     load-refuses next answer (Ok loading) sound shown stands tells = tt

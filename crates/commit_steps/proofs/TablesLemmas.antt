@@ -145,7 +145,8 @@ sound-on table content files sound stands limit = record {
   where
     within : (content : Option Bytes) → IfSome content (λ bytes. length bytes ≤ table_limit) →
         (bytes : Bytes) → content ≡ Some bytes → length bytes ≤ table_limit
-    within (Some held) most bytes is = subst (λ (one : Bytes). length one ≤ table_limit) (cc is) most
+    within (Some held) most bytes is =
+        subst (λ (one : Bytes). length one ≤ table_limit) (cc is) most
     within None most bytes is = absurd (cc is)
 
     small-on : (other : Tab) (bytes : Bytes) (same : Bool) → same_table other table ≡ same →

@@ -16,7 +16,8 @@ use Rattle.commit_steps.specs.States.{MakesChange, with_tables}
 module _ (old new : Files) (allowed : IsChange (table_of old) (table_of new)) where
   -- what is listed for a table, or else what stood there, is what will stand there
   listed-or-old : (table : Tab) →
-      option_or (listed_in (changed_tables (table_of old) (table_of new)) table) (table_of old table)
+      option_or (listed_in (changed_tables (table_of old) (table_of new)) table)
+      (table_of old table)
       ≡ table_of new table
   listed-or-old table = listed-changed (table_of old) (table_of new) allowed.standing table
 

@@ -14,7 +14,8 @@ use Rattle.commit_steps.specs.States.{Stager, Walker, intent_left, intent_piece,
 
 -- it appends the next piece of the table's old bytes; where none is left it goes one step
 abbrev pub backs_up_table : Walker → NewTable → Call
-backs_up_table walker next = if nat_lt 0 (pieces_left walker.staged (old_bytes walker.change next.table))
+backs_up_table walker next =
+    if nat_lt 0 (pieces_left walker.staged (old_bytes walker.change next.table))
     then backs_up_more walker next
     else backup_call walker next
 

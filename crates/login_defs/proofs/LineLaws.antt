@@ -19,7 +19,8 @@ use Rattle.login_defs.specs.LineSetting.{text_setting, line_fault}
 lines-more :
     (piece : List ℕ) (pieces : List (List ℕ))
     → 0 < length pieces
-    → lines_of_pieces (piece ∷ pieces) ≡ record { text = piece; ended = true } ∷ lines_of_pieces pieces
+    → lines_of_pieces (piece ∷ pieces)
+    ≡ record { text = piece; ended = true } ∷ lines_of_pieces pieces
 lines-more piece [] some = absurd (lt_irrefl 0 some)
 lines-more piece (next ∷ rest) some = refl
 

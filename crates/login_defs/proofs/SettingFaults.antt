@@ -83,7 +83,8 @@ unknown-is :
     → find_key word ≡ found
     → setting_fault word value ≡ Some UnknownKey
     → (flag ≡ false) × (found ≡ None)
-unknown-is word value true found is_flag is_found fault = let wrong = rw is_flag at fault in absurd cc
+unknown-is word value true found is_flag is_found fault =
+    let wrong = rw is_flag at fault in absurd cc
 unknown-is word value false None is_flag is_found fault = (refl, refl)
 unknown-is word value false (Some key) is_flag is_found fault =
     unknown-value key (allowed_value key value) refl (rw (is_flag, is_found) at fault)

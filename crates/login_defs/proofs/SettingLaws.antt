@@ -177,7 +177,8 @@ number-adds old new word value key number no_flag found allowed place set flag =
                 let named : bytes_eq word (key_name key) ≡ true =
                 (bytes_eq-Decides word (key_name key)).1 (name-found word key found)
                 in subst (λ k.
-                slice_index_or (slice_set old.values (key_place key) (Some number)) (key_place k) None
+                slice_index_or (slice_set old.values (key_place key) (Some number)) (key_place k)
+                None
                 ≡ given_value k (settings ++ setting ∷ [])) (sym one)
                 (get_or-set_same old.values (key_place key) (Some number) None low
                 ∙ sym (ap (option_and_then (allowed_value key))

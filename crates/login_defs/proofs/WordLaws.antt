@@ -75,14 +75,16 @@ words-first text some stops =
     let end = position_or_len is_space text in
     let begun : 0 < end = word-some text some stops in
     let within : end ≤ length text = end-within is_space text in
-    let word : 0 < length (take end text) = subst (λ n. 0 < n) (sym (length-take-le end text within)) begun in
+    let word : 0 < length (take end text) =
+    subst (λ n. 0 < n) (sym (length-take-le end text within)) begun in
     elim (cases_Bool (nat_lt end (length text))) [
       | inl inside ↦
           let low : end < length text = ltb-true _ _ inside in
           ap nonempty (slice_split_first is_space text 0 low)
           ∙ kept-first (take end text) (slice_split is_space (drop (end + 1) text)) word
           ∙ ap (λ words. take end text ∷ words)
-          (sym (words-blank (get_or text end 0) (drop (end + 1) text) (passes_at_first is_space text 0 low)))
+          (sym (words-blank (get_or text end 0) (drop (end + 1) text)
+          (passes_at_first is_space text 0 low)))
           ∙ ap (λ rest. take end text ∷ words_of rest) (sym (drop_more text end 0 low))
       | inr past ↦
           let ends : length text ≤ end = ltb-false _ _ past in

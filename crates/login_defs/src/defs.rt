@@ -81,7 +81,8 @@ impl Defs {
     /// allow the value. At either the settings are as before.
     pub fn with(&mut self, key: &[u8], value: &[u8]) -> Result<(), KeyFault>
         ensures fault { result_err result ≡ setting_fault key.now value.now }
-        ensures set { OnOk result (Adds self.old self.new (record { key = key.now; value = value.now })) }
+        ensures set { OnOk result (Adds self.old self.new
+            (record { key = key.now; value = value.now })) }
         ensures unchanged { OnErr result (self.new ≡ self.old) }
     {
         if key == USER_GROUPS {

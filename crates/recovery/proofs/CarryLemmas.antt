@@ -39,7 +39,8 @@ some-staged staged begun = grind (arith, nat_tests, begun)
 -- of a text that is staged, as many pieces are left as it has more than are staged
 pub left-of : (staged : ℕ) (text : Bytes) → 0 < staged →
     pieces_left staged text ≡ piece_count text - staged
-left-of staged text begun = ap (λ (is_begun : Bool). if is_begun then piece_count text - staged else 0)
+left-of staged text begun =
+    ap (λ (is_begun : Bool). if is_begun then piece_count text - staged else 0)
     (some-staged staged begun)
 
 -- once none is left, the first pieces are all of it

@@ -75,11 +75,12 @@ pub takes-next : {A State Fault Part : Type 0} (before now : Moment) (token : To
     (result : Result State Fault) →
     TakesStep before now token (call_for one) (Shows one) Holds part failure result →
     TakesNext before now token next call_for Shows Holds part failure result
-takes-next {A} before now token next one is call_for Shows Holds part failure result taken = record {
-  call = subst (λ (found : Option A). IfSome found (λ one.
-      MakesCall before now token (call_for one) (Shows one))) (sym is) taken.call;
-  next = taken.next;
-  left = taken.left;
-  lawful = taken.lawful;
-  faults = taken.faults;
-}
+takes-next {A} before now token next one is call_for Shows Holds part failure result
+    taken = record {
+      call = subst (λ (found : Option A). IfSome found (λ one.
+          MakesCall before now token (call_for one) (Shows one))) (sym is) taken.call;
+      next = taken.next;
+      left = taken.left;
+      lawful = taken.lawful;
+      faults = taken.faults;
+    }

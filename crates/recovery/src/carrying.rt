@@ -44,7 +44,8 @@ pub fn move_call(new: &NewTable) -> Call
 /// At `Failed` it, or other bytes, may stand there; at `Memory` nothing is changed.
 pub fn stage_table<F: Folder>(by: &Token, new: &NewTable, folder: &mut F) -> Result<(), FolderFault>
     requires { MayAct (F.moment folder.old) by.now }
-    ensures { CallsFolder (F.moment folder.old) (F.moment folder.new) by.now (stages new.now) result }
+    ensures { CallsFolder (F.moment folder.old) (F.moment folder.new) by.now (stages new.now)
+        result }
 {
     let piece = piece_at(new.bytes.as_slice(), 0);
     folder.write(by, Name::Staged(new.table), piece)
@@ -83,7 +84,8 @@ pub fn pieces_left(staged: usize, text: &[u8]) -> usize
 /// At `Failed` they may be there; at `Memory` nothing is changed.
 pub fn move_table<F: Folder>(by: &Token, new: &NewTable, folder: &mut F) -> Result<(), FolderFault>
     requires { MayAct (F.moment folder.old) by.now }
-    ensures { CallsFolder (F.moment folder.old) (F.moment folder.new) by.now (installs new.now) result }
+    ensures { CallsFolder (F.moment folder.old) (F.moment folder.new) by.now (installs new.now)
+        result }
 {
     folder.rename(by, Name::Staged(new.table), Name::Table(new.table))
 }
@@ -93,7 +95,8 @@ pub fn move_table<F: Folder>(by: &Token, new: &NewTable, folder: &mut F) -> Resu
 /// At `Failed` it may be gone; at `Memory` nothing is changed.
 pub fn remove_intent<F: Folder>(by: &Token, folder: &mut F) -> Result<(), FolderFault>
     requires { MayAct (F.moment folder.old) by.now }
-    ensures { CallsFolder (F.moment folder.old) (F.moment folder.new) by.now (removes Intent) result }
+    ensures { CallsFolder (F.moment folder.old) (F.moment folder.new) by.now (removes Intent)
+        result }
 {
     folder.remove(by, Name::Intent)
 }

@@ -5,7 +5,8 @@ use Rattle.login_defs.proofs.lines.word_end.Goals as goal
 
 pub returns-clause-end : goal.returns-clause-end
 returns-clause-end c =
-    c.unwrap_or.ensures ∙ ap (λ place. unwrap_or place (length c.args.text.now)) c.first_blank.ensures
+    c.unwrap_or.ensures
+    ∙ ap (λ place. unwrap_or place (length c.args.text.now)) c.first_blank.ensures
     ∙ first-or-end is_space c.args.text.now
 
 pub returns-clause-within : goal.returns-clause-within

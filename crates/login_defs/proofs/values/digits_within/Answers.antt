@@ -30,7 +30,8 @@ loop-byte-preserved c =
           c.loop-byte.invariant.value c.from-in-loop-byte.ensures
           (c.from-in-loop-byte-2.ensures ∙ c.in_ok-digit.ensures.value.1) c.from.ensures;
       digits = digits-more c.args.radix text place c.loop-byte.invariant.digits
-          (subst (λ byte. digit_value byte < c.args.radix) c.from.ensures c.in_ok-digit.ensures.value.0);
+          (subst (λ byte. digit_value byte < c.args.radix) c.from.ensures
+          c.in_ok-digit.ensures.value.0);
       bounded = omega arith;
     }
 
@@ -39,7 +40,8 @@ returns c =
     let text = c.args.text.now in
     let some : 0 < length text = grind (arith, nat_tests) in
     let same : c.loop-byte.value ≡ digits_value c.args.radix text =
-    c.loop-byte.invariant.value ∙ ap (digits_value c.args.radix) (take_all c.loop-byte.byte-index text (omega arith))
+    c.loop-byte.invariant.value
+    ∙ ap (digits_value c.args.radix) (take_all c.loop-byte.byte-index text (omega arith))
     in ap Some same ∙ sym (number-digits c.args.greatest c.args.radix text some
     (λ place low. c.loop-byte.invariant.digits place (omega arith))
     (subst (λ n. n ≤ c.args.greatest) same c.loop-byte.invariant.bounded))

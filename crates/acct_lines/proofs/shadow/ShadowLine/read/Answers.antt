@@ -18,7 +18,8 @@ returns c =
 
 pub returns-in_err-last_change : goal.returns-in_err-last_change
 returns-in_err-last_change c =
-    told-first _ _ _ _ c.from_residual-in_err-last_change.ensures.1 (bad-last_change c.args.line.now _
+    told-first _ _ _ _ c.from_residual-in_err-last_change.ensures.1
+    (bad-last_change c.args.line.now _
     (nine-taken c.in_ok-fields.ensures c.take-name.ensures.taken c.take-hash.ensures.taken
     c.take-last_change.ensures.taken c.take-minimum.ensures.taken c.take-maximum.ensures.taken
     c.take-warning.ensures.taken c.take-inactive.ensures.taken c.take-expiration.ensures.taken

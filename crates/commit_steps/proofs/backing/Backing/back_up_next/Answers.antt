@@ -66,8 +66,8 @@ returns g c =
           (subst (λ (change : Change). Tells before now (token_of walker)
           (writes BackupStage (piece_at 0 (old_bytes change next.table))) called) change
           (told-of before now _ (token_of walker)
-          (writes BackupStage (piece_at 0 (old_bytes c.prepared.result.now next.table))) called token
-          came.told))
+          (writes BackupStage (piece_at 0 (old_bytes c.prepared.result.now next.table))) called
+          token came.told))
           (counts (before_commit Failed) _ _ called c.leads.result c.leads.ensures.failed
           came.faults))
     ]

@@ -35,7 +35,8 @@ returns g c =
     let piece = c.intent_piece-piece.ensures.value
     ∙ ap (λ (change : Change). intent_piece 0 change) change in
     let reads_it = subst (λ (change : Change).
-    ReadsIntent (intent_text (intended change)) (intended change)) change c.intent_piece-piece.ensures.reads in
+    ReadsIntent (intent_text (intended change)) (intended change)) change
+    c.intent_piece-piece.ensures.reads in
     let shown = subst (λ (next : Stager). LeadsTo next before_commit written c.leads.result)
     (c.of.ensures ∙ ap begun_of change) c.leads.ensures.shown in
     let told = subst (λ (bytes : Bytes).

@@ -20,7 +20,8 @@ returns g c =
     let narrows = c.rename-moved.ensures.narrows in
     let counts = c.rename-moved.ensures.faults in
     let shown = subst (λ (walker : Walker). LeadsTo walker at_commit moved c.commits.result)
-    (c.start.ensures ∙ ap (λ (one : Stager). walk_of one.change) c.self.view_is) c.commits.ensures.shown in
+    (c.start.ensures ∙ ap (λ (one : Stager). walk_of one.change) c.self.view_is)
+    c.commits.ensures.shown in
     let told = told-of before now _ token commit_call moved
     (c.token-token.ensures
     ∙ ap (λ (one : Stager). one.change.inputs.keeper.token) c.self.view_is)
@@ -29,8 +30,8 @@ returns g c =
       call = makes-call before now narrows token commit_call tt (HasStagedIntent stager) _
           moved c.requires.stands told shown;
       next = leads-on commit_call tt (HasStagedIntent stager) Installs (walk_of change)
-          (installs-after-commit stager whole) at_commit before now narrows token moved c.commits.result
-          shown c.requires.stands told;
+          (installs-after-commit stager whole) at_commit before now narrows token moved
+          c.commits.result shown c.requires.stands told;
       unsure = commit-unsure stager whole before now narrows token moved c.commits.result
           shown c.requires.stands told;
       own = leaves before.admits now.admits narrows token commit_call tt (HasStagedIntent stager)

@@ -59,6 +59,7 @@ returns g c =
     after_commit before now called.narrows (token_of walker) appended c.leads.result shown
     c.requires.stands
     (told-of before now _ (token_of walker) (installs_more walker next) appended token
-    (subst (λ (staged : ℕ). Tells before now c.token-token.result.now (stages_more staged next) appended)
+    (subst (λ (staged : ℕ).
+    Tells before now c.token-token.result.now (stages_more staged next) appended)
     staged called.told))
     (counts (after_commit Failed) _ _ appended c.leads.result c.leads.ensures.failed called.faults))

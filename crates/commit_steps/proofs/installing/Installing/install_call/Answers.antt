@@ -19,4 +19,5 @@ returns c =
     (subst (λ (one : Walker). slice_get (changed one.change) one.place ≡ Some next) c.self.view_is
     c.next-next.ensures.is_next) c.requires.whole
     (sym (c.has_staged.ensures ∙ ap (λ (one : Walker). has_staged one) c.self.view_is)
-    ∙ c.if-has_staged.false) c.stage_call.result c.stage_call.ensures.names c.stage_call.ensures.later
+    ∙ c.if-has_staged.false) c.stage_call.result c.stage_call.ensures.names
+    c.stage_call.ensures.later

@@ -31,7 +31,8 @@ invariant_of-result c =
     let tables = ap (λ (one : Intended). one.tables) value ∙ c.into_vec.ensures in
     let number = c.number.ensures.value
     ∙ ap (λ (keeper : Kept). keeper.number) c.keeper.ensures in (
-      subst (λ (tables : List NewTable). IsChange (table_of files) (table_of (with_tables tables files)))
+      subst (λ (tables : List NewTable).
+          IsChange (table_of files) (table_of (with_tables tables files)))
           (sym tables) c.requires.allowed,
       value ∙ ap₂ (λ (number : ℕ) (tables : List NewTable). intent_listing number tables) number
           (c.into_vec.ensures ∙ (c.requires.listed ∙ ap (λ (tables : List NewTable).

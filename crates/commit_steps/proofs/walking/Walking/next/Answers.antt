@@ -12,7 +12,8 @@ returns-clause-stands c =
     let place = c.self.inside.place in
     let next = c.index-tables-self.result in
     let some = subst (λ (walker : Walker). 0 < steps_left walker) (sym c.self.view_is) c.requires in
-    let within = place-within (length (changed change)) place (nat_lt 0 c.self.inside.staged) some in
+    let within =
+    place-within (length (changed change)) place (nat_lt 0 c.self.inside.staged) some in
     let is_next = subst (λ (tables : List NewTable). slice_get tables place ≡ Some next)
     c.tables.ensures.value
     (slice_get_read c.tables.result.now (length (changed change)) place next

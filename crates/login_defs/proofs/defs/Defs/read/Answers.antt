@@ -13,7 +13,8 @@ returns-in_err-take_line-clause-fault c =
     error-is c.from_residual.result c.in_err-take_line.field-0.0 c.from_residual.ensures.1
     ∙ sym (sym (ap (option_map BadNumber) c.lines.invariant.bad)
     ∙ stops-at c.lines.rest.now c.in-Some.cut.before.now c.in-Some.cut.behind.now
-    c.in-Some.ensures.cut c.lines.number c.in_err-take_line.field-0.0 (sym c.in_err-take_line.ensures.fault))
+    c.in-Some.ensures.cut c.lines.number c.in_err-take_line.field-0.0
+    (sym c.in_err-take_line.ensures.fault))
 
 pub lines-preserved : goal.lines-preserved
 lines-preserved c =
@@ -27,7 +28,8 @@ lines-preserved c =
         held.0 ++ cons_option setting [],
         c.in_ok-take_line.ensures.taken held.0 held.1,
         settings-moved held.0 setting (settings_of rest)
-            ∙ ap (λ settings. held.0 ++ settings) (sym (settings-first c.lines.rest.now first rest cut))
+            ∙ ap (λ settings. held.0 ++ settings)
+            (sym (settings-first c.lines.rest.now first rest cut))
             ∙ held.2,
       );
       bad = sym (goes-on c.lines.rest.now first rest cut c.lines.number
@@ -48,7 +50,9 @@ pub returns-clause-settings : goal.returns-clause-settings
 returns-clause-settings c =
     let rest = c.lines.rest.now in
     let held = c.lines.invariant.held in
-    let all = ap (λ settings. held.0 ++ settings) (sym (settings-last rest c.in_default.ensures.cut)) ∙ held.2 in
+    let all =
+    ap (λ settings. held.0 ++ settings) (sym (settings-last rest c.in_default.ensures.cut))
+    ∙ held.2 in
     subst (λ settings. HasSettings c.take_line-2.new.self settings) all
     (c.in_ok-take_line-2.ensures.taken held.0 held.1)
 

@@ -6,7 +6,8 @@ use Rattle.login_defs.proofs.defs.Defs.read.Given as goal
 
 abbrev pub invariant-lines : goal.invariant-lines
 invariant-lines l = record {
-  held : (before : List Setting) × HasSettings l.defs before × (before ++ settings_of l.rest ≡ settings_of l.text);
+  held : (before : List Setting) × HasSettings l.defs before
+      × (before ++ settings_of l.rest ≡ settings_of l.text);
   bad : first_line_from l.number is_bad_line (lines_of l.rest) ≡ bad_line l.text;
   counted : l.number + length l.rest ≤ length l.text + 1;
 }

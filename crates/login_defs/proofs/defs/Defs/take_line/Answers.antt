@@ -10,7 +10,8 @@ returns-in-Ok-clause-fault c =
 pub returns-in-Err-UnknownKey-clause-taken : goal.returns-in-Err-UnknownKey-clause-taken
 returns-in-Err-UnknownKey-clause-taken c =
     unknown-line c.args.self.now c.with.new.self c.args.line.now _ c.in-Some.ensures
-    (sym c.in-Err-UnknownKey.ensures.fault ∙ ap Some c.in-Err-UnknownKey.field-0-is) c.in-Err-UnknownKey.ensures.unchanged
+    (sym c.in-Err-UnknownKey.ensures.fault ∙ ap Some c.in-Err-UnknownKey.field-0-is)
+    c.in-Err-UnknownKey.ensures.unchanged
 
 pub returns-in-Err-UnknownKey-clause-fault : goal.returns-in-Err-UnknownKey-clause-fault
 returns-in-Err-UnknownKey-clause-fault c =

@@ -16,8 +16,10 @@ returns-in_default-clause-fault c =
 
 pub returns-clause-set : goal.returns-clause-set
 returns-clause-set c =
-    number-adds c.args.self.now _ c.args.key.now c.args.value.now c.in-Some.key c.in-Some-allowed_value.value
+    number-adds c.args.self.now _ c.args.key.now c.args.value.now c.in-Some.key
+    c.in-Some-allowed_value.value
     (sym c.if-eq.ensures) (sym c.in-Some.ensures) (sym c.in-Some-allowed_value.ensures)
     (let within = c.place_of.ensures.within in let place = c.place_of.ensures.place in omega arith)
-    (ap (λ place. slice_set c.args.self.now.values place (Some c.in-Some-allowed_value.value)) c.place_of.ensures.place)
+    (ap (λ place. slice_set c.args.self.now.values place (Some c.in-Some-allowed_value.value))
+    c.place_of.ensures.place)
     refl

@@ -43,14 +43,15 @@ returns g c =
     takes-next before now token (slice_get moving.left 0) next is_next (stages_more moving.staged)
     (λ next answer. LeadsTo (appended_once moving) before_commit answer c.leads.result)
     HasStagedNext own_command failed_before c.leads.result
-    (takes-step (stages_more moving.staged next) tt (HasStagedNext moving) HasStagedNext (appended_once moving)
-    (staged-after-append moving next is_next) tt
+    (takes-step (stages_more moving.staged next) tt (HasStagedNext moving) HasStagedNext
+    (appended_once moving) (staged-after-append moving next is_next) tt
     (λ result stood held. refl)
     (λ deeds stood held. may-append held.recovers.intent moving.keeper moving.left stood
     held.recovers.carries next is_next moving.staged held.staged deeds)
     before_commit before now called.narrows token appended c.leads.result shown c.requires.stands
     (told-of before now _ token (stages_more moving.staged next) appended
     (c.token.ensures ∙ ap (λ (one : Mover). one.keeper.token) c.self.view_is)
-    (subst (λ (one : Mover). Tells before now c.token.result.now (stages_more one.staged next) appended)
+    (subst (λ (one : Mover).
+    Tells before now c.token.result.now (stages_more one.staged next) appended)
     c.self.view_is called.told))
     (counts failed_before _ _ appended c.leads.result c.leads.ensures.failed called.faults))

@@ -23,10 +23,11 @@ returns g c =
     let shown = subst (λ (one : Mover). LeadsTo one before_commit staged c.leads.result)
     c.begun.ensures c.leads.ensures.shown in
     takes-next before now token (slice_get recovering.left 0) next c.next.ensures stages
-    (λ next answer. LeadsTo (mover_of 1 recovering) before_commit answer c.leads.result) HasStagedNext own_command
-    failed_before c.leads.result
+    (λ next answer. LeadsTo (mover_of 1 recovering) before_commit answer c.leads.result)
+    HasStagedNext own_command failed_before c.leads.result
     (takes-step (stages next) tt (Recovers recovering) HasStagedNext
-    (mover_of 1 recovering) (staged-after-write recovering next c.next.ensures) tt (λ result stood held. refl)
+    (mover_of 1 recovering) (staged-after-write recovering next c.next.ensures) tt
+    (λ result stood held. refl)
     (λ deeds stood held. may-stage held.intent recovering.keeper recovering.left stood held.carries
     next c.next.ensures deeds)
     before_commit before now called.narrows token staged c.leads.result shown c.requires.stands
