@@ -15,3 +15,6 @@ pub mod FirstRecords
 pub mod NamedRecords
 pub mod ToldLines
 pub mod EditedNames
+pub mod MarkLemmas
+pub mod MarkedRecords
+pub mod FieldMarks

@@ -9,3 +9,4 @@ pub mod SeenLines
 pub mod NameIndex
 pub mod TableNames
 pub mod RenamedRecords
+pub mod Marks

@@ -9,6 +9,7 @@ ghost use Rattle.account_formats.specs.Written.{IsWritten};
 ghost use Rattle.acct_tables.specs.SeenLines.{end_for, missing_end, seen_line};
 
 use crate::line::{is_named, read_record};
+use crate::marks::from_mark;
 use acct_lines::TableRecord;
 use acct_text::{Bytes, cut_once};
 use std::alloc::{AllocError, Global};
@@ -107,7 +108,7 @@ pub fn find_record<R: TableRecord + Drop>(
         found ≡ find_named R.format name.now (records_of R.format (lines_of text.now))) }
     ensures written { IfOk result (λ found. IfSome found (IsWritten R.format)) }
 {
-    let mut left = Lines::of(text);
+    let mut left = Lines::of(from_mark(text, name));
     'lines: while let Some(line) = left.take() {
         if is_named::<R>(line.text, name) {
             return read_record(alloc, line.text);
@@ -120,7 +121,7 @@ pub fn find_record<R: TableRecord + Drop>(
 pub fn has_record<R: TableRecord>(text: &[u8], name: &[u8]) -> bool
     ensures { result ≡ has_named R.format name.now (records_of R.format (lines_of text.now)) }
 {
-    let mut left = Lines::of(text);
+    let mut left = Lines::of(from_mark(text, name));
     'lines: while let Some(line) = left.take() {
         if is_named::<R>(line.text, name) {
             return true;
@@ -135,7 +136,7 @@ pub fn has_several_records<R: TableRecord>(text: &[u8], name: &[u8]) -> bool
         (count_named R.format name.now (records_of R.format (lines_of text.now))) }
 {
     let mut is_found = false;
-    let mut left = Lines::of(text);
+    let mut left = Lines::of(from_mark(text, name));
     'lines: while let Some(line) = left.take() {
         let is_one = is_named::<R>(line.text, name);
         if is_one && is_found {

@@ -1,6 +1,7 @@
 use Rattle.std.proofs.Common.{◌∙◌, length, ap, sym, arith}
 use Rattle.std.proofs.lemmas.Result.{IfOk-weaker}
 use Rattle.account_formats.specs.Format.{find_named, records_of}
+use Rattle.acct_tables.proofs.MarkedRecords.{marked-found}
 use Rattle.acct_tables.proofs.RecordLines.{met-by, passed-by}
 use Rattle.acct_tables.proofs.lines.find_record.Goals as goal
 
@@ -29,6 +30,14 @@ lines-preserved g c =
     sym (passed-by format name kept rest (sym c.is_named.ensures ∙ c.if-is_named.false))
     ∙ ap (λ lines. find_named format name (records_of format lines)) (sym c.in-Some.ensures.taken)
     ∙ c.lines.invariant
+
+pub lines-init : goal.lines-init
+lines-init g c =
+    let format = g.R.TableRecord.format in
+    let name = c.args.name.now in
+    ap (λ lines. find_named format name (records_of format lines)) c.of-left.ensures
+    ∙ marked-found format g.met.R.TableRecord.names_first name c.args.text.now
+    c.from_mark.result.now c.from_mark.ensures
 
 pub lines-smaller : goal.lines-smaller
 lines-smaller g c = omega (arith, ap length c.in-Some.ensures.taken)
