@@ -2,7 +2,7 @@
 -- `holds-primary`), and that of a group the text of its GID (`holds-gid`). Way: a line has what each
 -- of its fields has (`joined-first`, `joined-rest`), and a number with zeros in front of it has its
 -- decimal text (`holds-number`).
-use Rattle.std.proofs.Common.{◌≡◌, ◌∙◌, ℕ, ◌+◌, ◌^◌, ◌<◌, ◌≤◌, inl, inr, List, [], ◌∷◌, ◌++◌, length, sym, ap, subst, arith, lt_irrefl, append-nil, get_or, nat_eq}
+use Rattle.std.proofs.Common.{◌≡◌, ℕ, ◌^◌, ◌<◌, inl, inr, List, [], ◌∷◌, length, sym, ap, subst, arith, lt_irrefl, append-nil, get_or, nat_eq}
 use Rattle.std.specs.Prelude.{Some}
 use Rattle.std.specs.Fmt.{decimal}
 use Rattle.std.specs.List.{join_with_byte}
@@ -72,12 +72,11 @@ holds-value (digit ∷ []) all some small =
 holds-value (digit ∷ next ∷ rest) all some small = elim (cases_Bool (nat_eq digit 48)) [
   | inl zero_is ↦
       let is : digit ≡ 48 = eqb-true digit 48 zero_is in
-      let later = next ∷ rest in
-      let same : digits_value 10 (digit ∷ later) ≡ digits_value 10 later =
-      ap (λ d. digits_value 10 (d ∷ later)) is in
-      subst (λ value. Holds (decimal value) (digit ∷ later)) (sym same)
-      (holds-back (decimal (digits_value 10 later)) (digit ∷ []) later
-      (holds-value later all.1 (omega arith) (omega (arith, same, small))))
+      let same : digits_value 10 (digit ∷ next ∷ rest) ≡ digits_value 10 (next ∷ rest) =
+      ap (λ d. digits_value 10 (d ∷ next ∷ rest)) is in
+      subst (λ value. Holds (decimal value) (digit ∷ next ∷ rest)) (sym same)
+      (holds-back (decimal (digits_value 10 (next ∷ rest))) (digit ∷ []) (next ∷ rest)
+      (holds-value (next ∷ rest) all.1 (omega arith) (omega (arith, same, small))))
   | inr other ↦ holds-written (digit ∷ next ∷ rest) all some
       (λ starts. absurd (both_ways (nat_eq digit 48) other (eq-eqb digit 48 starts))) small
 ]

@@ -1,7 +1,7 @@
 -- Claim: what is found and counted by a name among the records of a text is so among those of the
 -- text from the name on (`marked-found`, `marked-counted`). Way: a record's line begins with its
 -- name (`holds-name`), so a line without the name is no record of it (`unnamed`).
-use Rattle.std.proofs.Common.{◌≡◌, ◌∙◌, ℕ, ◌+◌, ◌<◌, true, false, inl, inr, List, [], ◌∷◌, ◌++◌, length, refl, sym, ap, subst, lt_irrefl, append-nil, zero-add}
+use Rattle.std.proofs.Common.{◌≡◌, ◌∙◌, ℕ, ◌+◌, ◌<◌, false, inl, inr, List, [], ◌∷◌, ◌++◌, length, refl, sym, ap, subst, lt_irrefl, append-nil, zero-add}
 use Rattle.std.specs.Prelude.{Option, Some, None, if◌then◌else◌}
 use Rattle.std.specs.List.{AllByRecursion, join_with_byte}
 use Rattle.std.proofs.lemmas.Bool.{cases_Bool}

@@ -1,5 +1,4 @@
-use Rattle.std.proofs.Common.{◌∙◌, ◌+◌, ap, sym, zero-add}
-use Rattle.acct_text.specs.Lines.{lines_of}
+use Rattle.std.proofs.Common.{◌∙◌, ap, sym, zero-add}
 use Rattle.account_formats.specs.Format.{count_named, records_of}
 use Rattle.acct_tables.proofs.MarkedRecords.{marked-counted}
 use Rattle.acct_tables.proofs.lines.has_several_records.Goals as goal
