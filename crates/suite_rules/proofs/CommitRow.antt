@@ -18,7 +18,7 @@ use Rattle.suite_rules.specs.Lawful.{Lawful, starts, goes_on}
 use Rattle.suite_rules.specs.Settled.{settled}
 use Rattle.suite_rules.specs.Committed.{committed, folded}
 use Rattle.suite_rules.proofs.Staff.{first, is-folder, staff_line, staff_files, staff_deeds, groupadd_staff, m1, is-token-m1, seen_of, install-lawful, clear-lawful}
-use Rattle.suite_rules.proofs.RowSteps.{list-lawful, read-lawful, write-lawful, append-lawful, free-lawful}
+use Rattle.suite_rules.proofs.RowSteps.{begin-lawful, list-lawful, read-lawful, create-lawful, write-lawful, append-lawful, free-lawful}
 
 -- a call of the session that was done
 abbrev own : (call : Call) → Answer call → Event
@@ -221,7 +221,7 @@ nothing_happened-lawful = starts is-folder
 pub begun-lawful : Lawful staff_deeds first begun
 begun-lawful =
     begin-lawful staff_deeds first m1 nothing_happened nothing_happened-lawful refl groupadd_staff
-    is-token-m1 refl
+    is-token-m1
 
 -- it lists no lock: lawful
 pub listed-lawful : Lawful staff_deeds first listed

@@ -15,7 +15,7 @@ use Rattle.suite_rules.specs.Lawful.{Lawful, goes_on}
 use Rattle.suite_rules.specs.Settled.{settled}
 use Rattle.suite_rules.specs.Committed.{committed}
 use Rattle.suite_rules.proofs.Staff.{first, staff_line, staff_deeds, groupadd_staff, m1, m2, is-token-m2, staff_intent, install-lawful, clear-lawful}
-use Rattle.suite_rules.proofs.RowSteps.{list-lawful, read-lawful, verdict-lawful, write-lawful, free-lawful, refusal-lawful}
+use Rattle.suite_rules.proofs.RowSteps.{judged_listing, begin-lawful, list-lawful, read-lawful, verdict-lawful, create-lawful, unlock-lawful, write-lawful, free-lawful, refusal-lawful}
 use Rattle.suite_rules.proofs.CommitRow.{staged_intent, staff-commit, staged_intent-lawful}
 
 -- a call of the second session that was done
@@ -120,7 +120,7 @@ died_in_commit-lawful = goes_on _ _ staged_intent-lawful (record {
 pub second_begun-lawful : Lawful staff_deeds first second_begun
 second_begun-lawful =
     begin-lawful staff_deeds first m2 died_in_commit died_in_commit-lawful refl groupadd_staff
-    is-token-m2 refl
+    is-token-m2
 
 -- it lists lock 1: lawful
 pub listed_dead-lawful : Lawful staff_deeds first listed_dead

@@ -10,7 +10,7 @@ use Rattle.acct_outside.specs.Names.{name_limit}
 use Rattle.acct_outside.specs.Tokens.{Token, IsToken, free_text}
 use Rattle.acct_outside.specs.Folder.{Folder}
 use Rattle.acct_outside.specs.Calls.{Command, Found, found_within, begins, lists, reads, asks, creates, writes, appends, renames, removes, answers, done}
-use Rattle.acct_outside.specs.History.{History, after, own_events}
+use Rattle.acct_outside.specs.History.{History, after}
 use Rattle.acct_outside.specs.Life.{unbegun, running, life}
 use Rattle.acct_outside.specs.Gives.{GivesResult, GivesVerdict}
 use Rattle.suite_rules.specs.Deeds.{SuiteDeeds}
@@ -33,13 +33,13 @@ judged_listing numbers texts = record {
 -- a begin of a token that no begin has given
 pub begin-lawful : (deeds : SuiteDeeds) (first : Folder) (token : Token) (history : History) →
     Lawful deeds first history → life token history ≡ unbegun → (command : Command) →
-    IsToken token → own_events token history ≡ [] →
+    IsToken token →
     Lawful deeds first
     (record { token = token; call = begins command; result = done tt } ∷ history)
-begin-lawful deeds first token history lawful fresh command is_token unused =
+begin-lawful deeds first token history lawful fresh command is_token =
     goes_on _ _ lawful (record {
       keeps = record { life_rule = rw fresh tt; permitted = free_begin command };
-      gives = (is_token, unused);
+      gives = (is_token, fresh);
     })
 
 module _ (deeds : SuiteDeeds) (first : Folder) (token : Token) (history : History)
