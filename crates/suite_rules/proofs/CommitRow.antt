@@ -18,7 +18,7 @@ use Rattle.suite_rules.specs.Lawful.{Lawful, starts, goes_on}
 use Rattle.suite_rules.specs.Settled.{settled}
 use Rattle.suite_rules.specs.Committed.{committed, folded}
 use Rattle.suite_rules.proofs.Staff.{first, is-folder, staff_line, staff_files, staff_deeds, groupadd_staff, m1, is-token-m1, seen_of, install-lawful, clear-lawful}
-use Rattle.suite_rules.proofs.RowSteps.{begin-lawful, list-lawful, read-lawful, create-lawful, write-lawful, append-lawful, free-lawful}
+use Rattle.suite_rules.proofs.RowSteps.{list-lawful, read-lawful, write-lawful, append-lawful, free-lawful, begin-lawful, create-lawful}
 
 -- a call of the session that was done
 abbrev own : (call : Call) → Answer call → Event

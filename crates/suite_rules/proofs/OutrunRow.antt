@@ -21,7 +21,7 @@ use Rattle.suite_rules.specs.Rules.{unlocks_own, unlock_rule}
 use Rattle.suite_rules.specs.Lawful.{Lawful, starts, goes_on}
 use Rattle.suite_rules.specs.Committed.{committed}
 use Rattle.suite_rules.proofs.Staff.{two-bytes}
-use Rattle.suite_rules.proofs.RowSteps.{judged_listing, begin-lawful, list-lawful, read-lawful, verdict-lawful, create-lawful, unlock-lawful, write-lawful, free-lawful, refusal-lawful}
+use Rattle.suite_rules.proofs.RowSteps.{judged_listing, list-lawful, read-lawful, verdict-lawful, write-lawful, free-lawful, refusal-lawful, begin-lawful, create-lawful, unlock-lawful}
 
 -- the dead holder
 abbrev z : Token
@@ -224,7 +224,8 @@ module _ (deeds : SuiteDeeds) where
   -- a begins: lawful
   a_begun-lawful : Lawful deeds first a_begun
   a_begun-lawful =
-      begin-lawful deeds first a1 nothing_happened nothing_happened-lawful refl command is-token-a
+      begin-lawful deeds first a1 nothing_happened nothing_happened-lawful refl command
+      is-token-a
 
   -- a lists lock 4: lawful
   a_listed-lawful : Lawful deeds first a_listed
@@ -245,7 +246,8 @@ module _ (deeds : SuiteDeeds) where
   -- b begins: lawful
   b_begun-lawful : Lawful deeds first b_begun
   b_begun-lawful =
-      begin-lawful deeds first b1 a_judged a_judged-lawful refl command is-token-b
+      begin-lawful deeds first b1 a_judged a_judged-lawful refl command
+      is-token-b
 
   -- b lists lock 4: lawful
   b_listed-lawful : Lawful deeds first b_listed
@@ -307,7 +309,8 @@ module _ (deeds : SuiteDeeds) where
   -- c begins: lawful
   c_begun-lawful : Lawful deeds first c_begun
   c_begun-lawful =
-      begin-lawful deeds first c1 a_answered a_answered-lawful refl command is-token-c
+      begin-lawful deeds first c1 a_answered a_answered-lawful refl command
+      is-token-c
 
   -- c lists lock 5: lawful
   c_listed-lawful : Lawful deeds first c_listed

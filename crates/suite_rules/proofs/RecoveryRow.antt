@@ -1,7 +1,7 @@
 -- A death within a commit, and a recovery: the commit of CommitRow happened, but its session died in it.
 -- The next session judges it dead, takes over, carries the intent out, and refuses its own command.
 -- Each history is named for its last step, and lawful by computation.
-use Rattle.std.proofs.Common.{◌≡◌, refl, ap, ℕ, ◌==◌, lit≤, true, false, [], ◌∷◌, Some, codes, true≢false}
+use Rattle.std.proofs.Common.{◌≡◌, refl, ap, ℕ, ◌==◌, lit≤, [], ◌∷◌, Some, codes, true≢false}
 use Rattle.std.specs.Fmt.{digits}
 use Rattle.acct_text.specs.declared.Tab.TheVariants.{Group}
 use Rattle.acct_outside.specs.declared.Name.TheVariants.{Table, Staged, Intent, IntentStage, FreeStage, Lock}
@@ -15,7 +15,7 @@ use Rattle.suite_rules.specs.Lawful.{Lawful, goes_on}
 use Rattle.suite_rules.specs.Settled.{settled}
 use Rattle.suite_rules.specs.Committed.{committed}
 use Rattle.suite_rules.proofs.Staff.{first, staff_line, staff_deeds, groupadd_staff, m1, m2, is-token-m2, staff_intent, install-lawful, clear-lawful}
-use Rattle.suite_rules.proofs.RowSteps.{judged_listing, begin-lawful, list-lawful, read-lawful, verdict-lawful, create-lawful, unlock-lawful, write-lawful, free-lawful, refusal-lawful}
+use Rattle.suite_rules.proofs.RowSteps.{judged_listing, list-lawful, read-lawful, verdict-lawful, write-lawful, free-lawful, refusal-lawful, begin-lawful, create-lawful, unlock-lawful}
 use Rattle.suite_rules.proofs.CommitRow.{staged_intent, staff-commit, staged_intent-lawful}
 
 -- a call of the second session that was done
