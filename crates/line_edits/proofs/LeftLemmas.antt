@@ -1,13 +1,18 @@
--- Claim: a line that begins with another name isn't a record of the name (`other-name`), and a list
--- without a user stays without it (`without-unlisted`); so changes leave such lines. Way: the name
--- of a record is the first field of its line.
+-- Claim: a line that begins with another name isn't a record of the name (`other-name`), a list
+-- without a user stays without it (`without-unlisted`), and so do the members of a group that the user
+-- doesn't join (`unjoined`); so changes leave such lines. Way: the name of a record is the first field
+-- of its line.
 use Rattle.std.proofs.Common.{◌≡◌, ℕ, true, false, Bool, List, [], ◌∷◌, refl, sym, ◌∙◌, ap}
 use Rattle.std.specs.Prelude.{◌||◌, not, bytes_eq, Some}
 use Rattle.account_formats.specs.Format.{Format, is_named}
-use Rattle.account_model.specs.Members.{without_name}
+use Rattle.account_model.specs.Members.{renamed_in, without_name}
 use Rattle.account_formats.specs.Text.{is_listed}
-use Rattle.account_model.proofs.RenamingLaws.{flipped}
+use Rattle.account_model.proofs.RenamingLaws.{flipped, unlisted_stays}
 use Rattle.account_formats.specs.Naming.{NamesFirst, first_field}
+use Rattle.line_edits.specs.Memberships.{joins, members_by, members_with}
+use Rattle.line_edits.specs.declared.memberships.Membership.{Membership}
+use Rattle.line_edits.specs.declared.memberships.UserGroups.{UserGroups}
+use Rattle.line_edits.specs.declared.memberships.UserGroups.TheVariants.{Kept, Also, Only}
 
 -- what isn't so is false
 pub isn't : (test : Bool) → not test ≡ true → test ≡ false
@@ -39,3 +44,25 @@ without-unlisted name [] unlisted = refl
 without-unlisted name (other ∷ names) unlisted =
     let both = neither (bytes_eq name other) (is_listed name names) unlisted in
     rw (flipped name other both.0) (ap (λ rest. other ∷ rest) (without-unlisted name names both.1))
+
+-- members without the user, who doesn't join their group, are the same
+unjoined-with :
+    (groups : UserGroups) (user group : List ℕ) (members : List (List ℕ))
+    → joins groups group ≡ false
+    → is_listed user members ≡ false
+    → members_with groups user group members ≡ members
+unjoined-with Kept user group members other unlisted = refl
+unjoined-with (Also groups) user group members other unlisted = rw other refl
+unjoined-with (Only groups) user group members other unlisted =
+    rw other (without-unlisted user members unlisted)
+
+-- and so once the user is renamed in them
+pub unjoined :
+    (membership : Membership) (group : List ℕ) (members : List (List ℕ))
+    → joins membership.groups group ≡ false
+    → is_listed membership.user members ≡ false
+    → members_by membership group members ≡ members
+unjoined membership group members other unlisted =
+    ap (renamed_in membership.user membership.new_name)
+    (unjoined-with membership.groups membership.user group members other unlisted)
+    ∙ unlisted_stays membership.user membership.new_name members unlisted

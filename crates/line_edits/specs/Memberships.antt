@@ -1,5 +1,5 @@
 -- What becomes of a user in the lists of all groups (usermod(8), `-G`, `-a` and `-l`).
-use Rattle.std.specs.Prelude.{ℕ, Bool, true, false, List, if◌then◌else◌}
+use Rattle.std.specs.Prelude.{ℕ, Bool, false, List, if◌then◌else◌}
 use Rattle.account_formats.specs.declared.records.GroupRecord.{GroupRecord}
 use Rattle.account_formats.specs.declared.records.GshadowRecord.{GshadowRecord}
 use Rattle.account_model.specs.Members.{with_name, without_name, renamed_in}
@@ -16,11 +16,11 @@ members_with (Also groups) user group members =
 members_with (Only groups) user group members =
     if is_listed group groups then with_name user members else without_name user members
 
--- whether the user joins no group and leaves none
-abbrev pub keeps_groups : UserGroups → Bool
-keeps_groups Kept = true
-keeps_groups (Also groups) = false
-keeps_groups (Only groups) = false
+-- whether the group is one of those that the user joins
+abbrev pub joins : UserGroups → List ℕ → Bool
+joins Kept group = false
+joins (Also groups) group = is_listed group groups
+joins (Only groups) group = is_listed group groups
 
 -- the members of a group in which the user then has the new name (usermod(8), `-l`)
 abbrev pub members_by : Membership → List ℕ → List (List ℕ) → List (List ℕ)

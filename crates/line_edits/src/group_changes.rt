@@ -9,7 +9,7 @@ ghost use Rattle.line_edits.specs.Memberships.{group_by};
 use crate::fields::has_other_name;
 use crate::lists::{with_name, without_name};
 use crate::{Becoming, EditedRecord, Membership};
-use acct_lines::{GroupLine, GroupRecord, TableRecord, lists};
+use acct_lines::{GroupLine, GroupRecord, TableRecord, first_field, lists};
 use acct_text::{Bytes, Names};
 use std::alloc::{AllocError, Global};
 
@@ -107,7 +107,7 @@ fn act_leaves(act: &GroupAct, line: &[u8]) -> bool
     match act {
         GroupAct::RemoveMember(user) => !has_member(line, user.as_slice()),
         GroupAct::SetMembership(membership) => {
-            membership.keeps_groups() && !has_member(line, membership.user.as_slice())
+            !membership.joins(first_field(line)) && !has_member(line, membership.user.as_slice())
         }
         _ => false,
     }

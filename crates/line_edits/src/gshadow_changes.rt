@@ -9,7 +9,7 @@ ghost use Rattle.line_edits.specs.Memberships.{gshadow_by};
 use crate::fields::has_other_name;
 use crate::lists::{with_name, without_name};
 use crate::{Becoming, EditedRecord, Membership};
-use acct_lines::{GshadowLine, GshadowRecord, TableRecord, lists};
+use acct_lines::{GshadowLine, GshadowRecord, TableRecord, first_field, lists};
 use acct_text::{Bytes, Names};
 use std::alloc::{AllocError, Global};
 
@@ -113,7 +113,7 @@ fn act_leaves(act: &GshadowAct, line: &[u8]) -> bool
     match act {
         GshadowAct::RemoveUser(user) => !has_user(line, user.as_slice()),
         GshadowAct::SetMembership(membership) => {
-            membership.keeps_groups() && !has_user(line, membership.user.as_slice())
+            !membership.joins(first_field(line)) && !has_user(line, membership.user.as_slice())
         }
         _ => false,
     }

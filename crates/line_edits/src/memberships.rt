@@ -1,6 +1,6 @@
 // What becomes of a user in the lists of all groups (usermod(8), `-G`, `-a` and `-l`).
 ghost use Rattle.std.specs.Prelude.{◌≡◌, IfOk};
-ghost use Rattle.line_edits.specs.Memberships.{keeps_groups, members_with};
+ghost use Rattle.line_edits.specs.Memberships.{joins, members_with};
 
 use crate::NameSet;
 use crate::lists::{with_name, without_name};
@@ -31,13 +31,13 @@ pub enum UserGroups {
 }
 
 impl Membership {
-    /// Whether the user joins no group and leaves none.
-    pub(crate) fn keeps_groups(&self) -> bool
-        ensures { result ≡ keeps_groups self.now.groups }
+    /// Whether the group is one of those that the user joins.
+    pub(crate) fn joins(&self, group: &[u8]) -> bool
+        ensures { result ≡ joins self.now.groups group.now }
     {
         match &self.groups {
-            UserGroups::Kept => true,
-            UserGroups::Also(_) | UserGroups::Only(_) => false,
+            UserGroups::Kept => false,
+            UserGroups::Also(groups) | UserGroups::Only(groups) => groups.has(group),
         }
     }
 

@@ -1,10 +1,12 @@
 // What the tools do with records of passwd (passwd(5)).
-ghost use Rattle.std.specs.Prelude.{◌≡◌, IfOk};
+ghost use Rattle.std.specs.Prelude.{◌≡◌, ◌==◌, Some, IfOk};
+ghost use Rattle.account_formats.specs.Records.{passwd_format};
+ghost use Rattle.account_formats.specs.declared.records.PasswdRecord.{PasswdRecord};
 ghost use Rattle.line_edits.specs.PasswdChanges.{keeps_user_name, passwd_after, with_user_fields};
 
 use crate::fields::{copy_or, has_other_name};
 use crate::{Becoming, EditedRecord, HashChange};
-use acct_lines::{PasswdRecord, TableRecord};
+use acct_lines::{PasswdLine, PasswdRecord, TableRecord};
 use acct_text::Bytes;
 use std::alloc::{AllocError, Global};
 
@@ -85,7 +87,7 @@ impl EditedRecord for PasswdRecord {
     fn leaves(change: &PasswdChange, line: &[u8]) -> bool {
         match change {
             PasswdChange::Named(name, _) => has_other_name(line, name.as_slice()),
-            PasswdChange::OfGroup(..) => false,
+            PasswdChange::OfGroup(gid, _) => !has_gid(line, *gid),
             PasswdChange::Remove(name) => has_other_name(line, name.as_slice()),
         }
     }
@@ -98,6 +100,17 @@ impl EditedRecord for PasswdRecord {
     }
 
     ghost no_blank = { refl };
+}
+
+// Whether the line is a user whose primary group has the GID.
+fn has_gid(line: &[u8], gid: u32) -> bool
+    ensures { (user : PasswdRecord) → passwd_format.read line.now ≡ Some user
+        → result ≡ (user.gid == gid) }
+{
+    match PasswdLine::read(line) {
+        Ok(user) => user.gid == gid,
+        Err(_) => false,
+    }
 }
 
 // Whether the act leaves the name of the user.

@@ -1,8 +1,10 @@
 use Rattle.std.proofs.Common.{◌≡◌, ◌∙◌, false, ap, sym}
 use Rattle.account_model.specs.Members.{without_name}
 use Rattle.account_formats.specs.Text.{is_listed}
+use Rattle.account_formats.proofs.NamingLaws.{group-names_first}
 use Rattle.line_edits.specs.GroupChanges.{group_after}
-use Rattle.line_edits.proofs.LeftLemmas.{isn't, without-unlisted}
+use Rattle.line_edits.specs.Memberships.{joins}
+use Rattle.line_edits.proofs.LeftLemmas.{isn't, unjoined, without-unlisted}
 use Rattle.line_edits.proofs.group_changes.act_leaves.Goals as goal
 
 pub returns-in-RemoveMember : goal.returns-in-RemoveMember
@@ -13,3 +15,19 @@ returns-in-RemoveMember c = λ no group read.
     ap (λ act. group_after act group) c.in-RemoveMember.is
     ∙ ap (λ name. record group { members = without_name name group.members }) (sym c.as_slice.ensures)
     ∙ ap (λ members. record group { members = members }) (without-unlisted user group.members other)
+
+pub returns-then-not-joins : goal.returns-then-not-joins
+returns-then-not-joins c = λ no group read.
+    let membership = c.in-SetMembership.membership in
+    let named : c.first_field.result.now ≡ group.name =
+    c.first_field.ensures ∙ group-names_first c.args.line.now group read in
+    let other : joins membership.groups group.name ≡ false =
+    ap (joins membership.groups) (sym named)
+    ∙ sym c.joins.ensures ∙ c.if-not-joins.true in
+    let unlisted : is_listed membership.user group.members ≡ false =
+    ap (λ user. is_listed user group.members) (sym c.as_slice-then-not-joins.ensures)
+    ∙ sym (c.has_member-then-not-joins.ensures group read)
+    ∙ isn't c.has_member-then-not-joins.result no in
+    ap (λ act. group_after act group) c.in-SetMembership.is
+    ∙ ap (λ members. record group { members = members })
+    (unjoined membership group.name group.members other unlisted)

@@ -1,8 +1,12 @@
-use Rattle.std.proofs.Common.{◌∙◌, ap, sym}
+use Rattle.std.proofs.Common.{◌≡◌, ◌∙◌, false, ap, sym}
+use Rattle.std.specs.Prelude.{◌||◌}
 use Rattle.account_model.specs.Members.{without_name}
+use Rattle.account_model.proofs.RenamingLaws.{unlisted_stays}
 use Rattle.account_formats.specs.Text.{is_listed}
+use Rattle.account_formats.proofs.NamingLaws.{gshadow-names_first}
 use Rattle.line_edits.specs.GshadowChanges.{gshadow_after, without_user}
-use Rattle.line_edits.proofs.LeftLemmas.{isn't, neither, without-unlisted}
+use Rattle.line_edits.specs.Memberships.{joins, members_by}
+use Rattle.line_edits.proofs.LeftLemmas.{isn't, neither, unjoined, without-unlisted}
 use Rattle.line_edits.proofs.gshadow_changes.act_leaves.Goals as goal
 
 pub returns-in-RemoveUser : goal.returns-in-RemoveUser
@@ -17,3 +21,25 @@ returns-in-RemoveUser c = λ no group read.
       members = without_name user group.members;
     }) (without-unlisted user group.administrators both.0)
     ∙ ap (λ names. record group { members = names }) (without-unlisted user group.members both.1)
+
+pub returns-then-not-joins : goal.returns-then-not-joins
+returns-then-not-joins c = λ no group read.
+    let membership = c.in-SetMembership.membership in
+    let named : c.first_field.result.now ≡ group.name =
+    c.first_field.ensures ∙ gshadow-names_first c.args.line.now group read in
+    let other : joins membership.groups group.name ≡ false =
+    ap (joins membership.groups) (sym named)
+    ∙ sym c.joins.ensures ∙ c.if-not-joins.true in
+    let both = neither (is_listed membership.user group.administrators)
+    (is_listed membership.user group.members)
+    (ap (λ user. is_listed user group.administrators || is_listed user group.members)
+    (sym c.as_slice-then-not-joins.ensures)
+    ∙ sym (c.has_user-then-not-joins.ensures group read)
+    ∙ isn't c.has_user-then-not-joins.result no) in
+    ap (λ act. gshadow_after act group) c.in-SetMembership.is
+    ∙ ap (λ names. record group {
+      administrators = names;
+      members = members_by membership group.name group.members;
+    }) (unlisted_stays membership.user membership.new_name group.administrators both.0)
+    ∙ ap (λ names. record group { members = names })
+    (unjoined membership group.name group.members other both.1)
