@@ -2,10 +2,9 @@
 -- `change-left`, `change-stays`, `change-sets`), and what is done with a line alone too (`left-line`,
 -- `other-line`, `record-line`, `same-line`). Way: the line at the place reads as the record that was
 -- found there (`record-here`), so it becomes what `line_becomes` says of it (`becomes-read`).
-use Rattle.std.proofs.Common.{◌≡◌, ℕ, ◌+◌, ◌<◌, Bool, true, false, List, [], ◌∷◌, ◌++◌, length, map, take, drop, get_or, refl, sym, ◌∙◌, ap, append-nil}
+use Rattle.std.proofs.Common.{◌≡◌, ℕ, ◌+◌, ◌<◌, Bool, true, false, List, [], ◌∷◌, length, map, drop, refl, sym, ◌∙◌, ap, append-nil}
 use Rattle.std.specs.Prelude.{Option, Some, None, if◌then◌else◌}
 use Rattle.std.proofs.lemmas.List.{drop_more}
-use Rattle.std.proofs.lemmas.Option.{slice_get-get_or}
 use Rattle.acct_text.specs.Lines.{Line, file_bytes, line_bytes}
 use Rattle.account_formats.specs.Format.{Format}
 use Rattle.account_formats.specs.Edits.{becomes, line_becomes}

@@ -11,3 +11,5 @@ pub mod NamingLemmas
 pub mod KnownLemmas
 pub mod WrittenLines
 pub mod NameSets
+pub mod MarkLemmas
+pub mod ReachLemmas

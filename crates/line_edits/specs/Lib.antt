@@ -12,3 +12,4 @@ pub mod Memberships
 pub mod Naming
 pub mod NamedLines
 pub mod NameSets
+pub mod Reach

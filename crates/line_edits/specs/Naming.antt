@@ -4,10 +4,15 @@ use Rattle.std.specs.Prelude.{◌≡◌, ℕ, false, List, [], ◌∷◌, map, S
 use Rattle.account_formats.specs.Format.{Format, is_named}
 use Rattle.account_formats.specs.Edits.{Edit}
 use Rattle.account_formats.specs.Edits.Edit.{Become, Add, AddMissing}
+use Rattle.acct_tables.specs.Marks.{IsWithout}
 
 -- f leaves the record that the text is, if it is one
 abbrev pub Leaves : {R : Type 0} → Format R → (R → List R) → List ℕ → Type 0
 Leaves {R = R} format f text = (r : R) → format.read text ≡ Some r → f r ≡ r ∷ []
+
+-- f leaves each record whose line is without these bytes
+abbrev pub IsMarkOf : {R : Type 0} → Format R → (R → List R) → List ℕ → Type 0
+IsMarkOf format f mark = (line : List ℕ) → IsWithout mark line → Leaves format f line
 
 -- f gives one record for each, of its name
 abbrev pub KeepsNames : {R : Type 0} → Format R → (R → List R) → Type 0

@@ -1,7 +1,7 @@
 // The edits of a table as data, and what a record has so that edits can be made of it.
 ghost use Rattle.std.specs.Prelude.{◌≡◌, true, List, [], None, IfOk, IfSome};
 ghost use Rattle.account_formats.specs.Written.{IsWritten};
-ghost use Rattle.line_edits.specs.Naming.{ChangesOnly, Leaves};
+ghost use Rattle.line_edits.specs.Naming.{ChangesOnly, IsMarkOf, Leaves};
 ghost use Rattle.line_edits.specs.SeenEdits.{records_in};
 
 use acct_lines::TableRecord;
@@ -55,6 +55,11 @@ pub trait EditedRecord: TableRecord {
     /// without memory.
     fn leaves(change: &Self::Change, line: &[u8]) -> bool
         ensures { result ≡ true → Leaves Self.format (becomes change.now) line.now };
+
+    /// Bytes that the line of each record has which the change may touch; none where no such bytes are
+    /// known.
+    fn mark(change: &Self::Change) -> Option<&[u8]>
+        ensures { IfSome result (λ mark. IsMarkOf Self.format (becomes change.now) mark.now) };
 
     /// The name of all records that the change may touch, where it leaves their names; none where
     /// it may touch others.

@@ -1,8 +1,9 @@
 // What the tools do with records of group (group(5)).
-ghost use Rattle.std.specs.Prelude.{◌≡◌, true, Some, IfOk, OnOk};
+ghost use Rattle.std.specs.Prelude.{◌≡◌, ℕ, List, true, Some, IfOk, IfSome, OnOk};
 ghost use Rattle.account_formats.specs.Records.{group_format};
 ghost use Rattle.account_formats.specs.Text.{is_listed};
 ghost use Rattle.account_formats.specs.declared.records.GroupRecord.{GroupRecord};
+ghost use Rattle.acct_tables.specs.Marks.{IsWithout};
 ghost use Rattle.line_edits.specs.GroupChanges.{group_after, keeps_group_name};
 ghost use Rattle.line_edits.specs.Memberships.{group_by};
 
@@ -79,6 +80,14 @@ impl EditedRecord for GroupRecord {
         }
     }
 
+    fn mark(change: &GroupChange) -> Option<&[u8]> {
+        match change {
+            GroupChange::Named(name, _) => Some(name.as_slice()),
+            GroupChange::All(act) => act_mark(act),
+            GroupChange::Remove(name) => Some(name.as_slice()),
+        }
+    }
+
     fn only_name(change: &GroupChange) -> Option<&[u8]> {
         match change {
             GroupChange::Named(name, act) if keeps_name(act) => Some(name.as_slice()),
@@ -96,6 +105,19 @@ fn keeps_name(act: &GroupAct) -> bool
     match act {
         GroupAct::Rename(_) => false,
         _ => true,
+    }
+}
+
+// Bytes that the line of each group has which the act may change; none where no such bytes are known.
+fn act_mark(act: &GroupAct) -> Option<&[u8]>
+    ensures { IfSome result (λ mark. (line : List ℕ) → IsWithout mark.now line
+        → (group : GroupRecord) → group_format.read line ≡ Some group
+        → group_after act.now group ≡ group) }
+{
+    match act {
+        GroupAct::RemoveMember(user) => Some(user.as_slice()),
+        GroupAct::SetMembership(membership) => membership.mark(),
+        _ => None,
     }
 }
 

@@ -1,8 +1,9 @@
 // What the tools do with records of gshadow (gshadow(5)).
-ghost use Rattle.std.specs.Prelude.{◌≡◌, ◌||◌, true, Some, IfOk, OnOk};
+ghost use Rattle.std.specs.Prelude.{◌≡◌, ◌||◌, ℕ, List, true, Some, IfOk, IfSome, OnOk};
 ghost use Rattle.account_formats.specs.declared.records.GshadowRecord.{GshadowRecord};
 ghost use Rattle.account_formats.specs.Records.{gshadow_format};
 ghost use Rattle.account_formats.specs.Text.{is_listed};
+ghost use Rattle.acct_tables.specs.Marks.{IsWithout};
 ghost use Rattle.line_edits.specs.GshadowChanges.{gshadow_after, keeps_gshadow_name, without_user};
 ghost use Rattle.line_edits.specs.Memberships.{gshadow_by};
 
@@ -85,6 +86,14 @@ impl EditedRecord for GshadowRecord {
         }
     }
 
+    fn mark(change: &GshadowChange) -> Option<&[u8]> {
+        match change {
+            GshadowChange::Named(name, _) => Some(name.as_slice()),
+            GshadowChange::All(act) => act_mark(act),
+            GshadowChange::Remove(name) => Some(name.as_slice()),
+        }
+    }
+
     fn only_name(change: &GshadowChange) -> Option<&[u8]> {
         match change {
             GshadowChange::Named(name, act) if keeps_name(act) => Some(name.as_slice()),
@@ -102,6 +111,19 @@ fn keeps_name(act: &GshadowAct) -> bool
     match act {
         GshadowAct::Rename(_) => false,
         _ => true,
+    }
+}
+
+// Bytes that the line of each group has which the act may change; none where no such bytes are known.
+fn act_mark(act: &GshadowAct) -> Option<&[u8]>
+    ensures { IfSome result (λ mark. (line : List ℕ) → IsWithout mark.now line
+        → (group : GshadowRecord) → gshadow_format.read line ≡ Some group
+        → gshadow_after act.now group ≡ group) }
+{
+    match act {
+        GshadowAct::RemoveUser(user) => Some(user.as_slice()),
+        GshadowAct::SetMembership(membership) => membership.mark(),
+        _ => None,
     }
 }
 

@@ -22,6 +22,7 @@ mod name_set;
 mod named_edits;
 mod passwd_changes;
 mod placed_edits;
+mod reach;
 mod shadow_changes;
 mod subid_changes;
 mod touched;

@@ -13,7 +13,7 @@ ghost use Rattle.line_edits.specs.OpenLines.{IsOpenFrom};
 
 use crate::multiple::differ;
 use crate::{Becoming, EditedRecord};
-use acct_tables::{FileLine, Lines, read_record};
+use acct_tables::{FileLine, Lines, from_mark, read_record};
 use acct_text::Bytes;
 use std::alloc::{AllocError, Global};
 
@@ -57,8 +57,8 @@ fn push_front<'a, R: EditedRecord>(
 fn open_from<'a, R: EditedRecord>(text: &'a [u8], change: &R::Change) -> &'a [u8]
     ensures { IsOpenFrom R.format (R.becomes change.now) text.now result.now }
 {
-    let mut behind = text;
-    let mut left = Lines::of(text);
+    let mut behind = marked_from::<R>(text, change);
+    let mut left = Lines::of(behind);
     'lines: while let Some(line) = left.take() {
         if !R::leaves(change, line.text) {
             return behind;
@@ -66,6 +66,16 @@ fn open_from<'a, R: EditedRecord>(text: &'a [u8], change: &R::Change) -> &'a [u8
         behind = left.bytes();
     }
     behind
+}
+
+// The text from a line on, where the change leaves the lines in front: they lack its mark.
+fn marked_from<'a, R: EditedRecord>(text: &'a [u8], change: &R::Change) -> &'a [u8]
+    ensures { IsOpenFrom R.format (R.becomes change.now) text.now result.now }
+{
+    match R::mark(change) {
+        Some(mark) => from_mark(text, mark),
+        None => text,
+    }
 }
 
 // Adds what becomes of a line. One that the change leaves isn't read.

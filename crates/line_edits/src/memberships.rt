@@ -1,6 +1,7 @@
 // What becomes of a user in the lists of all groups (usermod(8), `-G`, `-a` and `-l`).
-ghost use Rattle.std.specs.Prelude.{◌≡◌, IfOk};
+ghost use Rattle.std.specs.Prelude.{◌≡◌, IfOk, IfSome};
 ghost use Rattle.line_edits.specs.Memberships.{joins, members_with};
+ghost use Rattle.line_edits.specs.declared.memberships.UserGroups.TheVariants.{Kept as KeptGroups};
 
 use crate::NameSet;
 use crate::lists::{with_name, without_name};
@@ -38,6 +39,17 @@ impl Membership {
         match &self.groups {
             UserGroups::Kept => false,
             UserGroups::Also(groups) | UserGroups::Only(groups) => groups.has(group),
+        }
+    }
+
+    /// The user, where it joins no group and leaves none; none else.
+    pub(crate) fn mark(&self) -> Option<&[u8]>
+        ensures { IfSome result (λ mark.
+            (mark.now ≡ self.now.user) × (self.now.groups ≡ KeptGroups)) }
+    {
+        match &self.groups {
+            UserGroups::Kept => Some(self.user.as_slice()),
+            UserGroups::Also(_) | UserGroups::Only(_) => None,
         }
     }
 

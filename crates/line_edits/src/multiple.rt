@@ -14,6 +14,7 @@ ghost use Rattle.line_edits.specs.SeenEdits.{seen_edit, seen_edits};
 ghost use Rattle.line_edits.specs.Touching.{LacksName, LeavesTo, TouchOnly, met_in, touches_alone};
 
 use crate::fields::has_other_name;
+use crate::reach::open_to;
 use crate::touched::touched_names;
 use crate::{Becoming, Edit, EditedRecord};
 use acct_tables::{Lines, MANY, NameIndex, has_several_records, name_of, read_record};
@@ -32,9 +33,10 @@ pub fn first_multiple<R: EditedRecord + Drop>(
     ensures { IfOk result (λ name. name ≡ first_multiple R.format (seen_edits R.becomes edits.now)
         (records_of R.format (lines_of text.now))) }
 {
-    let names = &names_for(alloc, text, edits)?;
+    let behind = open_to(text, edits);
+    let names = &names_for(alloc, text, behind, edits)?;
     let touched = &touched_names(alloc, edits)?;
-    let mut left = Lines::of(text);
+    let mut left = Lines::of(behind);
     'lines: while let Some(line) = left.take() {
         if let Some(name) = met_in(alloc, text, edits, names, touched, line.text)? {
             return Ok(Some(name));
@@ -44,16 +46,17 @@ pub fn first_multiple<R: EditedRecord + Drop>(
 }
 
 // Where the records of each name stand; none where the edits ask for few names, of which each is
-// counted then.
+// counted then. They touch none in front of `behind`.
 fn names_for<'a, R: EditedRecord>(
     alloc: Global,
     text: &'a [u8],
+    behind: &[u8],
     edits: &[Edit<R, R::Change>],
 ) -> Result<Option<NameIndex<'a>>, AllocError>
     ensures { IfOk result (λ names. IfSome names (λ names.
         Tells (line_names R.format (lines_of text.now)) (told names))) }
 {
-    if edits.len() < MANY && !may_touch_many(text, edits) {
+    if edits.len() < MANY && !may_touch_many(behind, edits) {
         return Ok(None);
     }
     Ok(Some(NameIndex::of::<R>(alloc, text)?))

@@ -92,6 +92,14 @@ impl EditedRecord for PasswdRecord {
         }
     }
 
+    fn mark(change: &PasswdChange) -> Option<&[u8]> {
+        match change {
+            PasswdChange::Named(name, _) => Some(name.as_slice()),
+            PasswdChange::OfGroup(..) => None,
+            PasswdChange::Remove(name) => Some(name.as_slice()),
+        }
+    }
+
     fn only_name(change: &PasswdChange) -> Option<&[u8]> {
         match change {
             PasswdChange::Named(name, act) if keeps_name(act) => Some(name.as_slice()),

@@ -114,6 +114,13 @@ impl EditedRecord for ShadowRecord {
         }
     }
 
+    fn mark(change: &ShadowChange) -> Option<&[u8]> {
+        match change {
+            ShadowChange::Named(name, _) => Some(name.as_slice()),
+            ShadowChange::Remove(name) => Some(name.as_slice()),
+        }
+    }
+
     fn only_name(change: &ShadowChange) -> Option<&[u8]> {
         match change {
             ShadowChange::Named(name, act) if keeps_name(act) => Some(name.as_slice()),

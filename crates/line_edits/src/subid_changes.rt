@@ -82,6 +82,13 @@ impl EditedRecord for SubidRecord {
         }
     }
 
+    fn mark(change: &SubidChange) -> Option<&[u8]> {
+        match change {
+            SubidChange::Rename(old, _) => Some(old.as_slice()),
+            _ => None,
+        }
+    }
+
     fn only_name(_change: &SubidChange) -> Option<&[u8]> {
         None
     }

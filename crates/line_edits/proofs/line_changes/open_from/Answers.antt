@@ -1,7 +1,7 @@
 use Rattle.std.proofs.Common.{◌∙◌, length, ap, sym, arith}
 use Rattle.acct_tables.specs.SeenLines.{seen_line}
 use Rattle.line_edits.proofs.ChangedLines.{left-line}
-use Rattle.line_edits.proofs.OpenLemmas.{open-all, open-next}
+use Rattle.line_edits.proofs.OpenLemmas.{open-next}
 use Rattle.line_edits.proofs.line_changes.open_from.Goals as goal
 
 pub lines-preserved : goal.lines-preserved
@@ -11,7 +11,7 @@ lines-preserved g c =
     let line = seen_line c.in-Some.line in
     record {
       here = sym c.bytes-behind.ensures.lines;
-      from = open-next format change c.args.text.now c.lines.behind.now c.lines.invariant.from
+      from = open-next format g.met.R.TableRecord.is_line_format.same change c.args.text.now c.lines.behind.now c.lines.invariant.from
           c.bytes-behind.result.now line c.take.new.self
           (sym c.lines.invariant.here ∙ c.in-Some.ensures.taken)
           (left-line format change line g.met.R.TableRecord.is_line_format.same
@@ -25,7 +25,7 @@ lines-smaller g c = omega (arith, ap length c.in-Some.ensures.taken)
 pub lines-init : goal.lines-init
 lines-init g c = record {
   here = c.of-left.ensures;
-  from = open-all g.R.TableRecord.format (g.R.EditedRecord.becomes c.args.change.now) c.args.text.now;
+  from = c.marked_from-behind.ensures;
 }
 
 pub returns-then-not-leaves : goal.returns-then-not-leaves

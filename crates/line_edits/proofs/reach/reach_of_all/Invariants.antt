@@ -1,0 +1,16 @@
+use Rattle.std.proofs.Common.{◌≡◌, ℕ, List, drop}
+use Rattle.std.specs.Prelude.{Some}
+use Rattle.account_formats.specs.Edits.{touches}
+use Rattle.line_edits.specs.Reach.{IsOutOf}
+use Rattle.line_edits.specs.SeenEdits.{seen_edits}
+use Rattle.line_edits.proofs.reach.reach_of_all.Given as goal
+
+-- the edits left touch the record of a line out of reach where one of all does
+abbrev pub invariant-edits : goal.invariant-edits
+invariant-edits g l =
+    (line : List ℕ)
+    → IsOutOf l.reach line
+    → (r : _)
+    → g.R.TableRecord.format.read line ≡ Some r
+    → touches g.R.TableRecord.format (seen_edits g.R.EditedRecord.becomes (drop l.edit-index l.edits)) r
+    ≡ touches g.R.TableRecord.format (seen_edits g.R.EditedRecord.becomes l.edits) r
