@@ -120,8 +120,19 @@ fn run_before(runs: &BTreeMap<u32, u32>, number: u32) -> Option<Run>
     })
 }
 
-// The first run that begins at a number or behind it.
+// The first run that begins at a number or behind it. There is mostly none, as IDs mostly come in
+// their order.
 fn run_from(runs: &BTreeMap<u32, u32>, number: u32) -> Option<Run>
+    ensures { MatchOption result (HasNoneFrom runs.now number) (HasFrom runs.now number) }
+{
+    match runs.last_key_value() {
+        Some((first, _)) if *first < number => None,
+        _ => run_behind(runs, number),
+    }
+}
+
+// The same, of all runs.
+fn run_behind(runs: &BTreeMap<u32, u32>, number: u32) -> Option<Run>
     ensures { MatchOption result (HasNoneFrom runs.now number) (HasFrom runs.now number) }
 {
     let (first, last) = runs.range(number..).next()?;
