@@ -2,17 +2,21 @@
 use Rattle.std.specs.List.{list_all}
 use Rattle.std.specs.Prelude.{map, ℕ, Bool, true, false, not, List, [], ◌∷◌, ◌++◌, codes, decimal, length, nat_le, Option, Some, None, option_map, unwrap_or, Result, Ok, Err, if◌then◌else◌}
 use Rattle.account_words.specs.declared.tool.Tool.{Tool}
+use Rattle.account_words.specs.declared.tool.Tool.TheVariants.{Batch}
 use Rattle.acct_text.specs.declared.Tab.{Tab}
 use Rattle.acct_text.specs.declared.Tab.TheVariants.{Passwd, Group}
 use Rattle.acct_text.specs.declared.files.Files.{Files}
 use Rattle.account_model.specs.declared.refusal.Refusal.{Refusal}
 use Rattle.account_formats.specs.Text.{first_some}
 use Rattle.acct_text.specs.Files.{table_of}
-use Rattle.account_words.specs.Settings.{settings_of, bad_line}
+use Rattle.account_words.specs.BatchLines.{line_requests}
+use Rattle.account_words.specs.Settings.{Setting, settings_of, bad_line}
 use Rattle.account_words.specs.Request.{Request}
+use Rattle.account_words.specs.Words.{is_batch}
 use Rattle.account_model.specs.Action.{Made, outcome_of}
 use Rattle.acct_text.specs.Tables.{table_name, all_tables}
-use Rattle.account_model.specs.Messages.{message, messages, refusal_text}
+use Rattle.account_model.specs.Batch.{LineRefusal, Written, batch, written_by}
+use Rattle.account_model.specs.Messages.{line_refusal_text, message, refusal_text}
 use Rattle.account_model.specs.Statuses.{file_status, refusal_status}
 use Rattle.account_model.specs.Change.{action_of}
 use Rattle.acct_text.specs.Limits.{table_limit}
@@ -34,6 +38,8 @@ pub data AnswerCause : Type 0 where
   Unusable : FileProblem → AnswerCause
   -- the tool refuses
   Refused : Refusal → AnswerCause
+  -- the tool of this line of a batch refuses, counted from 1
+  RefusedLine : ℕ → Refusal → AnswerCause
   -- all six tables stay as they are
   Same : AnswerCause
   -- they become these
@@ -114,37 +120,58 @@ refused tool refusal = record {
   error = message tool (refusal_text refusal);
 }
 
--- an answer with what a tool made
-abbrev pub succeeding : Tool → AnswerCause → Made → Answer
-succeeding tool cause made = record {
+-- an answer that says which line of a batch refuses, and why: the status is that of the line's tool
+abbrev pub refused_line : LineRefusal → Answer
+refused_line line = record {
+  cause = RefusedLine line.number line.refusal;
+  status = refusal_status line.tool line.refusal;
+  output = [];
+  error = message Batch (line_refusal_text line.number line.tool line.refusal);
+}
+
+-- an answer with what a command leaves
+abbrev pub succeeding : AnswerCause → Written → Answer
+succeeding cause written = record {
   cause = cause;
-  status = made.status;
-  output = made.output;
-  error = messages tool made.notices;
+  status = written.status;
+  output = written.output;
+  error = written.error;
 }
 
 -- Same where all six files stay, and else Changed
 abbrev pub cause_of : Files → Files → AnswerCause
 cause_of old new = if files_eq old new then Same else Changed new
 
--- the answer to what a tool made, of which a table may pass the limit
-abbrev pub answer_made : Tool → Files → Made → Answer
-answer_made tool files made = elim (new_problem made.files) [
+-- the answer to what a command leaves, of which a table may pass the limit
+abbrev pub answer_written : Tool → Files → Written → Answer
+answer_written tool files written = elim (new_problem written.files) [
   | Some problem ↦ unusable tool problem
-  | None ↦ succeeding tool (cause_of files made.files) made
+  | None ↦ succeeding (cause_of files written.files) written
 ]
 
 -- the answer to a tool's outcome
 abbrev pub answer_outcome : Tool → Files → Result Made Refusal → Answer
 answer_outcome tool files (Err refusal) = refused tool refusal
-answer_outcome tool files (Ok made) = answer_made tool files made
+answer_outcome tool files (Ok made) = answer_written tool files (written_by tool made)
 
--- The answer to a request: the first problem of the files, else the tool's refusal, else what it makes.
+-- the answer to what becomes of a batch
+abbrev pub answer_lines : Files → Result Written LineRefusal → Answer
+answer_lines files (Err line) = refused_line line
+answer_lines files (Ok written) = answer_written Batch files written
+
+-- the answer on files that can be used: of a batch by its lines, of any other tool by its action
+abbrev pub answer_under : Request → List ℕ → ℕ → Files → List Setting → Answer
+answer_under request input day files settings =
+    if is_batch request.tool
+    then answer_lines files (batch (line_requests input) day settings files)
+    else answer_outcome request.tool files
+    (outcome_of (action_of request input day files settings) files)
+
+-- The answer to a request: the first problem of the files, else the refusal, else what is made.
 abbrev pub answer : Request → List ℕ → ℕ → Files → Option (List ℕ) → Answer
 answer request input day files defs = elim (files_problem files defs) [
   | Some problem ↦ unusable request.tool problem
-  | None ↦ answer_outcome request.tool files
-      (outcome_of (action_of request input day files (settings_of (unwrap_or defs []))) files)
+  | None ↦ answer_under request input day files (settings_of (unwrap_or defs []))
 ]
 
 -- the new files of an answer that is a change

@@ -1,11 +1,12 @@
 -- What each tool does: one function over all of them.
-use Rattle.std.specs.Prelude.{ℕ, List}
+use Rattle.std.specs.Prelude.{ℕ, List, []}
 use Rattle.account_words.specs.declared.tool.Tool.{Tool}
-use Rattle.account_words.specs.declared.tool.Tool.TheVariants.{Useradd, Usermod, Userdel, Groupadd, Groupmod, Groupdel, Gpasswd, Chage, Chpasswd, Pwck, Grpck, Getsubids}
+use Rattle.account_words.specs.declared.tool.Tool.TheVariants.{Useradd, Usermod, Userdel, Groupadd, Groupmod, Groupdel, Gpasswd, Chage, Chpasswd, Pwck, Grpck, Getsubids, Batch}
 use Rattle.acct_text.specs.declared.files.Files.{Files}
 use Rattle.account_words.specs.Settings.{Setting}
 use Rattle.account_words.specs.Request.{Request}
-use Rattle.account_model.specs.Action.{Action}
+use Rattle.account_formats.specs.Tables.{no_edits}
+use Rattle.account_model.specs.Action.{Action, changes}
 use Rattle.account_model.specs.Useradd.{useradd}
 use Rattle.account_model.specs.Usermod.{usermod}
 use Rattle.account_model.specs.Userdel.{userdel}
@@ -19,7 +20,8 @@ use Rattle.account_model.specs.Pwck.{pwck}
 use Rattle.account_model.specs.Grpck.{grpck}
 use Rattle.account_model.specs.Getsubids.{getsubids}
 
--- what a tool does for a request with its input and the day, on these files under the settings of login.defs(5)
+-- what a tool does for a request with its input and the day, on these files under the settings of login.defs(5); a batch
+-- does nothing by itself, its lines do (specs/Batch)
 abbrev pub action_by : Tool → Request → List ℕ → ℕ → Files → List Setting → Action
 action_by Useradd request input day files settings = useradd request files settings day
 action_by Usermod request input day files settings = usermod request files day
@@ -33,6 +35,7 @@ action_by Chpasswd request input day files settings = chpasswd input files day
 action_by Pwck request input day files settings = pwck request files day
 action_by Grpck request input day files settings = grpck request files
 action_by Getsubids request input day files settings = getsubids request files
+action_by Batch request input day files settings = changes [] no_edits
 
 -- what the request's tool does
 abbrev pub action_of : Request → List ℕ → ℕ → Files → List Setting → Action

@@ -25,5 +25,6 @@ pub mod Groupdel
 pub mod Gpasswd
 pub mod Messages
 pub mod Change
+pub mod Batch
 pub mod Answer
 pub mod Laws

@@ -44,6 +44,15 @@ refusal_text (BadLine line problem) =
 refusal_text (NoRanges name) = codes "no ranges for " ++ name
 refusal_text (Multiple tab name) = table_name tab ++ codes " has multiple entries for " ++ name
 
+-- what is said of a line of a batch, by its number from 1
+abbrev pub line_text : ℕ → List ℕ → List ℕ
+line_text number text = codes "line " ++ decimal number ++ codes ": " ++ text
+
+-- why a batch refuses: the line, its tool, and why that refuses
+abbrev pub line_refusal_text : ℕ → Tool → Refusal → List ℕ
+line_refusal_text number tool refusal =
+    line_text number (tool_name tool ++ codes ": " ++ refusal_text refusal)
+
 -- ---- Lines
 
 -- who speaks: the tool, or the suite where no tool is known

@@ -1,12 +1,13 @@
 -- The statuses and the texts of faults of words. The texts are this profile's own.
 use Rattle.std.specs.Prelude.{ℕ, List, [], ◌++◌, codes, decimal, Option, Some, None, unwrap_or, slice_get}
 use Rattle.account_words.specs.declared.tool.Tool.{Tool}
-use Rattle.account_words.specs.declared.tool.Tool.TheVariants.{Pwck, Grpck, Getsubids}
+use Rattle.account_words.specs.declared.tool.Tool.TheVariants.{Pwck, Grpck, Getsubids, Batch}
 use Rattle.account_words.specs.declared.word_fault.WordFault.{WordFault}
 use Rattle.account_words.specs.declared.word_fault.WordFault.TheVariants.{WordLimit, NoTool, UnknownTool, UnknownOption, MissingValue, UnexpectedValue, TooMany, NoPrefix, TooFew, Clash, Memory}
 use Rattle.account_words.specs.Options.{Word}
 use Rattle.account_words.specs.Words.{tool_named}
-use Rattle.account_model.specs.Messages.{line_by}
+use Rattle.account_words.specs.BatchLines.{FaultyLine}
+use Rattle.account_model.specs.Messages.{line_by, line_text, message}
 use Rattle.account_model.specs.Statuses.{memory_status}
 
 -- the word at a place, from 0
@@ -54,3 +55,8 @@ word_fault_status words fault =
 -- the line on the error stream, of the suite where there is no tool
 abbrev pub word_fault_message : List Word → WordFault → List ℕ
 word_fault_message words fault = line_by (faulty_tool words fault) (word_fault_text words fault)
+
+-- the line on the error stream of a batch with this first line that asks for nothing
+abbrev pub line_fault_message : FaultyLine → List ℕ
+line_fault_message faulty =
+    message Batch (line_text faulty.line.number (word_fault_text faulty.line.words faulty.fault))

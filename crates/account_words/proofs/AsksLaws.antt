@@ -11,7 +11,7 @@ use Rattle.std.proofs.lemmas.Slice.Eq.{bytes_eq-Decides}
 use Rattle.account_words.specs.declared.words_of.WordsOf.{WordsOf}
 use Rattle.account_words.specs.declared.words_of.WordsOf.TheVariants.{Command, Line}
 use Rattle.account_words.specs.declared.tool.Tool.{Tool}
-use Rattle.account_words.specs.declared.tool.Tool.TheVariants.{Useradd, Usermod, Userdel, Groupadd, Groupmod, Groupdel, Gpasswd, Chage, Chpasswd, Pwck, Grpck, Getsubids}
+use Rattle.account_words.specs.declared.tool.Tool.TheVariants.{Useradd, Usermod, Userdel, Groupadd, Groupmod, Groupdel, Gpasswd, Chage, Chpasswd, Pwck, Grpck, Getsubids, Batch}
 use Rattle.account_words.specs.declared.word_fault.WordFault.{WordFault}
 use Rattle.account_words.specs.declared.word_fault.WordFault.TheVariants.{TooFew}
 use Rattle.account_words.specs.declared.given.Given.{Given}
@@ -39,6 +39,7 @@ is_table Chpasswd = record { letters = refl; names = refl }
 is_table Pwck = record { letters = refl; names = refl }
 is_table Grpck = record { letters = refl; names = refl }
 is_table Getsubids = record { letters = refl; names = refl }
+is_table Batch = record { letters = refl; names = refl }
 
 -- a table without its first option is one too
 pub table-behind :
@@ -77,6 +78,7 @@ tool_of_its_name Chpasswd = refl
 tool_of_its_name Pwck = refl
 tool_of_its_name Grpck = refl
 tool_of_its_name Getsubids = refl
+tool_of_its_name Batch = refl
 
 -- what is found passes the test
 pub found_passes :

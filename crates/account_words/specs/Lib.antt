@@ -10,3 +10,4 @@ pub mod Ids
 pub mod FreeRange
 pub mod Request
 pub mod Laws
+pub mod BatchLines

@@ -8,7 +8,7 @@ use Rattle.account_words.specs.declared.given.Given.{Given}
 use Rattle.account_words.specs.declared.words_of.WordsOf.{WordsOf}
 use Rattle.account_words.specs.declared.words_of.WordsOf.TheVariants.{Command, Line}
 use Rattle.account_words.specs.declared.tool.Tool.{Tool}
-use Rattle.account_words.specs.declared.tool.Tool.TheVariants.{Useradd, Usermod, Userdel, Groupadd, Groupmod, Groupdel, Gpasswd, Chage, Chpasswd, Pwck, Grpck, Getsubids}
+use Rattle.account_words.specs.declared.tool.Tool.TheVariants.{Useradd, Usermod, Userdel, Groupadd, Groupmod, Groupdel, Gpasswd, Chage, Chpasswd, Pwck, Grpck, Getsubids, Batch}
 use Rattle.acct_text.specs.Bytes.{Bytes}
 
 -- a word of the command line, as bytes
@@ -117,6 +117,7 @@ own_options Chpasswd = flag "e" "encrypted" ∷ []
 own_options Pwck = flag "q" "quiet" ∷ flag "r" "read-only" ∷ flag "s" "sort" ∷ []
 own_options Grpck = flag "r" "read-only" ∷ flag "s" "sort" ∷ []
 own_options Getsubids = short_flag "g" ∷ []
+own_options Batch = []
 
 -- the letter of `-P`, the folder whose `etc` is worked on (useradd(8), `--prefix`)
 abbrev pub prefix_letter : ℕ
@@ -136,6 +137,7 @@ abbrev pub operands_of : Tool → ℕ
 operands_of Chpasswd = 0
 operands_of Pwck = 0
 operands_of Grpck = 0
+operands_of Batch = 0
 operands_of tool = 1
 
 -- ---- The options that are given
@@ -210,3 +212,4 @@ rules_of Chpasswd = some_of (codes "e") ∷ []
 rules_of Pwck = some_of (codes "rs") ∷ not_both (byte "r") (byte "s") ∷ []
 rules_of Grpck = some_of (codes "rs") ∷ not_both (byte "r") (byte "s") ∷ []
 rules_of Getsubids = []
+rules_of Batch = []

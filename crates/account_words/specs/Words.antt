@@ -5,7 +5,7 @@ use Rattle.std.specs.List.{enumerate_from}
 use Rattle.account_words.specs.declared.words_of.WordsOf.{WordsOf}
 use Rattle.account_words.specs.declared.words_of.WordsOf.TheVariants.{Command, Line}
 use Rattle.account_words.specs.declared.tool.Tool.{Tool}
-use Rattle.account_words.specs.declared.tool.Tool.TheVariants.{Useradd, Usermod, Userdel, Groupadd, Groupmod, Groupdel, Gpasswd, Chage, Chpasswd, Pwck, Grpck, Getsubids}
+use Rattle.account_words.specs.declared.tool.Tool.TheVariants.{Useradd, Usermod, Userdel, Groupadd, Groupmod, Groupdel, Gpasswd, Chage, Chpasswd, Pwck, Grpck, Getsubids, Batch}
 use Rattle.account_words.specs.declared.word_fault.WordFault.{WordFault}
 use Rattle.account_words.specs.declared.word_fault.WordFault.TheVariants.{WordLimit, NoTool, UnknownTool, NoPrefix, TooFew, Clash}
 use Rattle.account_words.specs.Options.{Word, prefix_letter, options_for, operands_of, rules_of}
@@ -27,11 +27,12 @@ tool_name Chpasswd = codes "chpasswd"
 tool_name Pwck = codes "pwck"
 tool_name Grpck = codes "grpck"
 tool_name Getsubids = codes "getsubids"
+tool_name Batch = codes "batch"
 
 -- the tools, in the order of the enum
 abbrev pub tools : List Tool
 tools = Useradd ∷ Usermod ∷ Userdel ∷ Groupadd ∷ Groupmod ∷ Groupdel ∷ Gpasswd
-    ∷ Chage ∷ Chpasswd ∷ Pwck ∷ Grpck ∷ Getsubids ∷ []
+    ∷ Chage ∷ Chpasswd ∷ Pwck ∷ Grpck ∷ Getsubids ∷ Batch ∷ []
 
 -- the tool that a word names
 abbrev pub tool_named : Word → Option Tool
@@ -43,7 +44,13 @@ is_for_lines Chpasswd = false
 is_for_lines Pwck = false
 is_for_lines Grpck = false
 is_for_lines Getsubids = false
+is_for_lines Batch = false
 is_for_lines tool = true
+
+-- whether the tool carries out the lines of its input
+abbrev pub is_batch : Tool → Bool
+is_batch Batch = true
+is_batch tool = false
 
 -- whether such words may name the tool
 abbrev pub may_name : WordsOf → Tool → Bool

@@ -29,11 +29,13 @@ pub enum Tool {
     Grpck,
     /// Lists the subordinate ranges of a user (getsubids(1)).
     Getsubids,
+    /// Carries out the commands that its input lists, as one.
+    Batch,
 }
 
 impl Tool {
     /// The tools in the order of the enum.
-    pub fn all() -> [Tool; 12]
+    pub fn all() -> [Tool; 13]
         ensures { result ≡ tools }
     {
         [
@@ -49,6 +51,7 @@ impl Tool {
             Tool::Pwck,
             Tool::Grpck,
             Tool::Getsubids,
+            Tool::Batch,
         ]
     }
 
@@ -69,6 +72,7 @@ impl Tool {
             Tool::Pwck => "pwck",
             Tool::Grpck => "grpck",
             Tool::Getsubids => "getsubids",
+            Tool::Batch => "batch",
         }
     }
 
