@@ -4,7 +4,7 @@ use Rattle.std.proofs.Common.{◌≡◌, ℕ, ◌≤◌, Bool, true, false, List
 use Rattle.std.specs.Prelude.{None, codes, if◌then◌else◌}
 use Rattle.acct_text.specs.declared.files.Files.{Files}
 use Rattle.account_words.specs.declared.tool.Tool.{Tool}
-use Rattle.account_words.specs.declared.tool.Tool.TheVariants.{Useradd, Usermod, Userdel, Groupadd, Groupmod, Groupdel, Gpasswd, Chage, Chpasswd, Pwck, Grpck, Getsubids}
+use Rattle.account_words.specs.declared.tool.Tool.TheVariants.{Useradd, Usermod, Userdel, Groupadd, Groupmod, Groupdel, Gpasswd, Chage, Chpasswd, Pwck, Grpck, Getsubids, Batch}
 use Rattle.account_formats.specs.Text.{first_some}
 use Rattle.account_formats.specs.Records.{greatest_days}
 use Rattle.account_words.specs.Request.{Request, has_option}
@@ -80,6 +80,7 @@ tool-written Pwck request input day files settings small none =
 tool-written Grpck request input day files settings small none =
     grpck-by files (has_option (codes "s") request)
 tool-written Getsubids request input day files settings small none = none-written
+tool-written Batch request input day files settings small none = none-written
 
 -- a tool that doesn't refuse prints only records that read back
 pub tools-written :

@@ -9,7 +9,7 @@ use Rattle.std.specs.List.{AllByRecursion}
 use Rattle.std.proofs.lemmas.Bool.{cases_Bool, eqb-true}
 use Rattle.account_words.specs.declared.given.Given.{Given}
 use Rattle.account_words.specs.declared.tool.Tool.{Tool}
-use Rattle.account_words.specs.declared.tool.Tool.TheVariants.{Useradd, Usermod, Userdel, Groupadd, Groupmod, Groupdel, Gpasswd, Chage, Chpasswd, Pwck, Grpck, Getsubids}
+use Rattle.account_words.specs.declared.tool.Tool.TheVariants.{Useradd, Usermod, Userdel, Groupadd, Groupmod, Groupdel, Gpasswd, Chage, Chpasswd, Pwck, Grpck, Getsubids, Batch}
 use Rattle.account_words.specs.Options.{Word, OptionForm, prefix_letter, option_forms, own_options, operands_of}
 use Rattle.account_words.specs.Request.{Request, has_option, value_of, last_value, operand as operand_of}
 use Rattle.account_words.specs.Spelling.{form_of_letter, HasLetter, HasName, Spelled, nothing, end_of_options, operand, letter_flag, letter_bundle, letter_with_value, letter_then_value, name_flag, name_with_value, name_then_value}
@@ -98,6 +98,7 @@ letters-apart Chpasswd = (refl, (refl, tt))
 letters-apart Pwck = (refl, (refl, (refl, (refl, tt))))
 letters-apart Grpck = (refl, (refl, (refl, tt)))
 letters-apart Getsubids = (refl, (refl, tt))
+letters-apart Batch = (refl, tt)
 
 -- what holds of all holds of the one that is found
 holds-found :

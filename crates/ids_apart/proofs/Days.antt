@@ -6,7 +6,7 @@ use Rattle.std.specs.Prelude.{Option, Some, None, codes, map, if◌then◌else�
 use Rattle.acct_text.specs.declared.files.Files.{Files}
 use Rattle.acct_text.specs.Lines.{Line, lines_of}
 use Rattle.account_words.specs.declared.tool.Tool.{Tool}
-use Rattle.account_words.specs.declared.tool.Tool.TheVariants.{Useradd, Usermod, Userdel, Groupadd, Groupmod, Groupdel, Gpasswd, Chage, Chpasswd, Pwck, Grpck, Getsubids}
+use Rattle.account_words.specs.declared.tool.Tool.TheVariants.{Useradd, Usermod, Userdel, Groupadd, Groupmod, Groupdel, Gpasswd, Chage, Chpasswd, Pwck, Grpck, Getsubids, Batch}
 use Rattle.account_formats.specs.Text.{first_some}
 use Rattle.account_words.specs.Request.{Request, has_option}
 use Rattle.account_words.specs.Settings.{Setting}
@@ -88,6 +88,7 @@ alike Pwck request input day files settings =
     pwck-alike request files day (has_option (codes "s") request)
 alike Grpck request input day files settings = refl
 alike Getsubids request input day files settings = refl
+alike Batch request input day files settings = refl
 
 -- pwck refuses nothing
 pwck-passes :
@@ -117,6 +118,7 @@ passes-alike Pwck request input day files settings none =
     pwck-passes request files 0 (has_option (codes "s") request)
 passes-alike Grpck request input day files settings none = none
 passes-alike Getsubids request input day files settings none = none
+passes-alike Batch request input day files settings none = none
 
 -- the claim
 pub written-always :

@@ -4,7 +4,7 @@ use Rattle.std.proofs.Common.{◌≡◌, ℕ, false, List}
 use Rattle.std.specs.Prelude.{None, codes}
 use Rattle.acct_text.specs.declared.files.Files.{Files}
 use Rattle.account_words.specs.declared.tool.Tool.{Tool}
-use Rattle.account_words.specs.declared.tool.Tool.TheVariants.{Useradd, Usermod, Userdel, Groupadd, Groupmod, Groupdel, Gpasswd, Chage, Chpasswd, Pwck, Grpck, Getsubids}
+use Rattle.account_words.specs.declared.tool.Tool.TheVariants.{Useradd, Usermod, Userdel, Groupadd, Groupmod, Groupdel, Gpasswd, Chage, Chpasswd, Pwck, Grpck, Getsubids, Batch}
 use Rattle.account_formats.specs.Text.{first_some}
 use Rattle.account_words.specs.Request.{Request, has_option}
 use Rattle.account_words.specs.Settings.{Setting}
@@ -50,6 +50,8 @@ tool-ranges Grpck request input day files settings none written =
     gentle-ranges files _ (grpck-gentle request files)
 tool-ranges Getsubids request input day files settings none written =
     gentle-ranges files no_edits none-gentle
+tool-ranges Batch request input day files settings none written =
+    gentle-ranges files no_edits none-gentle
 
 -- UIDs and GIDs stay distinct
 pub tool-ids :
@@ -82,4 +84,6 @@ tool-ids Pwck request input day files settings shares none multiple =
 tool-ids Grpck request input day files settings shares none multiple =
     gentle-ids files _ (grpck-gentle request files)
 tool-ids Getsubids request input day files settings shares none multiple =
+    gentle-ids files no_edits none-gentle
+tool-ids Batch request input day files settings shares none multiple =
     gentle-ids files no_edits none-gentle

@@ -3,13 +3,14 @@
 -- `by-report`, `by-itself`). Way: the tool of the request is this one. The tools with a script, but
 -- for userdel and chage, print nothing beside their edits (`silent-useradd` and its like).
 use Rattle.std.proofs.Common.{◌≡◌, ◌≤◌, ℕ, List, inl, inr, refl, sym, subst, arith}
-use Rattle.std.specs.Prelude.{Result, IfOk}
+use Rattle.std.specs.Prelude.{Result, IfOk, Ok}
 use Rattle.std.proofs.lemmas.Bool.{cases_Bool}
 use Rattle.std.proofs.lemmas.Result.{IfOk-weaker}
 use Rattle.acct_text.specs.declared.files.Files.{Files}
 use Rattle.acct_text.specs.Limits.{last_day}
 use Rattle.account_words.specs.declared.tool.Tool.{Tool}
-use Rattle.account_words.specs.declared.tool.Tool.TheVariants.{Useradd, Usermod, Groupadd, Groupmod, Groupdel, Gpasswd, Chpasswd}
+use Rattle.account_words.specs.declared.tool.Tool.TheVariants.{Useradd, Usermod, Groupadd, Groupmod, Groupdel, Gpasswd, Chpasswd, Batch}
+use Rattle.account_formats.specs.Tables.{no_edits}
 use Rattle.account_model.specs.Action.{Action, outcome_of}
 use Rattle.account_model.specs.Change.{action_by}
 use Rattle.account_model.specs.Groupadd.{is_content}
@@ -21,6 +22,7 @@ use Rattle.tool_answers.specs.declared.tool_fault.ToolFault.{ToolFault}
 use Rattle.login_defs.specs.declared.defs.Defs.{Defs}
 use Rattle.login_defs.specs.Held.{HasSettings, IsHeld}
 use Rattle.table_edits.specs.Acting.{ActsBy, IsOfTool}
+use Rattle.table_edits.specs.SeenScript.{seen_script}
 use Rattle.table_edits.specs.declared.script.Script.{Script}
 use Rattle.suite_tools.specs.Decided.{Asking, DecidesUnder, IsSilent}
 
@@ -129,3 +131,13 @@ module _ (asking : Asking) (day : ℕ) (files : Files) (defs : Defs) where
 
   pub silent-chpasswd : (settings : List Setting) → IsSilent (action_as Chpasswd settings)
   silent-chpasswd settings = record { status = refl; output = refl; notices = refl }
+
+  pub silent-batch : (settings : List Setting) → IsSilent (action_as Batch settings)
+  silent-batch settings = record { status = refl; output = refl; notices = refl }
+
+  -- a batch has no edits of its own
+  pub batch-acts :
+      (script : Script)
+      → seen_script script ≡ no_edits
+      → ActsAs Batch (Ok script)
+  batch-acts script without settings held = record { unrefused = refl; edits = without }

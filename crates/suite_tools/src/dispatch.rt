@@ -85,6 +85,8 @@ fn decide_on(
         Tool::Pwck => pwck(alloc, asked, tables.files(), day),
         Tool::Grpck => grpck(alloc, asked, tables.files(), day),
         Tool::Getsubids => getsubids(alloc, asked, tables.files()),
+        // A batch does nothing by itself: its lines are decided one by one, above this crate.
+        Tool::Batch => edits(alloc, tool, tables, Ok(Script::new(alloc))),
     }
 }
 

@@ -1,5 +1,5 @@
-//! The twelve tools behind one call: what a command decides on the tables, by its request, the
-//! settings of login.defs(5) and the day.
+//! The tools behind one call: what a command decides on the tables, by its request, the settings of
+//! login.defs(5) and the day. A batch, whose lines are commands of their own, is decided above.
 //!
 //! `ToolRequest` is what was asked for, and `decide` answers it: its match over `Tool` is the one place
 //! where a tool is picked. A tool is a function of a crate below, from request, tables, settings and

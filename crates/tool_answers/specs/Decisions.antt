@@ -6,13 +6,15 @@ use Rattle.acct_text.specs.declared.new_tables.NewTable.{NewTable}
 use Rattle.acct_text.specs.ChangedTables.{changed_tables}
 use Rattle.acct_text.specs.Files.{table_of}
 use Rattle.account_words.specs.declared.tool.Tool.{Tool}
+use Rattle.account_words.specs.declared.tool.Tool.TheVariants.{Batch}
 use Rattle.account_model.specs.declared.refusal.Refusal.{Refusal}
 use Rattle.account_model.specs.Action.{Made}
-use Rattle.account_model.specs.Messages.{message, messages, refusal_text}
+use Rattle.account_model.specs.Batch.{LineRefusal, Written}
+use Rattle.account_model.specs.Messages.{line_refusal_text, message, messages, refusal_text}
 use Rattle.account_model.specs.Statuses.{refusal_status}
 use Rattle.tool_answers.specs.declared.decision.Output.{Output}
 use Rattle.tool_answers.specs.declared.decision.Decision.{Decision}
-use Rattle.tool_answers.specs.declared.decision.Decision.TheVariants.{Change, Same, Refuse}
+use Rattle.tool_answers.specs.declared.decision.Decision.TheVariants.{Change, Same, Refuse, RefuseLine}
 
 -- what a tool that refuses prints: one line on the error stream
 abbrev pub refusal_output : Tool → Refusal → Output
@@ -48,3 +50,33 @@ decision_of tool files (Ok made) = made_decision tool files made
 -- the command decides as the outcome of its tool says
 abbrev pub Decides : Tool → Files → Result Made Refusal → Decision → Type 0
 Decides tool files outcome decision = decision ≡ decision_of tool files outcome
+
+-- ---- Batches
+
+-- what a batch prints in which a line refuses: one line on the error stream, with the status of the
+-- line's tool
+abbrev pub line_refusal_output : LineRefusal → Output
+line_refusal_output line = record {
+  status = refusal_status line.tool line.refusal;
+  out = [];
+  err = message Batch (line_refusal_text line.number line.tool line.refusal);
+}
+
+-- what a batch prints whose lines are all carried out
+abbrev pub written_output : Written → Output
+written_output written = record {
+  status = written.status;
+  out = written.output;
+  err = written.error;
+}
+
+-- the decision of a batch by what becomes of its lines: one refuses, or all are carried out
+abbrev pub decision_of_lines : Files → Result Written LineRefusal → Decision
+decision_of_lines files (Err line) =
+    RefuseLine line.number line.refusal (line_refusal_output line)
+decision_of_lines files (Ok written) =
+    decision_by (changed_tables (table_of files) (table_of written.files)) (written_output written)
+
+-- the batch decides as its lines say
+abbrev pub LinesDecide : Files → Result Written LineRefusal → Decision → Type 0
+LinesDecide files outcome decision = decision ≡ decision_of_lines files outcome

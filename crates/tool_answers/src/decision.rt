@@ -1,8 +1,8 @@
 // What a command decides on given files.
 ghost use Rattle.std.specs.Prelude.{◌≡◌, IfOk};
-ghost use Rattle.tool_answers.specs.Decisions.{decision_by, refusal_output};
+ghost use Rattle.tool_answers.specs.Decisions.{decision_by, line_refusal_output, refusal_output};
 
-use crate::{push_line, refusal_status, refusal_text};
+use crate::{line_refusal_message, push_line, refusal_status, refusal_text};
 use account_model::Refusal;
 use account_words::Tool;
 use acct_text::{Bytes, NewTables};
@@ -28,6 +28,9 @@ pub enum Decision {
     Same(Output),
     /// The command can't be done, for this cause. All tables stay as they are.
     Refuse(Refusal, Output),
+    /// The command of this line of a batch can't be done, for this cause; lines count from 1. All
+    /// tables stay as they are, and so does what the lines before it would have changed.
+    RefuseLine(u32, Refusal, Output),
 }
 
 /// The decision by the tables that differ: all stay where none does.
@@ -56,4 +59,23 @@ pub fn refuse(alloc: Global, tool: Tool, refusal: Refusal) -> Result<Decision, A
         err,
     };
     Ok(Decision::Refuse(refusal, output))
+}
+
+/// The decision of a batch in which the tool of this line refuses, counted from 1: all tables stay,
+/// and one line on the error stream tells which line refuses and why, with the status of its tool.
+pub fn refuse_line(
+    alloc: Global,
+    number: u32,
+    tool: Tool,
+    refusal: Refusal,
+) -> Result<Decision, AllocError>
+    ensures { IfOk result (λ decision. decision ≡ Decision.RefuseLine number refusal
+        (line_refusal_output (record { number = number; tool = tool; refusal = refusal }))) }
+{
+    let output = Output {
+        status: refusal_status(tool, &refusal),
+        out: Bytes::new(alloc),
+        err: line_refusal_message(alloc, number, tool, &refusal)?,
+    };
+    Ok(Decision::RefuseLine(number, refusal, output))
 }

@@ -6,6 +6,7 @@
 #![tactic(auto)]
 
 mod decision;
+mod line_text;
 mod message;
 mod refusal;
 mod status;
@@ -14,9 +15,11 @@ mod word_fault;
 
 pub use account_model::{LineProblem, Refusal};
 pub use account_words::{Tool, WordFault};
-pub use decision::{Decision, Output, decision_by, refuse};
+pub use decision::{Decision, Output, decision_by, refuse, refuse_line};
+pub use line_text::{line_fault_message, line_refusal_message};
 pub use message::{messages, push_line, speaker};
 pub use refusal::refusal_text;
 pub use status::{MEMORY_STATUS, file_status, lock_status, refusal_status, update_status};
 pub use tool_fault::ToolFault;
-pub use word_fault::{faulty_tool, word_fault_message, word_fault_status};
+use word_fault::word_fault_text;
+pub use word_fault::{faulty_tool, syntax_status, word_fault_message, word_fault_status};

@@ -63,8 +63,8 @@ fn named(words: &[Word]) -> Option<Tool>
     Tool::named(word_at(words, 0))
 }
 
-/// The status of a usage error.
-fn syntax_status(tool: Tool) -> u8
+/// The status of a usage error, of the tool's own words or of a line of its input.
+pub fn syntax_status(tool: Tool) -> u8
     ensures { result ≡ syntax_status tool }
 {
     match tool {
@@ -84,7 +84,11 @@ fn word_at(words: &[Word], place: usize) -> &[u8]
 }
 
 /// What is said of the fault.
-fn word_fault_text(alloc: Global, words: &[Word], fault: WordFault) -> Result<Bytes, AllocError>
+pub(crate) fn word_fault_text(
+    alloc: Global,
+    words: &[Word],
+    fault: WordFault,
+) -> Result<Bytes, AllocError>
     ensures { IfOk result (λ text. text ≡ word_fault_text words.now fault) }
 {
     match fault {

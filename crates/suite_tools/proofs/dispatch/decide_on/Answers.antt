@@ -1,13 +1,14 @@
 -- Each arm by what its tool gives: a script (`by-script`), a report (`by-report`), or a decision
 -- (`by-itself`).
 use Rattle.std.proofs.Common.{◌≡◌, refl, ◌∙◌}
+use Rattle.std.specs.Prelude.{Ok}
 use Rattle.std.proofs.lemmas.Result.{IfOk-weaker}
-use Rattle.account_words.specs.declared.tool.Tool.TheVariants.{Useradd, Usermod, Userdel, Groupadd, Groupmod, Groupdel, Gpasswd, Chage, Chpasswd, Pwck, Grpck, Getsubids}
+use Rattle.account_words.specs.declared.tool.Tool.TheVariants.{Useradd, Usermod, Userdel, Groupadd, Groupmod, Groupdel, Gpasswd, Chage, Chpasswd, Pwck, Grpck, Getsubids, Batch}
 use Rattle.account_model.specs.Getsubids.{getsubids}
 use Rattle.account_model.specs.Grpck.{grpck}
 use Rattle.account_model.specs.Pwck.{pwck}
 use Rattle.suite_tools.specs.Decided.{asking_with}
-use Rattle.suite_tools.proofs.DispatchLemmas.{by-itself, by-report, by-script, is-of-tool, silent-chpasswd, silent-gpasswd, silent-groupadd, silent-groupdel, silent-groupmod, silent-useradd, silent-usermod}
+use Rattle.suite_tools.proofs.DispatchLemmas.{batch-acts, by-itself, by-report, by-script, is-of-tool, silent-batch, silent-chpasswd, silent-gpasswd, silent-groupadd, silent-groupdel, silent-groupmod, silent-useradd, silent-usermod}
 use Rattle.suite_tools.proofs.dispatch.decide_on.Goals as goal
 
 pub edits-requires : goal.edits-requires
@@ -170,3 +171,24 @@ returns-in-Getsubids c =
     (λ files. getsubids c.args.asked.now files) c.files-in-Getsubids.result.now c.getsubids.result is
     (λ settings. refl) c.files-in-Getsubids.ensures
     (IfOk-weaker c.getsubids.result _ _ (λ decision decides. decides) c.getsubids.ensures)
+
+pub edits-requires-in-Batch : goal.edits-requires-in-Batch
+edits-requires-in-Batch c =
+    let is : c.args.asked.now.tool ≡ Batch = cc in
+    let asking = asking_with c.args.asked.now c.args.input.now in
+    is-of-tool asking c.args.day c.args.tables.now c.args.defs.now Batch
+    (Ok c.new-script.result) is c.requires.in_time c.requires.held
+    (batch-acts asking c.args.day c.args.tables.now c.args.defs.now c.new-script.result
+    c.new-script.ensures)
+
+pub returns-in-Batch : goal.returns-in-Batch
+returns-in-Batch c =
+    let is : c.args.asked.now.tool ≡ Batch = cc in
+    let asking = asking_with c.args.asked.now c.args.input.now in
+    by-script asking c.args.day c.args.tables.now c.args.defs.now Batch
+    c.tool-tool.result (Ok c.new-script.result) c.edits-in-Batch.result is
+    (c.tool-tool.ensures ∙ is)
+    (batch-acts asking c.args.day c.args.tables.now c.args.defs.now c.new-script.result
+    c.new-script.ensures)
+    (silent-batch asking c.args.day c.args.tables.now c.args.defs.now)
+    c.edits-in-Batch.ensures
