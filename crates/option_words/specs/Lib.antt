@@ -4,3 +4,4 @@ pub mod Meanings
 pub mod Parsed
 pub mod Reading
 pub mod Splitting
+pub mod Batch

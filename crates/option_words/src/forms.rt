@@ -129,6 +129,7 @@ fn command_forms(tool: Tool) -> &'static [OptionForm]
         Tool::Pwck => PWCK,
         Tool::Grpck => GRPCK,
         Tool::Getsubids => &[PREFIX, ShortFlag(b'g')],
+        Tool::Batch => &[PREFIX],
     }
 }
 
@@ -174,7 +175,7 @@ pub(crate) fn operands_of(tool: Tool) -> usize
     ensures { result ≡ number_of_operands tool }
 {
     match tool {
-        Tool::Chpasswd | Tool::Pwck | Tool::Grpck => 0,
+        Tool::Chpasswd | Tool::Pwck | Tool::Grpck | Tool::Batch => 0,
         _ => 1,
     }
 }

@@ -4,9 +4,11 @@
 //! `read_words` keeps the limits of words, finds the tool and reads the other words from left to
 //! right (`reading`), each by what it is (`meaning`) and by the tool's table of options (`forms`).
 //! Then it tests the prefix, the number of operands and the tool's rules (`rules`).
-//! `read_line_words` does the same for the words that `split_line` cuts from a line (`splitting`).
+//! `read_line_words` does the same for the words that `split_line` cuts from a line (`splitting`), and
+//! `BatchLines` gives what the lines of a batch ask for, one after another (`batch`).
 #![tactic(auto)]
 
+mod batch;
 mod forms;
 mod meaning;
 mod parsed;
@@ -17,6 +19,7 @@ mod splitting;
 mod words;
 
 pub use account_words::{Given, Tool, WordFault};
+pub use batch::{BatchLine, BatchLines, FaultyLine, LineRequest, first_faulty};
 pub use parsed::{Options, Parsed};
 pub use splitting::split_line;
 pub use words::{read_line_words, read_words};

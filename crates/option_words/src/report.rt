@@ -22,7 +22,8 @@ impl Parsed {
             | Tool::Groupmod
             | Tool::Groupdel
             | Tool::Gpasswd
-            | Tool::Chpasswd => false,
+            | Tool::Chpasswd
+            | Tool::Batch => false,
         }
     }
 }

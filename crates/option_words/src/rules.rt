@@ -41,7 +41,7 @@ fn rules_of(tool: Tool) -> &'static [Rule]
             OneOf(b"LUp"),
             SomeOption,
         ],
-        Tool::Userdel | Tool::Groupdel | Tool::Getsubids => &[],
+        Tool::Userdel | Tool::Groupdel | Tool::Getsubids | Tool::Batch => &[],
         Tool::Groupadd => &[OnlyWith(b'o', b'g')],
         Tool::Groupmod => &[OnlyWith(b'o', b'g'), SomeOf(b"gnp")],
         Tool::Gpasswd => &[SomeOption, Alone(b"adrR")],

@@ -29,7 +29,7 @@ pub fn read_words(alloc: Global, words: &[Word]) -> Result<Parsed, WordFault>
 
 /// What the words of a line of a batch ask for, in the folder of the batch: the prefix is empty, and
 /// `-P` and `--prefix` are unknown options. Word 0 names a tool that changes tables: chpasswd, pwck,
-/// grpck and getsubids are unknown.
+/// grpck, getsubids and batch are unknown.
 ///
 /// A fault of the words is the first of them, in the same order as `read_words` has it, and `Memory`
 /// comes for want of memory alone. The time is linear in the bytes of the words.
@@ -77,7 +77,7 @@ fn may_name(whose: WordsOf, tool: Tool) -> bool
         WordsOf::Command => true,
         WordsOf::Line => !matches!(
             tool,
-            Tool::Chpasswd | Tool::Pwck | Tool::Grpck | Tool::Getsubids
+            Tool::Chpasswd | Tool::Pwck | Tool::Grpck | Tool::Getsubids | Tool::Batch
         ),
     }
 }
