@@ -1,24 +1,28 @@
 -- Claim: an answer that is a change has status 0 (`changes-succeed`). Way: what a tool does has
--- status 0, or edits nothing (`is-plain`); without edits all files stay, which is no change.
+-- status 0, or edits nothing (`is-plain`); without edits all files stay, which is no change. What the
+-- lines of a batch write has status 0 (`batch-zero`).
 use Rattle.std.proofs.Common.{◌≡◌, ◌⊎◌, inl, inr, refl, sym, ap, ◌∙◌, ℕ, Bool, true, false, List, []}
-use Rattle.std.specs.Prelude.{codes, Option, Some, None, unwrap_or, if◌then◌else◌, Ok, Err}
+use Rattle.std.specs.Prelude.{◌∷◌, ⊤, codes, Option, Some, None, unwrap_or, if◌then◌else◌, Ok, Err}
 use Rattle.std.proofs.lemmas.Bool.{true≢false}
 use Rattle.std.proofs.lemmas.Slice.Eq.{bytes_eq-Decides}
 use Rattle.acct_text.specs.Bytes.{Bytes}
 use Rattle.acct_text.specs.Contents.{same_content}
 use Rattle.acct_text.specs.declared.files.Files.{Files}
 use Rattle.account_words.specs.declared.tool.Tool.{Tool}
-use Rattle.account_words.specs.declared.tool.Tool.TheVariants.{Useradd, Usermod, Userdel, Groupadd, Groupmod, Groupdel, Gpasswd, Chage, Chpasswd, Pwck, Grpck, Getsubids}
+use Rattle.account_words.specs.declared.tool.Tool.TheVariants.{Useradd, Usermod, Userdel, Groupadd, Groupmod, Groupdel, Gpasswd, Chage, Chpasswd, Pwck, Grpck, Getsubids, Batch}
 use Rattle.account_model.specs.declared.refusal.Refusal.{Refusal}
 use Rattle.account_formats.specs.Text.{first_some}
 use Rattle.account_words.specs.Settings.{Setting, settings_of}
+use Rattle.account_words.specs.BatchLines.{LineRequest, line_requests}
 use Rattle.account_words.specs.Request.{Request, has_option}
+use Rattle.account_words.specs.Words.{is_batch}
 use Rattle.account_formats.specs.Tables.{Script, no_edits, files_after}
-use Rattle.account_model.specs.Action.{Action, changes, made_by, outcome_of, multiple_entries}
+use Rattle.account_model.specs.Action.{Action, Made, changes, made_by, outcome_of, multiple_entries}
+use Rattle.account_model.specs.Batch.{LineRefusal, Written, batch, before_others, with_rest, written_by}
 use Rattle.account_model.specs.Pwck.{pwck_sort, pwck_report}
 use Rattle.account_model.specs.Grpck.{grpck_sort, grpck_report}
 use Rattle.account_model.specs.Change.{action_by, action_of}
-use Rattle.account_model.specs.Answer.{Answer, FileProblem, Same, Changed, new_problem, files_problem, files_eq, answer_outcome, succeeding, unusable}
+use Rattle.account_model.specs.Answer.{Answer, FileProblem, Same, Changed, new_problem, files_problem, files_eq, answer_lines, answer_outcome, answer_under, succeeding, unusable}
 use Rattle.account_formats.proofs.NoEdits.{files-stay}
 use Rattle.suite_answers.specs.Changes.{ChangesSucceed}
 
@@ -51,6 +55,7 @@ is-plain Pwck request input day files settings = by-choice (has_option (codes "s
 is-plain Grpck request input day files settings = by-choice (has_option (codes "s") request)
     (changes [] (grpck_sort files)) (grpck_report files) (inl refl) (inr refl)
 is-plain Getsubids request input day files settings = inl refl
+is-plain Batch request input day files settings = inl refl
 
 -- ---- Files that stay
 
@@ -74,8 +79,8 @@ made-succeeds : (tool : Tool) (action : Action) (old : Files) (problem : Option 
     (same : Bool) → IsPlain action → files_eq old (files_after action.script old) ≡ same →
     Succeeds (elim problem as (λ one. Answer) [
       | Some one ↦ unusable tool one
-      | None ↦ succeeding tool (if same then Same else Changed (files_after action.script old))
-          (made_by action old)
+      | None ↦ succeeding (if same then Same else Changed (files_after action.script old))
+          (written_by tool (made_by action old))
     ])
 made-succeeds tool action old (Some problem) same plain is new changed = absurd (cc)
 made-succeeds tool action old None true plain is new changed = absurd (cc)
@@ -98,20 +103,81 @@ outcome-succeeds tool action old None None plain new changed =
     made-succeeds tool action old (new_problem (files_after action.script old))
     (files_eq old (files_after action.script old)) plain refl new changed
 
--- an answer, by the problem of the files
-answer-succeeds : (tool : Tool) (action : Action) (old : Files) (problem : Option FileProblem) →
-    IsPlain action → Succeeds (elim problem as (λ one. Answer) [
-      | Some one ↦ unusable tool one
-      | None ↦ answer_outcome tool old (outcome_of action old)
+-- ---- The lines of a batch
+
+-- what is written has status 0, where nothing refuses
+abbrev IsZero : Result Written LineRefusal → Type 0
+IsZero (Err refused) = ⊤
+IsZero (Ok written) = written.status ≡ 0
+
+-- so it is of a line and of those behind it
+before-zero : (first : Written) (others : Result Written LineRefusal) → IsZero others →
+    IsZero (before_others first others)
+before-zero first (Err refused) zero = tt
+before-zero first (Ok others) zero = zero
+
+rest-zero : (line : LineRequest) (outcome : Result Made Refusal)
+    (rest : Files → Result Written LineRefusal) → ((files : Files) → IsZero (rest files)) →
+    IsZero (with_rest line outcome rest)
+rest-zero line (Err refusal) rest zero = tt
+rest-zero line (Ok made) rest zero =
+    before-zero (written_by line.request.tool made) (rest made.files) (zero made.files)
+
+-- and of all lines
+batch-zero : (lines : List LineRequest) (day : ℕ) (settings : List Setting) (files : Files) →
+    IsZero (batch lines day settings files)
+batch-zero [] day settings files = refl
+batch-zero (line ∷ rest) day settings files = rest-zero line
+    (outcome_of (action_of line.request [] day files settings) files) (batch rest day settings)
+    (batch-zero rest day settings)
+
+-- the answer to them, by what they write and its problem
+written-succeeds : (old : Files) (written : Written) (problem : Option FileProblem) (same : Bool) →
+    written.status ≡ 0 →
+    Succeeds (elim problem as (λ one. Answer) [
+      | Some one ↦ unusable Batch one
+      | None ↦ succeeding (if same then Same else Changed written.files) written
     ])
-answer-succeeds tool action old (Some problem) plain new changed = absurd (cc)
-answer-succeeds tool action old None plain new changed =
-    outcome-succeeds tool action old (first_some action.refusals)
-    (multiple_entries action.script old) plain new changed
+written-succeeds old written (Some problem) same zero new changed = absurd (cc)
+written-succeeds old written None true zero new changed = zero
+written-succeeds old written None false zero new changed = zero
+
+lines-succeed : (old : Files) (lines : Result Written LineRefusal) → IsZero lines →
+    Succeeds (answer_lines old lines)
+lines-succeed old (Err refused) zero new changed = absurd (cc)
+lines-succeed old (Ok written) zero new changed =
+    written-succeeds old written (new_problem written.files) (files_eq old written.files) zero new
+    changed
+
+-- ---- The law
+
+-- an answer on files that can be used, by whether it is to a batch
+under-succeeds : (request : Request) (input : Bytes) (day : ℕ) (old : Files)
+    (settings : List Setting) (lines : Bool) →
+    Succeeds (if lines then answer_lines old (batch (line_requests input) day settings old)
+    else answer_outcome request.tool old
+    (outcome_of (action_of request input day old settings) old))
+under-succeeds request input day old settings true =
+    lines-succeed old (batch (line_requests input) day settings old)
+    (batch-zero (line_requests input) day settings old)
+under-succeeds request input day old settings false new changed =
+    outcome-succeeds request.tool (action_of request input day old settings) old
+    (first_some (action_of request input day old settings).refusals)
+    (multiple_entries (action_of request input day old settings).script old)
+    (is-plain request.tool request input day old settings) new changed
+
+-- an answer, by the problem of the files
+answer-succeeds : (request : Request) (input : Bytes) (day : ℕ) (old : Files)
+    (settings : List Setting) (problem : Option FileProblem) →
+    Succeeds (elim problem as (λ one. Answer) [
+      | Some one ↦ unusable request.tool one
+      | None ↦ answer_under request input day old settings
+    ])
+answer-succeeds request input day old settings (Some problem) new changed = absurd (cc)
+answer-succeeds request input day old settings None =
+    under-succeeds request input day old settings (is_batch request.tool)
 
 -- the law
 pub changes-succeed : ChangesSucceed
 changes-succeed request input day old defs =
-    answer-succeeds request.tool (action_of request input day old (settings_of (unwrap_or defs [])))
-    old (files_problem old defs)
-    (is-plain request.tool request input day old (settings_of (unwrap_or defs [])))
+    answer-succeeds request input day old (settings_of (unwrap_or defs [])) (files_problem old defs)

@@ -2,15 +2,17 @@
 -- the error stream.
 use Rattle.std.specs.Prelude.{◌≡◌, ⊤, ℕ, List, [], codes}
 use Rattle.account_words.specs.declared.tool.Tool.{Tool}
+use Rattle.account_words.specs.declared.tool.Tool.TheVariants.{Batch}
 use Rattle.account_words.specs.declared.word_fault.WordFault.{WordFault}
 use Rattle.account_words.specs.declared.word_fault.WordFault.TheVariants.{Memory as NoMemory}
 use Rattle.account_model.specs.Messages.{message}
+use Rattle.account_words.specs.BatchLines.{FaultyLine}
 use Rattle.account_words.specs.Options.{Word}
-use Rattle.account_model.specs.WordMessages.{faulty_tool, word_fault_status, word_fault_message}
+use Rattle.account_model.specs.WordMessages.{faulty_tool, line_fault_message, syntax_status, word_fault_status, word_fault_message}
 use Rattle.acct_outside.specs.declared.CommitStage.TheVariants.{Before}
 use Rattle.suite_answers.specs.declared.answer.Answer.{Answer}
 use Rattle.suite_answers.specs.declared.cause.Cause.{Cause}
-use Rattle.suite_answers.specs.declared.cause.Cause.TheVariants.{Changed, Same, Refused, Syntax, OutputFault, Memory}
+use Rattle.suite_answers.specs.declared.cause.Cause.TheVariants.{Changed, Same, Refused, RefusedLine, Syntax, BatchSyntax, OutputFault, Memory}
 use Rattle.suite_answers.specs.Reasons.{memory_message, status_of, reason_text}
 
 -- an answer that says why, and has no output
@@ -29,7 +31,9 @@ abbrev pub message_of : Tool → Cause → List ℕ
 message_of tool Changed = []
 message_of tool Same = []
 message_of tool (Refused refusal) = []
+message_of tool (RefusedLine line refusal) = []
 message_of tool (Syntax fault) = []
+message_of tool (BatchSyntax line fault) = []
 message_of tool (OutputFault stage) = []
 message_of tool cause = message tool (reason_text cause)
 
@@ -54,6 +58,11 @@ abbrev pub told_words : List Word → WordFault → Answer
 told_words words fault =
     says (cause_of_words fault) (word_fault_status words fault) (message_to_words words fault)
 
+-- the answer to a batch of which this is the first line that asks for nothing
+abbrev pub told_line : FaultyLine → Answer
+told_line faulty = says (BatchSyntax faulty.line.number faulty.fault) (syntax_status Batch)
+    (line_fault_message faulty)
+
 -- ---- Any answer
 
 -- an answer with this cause is the one that the words or the tool have for it; what the tool
@@ -62,8 +71,11 @@ abbrev pub SaysCause : List Word → Tool → Answer → Cause → Type 0
 SaysCause words tool answer Changed = ⊤
 SaysCause words tool answer Same = ⊤
 SaysCause words tool answer (Refused refusal) = ⊤
+SaysCause words tool answer (RefusedLine line refusal) = ⊤
 SaysCause words tool answer (OutputFault stage) = ⊤
 SaysCause words tool answer (Syntax fault) = answer ≡ told_words words fault
+SaysCause words tool answer (BatchSyntax line fault) =
+    (faulty : FaultyLine) × (answer ≡ told_line faulty)
 SaysCause words tool answer cause = answer ≡ told tool cause
 
 -- the answer of the tool to the words says its own cause

@@ -20,7 +20,7 @@ const CLOCK_FAULT_STATUS: u8 = 103;
 /// What has more bytes than it may have.
 #[derive(Clone, Copy, Debug, PartialEq, Eq, Drop)]
 pub enum Which {
-    /// The input of chpasswd(8).
+    /// The input of chpasswd(8), or that of a batch.
     Input,
     /// A file of the folder.
     File(Name),
@@ -35,8 +35,13 @@ pub enum Cause {
     Same,
     /// The tool refuses.
     Refused(Refusal),
+    /// The tool of this line of a batch refuses. Lines are counted from 1, also those that are skipped.
+    RefusedLine(u32, Refusal),
     /// The words are no request: their first fault, which isn't `Memory`.
     Syntax(WordFault),
+    /// This line of a batch, counted from 1, is the first that asks for nothing: its first fault, which
+    /// isn't `Memory`.
+    BatchSyntax(u32, WordFault),
     /// The session of this token holds the lock, and may still run.
     Held(Token),
     /// The lock of this number was listed, and was gone when it was read.
@@ -94,13 +99,14 @@ impl Cause {
 
     /// The status that the tool's page has for the cause, from 0 to 103.
     ///
-    /// `Changed`, `Same`, `Refused` and `Syntax` have 0 here: their status comes with what the tool
-    /// decides, and with the words.
+    /// What the tool decides, `Changed`, `Same`, `Refused` and `RefusedLine`, has 0 here, and so have
+    /// `Syntax` and `BatchSyntax`: their status comes with the decision, and with the words.
     pub fn status(&self, tool: Tool) -> u8
         ensures { result ≡ status_of tool self.now }
     {
         match self {
-            Cause::Changed | Cause::Same | Cause::Refused(_) | Cause::Syntax(_) => 0,
+            Cause::Changed | Cause::Same | Cause::Refused(_) | Cause::RefusedLine(..) => 0,
+            Cause::Syntax(_) | Cause::BatchSyntax(..) => 0,
             Cause::Held(_) | Cause::Gone(_) | Cause::Raced(_) => lock_status(tool),
             Cause::Outrun(..) | Cause::LockDamaged(_) | Cause::Exhausted => lock_status(tool),
             Cause::IntentDamaged(_) | Cause::DiskFault(_) => update_status(tool),

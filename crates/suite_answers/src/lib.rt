@@ -1,6 +1,6 @@
 //! What a command of the account suite answers: why, with which status, and what it says on the
 //! error stream. What a tool decides on the tables brings its own texts (`tool_answers`); all other
-//! answers are made here, for each of the twelve tools.
+//! answers are made here, for each tool.
 #![tactic(auto)]
 
 mod answer;

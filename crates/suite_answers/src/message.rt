@@ -17,7 +17,8 @@ pub(crate) fn of_cause(alloc: Global, tool: Tool, cause: &Cause) -> Result<Bytes
 {
     match cause {
         Cause::Changed | Cause::Same | Cause::Refused(_) => Ok(Bytes::new(alloc)),
-        Cause::Syntax(_) | Cause::OutputFault(_) => Ok(Bytes::new(alloc)),
+        Cause::RefusedLine(..) | Cause::OutputFault(_) => Ok(Bytes::new(alloc)),
+        Cause::Syntax(_) | Cause::BatchSyntax(..) => Ok(Bytes::new(alloc)),
         _ => line_of(alloc, Some(tool), cause),
     }
 }
