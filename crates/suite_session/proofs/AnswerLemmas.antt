@@ -16,15 +16,19 @@ use Rattle.acct_outside.specs.declared.CommitStage.TheVariants.{Before}
 use Rattle.acct_outside.specs.History.{History}
 use Rattle.acct_outside.specs.Life.{life, running}
 use Rattle.account_words.specs.declared.tool.Tool.{Tool}
+use Rattle.account_words.specs.declared.tool.Tool.TheVariants.{Batch}
 use Rattle.account_model.specs.declared.refusal.Refusal.{Refusal}
 use Rattle.account_words.specs.Request.{Request}
 use Rattle.account_model.specs.Action.{Made, outcome_of}
+use Rattle.account_model.specs.Batch.{LineRefusal, Written, batch, written_by}
 use Rattle.account_model.specs.Change.{action_of}
-use Rattle.account_words.specs.Settings.{settings_of}
+use Rattle.account_words.specs.BatchLines.{line_requests}
+use Rattle.account_words.specs.Settings.{Setting, settings_of}
+use Rattle.account_words.specs.Words.{is_batch}
 use Rattle.account_formats.specs.Text.{first_some}
 use Rattle.account_model.specs.Messages.{message}
 use Rattle.account_model.specs.Statuses.{file_status}
-use Rattle.account_model.specs.Answer.{FileProblem, TableTooLarge, SettingsTooLarge, TableAbsent, BadSettingAt, AnswerCause, Unusable, Refused, Same, Changed, Answer as ToolAnswer, must_stand, table_problem, files_problem, file_problem_text, new_problem, files_eq, cause_of, unusable, succeeding, answer_made, answer_outcome, answer}
+use Rattle.account_model.specs.Answer.{FileProblem, TableTooLarge, SettingsTooLarge, TableAbsent, BadSettingAt, AnswerCause, Unusable, Refused, RefusedLine, Same, Changed, Answer as ToolAnswer, must_stand, table_problem, files_problem, file_problem_text, new_problem, files_eq, cause_of, unusable, succeeding, answer_lines, answer_outcome, answer_under, answer_written, answer}
 use Rattle.suite_rules.specs.OwnLock.{kept_number}
 use Rattle.suite_rules.specs.Knowledge.{Knowledge}
 use Rattle.suite_rules.specs.Standing.{standing}
@@ -44,41 +48,76 @@ use Rattle.suite_session.specs.Stands.{IsOutside}
 
 -- ---- A problem of the files is the whole answer
 
--- what a tool made is Same or Changed
-made-usable : (same : Bool) (new : Files) (problem : FileProblem) →
+-- what is left is Same or Changed
+written-usable : (same : Bool) (new : Files) (problem : FileProblem) →
     (if same then Same else Changed new) ≡ Unusable problem → ⊥
-made-usable true new problem is = absurd (cc is)
-made-usable false new problem is = absurd (cc is)
+written-usable true new problem is = absurd (cc is)
+written-usable false new problem is = absurd (cc is)
 
 -- an unusable answer has its problem
 unusable-is : (tool : Tool) (found problem : FileProblem) → Unusable found ≡ Unusable problem →
     unusable tool found ≡ unusable tool problem
 unusable-is tool found problem is = ap (unusable tool) (cc is)
 
--- of what a tool made
-made-whole : (tool : Tool) (files : Files) (made : Made) (problem : FileProblem) →
-    (answer_made tool files made).cause ≡ Unusable problem →
-    answer_made tool files made ≡ unusable tool problem
-made-whole tool files made problem = cases (new_problem made.files)
+-- of what is left
+written-whole : (tool : Tool) (files : Files) (written : Written) (problem : FileProblem) →
+    (answer_written tool files written).cause ≡ Unusable problem →
+    answer_written tool files written ≡ unusable tool problem
+written-whole tool files written problem = cases (new_problem written.files)
   where
     cases : (found : Option FileProblem) →
         (elim found as (λ one. ToolAnswer) [
           | Some one ↦ unusable tool one
-          | None ↦ succeeding tool (cause_of files made.files) made
+          | None ↦ succeeding (cause_of files written.files) written
         ]).cause ≡ Unusable problem →
         (elim found as (λ one. ToolAnswer) [
           | Some one ↦ unusable tool one
-          | None ↦ succeeding tool (cause_of files made.files) made
+          | None ↦ succeeding (cause_of files written.files) written
         ]) ≡ unusable tool problem
     cases (Some one) is = unusable-is tool one problem is
-    cases None is = absurd (made-usable (files_eq files made.files) made.files problem is)
+    cases None is = absurd (written-usable (files_eq files written.files) written.files problem is)
 
 -- of the tool's outcome
 outcome-whole : (tool : Tool) (files : Files) (outcome : Result Made Refusal)
     (problem : FileProblem) → (answer_outcome tool files outcome).cause ≡ Unusable problem →
     answer_outcome tool files outcome ≡ unusable tool problem
-outcome-whole tool files (Ok made) problem is = made-whole tool files made problem is
+outcome-whole tool files (Ok made) problem is =
+    written-whole tool files (written_by tool made) problem is
 outcome-whole tool files (Err refusal) problem is = absurd (cc is)
+
+-- of the lines of a batch
+lines-whole : (files : Files) (lines : Result Written LineRefusal) (problem : FileProblem) →
+    (answer_lines files lines).cause ≡ Unusable problem →
+    answer_lines files lines ≡ unusable Batch problem
+lines-whole files (Ok written) problem is = written-whole Batch files written problem is
+lines-whole files (Err refused) problem is = absurd (cc is)
+
+-- one tool carries out lines
+batch-tool : (tool : Tool) → is_batch tool ≡ true → tool ≡ Batch
+batch-tool Batch is = refl
+batch-tool _ is = absurd (true≢false (sym is))
+
+-- of the answer on files that can be used
+under-whole : (request : Request) (input : List ℕ) (day : ℕ) (files : Files)
+    (settings : List Setting) (problem : FileProblem) →
+    (answer_under request input day files settings).cause ≡ Unusable problem →
+    answer_under request input day files settings ≡ unusable request.tool problem
+under-whole request input day files settings problem = cases (is_batch request.tool) refl
+  where
+    lines : Result Written LineRefusal
+    lines = batch (line_requests input) day settings files
+
+    outcome : Result Made Refusal
+    outcome = outcome_of (action_of request input day files settings) files
+
+    cases : (is_one : Bool) → is_batch request.tool ≡ is_one →
+        (if is_one then answer_lines files lines
+        else answer_outcome request.tool files outcome).cause ≡ Unusable problem →
+        (if is_one then answer_lines files lines
+        else answer_outcome request.tool files outcome) ≡ unusable request.tool problem
+    cases true is_one is = lines-whole files lines problem is
+        ∙ ap (λ (tool : Tool). unusable tool problem) (sym (batch-tool request.tool is_one))
+    cases false is_one is = outcome-whole request.tool files outcome problem is
 
 -- of the answer
 answer-whole : (request : Request) (input : List ℕ) (day : ℕ) (files : Files)
@@ -86,34 +125,35 @@ answer-whole : (request : Request) (input : List ℕ) (day : ℕ) (files : Files
     (answer request input day files defs).cause ≡ Unusable problem →
     answer request input day files defs ≡ unusable request.tool problem
 answer-whole request input day files defs problem = cases (files_problem files defs)
-    (outcome_of (action_of request input day files (settings_of (unwrap_or defs []))) files)
   where
-    cases : (found : Option FileProblem) (outcome : Result Made Refusal) →
+    settings : List Setting
+    settings = settings_of (unwrap_or defs [])
+
+    cases : (found : Option FileProblem) →
         (elim found as (λ one. ToolAnswer) [
           | Some one ↦ unusable request.tool one
-          | None ↦ answer_outcome request.tool files outcome
+          | None ↦ answer_under request input day files settings
         ]).cause ≡ Unusable problem →
         (elim found as (λ one. ToolAnswer) [
           | Some one ↦ unusable request.tool one
-          | None ↦ answer_outcome request.tool files outcome
+          | None ↦ answer_under request input day files settings
         ]) ≡ unusable request.tool problem
-    cases (Some one) outcome is = unusable-is request.tool one problem is
-    cases None outcome is = outcome-whole request.tool files outcome problem is
+    cases (Some one) is = unusable-is request.tool one problem is
+    cases None is = under-whole request input day files settings problem is
 
 -- the first problem of the files is the answer
 pub problem-answers : (request : Request) (input : List ℕ) (day : ℕ) (files : Files)
     (defs : Option Bytes) (problem : FileProblem) → files_problem files defs ≡ Some problem →
     answer request input day files defs ≡ unusable request.tool problem
-problem-answers request input day files defs problem is = cases (files_problem files defs)
-    (outcome_of (action_of request input day files (settings_of (unwrap_or defs []))) files) is
+problem-answers request input day files defs problem is = cases (files_problem files defs) is
   where
-    cases : (found : Option FileProblem) (outcome : Result Made Refusal) → found ≡ Some problem →
+    cases : (found : Option FileProblem) → found ≡ Some problem →
         (elim found as (λ one. ToolAnswer) [
           | Some one ↦ unusable request.tool one
-          | None ↦ answer_outcome request.tool files outcome
+          | None ↦ answer_under request input day files (settings_of (unwrap_or defs []))
         ]) ≡ unusable request.tool problem
-    cases (Some one) outcome is = ap (unusable request.tool) (cc is)
-    cases None outcome is = absurd (cc is)
+    cases (Some one) is = ap (unusable request.tool) (cc is)
+    cases None is = absurd (cc is)
 
 -- it says what the session says of its cause
 module _ (tool : Tool) (given : Answer) where
@@ -165,6 +205,8 @@ module _ (asked : Question) (files : Files) (defs : Option Bytes) (given : Answe
   cause-says (Unusable (BadSettingAt line)) is = problem-given (BadSettingAt line) is
   cause-says (Refused refusal) is =
       record { files = files; defs = defs; is_answer = is_answer }
+  cause-says (RefusedLine line refusal) is =
+      record { files = files; defs = defs; is_answer = is_answer }
   cause-says Same is = record { files = files; defs = defs; is_answer = is_answer }
   cause-says (Changed new) is = record { files = files; defs = defs; is_answer = is_answer }
 
@@ -179,6 +221,7 @@ cause-stage (Unusable SettingsTooLarge) stays = refl
 cause-stage (Unusable (TableAbsent table)) stays = refl
 cause-stage (Unusable (BadSettingAt line)) stays = refl
 cause-stage (Refused refusal) stays = refl
+cause-stage (RefusedLine line refusal) stays = refl
 cause-stage Same stays = refl
 cause-stage (Changed new) stays = absurd (true≢false stays)
 
@@ -195,6 +238,7 @@ cause-quiet (Unusable SettingsTooLarge) fault = fault
 cause-quiet (Unusable (TableAbsent table)) fault = fault
 cause-quiet (Unusable (BadSettingAt line)) fault = fault
 cause-quiet (Refused refusal) fault = fault
+cause-quiet (RefusedLine line refusal) fault = fault
 cause-quiet Same fault = fault
 cause-quiet (Changed new) fault = fault
 
@@ -268,6 +312,7 @@ module _ (runner : Runner) (inputs : Inputs) (given : Answer) (history : History
   cause-shown (Unusable (TableAbsent table)) stays = inl (shows-some, keeper-now)
   cause-shown (Unusable (BadSettingAt line)) stays = inl (shows-all, keeper-now)
   cause-shown (Refused refusal) stays = inl (shows-all, keeper-now)
+  cause-shown (RefusedLine line refusal) stays = inl (shows-all, keeper-now)
   cause-shown Same stays = inl (shows-all, keeper-now)
   cause-shown (Changed new) stays = absurd (true≢false stays)
 

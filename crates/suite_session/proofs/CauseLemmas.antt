@@ -12,7 +12,7 @@ use Rattle.lock_steps.specs.States.{Kept}
 use Rattle.account_words.specs.declared.tool.Tool.{Tool}
 use Rattle.suite_answers.specs.declared.cause.Which.TheVariants.{Input, File}
 use Rattle.suite_answers.specs.declared.cause.Cause.{Cause}
-use Rattle.suite_answers.specs.declared.cause.Cause.TheVariants.{Changed, Same, Refused, Syntax, Held, Gone, Raced, Outrun, LockDamaged, Exhausted, IntentDamaged, TooLarge, NoTable, BadSetting, DiskFault, InputFault, OutputFault, ClockFault, Memory}
+use Rattle.suite_answers.specs.declared.cause.Cause.TheVariants.{Changed, Same, Refused, RefusedLine, Syntax, BatchSyntax, Held, Gone, Raced, Outrun, LockDamaged, Exhausted, IntentDamaged, TooLarge, NoTable, BadSetting, DiskFault, InputFault, OutputFault, ClockFault, Memory}
 use Rattle.suite_answers.specs.declared.answer.Answer.{Answer as FinalAnswer}
 use Rattle.suite_answers.specs.Reasons.{stage_of}
 use Rattle.suite_session.specs.declared.state.State.{State}
@@ -29,7 +29,9 @@ pub given-cause : (tool : Tool) (cause : Cause) → (given_for tool cause).outco
 given-cause tool Changed = refl
 given-cause tool Same = refl
 given-cause tool (Refused refusal) = refl
+given-cause tool (RefusedLine line refusal) = refl
 given-cause tool (Syntax fault) = refl
+given-cause tool (BatchSyntax line fault) = refl
 given-cause tool (Held token) = refl
 given-cause tool (Gone number) = refl
 given-cause tool (Raced number) = refl
@@ -67,7 +69,9 @@ abbrev pub IsPlain : Cause → Type 0
 IsPlain Changed = ⊥
 IsPlain Same = ⊥
 IsPlain (Refused refusal) = ⊥
+IsPlain (RefusedLine line refusal) = ⊥
 IsPlain (Syntax fault) = ⊥
+IsPlain (BatchSyntax line fault) = ⊥
 IsPlain (BadSetting line) = ⊥
 IsPlain (NoTable table) = ⊥
 IsPlain (TooLarge Input) = ⊥
@@ -83,6 +87,7 @@ pub plain-undecided : (cause : Cause) → IsPlain cause → IsDecided cause → 
 plain-undecided Changed plain decided = plain
 plain-undecided Same plain decided = plain
 plain-undecided (Refused refusal) plain decided = plain
+plain-undecided (RefusedLine line refusal) plain decided = plain
 plain-undecided (BadSetting line) plain decided = plain
 plain-undecided (NoTable table) plain decided = plain
 plain-undecided (TooLarge (File (Table table))) plain decided = plain
@@ -109,7 +114,9 @@ plain-says asked answer (Memory stage) plain is = is
 plain-says asked answer Changed plain is = absurd plain
 plain-says asked answer Same plain is = absurd plain
 plain-says asked answer (Refused refusal) plain is = absurd plain
+plain-says asked answer (RefusedLine line refusal) plain is = absurd plain
 plain-says asked answer (Syntax fault) plain is = absurd plain
+plain-says asked answer (BatchSyntax line fault) plain is = absurd plain
 plain-says asked answer (BadSetting line) plain is = absurd plain
 plain-says asked answer (NoTable table) plain is = absurd plain
 
@@ -124,7 +131,9 @@ pub plain-shown : (runner : Runner) (answer : FinalAnswer) (history : History) (
 plain-shown runner answer history Changed plain met = absurd plain
 plain-shown runner answer history Same plain met = absurd plain
 plain-shown runner answer history (Refused refusal) plain met = absurd plain
+plain-shown runner answer history (RefusedLine line refusal) plain met = absurd plain
 plain-shown runner answer history (Syntax fault) plain met = absurd plain
+plain-shown runner answer history (BatchSyntax line fault) plain met = absurd plain
 plain-shown runner answer history (BadSetting line) plain met = absurd plain
 plain-shown runner answer history (NoTable table) plain met = absurd plain
 plain-shown runner answer history (TooLarge Input) plain met = absurd plain

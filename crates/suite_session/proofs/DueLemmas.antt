@@ -185,6 +185,7 @@ module _ (runner : Runner) (answer : Answer) where
     shown-stays Changed shown = earlier-stays old new newer parts shown
     shown-stays Same shown = both-stay shown
     shown-stays (Refused refusal) shown = both-stay shown
+    shown-stays (RefusedLine line refusal) shown = both-stay shown
     shown-stays (BadSetting line) shown = both-stay shown
     shown-stays (NoTable table) shown = absent-stays shown
     shown-stays (TooLarge (File (Table table))) shown = large-stays (Table table) shown

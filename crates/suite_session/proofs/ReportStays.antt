@@ -1,6 +1,7 @@
 -- Claim: the answer to a report is no change, on whatever files (`report-stays`).
 -- Way: a report has no edits (`report-unedited`), so its tables stay (`unedited-stays`). Of a tool that can do
 -- both, the words ask for the report alone: by their rules pwck and grpck have `-r` or `-s` (`not-sorting`).
+-- A batch is no report, also where each of its lines asks for one (`report-single`).
 use Rattle.std.proofs.Common.{◌≡◌, refl, sym, ap, ◌∙◌, ◌==◌, ◌||◌, ◌&&◌, not, ℕ, ◌+◌, Bool, true, false, List, [], ◌∷◌, Option, Some, None, Result, Ok, Err, true≢false}
 use Rattle.std.specs.Str.{byte}
 use Rattle.std.specs.Prelude.{codes, cond, find, is_some, if◌then◌else◌, option_map, position, unwrap_or}
@@ -12,19 +13,21 @@ use Rattle.account_formats.specs.Tables.{Script, no_edits, files_after}
 use Rattle.account_formats.proofs.NoEdits.{files-stay}
 use Rattle.account_words.specs.declared.given.Given.{Given}
 use Rattle.account_words.specs.declared.tool.Tool.{Tool}
-use Rattle.account_words.specs.declared.tool.Tool.TheVariants.{Useradd, Usermod, Userdel, Groupadd, Groupmod, Groupdel, Gpasswd, Chage, Chpasswd, Pwck, Grpck, Getsubids}
+use Rattle.account_words.specs.declared.tool.Tool.TheVariants.{Useradd, Usermod, Userdel, Groupadd, Groupmod, Groupdel, Gpasswd, Chage, Chpasswd, Pwck, Grpck, Getsubids, Batch}
+use Rattle.account_words.specs.BatchLines.{line_requests}
 use Rattle.account_words.specs.Options.{Word, is_given, not_both, some_of}
 use Rattle.account_words.specs.Request.{Request, has_option, is_report, reports as is_reporting}
 use Rattle.account_words.specs.Settings.{Setting, settings_of}
-use Rattle.account_words.specs.Words.{Asks, broken_rule}
+use Rattle.account_words.specs.Words.{Asks, broken_rule, is_batch}
 use Rattle.account_model.specs.declared.refusal.Refusal.{Refusal}
 use Rattle.account_formats.specs.Text.{first_some}
 use Rattle.account_model.specs.Action.{Action, Made, made_by, multiple_entries, outcome_of, changes, reports}
+use Rattle.account_model.specs.Batch.{batch, written_by}
 use Rattle.account_model.specs.Chage.{chage}
 use Rattle.account_model.specs.Change.{action_by, action_of}
 use Rattle.account_model.specs.Grpck.{grpck_report, grpck_sort}
 use Rattle.account_model.specs.Pwck.{pwck_report, pwck_sort}
-use Rattle.account_model.specs.Answer.{AnswerCause, FileProblem, Answer, Same, Changed, answer, answer_outcome, answer_made, cause_of, files_eq, files_problem, new_problem, succeeding, unusable}
+use Rattle.account_model.specs.Answer.{AnswerCause, FileProblem, Answer, Same, Changed, answer, answer_lines, answer_outcome, answer_under, answer_written, files_eq, files_problem, new_problem, succeeding, unusable}
 use Rattle.suite_rules.proofs.Changed.{content-differs}
 use Rattle.suite_session.specs.Answers.{answer_on}
 use Rattle.suite_session.specs.Deeds.{is_change}
@@ -54,14 +57,14 @@ files-same files = rw (
 
 -- the tables stay, so the answer is no change
 made-stays : (tool : Tool) (files : Files) (made : Made) → made.files ≡ files →
-    is_change (answer_made tool files made).cause ≡ false
+    is_change (answer_written tool files (written_by tool made)).cause ≡ false
 made-stays tool files made is = cases (new_problem made.files) (files_eq files made.files)
     (ap (files_eq files) is ∙ files-same files)
   where
     cases : (problem : Option FileProblem) (same : Bool) → same ≡ true →
         is_change (elim problem as (λ one. Answer) [
           | Some one ↦ unusable tool one
-          | None ↦ succeeding tool (if same then Same else Changed made.files) made
+          | None ↦ succeeding (if same then Same else Changed made.files) (written_by tool made)
         ]).cause ≡ false
     cases (Some one) same equal = refl
     cases None true equal = refl
@@ -154,14 +157,20 @@ tool-unedited Groupmod request input day files settings unbroken is = absurd (tr
 tool-unedited Groupdel request input day files settings unbroken is = absurd (true≢false (sym is))
 tool-unedited Gpasswd request input day files settings unbroken is = absurd (true≢false (sym is))
 tool-unedited Chpasswd request input day files settings unbroken is = absurd (true≢false (sym is))
+tool-unedited Batch request input day files settings unbroken is = absurd (true≢false (sym is))
+
+-- a batch is no report
+report-single : (tool : Tool) (request : Request) → is_reporting tool request ≡ true →
+    is_batch tool ≡ false
+report-single Batch request is = absurd (true≢false (sym is))
+report-single _ request is = refl
 
 -- the answer to a report is no change
 pub report-stays : (words : List Word) (request : Request) (input : Bytes) (day : ℕ) (files : Files)
     (defs : Option Bytes) → Asks words request → is_report request ≡ true →
     is_change (answer request input day files defs).cause ≡ false
 report-stays words request input day files defs asks is = cases (files_problem files defs)
-    (outcome-stays request.tool files action
-    (tool-unedited request.tool request input day files settings asks.rules is))
+    (under (is_batch request.tool) (report-single request.tool request is))
   where
     settings : List Setting
     settings = settings_of (unwrap_or defs [])
@@ -169,11 +178,18 @@ report-stays words request input day files defs asks is = cases (files_problem f
     action : Action
     action = action_of request input day files settings
 
+    under : (is_one : Bool) → is_one ≡ false →
+        is_change (if is_one then answer_lines files (batch (line_requests input) day settings files)
+        else answer_outcome request.tool files (outcome_of action files)).cause ≡ false
+    under true single = absurd (true≢false single)
+    under false single = outcome-stays request.tool files action
+        (tool-unedited request.tool request input day files settings asks.rules is)
+
     cases : (problem : Option FileProblem) →
-        is_change (answer_outcome request.tool files (outcome_of action files)).cause ≡ false →
+        is_change (answer_under request input day files settings).cause ≡ false →
         is_change (elim problem as (λ one. Answer) [
           | Some one ↦ unusable request.tool one
-          | None ↦ answer_outcome request.tool files (outcome_of action files)
+          | None ↦ answer_under request input day files settings
         ]).cause ≡ false
     cases (Some one) stays = refl
     cases None stays = stays

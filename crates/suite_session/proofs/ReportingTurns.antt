@@ -66,6 +66,7 @@ reported-shown runner answer history (Unusable SettingsTooLarge) stays reported 
 reported-shown runner answer history (Unusable (TableAbsent table)) stays reported = inr reported
 reported-shown runner answer history (Unusable (BadSettingAt line)) stays reported = inr reported
 reported-shown runner answer history (Refused refusal) stays reported = inr reported
+reported-shown runner answer history (RefusedLine line refusal) stays reported = inr reported
 reported-shown runner answer history Same stays reported = inr reported
 reported-shown runner answer history (Changed files) stays reported =
     absurd (true≢false stays)

@@ -12,8 +12,8 @@ use Rattle.acct_outside.specs.declared.streams.SinkFault.{SinkFault}
 use Rattle.acct_outside.specs.declared.streams.SinkFault.TheVariants.{Failed, Memory as NoMemory}
 use Rattle.acct_outside.specs.History.{History}
 use Rattle.account_words.specs.declared.tool.Tool.{Tool}
-use Rattle.account_words.specs.declared.tool.Tool.TheVariants.{Useradd, Usermod, Userdel, Groupadd, Groupmod, Groupdel, Gpasswd, Chage, Chpasswd, Pwck, Grpck, Getsubids}
-use Rattle.account_model.specs.Answer.{AnswerCause, Unusable, Refused as ModelRefused, Same as ModelSame, Changed as ModelChanged}
+use Rattle.account_words.specs.declared.tool.Tool.TheVariants.{Useradd, Usermod, Userdel, Groupadd, Groupmod, Groupdel, Gpasswd, Chage, Chpasswd, Pwck, Grpck, Getsubids, Batch}
+use Rattle.account_model.specs.Answer.{AnswerCause, Unusable, Refused as ModelRefused, RefusedLine as ModelRefusedLine, Same as ModelSame, Changed as ModelChanged}
 use Rattle.account_model.specs.Statuses.{file_status, lock_status, memory_status, output_fault_status, update_status}
 use Rattle.account_words.specs.Words.{request_of}
 use Rattle.suite_rules.specs.Deeds.{SuiteDeeds}
@@ -21,7 +21,7 @@ use Rattle.suite_rules.specs.Standing.{Standing, standing}
 use Rattle.suite_rules.specs.Rules.{AnswerRule, answers_refusal, answers_changed, answers_same, answers_shown}
 use Rattle.suite_answers.specs.declared.cause.Which.TheVariants.{Input, File}
 use Rattle.suite_answers.specs.declared.cause.Cause.{Cause}
-use Rattle.suite_answers.specs.declared.cause.Cause.TheVariants.{Changed, Same, Refused, Syntax, Held, Gone, Raced, Outrun, LockDamaged, Exhausted, IntentDamaged, TooLarge, NoTable, BadSetting, DiskFault, InputFault, OutputFault, ClockFault, Memory}
+use Rattle.suite_answers.specs.declared.cause.Cause.TheVariants.{Changed, Same, Refused, RefusedLine, Syntax, BatchSyntax, Held, Gone, Raced, Outrun, LockDamaged, Exhausted, IntentDamaged, TooLarge, NoTable, BadSetting, DiskFault, InputFault, OutputFault, ClockFault, Memory}
 use Rattle.suite_answers.specs.declared.answer.Answer.{Answer}
 use Rattle.suite_answers.specs.Reasons.{stage_of}
 use Rattle.suite_session.specs.Runner.{Runner}
@@ -46,6 +46,7 @@ lock-some Chpasswd = refl
 lock-some Pwck = refl
 lock-some Grpck = refl
 lock-some Getsubids = refl
+lock-some Batch = refl
 
 -- of a folder that can't be changed
 update-some : (tool : Tool) → (update_status tool == 0) ≡ false
@@ -61,6 +62,7 @@ update-some Chpasswd = refl
 update-some Pwck = refl
 update-some Grpck = refl
 update-some Getsubids = refl
+update-some Batch = refl
 
 -- of a file that can't be used
 pub file-some : (tool : Tool) → (file_status tool == 0) ≡ false
@@ -76,6 +78,7 @@ file-some Chpasswd = refl
 file-some Pwck = refl
 file-some Grpck = refl
 file-some Getsubids = refl
+file-some Batch = refl
 
 -- ---- An answer of status 0 that changes nothing
 
@@ -84,6 +87,7 @@ not-change : (cause : AnswerCause) (told : Cause) → cause_of_answer cause ≡ 
     (told ≡ Changed → ⊥) → is_change cause ≡ false
 not-change (Unusable problem) told is quiet = refl
 not-change (ModelRefused refusal) told is quiet = refl
+not-change (ModelRefusedLine line refusal) told is quiet = refl
 not-change ModelSame told is quiet = refl
 not-change (ModelChanged files) told is quiet = absurd (quiet (sym is))
 
@@ -179,7 +183,10 @@ module _ (deeds : SuiteDeeds) (ours : AreOfTools deeds) (runner : Runner) (answe
   by-cause Same is says shown commits = either-rule Same is (λ bad. cc) shown
   by-cause (Refused refusal) is says shown commits =
       either-rule (Refused refusal) is (λ bad. cc) shown
+  by-cause (RefusedLine line refusal) is says shown commits =
+      either-rule (RefusedLine line refusal) is (λ bad. cc) shown
   by-cause (Syntax fault) is says shown commits = absurd says
+  by-cause (BatchSyntax line fault) is says shown commits = absurd says
   by-cause (Held token) is says shown commits = told-rule (Held token) says (lock-some _)
   by-cause (Gone number) is says shown commits = told-rule (Gone number) says (lock-some _)
   by-cause (Raced number) is says shown commits = told-rule (Raced number) says (lock-some _)

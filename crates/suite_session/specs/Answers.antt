@@ -5,10 +5,10 @@ use Rattle.acct_text.specs.declared.files.Files.{Files}
 use Rattle.acct_outside.specs.declared.Name.TheVariants.{Table, Defs}
 use Rattle.acct_outside.specs.declared.streams.SinkFault.{SinkFault}
 use Rattle.acct_outside.specs.declared.streams.SinkFault.TheVariants.{Failed, Memory as NoMemory}
-use Rattle.account_model.specs.Answer.{FileProblem, TableTooLarge, SettingsTooLarge, TableAbsent, BadSettingAt, AnswerCause, Unusable, Refused, Same, Changed, Answer as ToolAnswer, answer}
+use Rattle.account_model.specs.Answer.{FileProblem, TableTooLarge, SettingsTooLarge, TableAbsent, BadSettingAt, AnswerCause, Unusable, Refused, RefusedLine, Same, Changed, Answer as ToolAnswer, answer}
 use Rattle.suite_answers.specs.declared.cause.Which.TheVariants.{Input, File}
 use Rattle.suite_answers.specs.declared.cause.Cause.{Cause}
-use Rattle.suite_answers.specs.declared.cause.Cause.TheVariants.{Changed as IsChanged, Same as IsSame, Refused as IsRefused, Syntax, TooLarge, NoTable, BadSetting, InputFault, OutputFault, ClockFault, Memory}
+use Rattle.suite_answers.specs.declared.cause.Cause.TheVariants.{Changed as IsChanged, Same as IsSame, Refused as IsRefused, RefusedLine as IsRefusedLine, Syntax, BatchSyntax, TooLarge, NoTable, BadSetting, InputFault, OutputFault, ClockFault, Memory}
 use Rattle.suite_answers.specs.declared.answer.Answer.{Answer}
 use Rattle.suite_answers.specs.Reasons.{stage_of}
 use Rattle.suite_answers.specs.Answers.{told, says}
@@ -28,6 +28,7 @@ cause_of_problem (BadSettingAt line) = BadSetting line
 abbrev pub cause_of_answer : AnswerCause → Cause
 cause_of_answer (Unusable problem) = cause_of_problem problem
 cause_of_answer (Refused refusal) = IsRefused refusal
+cause_of_answer (RefusedLine line refusal) = IsRefusedLine line refusal
 cause_of_answer Same = IsSame
 cause_of_answer (Changed files) = IsChanged
 
@@ -67,13 +68,16 @@ IsTold tool cause given =
     (given ≡ given_for tool cause) ⊎ (given ≡ memory_answer (stage_of cause))
 
 -- What an answer with this cause says to which a session came by its calls: what the tool says on
--- some files, or what tells the cause. It has words that ask for something and all its input, and no
--- call of the folder fails at a stream or at the clock, so it tells of none of these.
+-- some files, or what tells the cause. It has words that ask for something and all its input, of which
+-- each line of a batch asks for something, and no call of the folder fails at a stream or at the clock,
+-- so it tells of none of these.
 abbrev pub Says : Question → Answer → Cause → Type 0
 Says asked given IsChanged = IsOfSome asked given
 Says asked given IsSame = IsOfSome asked given
 Says asked given (IsRefused refusal) = IsOfSome asked given
+Says asked given (IsRefusedLine line refusal) = IsOfSome asked given
 Says asked given (Syntax fault) = ⊥
+Says asked given (BatchSyntax line fault) = ⊥
 Says asked given (TooLarge Input) = ⊥
 Says asked given InputFault = ⊥
 Says asked given (OutputFault stage) = ⊥

@@ -21,7 +21,7 @@ use Rattle.commit_steps.specs.States.{AreSound, Reader, next_name}
 use Rattle.commit_steps.specs.Stands.{HasRead}
 use Rattle.suite_answers.specs.declared.cause.Which.TheVariants.{File}
 use Rattle.suite_answers.specs.declared.cause.Cause.{Cause}
-use Rattle.suite_answers.specs.declared.cause.Cause.TheVariants.{Changed, Same, Refused, Outrun, TooLarge, NoTable, BadSetting}
+use Rattle.suite_answers.specs.declared.cause.Cause.TheVariants.{Changed, Same, Refused, RefusedLine, Outrun, TooLarge, NoTable, BadSetting}
 use Rattle.suite_answers.specs.declared.answer.Answer.{Answer}
 use Rattle.suite_answers.specs.Reasons.{stage_of}
 use Rattle.suite_session.specs.Runner.{Runner}
@@ -125,6 +125,7 @@ abbrev pub IsShown : Runner → Answer → History → Cause → Type 0
 IsShown runner answer history Changed = AnsweredAll runner answer history
 IsShown runner answer history Same = ShowsAll runner answer history
 IsShown runner answer history (Refused refusal) = ShowsAll runner answer history
+IsShown runner answer history (RefusedLine line refusal) = ShowsAll runner answer history
 IsShown runner answer history (BadSetting line) = ShowsAll runner answer history
 IsShown runner answer history (NoTable table) = ShowsSome runner answer history
 IsShown runner answer history (TooLarge (File (Table table))) =

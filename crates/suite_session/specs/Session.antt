@@ -1,11 +1,18 @@
--- A session, by itself: its token, its answer, and what a stream that failed makes of it.
-use Rattle.std.specs.Prelude.{◌≡◌, ◌≢◌, ◌⊎◌, ⊤, [], ℕ, ◌+◌, Option, Some, None, Result, Ok, Err}
+-- A session, by itself: its start, its token, its answer, and what a stream that failed makes of it.
+use Rattle.std.specs.Prelude.{◌≡◌, ◌≢◌, ◌⊎◌, ⊤, [], true, ℕ, ◌+◌, List, Option, Some, None, Result, Ok, Err}
+use Rattle.acct_text.specs.Bytes.{Bytes}
 use Rattle.acct_outside.specs.declared.streams.SinkFault.{SinkFault}
 use Rattle.acct_outside.specs.Calls.{Command}
 use Rattle.acct_outside.specs.Tokens.{Token}
-use Rattle.account_words.specs.Words.{Asks}
+use Rattle.account_words.specs.declared.word_fault.WordFault.TheVariants.{Memory as NoWordMemory}
+use Rattle.account_words.specs.BatchLines.{FaultyLine, first_faulty}
+use Rattle.account_words.specs.Options.{Word}
+use Rattle.account_words.specs.Request.{Request}
+use Rattle.account_words.specs.Words.{Asks, fault, is_batch}
 use Rattle.suite_answers.specs.declared.cause.Outcome.{Outcome}
 use Rattle.suite_answers.specs.declared.answer.Answer.{Answer}
+use Rattle.suite_session.specs.declared.start_fault.StartFault.{StartFault}
+use Rattle.suite_session.specs.declared.start_fault.StartFault.TheVariants.{Words as OfWords, Line as OfLine}
 use Rattle.suite_session.specs.declared.state.State.{State}
 use Rattle.suite_session.specs.declared.state.State.TheVariants.{Answering}
 use Rattle.suite_session.specs.declared.session.Phase.{Phase}
@@ -18,6 +25,20 @@ use Rattle.suite_session.specs.Stands.{IsMemory}
 abbrev pub IsStarted : Command → Phase → Type 0
 IsStarted command (Waiting asked) = (asked.command ≡ command) × Asks command.words asked.request
 IsStarted command phase = ⊥
+
+-- the words ask for a batch, and this line of its input is the first that asks for nothing
+pub record HasFaultyLine (words : List Word) (input : Bytes) (faulty : FaultyLine) : Type 0 where
+  pub request : Request
+  pub asks : Asks words request
+  pub batch : is_batch request.tool ≡ true
+  pub first : first_faulty input ≡ Some faulty
+
+-- why no session starts: the first fault of the words, or that there was no memory; or the number of
+-- the first line of a batch that asks for nothing, with its fault
+abbrev pub CantStart : List Word → Bytes → StartFault → Type 0
+CantStart words input (OfWords found) = (fault words ≡ Some found) ⊎ (found ≡ NoWordMemory)
+CantStart words input (OfLine number found) = (faulty : FaultyLine)
+    × HasFaultyLine words input faulty × (faulty.line.number ≡ number) × (faulty.fault ≡ found)
 
 -- the session hasn't begun
 abbrev pub IsWaiting : Phase → Type 0

@@ -24,7 +24,7 @@ use Rattle.commit_steps.specs.Walks.{token_of}
 use Rattle.commit_steps.specs.Stands.{HasRead, BacksUp, HasStagedIntent, Installs}
 use Rattle.suite_answers.specs.declared.cause.Which.TheVariants.{File}
 use Rattle.suite_answers.specs.declared.cause.Cause.{Cause}
-use Rattle.suite_answers.specs.declared.cause.Cause.TheVariants.{Changed, Same, Refused, NoTable, BadSetting, TooLarge, DiskFault, InputFault, OutputFault, ClockFault, Memory}
+use Rattle.suite_answers.specs.declared.cause.Cause.TheVariants.{Changed, Same, Refused, RefusedLine, NoTable, BadSetting, TooLarge, DiskFault, InputFault, OutputFault, ClockFault, Memory}
 use Rattle.suite_answers.specs.declared.answer.Answer.{Answer}
 use Rattle.suite_answers.specs.Reasons.{stage_of}
 use Rattle.suite_session.specs.declared.state.State.{State}
@@ -70,6 +70,7 @@ abbrev pub IsDecided : Cause → Type 0
 IsDecided Changed = ⊤
 IsDecided Same = ⊤
 IsDecided (Refused refusal) = ⊤
+IsDecided (RefusedLine line refusal) = ⊤
 IsDecided (NoTable table) = ⊤
 IsDecided (BadSetting line) = ⊤
 IsDecided (TooLarge (File (Table table))) = ⊤

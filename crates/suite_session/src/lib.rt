@@ -17,13 +17,15 @@ mod recovering;
 mod reporting;
 mod runner;
 mod session;
+mod start_fault;
 mod state;
 mod tools;
 mod turning;
 mod unlocking;
 
 pub use laws::belonging_stays;
-pub use runner::{Question, memory_answer};
+pub use runner::{Question, faulty_line, memory_answer};
 pub use session::{Session, outcome_after};
+pub use start_fault::StartFault;
 pub use suite_answers::{Answer, Cause, Outcome, Which};
 pub use tools::{Decided, Tools};

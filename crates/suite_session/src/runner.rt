@@ -5,10 +5,11 @@ ghost use Rattle.account_words.specs.Request.{is_report};
 ghost use Rattle.account_words.specs.Words.{Asks};
 ghost use Rattle.option_words.specs.Parsed.{request_in};
 ghost use Rattle.suite_session.specs.Answers.{given_for, IsTold, memory_answer};
+ghost use Rattle.suite_session.specs.Runner.{FindsFaulty, LinesAsk};
 
 use acct_outside::{CommitStage, Token};
 use acct_text::{Bytes, Word};
-use option_words::{Parsed, Tool};
+use option_words::{FaultyLine, Parsed, Tool, first_faulty};
 use std::alloc::{AllocError, Global};
 use std::marker::Model;
 use suite_answers::{Answer, Cause, Outcome};
@@ -80,10 +81,12 @@ impl Question {
         self.parsed.is_report()
     }
 
-    /// The input, which is empty for a tool that reads none.
+    /// The input, which is empty for a tool that reads none. Each line of a batch's that isn't skipped
+    /// asks for something.
     pub fn input(&self) -> &Bytes
         ensures value { result.now ≡ self.now.command.input }
         ensures within { length result.now ≤ table_limit }
+        ensures lines_ask { LinesAsk self.now.request.tool result.now }
     {
         &self.input
     }
@@ -116,6 +119,22 @@ impl Question {
             Cause::Memory(stage) => Ok(memory_answer(alloc, stage)),
             cause => Answer::of_cause(alloc, self.tool(), cause),
         }
+    }
+}
+
+/// The first line of a batch's input that isn't skipped and asks for nothing; none where each of them
+/// asks for something, and for any other tool. The input has at most 16 MiB.
+pub fn faulty_line(
+    alloc: Global,
+    tool: Tool,
+    input: &Bytes,
+) -> Result<Option<FaultyLine>, AllocError>
+    requires { length input.now ≤ table_limit }
+    ensures { IfOk result (FindsFaulty tool input.now) }
+{
+    match tool {
+        Tool::Batch => first_faulty(alloc, input),
+        _ => Ok(None),
     }
 }
 

@@ -1,21 +1,23 @@
 // A session: what it was asked, and how far it has come.
-ghost use Rattle.std.specs.Prelude.{◌≡◌, ◌⊎◌, ◌≤◌, ◌<◌, Some, None, IfOk, IfErr, IsSome, is_none, length};
+ghost use Rattle.std.specs.Prelude.{◌≡◌, ◌≤◌, ◌<◌, Some, None, IfOk, IfErr, IsSome, is_none, length};
 ghost use Rattle.std.specs.Option.{option_copied};
 ghost use Rattle.acct_text.specs.Limits.{last_day, table_limit};
-ghost use Rattle.account_words.specs.Words.{Asks, fault as first_fault};
+ghost use Rattle.account_words.specs.Words.{Asks};
 ghost use Rattle.option_words.specs.Parsed.{request_in};
+ghost use Rattle.suite_session.specs.Runner.{LinesAsk};
 ghost use Rattle.suite_session.specs.Belongs.{Belongs};
-ghost use Rattle.suite_session.specs.Session.{IsStarted, IsToPut, answer_of, outcome_of, output_failed, phase_left, state_failed};
+ghost use Rattle.suite_session.specs.Session.{CantStart, IsStarted, IsToPut, answer_of, outcome_of, output_failed, phase_left, state_failed};
 ghost use Rattle.suite_session.specs.Turning.{KeepsOthers, SessionTurns};
 ghost use Rattle.suite_session.specs.Answers.{after_fault, left_by, status_left};
 
-use crate::runner::{Question, Runner, copy_words, memory_answer};
+use crate::runner::{Question, Runner, copy_words, faulty_line, memory_answer};
+use crate::start_fault::StartFault;
 use crate::state::State;
 use crate::tools::Tools;
 use crate::turning::turned;
 use acct_outside::{CommitStage, Folder, SinkFault};
 use acct_text::{Bytes, Word};
-use option_words::{Parsed, Tool, WordFault, read_words};
+use option_words::{Parsed, Tool, read_words};
 use std::alloc::{AllocError, Global};
 use std::marker::{Model, PhantomData};
 use std::mem;
@@ -54,8 +56,9 @@ impl<T: Tools> Session<T> {
     /// A session that was asked this and hasn't begun. The input has at most 16 MiB. The day is counted
     /// from 1970-01-01, and at most 2,932,896 (9999-12-31).
     ///
-    /// The error is the first fault of the words, or `Memory`.
-    pub fn start(alloc: Global, words: &[Word], input: Bytes, day: u32) -> Result<Self, WordFault>
+    /// The error is the first fault of the words, or `Memory`; then the first line of a batch's input
+    /// that isn't skipped and asks for nothing, with its first fault.
+    pub fn start(alloc: Global, words: &[Word], input: Bytes, day: u32) -> Result<Self, StartFault>
         requires within { length input ≤ table_limit }
         requires in_time { day ≤ last_day }
         ensures started { IfOk result (IsStarted (record {
@@ -63,17 +66,17 @@ impl<T: Tools> Session<T> {
           input = input;
           day = day;
         })) }
-        ensures fault { IfErr result (λ found.
-            (first_fault words.now ≡ Some found) ⊎ (found ≡ WordFault.Memory)) }
+        ensures fault { IfErr result (CantStart words.now input) }
     {
         let parsed = read_words(alloc, words)?;
-        match Session::of(alloc, words, parsed, input, day) {
-            Ok(session) => Ok(session),
-            Err(_) => Err(WordFault::Memory),
+        if let Some(faulty) = faulty_line(alloc, parsed.tool, &input)? {
+            return Err(StartFault::Line(faulty.number, faulty.fault));
         }
+        Ok(Session::of(alloc, words, parsed, input, day)?)
     }
 
-    /// The session of words that were read. The error says that memory ran out for a copy of them.
+    /// The session of words that were read, and of a batch's lines too. The error says that memory ran
+    /// out for a copy of the words.
     pub fn of(
         alloc: Global,
         words: &[Word],
@@ -82,6 +85,7 @@ impl<T: Tools> Session<T> {
         day: u32,
     ) -> Result<Self, AllocError>
         requires asks { Asks words.now (request_in parsed) }
+        requires lines_ask { LinesAsk parsed.tool input }
         requires within { length input ≤ table_limit }
         requires in_time { day ≤ last_day }
         ensures { IfOk result (λ session. session ≡ Phase.Waiting (record {
