@@ -1,6 +1,6 @@
 -- Claims: a session that was alone, in whose way nothing stood, gives the tool's answer on the files of
--- its entry, or finds no memory (`ran-complete`); and a command that got no input or no day, though
--- nothing lacked, found no memory (`ends-unsupplied`).
+-- its entry, or finds no memory (`ran-complete`); and a command that got no input or no day, or had a
+-- line that asks for nothing, though nothing lacked, found no memory (`ends-unsupplied`).
 -- Way: cause by cause (`answers-as`): what a tool answers on is the files of the entry (AloneLemmas); what
 -- others leave it doesn't meet (OpenLemmas); and each fault is counted.
 use Rattle.std.proofs.Common.{◌≡◌, refl, sym, ap, subst, ◌∙◌, ◌∷◌, ◌++◌, [], ◌+◌, ◌≤◌, length, ◌⊎◌, inl, inr, Option, Some, None, Result, Ok, Err, arith}
@@ -25,18 +25,19 @@ use Rattle.acct_outside.specs.History.{Event, History, after, own_events}
 use Rattle.acct_outside.specs.Others.{Admission}
 use Rattle.acct_outside.specs.Contract.{WhereTold}
 use Rattle.account_words.specs.declared.tool.Tool.{Tool}
+use Rattle.account_words.specs.BatchLines.{FaultyLine, first_faulty}
+use Rattle.account_words.specs.Words.{is_batch}
 use Rattle.suite_rules.specs.Deeds.{SuiteDeeds}
 use Rattle.suite_rules.specs.Standing.{standing}
 use Rattle.suite_rules.specs.Lawful.{Lawful}
 use Rattle.suite_rules.specs.Steps.{LawfulOthers}
 use Rattle.suite_answers.specs.declared.cause.Which.TheVariants.{Input, File}
 use Rattle.suite_answers.specs.declared.cause.Cause.{Cause}
-use Rattle.suite_answers.specs.declared.cause.Cause.TheVariants.{Changed, Same, Refused, Syntax, Held, Gone, Raced, Outrun, LockDamaged, Exhausted, IntentDamaged, TooLarge, NoTable, BadSetting, DiskFault, InputFault, OutputFault, ClockFault, Memory}
+use Rattle.suite_answers.specs.declared.cause.Cause.TheVariants.{Changed, Same, Refused, RefusedLine, Syntax, BatchSyntax, Held, Gone, Raced, Outrun, LockDamaged, Exhausted, IntentDamaged, TooLarge, NoTable, BadSetting, DiskFault, InputFault, OutputFault, ClockFault, Memory}
 use Rattle.suite_answers.specs.declared.cause.Outcome.{Outcome}
 use Rattle.suite_answers.specs.declared.answer.Answer.{Answer}
-use Rattle.suite_answers.specs.Answers.{told}
 use Rattle.suite_answers.specs.Reasons.{stage_of}
-use Rattle.suite_session.specs.Runner.{Question}
+use Rattle.suite_session.specs.Runner.{LinesAsk, Question}
 use Rattle.acct_outside.specs.Moment.{Past, Moment}
 use Rattle.suite_session.specs.Answers.{IsTold, Says, after_streams}
 use Rattle.suite_session.specs.Deeds.{AreOfTools}
@@ -44,11 +45,14 @@ use Rattle.suite_session.specs.Locking.{cause_of_fault}
 use Rattle.suite_session.specs.Stands.{IsDiskFault}
 use Rattle.suite_course.specs.Open.{StandsOpen}
 use Rattle.suite_course.specs.Streams.{Streams, Serves}
-use Rattle.suite_course.specs.Supplies.{Supplies, IsTooMuch, IsUnsupplied, LacksNothing}
+use Rattle.suite_course.specs.declared.supplies.Lack.{Lack}
+use Rattle.suite_course.specs.declared.supplies.Lack.TheVariants.{Supply, Request}
+use Rattle.suite_course.specs.Supplies.{Supplies, IsTooMuch, IsUnsupplied, Lacks, LacksNothing, TakesAll, told_lack}
 use Rattle.suite_course.specs.Alone.{AnswersOnOld, IsAlone}
 use Rattle.suite_course.specs.Shows.{IsShownAt}
 use Rattle.suite_course.specs.Top.{Answered, EndsEarly, EndsUnsupplied, ExtendsLawfully, IfLawful, RunsOrNot, StreamsServe, WhereLawful}
 use Rattle.suite_course.proofs.OpenLemmas.{some-event, never-last, never-gone, never-damaged, never-held, never-raced, never-outrun, never-unread, never-large}
+use Rattle.suite_course.proofs.SuppliesLemmas.{batch-reads}
 
 -- ---- A session that was alone
 
@@ -64,6 +68,7 @@ module _ (deeds : SuiteDeeds) (asked : Question) (first : Folder)
   answers-as Changed is commits says inside shown = inr (shown.alone old alone)
   answers-as Same is commits says inside shown = inr (shown.alone old alone)
   answers-as (Refused refusal) is commits says inside shown = inr (shown.alone old alone)
+  answers-as (RefusedLine line refusal) is commits says inside shown = inr (shown.alone old alone)
   answers-as (NoTable table) is commits says inside shown = inr (shown.alone old alone)
   answers-as (BadSetting line) is commits says inside shown = inr (shown.alone old alone)
   answers-as (TooLarge (File (Table table))) is commits says inside shown =
@@ -88,6 +93,7 @@ module _ (deeds : SuiteDeeds) (asked : Question) (first : Folder)
   answers-as (IntentDamaged part) is commits says inside shown =
       absurd (never-unread deeds first old new token lawful alone opened commits part shown)
   answers-as (Syntax fault) is commits says inside shown = absurd says
+  answers-as (BatchSyntax line fault) is commits says inside shown = absurd says
   answers-as (DiskFault stage) is commits says inside shown = absurd (inside tt)
   answers-as InputFault is commits says inside shown = absurd says
   answers-as (OutputFault stage) is commits says inside shown = absurd says
@@ -275,25 +281,47 @@ unsupplied-memory : (tool : Tool) (before now : Supplies) (cause : Cause) →
 unsupplied-memory tool before now InputFault due lacks = absurd
     (lacks.source (last-failed-rises before.input_faults now.input_faults due.1))
 unsupplied-memory tool before now (TooLarge Input) due lacks =
-    let all = lacks.within due.0 in
+    let all = lacks.input due.0 in
     absurd (never-too-much before.left now.left all.0 all.1 all.2 due.2.1)
 unsupplied-memory tool before now ClockFault due lacks = absurd
     (lacks.clock (last-failed-rises before.clock_faults now.clock_faults due.clock))
 unsupplied-memory tool before now (Memory Before) due lacks = refl
 unsupplied-memory tool before now cause due lacks = absurd due
 
+-- no line asks for nothing
+never-faulty : (tool : Tool) (was left : Option Bytes) (bytes input : Bytes) (faulty : FaultyLine) →
+    was ≡ Some bytes → LinesAsk tool bytes → is_batch tool ≡ true →
+    WhereBytesTold was left (TakesAll (Ok input)) → first_faulty input ≡ Some faulty → ⊥
+never-faulty tool None left bytes input faulty is ask batch came first = cc is
+never-faulty tool (Some all) None bytes input faulty is ask batch came first = came
+never-faulty tool (Some all) (Some rest) bytes input faulty is ask batch came first =
+    let same : all ≡ bytes = cc is in
+    let wrong : None ≡ Some faulty = sym (ask batch)
+    ∙ (ap first_faulty (sym same ∙ came.0) ∙ first) in
+    cc wrong
+
+-- so what it lacks is memory
+lack-memory : (tool : Tool) (before now : Supplies) (lack : Lack) → Lacks tool before now lack →
+    LacksNothing tool before now → (told_lack tool lack).outcome.cause ≡ Memory Before
+lack-memory tool before now (Supply cause) due lacks =
+    unsupplied-memory tool before now cause due lacks
+lack-memory tool before now (Request faulty) due lacks =
+    let all = lacks.input (batch-reads tool due.0) in
+    absurd (never-faulty tool before.left now.left all.0 due.1.input faulty all.1 all.3 due.0
+    due.1.all_input due.1.first)
+
 -- so the outcome says, where the streams serve
 unsupplied-complete : (tool : Tool) (before now : Supplies) (was holds : Streams)
-    (outcome : Outcome) (cause : Cause) → IsUnsupplied tool before now cause →
-    EndsEarly (Some tool) (told tool cause) was holds outcome →
+    (outcome : Outcome) (lack : Lack) → Lacks tool before now lack →
+    EndsEarly (Some tool) (told_lack tool lack) was holds outcome →
     LacksNothing tool before now → StreamsServe was holds → outcome.cause ≡ Memory Before
-unsupplied-complete tool before now was holds outcome cause due early lacks serve =
+unsupplied-complete tool before now was holds outcome lack due early lacks serve =
     ap (λ (one : Outcome). one.cause) early.ends.left ∙ by-put early.ends.put early.ends.served
   where
     told_is : early.given.outcome.cause ≡ Memory Before
     told_is = elim early.is [
       | inl is ↦ ap (λ (one : Answer). one.outcome.cause) is
-          ∙ unsupplied-memory tool before now cause due lacks
+          ∙ lack-memory tool before now lack due lacks
       | inr is ↦ ap (λ (one : Answer). one.outcome.cause) is
     ]
 
@@ -306,12 +334,12 @@ unsupplied-complete tool before now was holds outcome cause due early lacks serv
 
 -- the second claim
 pub ends-unsupplied : (tool : Tool) (before now : Supplies) (was holds : Streams)
-    (outcome : Outcome) (cause : Cause) → IsUnsupplied tool before now cause →
-    EndsEarly (Some tool) (told tool cause) was holds outcome →
+    (outcome : Outcome) (lack : Lack) → Lacks tool before now lack →
+    EndsEarly (Some tool) (told_lack tool lack) was holds outcome →
     EndsUnsupplied tool before now was holds outcome
-ends-unsupplied tool before now was holds outcome cause due early = record {
-  cause = cause;
+ends-unsupplied tool before now was holds outcome lack due early = record {
+  lack = lack;
   due = due;
   ends = early;
-  complete = unsupplied-complete tool before now was holds outcome cause due early;
+  complete = unsupplied-complete tool before now was holds outcome lack due early;
 }

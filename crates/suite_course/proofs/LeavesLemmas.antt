@@ -18,7 +18,7 @@ use Rattle.suite_rules.specs.Lawful.{Lawful}
 use Rattle.suite_rules.proofs.Once.{committed-once}
 use Rattle.suite_answers.specs.declared.cause.Which.TheVariants.{File}
 use Rattle.suite_answers.specs.declared.cause.Cause.{Cause}
-use Rattle.suite_answers.specs.declared.cause.Cause.TheVariants.{Changed, Same, Refused, NoTable, BadSetting, TooLarge}
+use Rattle.suite_answers.specs.declared.cause.Cause.TheVariants.{Changed, Same, Refused, RefusedLine, NoTable, BadSetting, TooLarge}
 use Rattle.suite_answers.specs.declared.answer.Answer.{Answer}
 use Rattle.suite_answers.specs.Reasons.{stage_of}
 use Rattle.suite_session.specs.Runner.{Question}
@@ -38,6 +38,7 @@ decided-quiet : (cause : Cause) → IsDecided cause → IsStopped cause → ⊥
 decided-quiet Changed decided stopped = stopped
 decided-quiet Same decided stopped = stopped
 decided-quiet (Refused refusal) decided stopped = stopped
+decided-quiet (RefusedLine line refusal) decided stopped = stopped
 decided-quiet (NoTable table) decided stopped = stopped
 decided-quiet (BadSetting line) decided stopped = stopped
 decided-quiet (TooLarge (File (Table table))) decided stopped = stopped
@@ -71,6 +72,8 @@ module _ (deeds : SuiteDeeds) (asked : Question) (first : Folder) (past : Past) 
   was-keeper no_report Same decided commits shown =
       (shown.number, shown.has_number.keeper no_report)
   was-keeper no_report (Refused refusal) decided commits shown =
+      (shown.number, shown.has_number.keeper no_report)
+  was-keeper no_report (RefusedLine line refusal) decided commits shown =
       (shown.number, shown.has_number.keeper no_report)
   was-keeper no_report (NoTable table) decided commits shown =
       (shown.number, shown.has_number.keeper no_report)

@@ -33,7 +33,7 @@ use Rattle.suite_rules.proofs.Keepers.{lock-facts}
 use Rattle.suite_rules.proofs.Whole.{invariant}
 use Rattle.suite_answers.specs.declared.cause.Which.TheVariants.{File}
 use Rattle.suite_answers.specs.declared.cause.Cause.{Cause}
-use Rattle.suite_answers.specs.declared.cause.Cause.TheVariants.{Changed, Same, Refused, Outrun, TooLarge, NoTable, BadSetting}
+use Rattle.suite_answers.specs.declared.cause.Cause.TheVariants.{Changed, Same, Refused, RefusedLine, Outrun, TooLarge, NoTable, BadSetting}
 use Rattle.suite_answers.specs.declared.answer.Answer.{Answer}
 use Rattle.suite_answers.specs.Reasons.{stage_of}
 use Rattle.suite_session.specs.Runner.{Question, Runner}
@@ -264,6 +264,7 @@ module _ (deeds : SuiteDeeds) (first : Folder) (history : History)
       told shown
   shown-at Same told is shown = all-at is shown
   shown-at (Refused refusal) told is shown = all-at is shown
+  shown-at (RefusedLine line refusal) told is shown = all-at is shown
   shown-at (BadSetting line) told is shown = all-at is shown
   shown-at (NoTable table) told is shown = some-at is shown
   shown-at (TooLarge (File (Table table))) told is shown = large-at is (Table table) shown

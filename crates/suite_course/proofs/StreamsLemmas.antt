@@ -3,7 +3,7 @@
 use Rattle.std.proofs.Common.{◌≡◌, [], Option, Some, None}
 use Rattle.acct_outside.specs.declared.CommitStage.{CommitStage}
 use Rattle.account_words.specs.declared.tool.Tool.{Tool}
-use Rattle.account_words.specs.declared.tool.Tool.TheVariants.{Useradd, Usermod, Userdel, Groupadd, Groupmod, Groupdel, Gpasswd, Chage, Chpasswd, Pwck, Grpck, Getsubids}
+use Rattle.account_words.specs.declared.tool.Tool.TheVariants.{Useradd, Usermod, Userdel, Groupadd, Groupmod, Groupdel, Gpasswd, Chage, Chpasswd, Pwck, Grpck, Getsubids, Batch}
 use Rattle.suite_answers.specs.Reasons.{memory_message}
 
 -- the claim
@@ -22,3 +22,4 @@ memory_message_some (Some Chpasswd) stage is = absurd (cc is)
 memory_message_some (Some Pwck) stage is = absurd (cc is)
 memory_message_some (Some Grpck) stage is = absurd (cc is)
 memory_message_some (Some Getsubids) stage is = absurd (cc is)
+memory_message_some (Some Batch) stage is = absurd (cc is)

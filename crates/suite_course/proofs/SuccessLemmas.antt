@@ -3,7 +3,7 @@
 use Rattle.std.proofs.Common.{◌≡◌, refl, sym, ◌∙◌, Option}
 use Rattle.acct_text.specs.declared.files.Files.{Files}
 use Rattle.acct_text.specs.Bytes.{Bytes}
-use Rattle.account_model.specs.Answer.{TableTooLarge, SettingsTooLarge, TableAbsent, BadSettingAt, AnswerCause, Unusable, Refused, Same, Changed}
+use Rattle.account_model.specs.Answer.{TableTooLarge, SettingsTooLarge, TableAbsent, BadSettingAt, AnswerCause, Unusable, Refused, RefusedLine, Same, Changed}
 use Rattle.suite_answers.specs.declared.cause.Cause.TheVariants.{Changed as IsChanged}
 use Rattle.suite_answers.specs.declared.answer.Answer.{Answer}
 use Rattle.suite_answers.proofs.ChangeLemmas.{changes-succeed}
@@ -21,6 +21,7 @@ module _ (asked : Question) (files : Files) (defs : Option Bytes) where
   by-cause (Unusable (TableAbsent table)) is same = absurd (cc)
   by-cause (Unusable (BadSettingAt line)) is same = absurd (cc)
   by-cause (Refused refusal) is same = absurd (cc)
+  by-cause (RefusedLine line refusal) is same = absurd (cc)
   by-cause Same is same = absurd (cc)
 
   -- the claim

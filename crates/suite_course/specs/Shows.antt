@@ -17,7 +17,7 @@ use Rattle.suite_rules.specs.Settled.{settled}
 use Rattle.suite_rules.specs.Committed.{committed, commitments_of, place, folded}
 use Rattle.suite_answers.specs.declared.cause.Which.TheVariants.{File}
 use Rattle.suite_answers.specs.declared.cause.Cause.{Cause}
-use Rattle.suite_answers.specs.declared.cause.Cause.TheVariants.{Changed, Same, Refused, Outrun, TooLarge, NoTable, BadSetting}
+use Rattle.suite_answers.specs.declared.cause.Cause.TheVariants.{Changed, Same, Refused, RefusedLine, Outrun, TooLarge, NoTable, BadSetting}
 use Rattle.suite_answers.specs.declared.answer.Answer.{Answer}
 use Rattle.suite_answers.specs.Reasons.{stage_of}
 use Rattle.suite_session.specs.Runner.{Question}
@@ -88,6 +88,8 @@ IsShownAt deeds asked first history token given Changed =
 IsShownAt deeds asked first history token given Same =
     HasStayed deeds asked first history token given
 IsShownAt deeds asked first history token given (Refused refusal) =
+    HasStayed deeds asked first history token given
+IsShownAt deeds asked first history token given (RefusedLine line refusal) =
     HasStayed deeds asked first history token given
 IsShownAt deeds asked first history token given (NoTable table) =
     HasStayed deeds asked first history token given

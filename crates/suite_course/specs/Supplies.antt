@@ -1,5 +1,6 @@
--- What a command takes beside its words: chpasswd(8) reads its pairs from the standard input, to the
--- end, and other tools nothing of it; and each command takes the day from the clock.
+-- What a command takes beside its words: chpasswd(8) reads its pairs and a batch its lines from the
+-- standard input, to the end, and other tools nothing of it; and each command takes the day from the
+-- clock. Each line of a batch that isn't skipped must ask for something.
 use Rattle.std.specs.Prelude.{◌≡◌, ⊤, ℕ, ◌+◌, ◌≤◌, ◌++◌, [], length, Bool, true, false, Option, Some, Result, Ok, Err}
 use Rattle.acct_text.specs.Bytes.{Bytes}
 use Rattle.acct_text.specs.Limits.{table_limit}
@@ -9,14 +10,22 @@ use Rattle.acct_outside.specs.declared.streams.SourceFault.TheVariants.{Failed, 
 use Rattle.acct_outside.specs.Faults.{Faults, HasRisen, LastFailed, NoneFailed}
 use Rattle.acct_outside.specs.Streams.{ClockMoment, SourceMoment, WhereBytesTold}
 use Rattle.account_words.specs.declared.tool.Tool.{Tool}
-use Rattle.account_words.specs.declared.tool.Tool.TheVariants.{Chpasswd}
+use Rattle.account_words.specs.declared.tool.Tool.TheVariants.{Chpasswd, Batch}
+use Rattle.account_words.specs.BatchLines.{FaultyLine, first_faulty}
+use Rattle.account_words.specs.Words.{is_batch}
 use Rattle.suite_answers.specs.declared.cause.Which.TheVariants.{Input}
 use Rattle.suite_answers.specs.declared.cause.Cause.{Cause}
 use Rattle.suite_answers.specs.declared.cause.Cause.TheVariants.{TooLarge, InputFault, ClockFault, Memory}
+use Rattle.suite_answers.specs.declared.answer.Answer.{Answer}
+use Rattle.suite_answers.specs.Answers.{told, told_line}
+use Rattle.suite_session.specs.Runner.{LinesAsk}
+use Rattle.suite_course.specs.declared.supplies.Lack.{Lack}
+use Rattle.suite_course.specs.declared.supplies.Lack.TheVariants.{Supply, Request}
 
--- the tool reads an input: the pairs of chpasswd(8)
+-- the tool reads an input: the pairs of chpasswd(8), the lines of a batch
 abbrev pub reads_input : Tool → Bool
 reads_input Chpasswd = true
+reads_input Batch = true
 reads_input tool = false
 
 -- what a source has left where it tells, and its faults; the day that a clock last gave, and its faults
@@ -69,12 +78,13 @@ IsOfInput InputFault = ⊤
 IsOfInput (Memory Before) = ⊤
 IsOfInput cause = ⊥
 
--- The command has this input and this day: all that the source had left, for a tool that reads it, and
--- the day that the clock gave. Neither failed.
+-- The command has this input and this day: all that the source had left, for a tool that reads it, of
+-- which each line of a batch asks for something, and the day that the clock gave. Neither failed.
 pub record AreSupplied (tool : Tool) (before now : Supplies) (input : Bytes) (day : ℕ) : Type 0 where
   pub all_input : reads_input tool ≡ true → WhereBytesTold before.left now.left (TakesAll (Ok input))
   pub no_input : reads_input tool ≡ false → input ≡ []
   pub within : length input ≤ table_limit
+  pub lines_ask : LinesAsk tool input
   pub on_day : now.gave ≡ Some day
   pub source : NoneFailed before.input_faults now.input_faults
   pub clock : NoneFailed before.clock_faults now.clock_faults
@@ -88,9 +98,9 @@ pub record ClockStays (before now : Supplies) : Type 0 where
 abbrev pub SomeCame : Bytes → Bytes → Type 0
 SomeCame before now = (came : Bytes) × Came came before now
 
--- a whole input came, and nothing is left
-abbrev pub AllCame : Bytes → Bytes → Type 0
-AllCame before now = (length before ≤ table_limit) × (now ≡ [])
+-- a whole input came, of which each line of a batch asks for something, and nothing is left
+abbrev pub AllCame : Tool → Bytes → Bytes → Type 0
+AllCame tool before now = (length before ≤ table_limit) × (now ≡ []) × LinesAsk tool before
 
 -- The source failed or had too much, or there was no memory: no day was asked for after that.
 abbrev pub LacksInput : Supplies → Supplies → (Bytes → Bytes → Type 0) → Type 0
@@ -102,7 +112,7 @@ pub record LacksDay (tool : Tool) (before now : Supplies) : Type 0 where
   pub clock : LastFailed before.clock_faults now.clock_faults
   pub gave : now.gave ≡ before.gave
   pub source : NoneFailed before.input_faults now.input_faults
-  pub all_input : reads_input tool ≡ true → WhereBytesTold before.left now.left AllCame
+  pub all_input : reads_input tool ≡ true → WhereBytesTold before.left now.left (AllCame tool)
 
 -- Why the command has no input or no day: the source or the clock failed, and was called no more; more
 -- came than an input may have; or there was no memory.
@@ -116,10 +126,38 @@ IsUnsupplied tool before now (Memory Before) =
     NoneFailed before.input_faults now.input_faults × LacksInput before now SomeCame
 IsUnsupplied tool before now cause = ⊥
 
+-- The whole input of a batch came, and this is the first of its lines that isn't skipped and asks for
+-- nothing: no day was asked for after that.
+pub record LacksRequest (before now : Supplies) (faulty : FaultyLine) : Type 0 where
+  pub input : Bytes
+  pub all_input : WhereBytesTold before.left now.left (TakesAll (Ok input))
+  pub within : length input ≤ table_limit
+  pub first : first_faulty input ≡ Some faulty
+  pub source : NoneFailed before.input_faults now.input_faults
+  pub clock : ClockStays before now
+
+-- what a command lacks that has this input: its first line that asks for nothing, or memory to tell
+abbrev pub LacksLine : Tool → Bytes → Lack → Type 0
+LacksLine tool input (Request faulty) =
+    (is_batch tool ≡ true) × (first_faulty input ≡ Some faulty)
+LacksLine tool input (Supply (Memory Before)) = ⊤
+LacksLine tool input lack = ⊥
+
+-- why the command doesn't run: it has no input or no day, or a line of its input asks for nothing
+abbrev pub Lacks : Tool → Supplies → Supplies → Lack → Type 0
+Lacks tool before now (Supply cause) = IsUnsupplied tool before now cause
+Lacks tool before now (Request faulty) =
+    (is_batch tool ≡ true) × LacksRequest before now faulty
+
+-- the answer that tells it
+abbrev pub told_lack : Tool → Lack → Answer
+told_lack tool (Supply cause) = told tool cause
+told_lack tool (Request faulty) = told_line faulty
+
 -- nothing lacks: no fault of the source or of the clock was counted, and what the source had left, where
--- the tool reads it, is within the limit of an input
+-- the tool reads it, is within the limit of an input, and each line of a batch asks for something
 pub record LacksNothing (tool : Tool) (before now : Supplies) : Type 0 where
   pub source : HasRisen before.input_faults.count now.input_faults.count → ⊥
   pub clock : HasRisen before.clock_faults.count now.clock_faults.count → ⊥
-  pub within : reads_input tool ≡ true →
-      (bytes : Bytes) × (before.left ≡ Some bytes) × (length bytes ≤ table_limit)
+  pub input : reads_input tool ≡ true → (bytes : Bytes) × (before.left ≡ Some bytes)
+      × (length bytes ≤ table_limit) × LinesAsk tool bytes

@@ -19,11 +19,9 @@ use Rattle.suite_rules.specs.Standing.{standing}
 use Rattle.suite_rules.specs.Lawful.{Lawful}
 use Rattle.suite_rules.specs.Steps.{LawfulOthers}
 use Rattle.suite_answers.specs.declared.cause.Outcome.{Outcome}
-use Rattle.suite_answers.specs.declared.cause.Cause.{Cause}
 use Rattle.suite_answers.specs.declared.cause.Cause.TheVariants.{Memory}
 use Rattle.suite_answers.specs.declared.answer.Answer.{Answer}
 use Rattle.suite_answers.specs.Reasons.{stage_of}
-use Rattle.suite_answers.specs.Answers.{told}
 use Rattle.suite_session.specs.Runner.{Question}
 use Rattle.acct_outside.specs.Moment.{Moment, Narrows}
 use Rattle.suite_session.specs.Bound.{IsBounded}
@@ -36,7 +34,8 @@ use Rattle.suite_course.specs.Open.{StandsOpen}
 use Rattle.suite_course.specs.Streams.{Streams, Serves}
 use Rattle.suite_course.specs.Alone.{AnswersOnOld, IsAlone, Leaves}
 use Rattle.suite_course.specs.Shows.{IfReportsFreely, IsAlwaysSettled, Shows}
-use Rattle.suite_course.specs.Supplies.{Supplies, IsUnsupplied, LacksNothing}
+use Rattle.suite_course.specs.declared.supplies.Lack.{Lack}
+use Rattle.suite_course.specs.Supplies.{Supplies, Lacks, LacksNothing, told_lack}
 
 -- ---- What the history shows
 
@@ -126,13 +125,13 @@ pub record StreamsServe (was holds : Streams) : Type 0 where
   pub out : HasRisen was.out_faults holds.out_faults → ⊥
   pub err : HasRisen was.err_faults holds.err_faults → ⊥
 
--- The command has no input or no day. It tells the cause of that, or that there was no memory. Where
--- nothing lacks, that is so.
+-- The command has no input or no day, or a line of a batch asks for nothing. It tells that, or that
+-- there was no memory. Where nothing lacks, the latter is so.
 pub record EndsUnsupplied (tool : Tool) (before now : Supplies) (was holds : Streams)
     (outcome : Outcome) : Type 0 where
-  pub cause : Cause
-  pub due : IsUnsupplied tool before now cause
-  pub ends : EndsEarly (Some tool) (told tool cause) was holds outcome
+  pub lack : Lack
+  pub due : Lacks tool before now lack
+  pub ends : EndsEarly (Some tool) (told_lack tool lack) was holds outcome
   pub complete : LacksNothing tool before now → StreamsServe was holds →
       outcome.cause ≡ Memory Before
 

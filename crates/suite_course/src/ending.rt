@@ -1,18 +1,20 @@
 // How a command ends that doesn't run: the streams are served with the reason, and no session begins.
-ghost use Rattle.std.specs.Prelude.{◌≡◌, ◌⊎◌, Some};
+ghost use Rattle.std.specs.Prelude.{◌≡◌, ◌⊎◌, Some, IfOk};
 ghost use Rattle.account_words.specs.declared.word_fault.WordFault.{WordFault as Fault};
 ghost use Rattle.suite_answers.specs.declared.answer.Answer.{Answer as Given};
-ghost use Rattle.suite_answers.specs.Answers.{told, told_words};
+ghost use Rattle.suite_answers.specs.Answers.{told_words};
 ghost use Rattle.suite_session.specs.Answers.{after_streams, memory_answer};
 ghost use Rattle.suite_course.specs.Streams.{streams};
+ghost use Rattle.suite_course.specs.Supplies.{told_lack};
 ghost use Rattle.suite_course.specs.Top.{Ends, EndsEarly, named_tool};
 
 use crate::streams::serve;
+use crate::supplies::Lack;
 use acct_outside::{CommitStage, Sink, SinkFault};
 use acct_text::Word;
 use option_words::{Tool, WordFault};
-use std::alloc::Global;
-use suite_answers::{Answer, Cause, Outcome};
+use std::alloc::{AllocError, Global};
+use suite_answers::{Answer, Outcome};
 use suite_session::{memory_answer, outcome_after};
 
 /// Tells the first fault of the words, and calls nothing but the streams. `Memory` is told where it
@@ -61,19 +63,34 @@ fn named_tool(words: &[Word]) -> Option<Tool>
 pub(crate) fn tell<O: Sink, E: Sink>(
     alloc: Global,
     tool: Tool,
-    cause: Cause,
+    lack: Lack,
     out: &mut O,
     err: &mut E,
 ) -> Outcome
-    ensures { EndsEarly (Some tool) (told tool cause)
+    ensures { EndsEarly (Some tool) (told_lack tool lack)
         (streams (O.moment out.old) (E.moment err.old))
         (streams (O.moment out.new) (E.moment err.new)) result }
 {
-    let answer = match Answer::of_cause(alloc, tool, cause) {
+    let answer = match answer_to_lack(alloc, tool, lack) {
         Ok(answer) => answer,
         Err(_) => memory_answer(alloc, CommitStage::Before),
     };
     end(Some(tool), answer, out, err)
+}
+
+/// The answer to what the command lacks. The error says that memory ran out for its text.
+fn answer_to_lack(alloc: Global, tool: Tool, lack: Lack) -> Result<Answer, AllocError>
+    ensures { IfOk result (λ answer. answer ≡ told_lack tool lack) }
+{
+    match lack {
+        Lack::Supply(cause) => Answer::of_cause(alloc, tool, cause),
+        Lack::Request(faulty) => Answer::of_line(
+            alloc,
+            faulty.number,
+            faulty.words.as_slice(),
+            faulty.fault,
+        ),
+    }
 }
 
 /// Serves the streams with an answer, and gives the outcome that they leave.

@@ -5,7 +5,7 @@ ghost use Rattle.acct_outside.specs.Moment.{Narrows};
 ghost use Rattle.account_words.specs.Words.{Asks};
 ghost use Rattle.option_words.specs.Parsed.{request_in};
 ghost use Rattle.suite_session.specs.declared.session.Phase.TheVariants.{Waiting};
-ghost use Rattle.suite_session.specs.Runner.{question};
+ghost use Rattle.suite_session.specs.Runner.{LinesAsk, question};
 ghost use Rattle.suite_course.specs.Course.{Finished};
 ghost use Rattle.suite_course.specs.Streams.{streams};
 ghost use Rattle.suite_course.specs.Supplies.{AreSupplied, reads_input, supplies};
@@ -24,7 +24,8 @@ use suite_session::{Session, Tools, memory_answer};
 /// Carries out what the words ask for, by these tools: it takes the input, asks the clock, enters the
 /// folder, turns a session to its answer and serves the streams.
 ///
-/// The outcome's cause tells each error. Without its input or its day the folder isn't called.
+/// The outcome's cause tells each error. Without its input or its day, and where a line of a batch asks
+/// for nothing, the folder isn't called.
 pub fn run_request<T: Tools, F: Folder, S: Source, O: Sink, E: Sink, C: Clock>(
     alloc: Global,
     words: &[Word],
@@ -52,7 +53,7 @@ pub fn run_request<T: Tools, F: Folder, S: Source, O: Sink, E: Sink, C: Clock>(
     let tool = parsed.tool;
     match supply(alloc, tool, input, clock) {
         Ok(supplied) => run::<T, F, O, E>(alloc, words, parsed, supplied, folder, out, err),
-        Err(cause) => tell(alloc, tool, cause, out, err),
+        Err(lack) => tell(alloc, tool, lack, out, err),
     }
 }
 
@@ -66,7 +67,8 @@ fn run<T: Tools, F: Folder, O: Sink, E: Sink>(
     out: &mut O,
     err: &mut E,
 ) -> Outcome
-    requires { Asks words.now (request_in parsed) }
+    requires asks { Asks words.now (request_in parsed) }
+    requires lines_ask { LinesAsk parsed.tool supplied.input }
     ensures { Finished (question words.now (request_in parsed) supplied.input supplied.day)
         (F.moment folder.old) (F.moment folder.new) (streams (O.moment out.old) (E.moment err.old))
         (streams (O.moment out.new) (E.moment err.new)) result }
@@ -91,7 +93,8 @@ fn enter<T: Tools, F: Folder>(
     supplied: Supplied,
     folder: &mut F,
 ) -> Result<Session<T>, AllocError>
-    requires { Asks words.now (request_in parsed) }
+    requires asks { Asks words.now (request_in parsed) }
+    requires lines_ask { LinesAsk parsed.tool supplied.input }
     ensures session { IfOk result (λ session. session
         ≡ Waiting (question words.now (request_in parsed) supplied.input supplied.day)) }
     ensures told { (F.moment folder.new).told ≡ (F.moment folder.old).told }

@@ -1,14 +1,16 @@
-// What a command takes beside its words: its input, to the end, and the day.
-ghost use Rattle.std.specs.Prelude.{◌≡◌, ◌≤◌, true, false, [], length, IfErr, IfOk};
+// What a command takes beside its words: its input, to the end, and the day; and what it lacks.
+ghost use Rattle.std.specs.Prelude.{◌≡◌, ◌≤◌, true, false, [], length, IfErr, IfOk, OnOk};
 ghost use Rattle.acct_text.specs.Limits.{last_day, table_limit};
 ghost use Rattle.acct_outside.specs.Streams.{WhereBytesTold};
-ghost use Rattle.suite_course.specs.Supplies.{AreSupplied, IsOfInput, IsUnsupplied, NotesInput, TakesAll, cause_of_source, reads_input, supplies};
+ghost use Rattle.suite_session.specs.Runner.{LinesAsk};
+ghost use Rattle.suite_course.specs.Supplies.{AreSupplied, IsOfInput, Lacks, LacksLine, NotesInput, TakesAll, cause_of_source, reads_input, supplies};
 
 use acct_outside::{Clock, CommitStage, Source, SourceFault};
 use acct_text::{Bytes, TABLE_LIMIT};
-use option_words::Tool;
+use option_words::{FaultyLine, Tool};
 use std::alloc::Global;
 use suite_answers::{Cause, Which};
+use suite_session::faulty_line;
 
 /// The most bytes of an input: 16 MiB.
 const INPUT_LIMIT: usize = TABLE_LIMIT as usize;
@@ -24,28 +26,64 @@ pub(crate) struct Supplied {
     ghost in_time: { day ≤ last_day },
 }
 
-/// Takes the input, for a tool that reads one, and then asks the clock for the day.
+/// What a command lacks that doesn't run.
+#[derive(Drop)]
+pub(crate) enum Lack {
+    /// It has no input or no day, for this cause.
+    Supply(Cause),
+    /// This line of a batch asks for nothing.
+    Request(FaultyLine),
+}
+
+impl From<Cause> for Lack {
+    ghost use Rattle.std.specs.Prelude.{◌≡◌};
+    ghost use Rattle.suite_course.specs.declared.supplies.Lack.TheVariants.{Supply};
+
+    ghost from_gives = { λ cause lack. lack ≡ Supply cause };
+
+    fn from(cause: Cause) -> Self {
+        Lack::Supply(cause)
+    }
+}
+
+/// Takes the input, for a tool that reads one, sees to it that each line of a batch asks for something,
+/// and then asks the clock for the day.
 ///
-/// The error is the cause of the command that lacks one of them. After a fault of the source or of the
-/// clock neither is called again.
+/// The error is what the command lacks. After a fault of the source or of the clock neither is called
+/// again.
 pub(crate) fn supply<S: Source, C: Clock>(
     alloc: Global,
     tool: Tool,
     source: &mut S,
     clock: &mut C,
-) -> Result<Supplied, Cause>
+) -> Result<Supplied, Lack>
     ensures supplied { IfOk result (λ given. AreSupplied tool
         (supplies (S.moment source.old) (C.moment clock.old))
         (supplies (S.moment source.new) (C.moment clock.new)) given.input given.day) }
-    ensures lacks { IfErr result (IsUnsupplied tool
+    ensures lacks { IfErr result (Lacks tool
         (supplies (S.moment source.old) (C.moment clock.old))
         (supplies (S.moment source.new) (C.moment clock.new))) }
     ensures untouched { reads_input tool ≡ false → source.new ≡ source.old }
 {
     let input = input_of(alloc, tool, source)?;
+    lines_ask(alloc, tool, &input)?;
     match clock.day() {
         Ok(day) => Ok(Supplied { input, day }),
-        Err(_) => Err(Cause::ClockFault),
+        Err(_) => Err(Lack::Supply(Cause::ClockFault)),
+    }
+}
+
+/// Sees to it that each line of a batch asks for something. The error is the first line that doesn't,
+/// or `Memory`.
+fn lines_ask(alloc: Global, tool: Tool, input: &Bytes) -> Result<(), Lack>
+    requires { length input.now ≤ table_limit }
+    ensures ask { OnOk result (LinesAsk tool input.now) }
+    ensures lacks { IfErr result (LacksLine tool input.now) }
+{
+    match faulty_line(alloc, tool, input) {
+        Ok(None) => Ok(()),
+        Ok(Some(faulty)) => Err(Lack::Request(faulty)),
+        Err(_) => Err(Lack::Supply(Cause::Memory(CommitStage::Before))),
     }
 }
 
@@ -72,7 +110,7 @@ fn reads_input(tool: Tool) -> bool
     ensures { result ≡ reads_input tool }
 {
     match tool {
-        Tool::Chpasswd => true,
+        Tool::Chpasswd | Tool::Batch => true,
         _ => false,
     }
 }

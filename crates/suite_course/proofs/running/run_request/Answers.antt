@@ -7,5 +7,5 @@ pub returns-in-Err-clause-ran : goal.returns-in-Err-clause-ran
 returns-in-Err-clause-ran g c =
     inl (
       refl,
-      ends-unsupplied _ _ _ _ _ _ c.in-Err.cause c.in-Err.ensures.lacks c.tell.ensures,
+      ends-unsupplied _ _ _ _ _ _ c.in-Err.lack c.in-Err.ensures.lacks c.tell.ensures,
     )
