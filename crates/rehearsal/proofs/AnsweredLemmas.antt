@@ -14,7 +14,7 @@ use Rattle.acct_outside.specs.Moment.{Past}
 use Rattle.acct_outside.specs.Streams.{WhereBytesTold}
 use Rattle.account_words.specs.declared.tool.Tool.{Tool}
 use Rattle.account_words.specs.declared.word_fault.WordFault.{WordFault}
-use Rattle.account_model.specs.Answer.{Answer, AnswerCause, Unusable, Refused, Same, Changed, TableTooLarge, SettingsTooLarge, TableAbsent, BadSettingAt, answer, new_files}
+use Rattle.account_model.specs.Answer.{Answer, AnswerCause, Unusable, Refused, RefusedLine, Same, Changed, TableTooLarge, SettingsTooLarge, TableAbsent, BadSettingAt, answer, new_files}
 use Rattle.account_words.specs.Options.{Word}
 use Rattle.account_words.specs.Request.{Request, is_report}
 use Rattle.account_words.specs.Words.{Asks}
@@ -59,6 +59,7 @@ cause-change (Unusable SettingsTooLarge) = refl
 cause-change (Unusable (TableAbsent table)) = refl
 cause-change (Unusable (BadSettingAt line)) = refl
 cause-change (Refused refusal) = refl
+cause-change (RefusedLine line refusal) = refl
 cause-change Same = refl
 cause-change (Changed files) = refl
 

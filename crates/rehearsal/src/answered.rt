@@ -51,7 +51,8 @@ fn is_change(cause: &Cause) -> Result<bool, AllocError>
 {
     match cause {
         Cause::Changed => Ok(true),
-        Cause::Same | Cause::Refused(_) | Cause::NoTable(_) | Cause::BadSetting(_) => Ok(false),
+        Cause::Same | Cause::Refused(_) | Cause::RefusedLine(..) => Ok(false),
+        Cause::NoTable(_) | Cause::BadSetting(_) => Ok(false),
         Cause::TooLarge(Which::File(Name::Table(_) | Name::Defs)) => Ok(false),
         _ => Err(AllocError),
     }

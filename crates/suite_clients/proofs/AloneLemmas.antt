@@ -31,7 +31,7 @@ use Rattle.account_words.specs.declared.word_fault.WordFault.TheVariants.{Memory
 use Rattle.account_words.specs.Options.{Word}
 use Rattle.account_words.specs.Request.{Request}
 use Rattle.account_words.specs.Words.{Asks}
-use Rattle.account_model.specs.Answer.{AnswerCause, Unusable, Refused as ModelRefused, Same as ModelSame, Changed as ModelChanged, deed, new_files}
+use Rattle.account_model.specs.Answer.{AnswerCause, Unusable, Refused as ModelRefused, RefusedLine as ModelRefusedLine, Same as ModelSame, Changed as ModelChanged, deed, new_files}
 use Rattle.account_words.proofs.AsksLaws.{asks_iff_read}
 use Rattle.suite_rules.specs.Deeds.{SuiteDeeds}
 use Rattle.suite_rules.specs.Lawful.{Lawful}
@@ -41,10 +41,10 @@ use Rattle.suite_rules.specs.Steps.{LawfulOthers}
 use Rattle.suite_rules.proofs.Settles.{file-facts}
 use Rattle.suite_answers.specs.declared.cause.Which.TheVariants.{Input, File}
 use Rattle.suite_answers.specs.declared.cause.Cause.{Cause}
-use Rattle.suite_answers.specs.declared.cause.Cause.TheVariants.{Changed, Same, Refused, TooLarge, NoTable, BadSetting, DiskFault, InputFault, ClockFault, Memory}
+use Rattle.suite_answers.specs.declared.cause.Cause.TheVariants.{Changed, Same, Refused, RefusedLine, TooLarge, NoTable, BadSetting, DiskFault, InputFault, ClockFault, Memory}
 use Rattle.suite_answers.specs.declared.cause.Outcome.{Outcome}
 use Rattle.suite_answers.specs.declared.answer.Answer.{Answer}
-use Rattle.suite_answers.specs.Answers.{cause_of_words, told, told_words}
+use Rattle.suite_answers.specs.Answers.{cause_of_words, told_words}
 use Rattle.suite_session.specs.Runner.{Question}
 use Rattle.suite_session.specs.Answers.{after_streams, answer_on, cause_of_answer, given_for, memory_answer, IsAnswerOn, IsTold}
 use Rattle.suite_session.specs.Locking.{cause_of_fault}
@@ -52,7 +52,9 @@ use Rattle.suite_session.specs.Deeds.{AreOfTools, files_of}
 use Rattle.suite_session.specs.Grows.{Grows, none_new, others_new, own_new}
 use Rattle.suite_session.specs.Stands.{IsDecided}
 use Rattle.suite_course.specs.Streams.{Streams}
-use Rattle.suite_course.specs.Supplies.{Supplies, IsUnsupplied}
+use Rattle.suite_course.specs.declared.supplies.Lack.{Lack}
+use Rattle.suite_course.specs.declared.supplies.Lack.TheVariants.{Supply, Request}
+use Rattle.suite_course.specs.Supplies.{Supplies, IsUnsupplied, Lacks, told_lack}
 use Rattle.suite_course.specs.Alone.{IsAlone, Leaves}
 use Rattle.suite_course.specs.Shows.{HasChanged, HasStayed, IsShownAt}
 use Rattle.suite_course.specs.Top.{EndsEarly, EndsUnsupplied, HasNotRun, HasRun, Ran, RunsOrNot}
@@ -68,6 +70,13 @@ unsupplied-cause tool before now (TooLarge Input) due decided = decided
 unsupplied-cause tool before now ClockFault due decided = decided
 unsupplied-cause tool before now (Memory stage) due decided = decided
 unsupplied-cause tool before now cause due decided = due
+
+-- or with a line of a batch that asks for nothing
+lack-cause : (tool : Tool) (before now : Supplies) (lack : Lack) → Lacks tool before now lack →
+    IsDecided (told_lack tool lack).outcome.cause → ⊥
+lack-cause tool before now (Supply cause) due decided =
+    unsupplied-cause tool before now cause due decided
+lack-cause tool before now (Request faulty) due decided = decided
 
 -- an answer to no tool's cause says that, or that a stream failed, or that there was no memory
 early-undecided : (tool : Option Tool) (answer : Answer) (was holds : Streams) (outcome : Outcome) →
@@ -89,13 +98,13 @@ early-undecided tool answer was holds outcome none early decided =
     by-put (Err Failed) one = one
     by-put (Err NoMemory) one = one
 
--- a command that got no input or no day
+-- a command that lacks something
 pub unsupplied-undecided : (tool : Tool) (before now : Supplies) (was holds : Streams)
     (outcome : Outcome) → EndsUnsupplied tool before now was holds outcome →
     IsDecided outcome.cause → ⊥
 unsupplied-undecided tool before now was holds outcome ends =
-    early-undecided (Some tool) (told tool ends.cause) was holds outcome
-    (unsupplied-cause tool before now ends.cause ends.due) ends.ends
+    early-undecided (Some tool) (told_lack tool ends.lack) was holds outcome
+    (lack-cause tool before now ends.lack ends.due) ends.ends
 
 -- the cause of words with a fault is none of a tool
 words-cause : (found : WordFault) → IsDecided (cause_of_words found) → ⊥
@@ -163,6 +172,7 @@ module _ (deeds : SuiteDeeds) (asked : Question) (first : Folder) (new : History
   decided-shown Changed decided shown = inl shown
   decided-shown Same decided shown = inr (shown, λ is. cc)
   decided-shown (Refused refusal) decided shown = inr (shown, λ is. cc)
+  decided-shown (RefusedLine line refusal) decided shown = inr (shown, λ is. cc)
   decided-shown (NoTable table) decided shown = inr (shown, λ is. cc)
   decided-shown (BadSetting line) decided shown = inr (shown, λ is. cc)
   decided-shown (TooLarge (File (Table table))) decided shown = inr (shown, λ is. cc)
@@ -174,6 +184,7 @@ no-deed : (cause : AnswerCause) (told : Cause) → told ≡ cause_of_answer caus
     (told ≡ Changed → ⊥) → new_files cause ≡ None
 no-deed (Unusable problem) told is stays = refl
 no-deed (ModelRefused refusal) told is stays = refl
+no-deed (ModelRefusedLine line refusal) told is stays = refl
 no-deed ModelSame told is stays = refl
 no-deed (ModelChanged files) told is stays = absurd (stays is)
 

@@ -1,7 +1,7 @@
 -- Claim: IDs stay apart (`ids-stay-apart`). Way: what each deed keeps, a command keeps, whose words may ask for nothing
 -- (`command-keeps`), and so do commands one after another (`fold-keeps`). The settled files of a lawful history are their
 -- fold.
-use Rattle.std.proofs.Common.{◌≡◌, List, [], ◌∷◌, refl, sym, subst, Option, Some, None, option_map, unwrap_or, Result, Ok, Err}
+use Rattle.std.proofs.Common.{◌≡◌, ℕ, List, [], ◌∷◌, refl, sym, subst, Option, Some, None, option_map, unwrap_or, Result, Ok, Err}
 use Rattle.std.specs.Prelude.{⊤}
 use Rattle.acct_text.specs.Bytes.{Bytes}
 use Rattle.acct_text.specs.Contents.{Contents}
@@ -21,7 +21,7 @@ use Rattle.suite_rules.specs.Settled.{settled}
 use Rattle.suite_rules.specs.Committed.{Commitment, committed, fold_deeds, folded}
 use Rattle.suite_session.specs.Deeds.{AreOfTools, files_of, tools_deed}
 use Rattle.ids_apart.specs.Apart.{UidsAreDistinct, GidsAreDistinct, SubuidsAreApart, SubgidsAreApart}
-use Rattle.ids_apart.specs.Laws.{IsKept, SharesNoId, DeedsKeepIdsApart}
+use Rattle.ids_apart.specs.Laws.{IsKept, ShareNoIds, DeedsKeepIdsApart}
 use Rattle.suite_core.specs.Apart.{AreAny, AreWithoutSharing, StaysSo, IdsStayApart}
 
 -- a deed by what the words ask for
@@ -32,12 +32,12 @@ deed_by read command contents defs = elim read [
       (deed request command.input command.day (files_of contents) defs)
 ]
 
-module _ (IsAsked : Request → Type 0) (Holds : Files → Type 0) (kept : IsKept IsAsked Holds) where
+module _ (IsAsked : Request → List ℕ → Type 0) (Holds : Files → Type 0) (kept : IsKept IsAsked Holds) where
   -- the files after a deed, if there is one
   deed-keeps :
       (request : Request) (command : Command) (contents : Contents) (defs : Option Bytes)
       (made : Option Files)
-      → IsAsked request
+      → IsAsked request command.input
       → deed request command.input command.day (files_of contents) defs ≡ made
       → Holds (files_of contents)
       → Holds (files_of (unwrap_or (option_map table_of made) contents))
@@ -49,7 +49,7 @@ module _ (IsAsked : Request → Type 0) (Holds : Files → Type 0) (kept : IsKep
   read-keeps :
       (command : Command) (contents : Contents) (defs : Option Bytes)
       (read : Result Request WordFault)
-      → ((request : Request) → read ≡ Ok request → IsAsked request)
+      → ((request : Request) → read ≡ Ok request → IsAsked request command.input)
       → Holds (files_of contents)
       → Holds (files_of (unwrap_or (deed_by read command contents defs) contents))
   read-keeps command contents defs (Err fault) asked holds = holds
@@ -61,7 +61,7 @@ module _ (IsAsked : Request → Type 0) (Holds : Files → Type 0) (kept : IsKep
   -- the files after a command
   command-keeps :
       (command : Command) (contents : Contents) (defs : Option Bytes)
-      → ((request : Request) → Asks command.words request → IsAsked request)
+      → ((request : Request) → Asks command.words request → IsAsked request command.input)
       → Holds (files_of contents)
       → Holds (files_of (unwrap_or (tools_deed command contents defs) contents))
   command-keeps command contents defs asked holds =
@@ -70,7 +70,8 @@ module _ (IsAsked : Request → Type 0) (Holds : Files → Type 0) (kept : IsKep
 
   module _ (AreSuch : List Commitment → Type 0)
       (first_is : (one : Commitment) (list : List Commitment) → AreSuch (one ∷ list)
-      → (request : Request) → Asks one.command.words request → IsAsked request)
+      → (request : Request) → Asks one.command.words request
+      → IsAsked request one.command.input)
       (rest_are : (one : Commitment) (list : List Commitment) → AreSuch (one ∷ list)
       → AreSuch list) where
     -- the files after commands, one after another
@@ -106,19 +107,19 @@ module _ (IsAsked : Request → Type 0) (Holds : Files → Type 0) (kept : IsKep
 -- what every command keeps
 any-stays :
     (Holds : Files → Type 0)
-    → IsKept (λ request. ⊤) Holds
+    → IsKept (λ request input. ⊤) Holds
     → LawfulSettles
     → StaysSo AreAny Holds
-any-stays Holds kept settles = stays-so (λ request. ⊤) Holds kept AreAny
+any-stays Holds kept settles = stays-so (λ request input. ⊤) Holds kept AreAny
     (λ one list such request asks. tt) (λ one list such. tt) settles
 
 -- what commands without `-o` keep
 own-stays :
     (Holds : Files → Type 0)
-    → IsKept SharesNoId Holds
+    → IsKept ShareNoIds Holds
     → LawfulSettles
     → StaysSo AreWithoutSharing Holds
-own-stays Holds kept settles = stays-so SharesNoId Holds kept AreWithoutSharing
+own-stays Holds kept settles = stays-so ShareNoIds Holds kept AreWithoutSharing
     (λ one list such request asks. such.0 request asks) (λ one list such. such.1) settles
 
 -- the law

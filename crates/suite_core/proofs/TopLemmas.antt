@@ -2,7 +2,7 @@
 -- have no fault (`no-fault`) and one request (`one-request`).
 use Rattle.std.proofs.Common.{◌≡◌, refl, sym, ap, ◌∙◌, ◌∷◌, List, Some, None}
 use Rattle.account_words.specs.declared.tool.Tool.{Tool}
-use Rattle.account_words.specs.declared.tool.Tool.TheVariants.{Useradd, Usermod, Userdel, Groupadd, Groupmod, Groupdel, Gpasswd, Chage, Chpasswd, Pwck, Grpck, Getsubids}
+use Rattle.account_words.specs.declared.tool.Tool.TheVariants.{Useradd, Usermod, Userdel, Groupadd, Groupmod, Groupdel, Gpasswd, Chage, Chpasswd, Pwck, Grpck, Getsubids, Batch}
 use Rattle.account_words.specs.declared.word_fault.WordFault.{WordFault}
 use Rattle.account_words.specs.Words.{tool_name, Asks, fault}
 use Rattle.account_words.specs.Options.{Word}
@@ -24,6 +24,7 @@ named Chpasswd arguments = refl
 named Pwck arguments = refl
 named Grpck arguments = refl
 named Getsubids arguments = refl
+named Batch arguments = refl
 
 pub named-asked : (words : List Word) (request : Request) → Asks words request →
     named_tool words ≡ Some request.tool

@@ -1,5 +1,5 @@
--- IDs stay apart, whichever commands are committed and in whatever order: the deeds of the twelve tools, one after another
--- on the first settled files.
+-- IDs stay apart, whichever commands are committed and in whatever order: the deeds of the tools, one after another on the
+-- first settled files.
 use Rattle.std.specs.Prelude.{◌≡◌, List, ◌++◌, ⊤}
 use Rattle.std.specs.List.{AllByRecursion}
 use Rattle.acct_text.specs.declared.files.Files.{Files}
@@ -13,12 +13,12 @@ use Rattle.suite_rules.specs.Settled.{settled}
 use Rattle.suite_rules.specs.Committed.{Commitment, committed, folded}
 use Rattle.suite_session.specs.Deeds.{AreOfTools, files_of}
 use Rattle.ids_apart.specs.Apart.{UidsAreDistinct, GidsAreDistinct, SubuidsAreApart, SubgidsAreApart}
-use Rattle.ids_apart.specs.Laws.{SharesNoId}
+use Rattle.ids_apart.specs.Laws.{ShareNoIds}
 
--- what the command's words ask for has no `-o`
+-- what the command's words ask for has no `-o`, and neither has a line of a batch
 abbrev pub AsksForOwnIds : Commitment → Type 0
 AsksForOwnIds one =
-    (request : Request) → Asks one.command.words request → SharesNoId request
+    (request : Request) → Asks one.command.words request → ShareNoIds request one.command.input
 
 -- any committed commands
 abbrev pub AreAny : List Commitment → Type 0

@@ -11,8 +11,8 @@ use acct_outside::MemoryFolder;
 use acct_text::{Bytes, push_decimal};
 use std::alloc::{AllocError, Global};
 use std::mem;
-use suite_answers::WordFault;
 use suite_core::Session;
+use suite_session::StartFault;
 
 /// More calls of the folder than a command here makes.
 pub(crate) const ALL: usize = 64;
@@ -45,7 +45,7 @@ pub(crate) fn begun(
     folder: &mut MemoryFolder,
     command: &[u8],
     calls: usize,
-) -> Result<Session, WordFault>
+) -> Result<Session, StartFault>
     ensures belongs { IfOk result (Belongs (moment_of folder.new)) }
     ensures others { IfOk result (ComesApart folder.old folder.new) }
 {
@@ -90,7 +90,7 @@ fn push_told(
     alloc: Global,
     folder: &mut MemoryFolder,
     command: &[u8],
-) -> Result<(), WordFault>
+) -> Result<(), StartFault>
     ensures { OnOk result (AllBelong folder.old folder.new) }
 {
     push_end(told, begun(alloc, folder, command, 0)?, folder)?;
@@ -107,7 +107,7 @@ pub(crate) fn push_among(
     folder: &mut MemoryFolder,
     command: &[u8],
     others: &[Between],
-) -> Result<(), WordFault> {
+) -> Result<(), StartFault> {
     let mut session = begun(alloc, folder, command, 0)?;
     for other in others {
         turns(&mut session, folder, other.calls);

@@ -6,7 +6,7 @@ use acct_text::{Bytes, Tab, push_decimal};
 use std::alloc::{AllocError, Global};
 use std::mem;
 use std::test::Fail;
-use suite_answers::WordFault;
+use suite_session::StartFault;
 
 // No command here makes more calls of the folder.
 const MOST: usize = 26;
@@ -38,7 +38,7 @@ fn push_standing(standing: &mut Bytes, files: &MemoryFolder) -> Result<(), Alloc
 
 // What groupadd of staff and then that of wheel tell, and what stands then: the second begins once
 // the first has made so many calls, and the first goes on once the second has made so many.
-fn crosswise(alloc: Global, calls: usize, other_calls: usize) -> Result<Bytes, WordFault> {
+fn crosswise(alloc: Global, calls: usize, other_calls: usize) -> Result<Bytes, StartFault> {
     let mut folder = folder(alloc)?;
     let mut told = Bytes::new(alloc);
     let staff = begun(alloc, &mut folder, STAFF, calls)?;

@@ -11,7 +11,7 @@ use acct_outside::{Effect, MemoryFolder, Mishap, Name};
 use acct_text::{Bytes, Tab};
 use std::alloc::{AllocError, Global};
 use std::test::Fail;
-use suite_answers::WordFault;
+use suite_session::StartFault;
 
 const STAFF: &[u8] = b"groupadd -P R -g 1500 staff";
 
@@ -90,7 +90,7 @@ fn changed(alloc: Global) -> Result<Bytes, AllocError> {
 
 // The first number of calls in the range after which a death of the change leaves some tables new and some
 // old, once the next command is done; 0 where none does.
-fn first_torn(alloc: Global, from: usize, to: usize) -> Result<usize, WordFault> {
+fn first_torn(alloc: Global, from: usize, to: usize) -> Result<usize, StartFault> {
     let old = tables(alloc, &large_folder(alloc)?)?;
     let new = changed(alloc)?;
     for calls in from..to {

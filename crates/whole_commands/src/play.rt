@@ -8,8 +8,8 @@ use acct_outside::{
 use acct_text::{Bytes, Tab, Word, push_decimal};
 use std::alloc::{AllocError, Global};
 use std::mem;
-use suite_answers::WordFault;
 use suite_core::{Outcome, Session, run_suite};
+use suite_session::StartFault;
 
 /// The day of each command, which is 2024-10-04.
 pub(crate) const DAY: u32 = 20000;
@@ -96,14 +96,14 @@ pub fn die_after(
     folder: &mut MemoryFolder,
     command: &[u8],
     calls: usize,
-) -> Result<(), WordFault> {
+) -> Result<(), StartFault> {
     // A session that dies frees nothing.
     mem::forget(turned(session_of(alloc, command)?, folder, calls));
     Ok(die_all(alloc, folder)?)
 }
 
 /// The session of a command, which hasn't begun.
-pub fn session_of(alloc: Global, command: &[u8]) -> Result<Session, WordFault>
+pub fn session_of(alloc: Global, command: &[u8]) -> Result<Session, StartFault>
     ensures { IfOk result IsWaiting }
 {
     let words = words_of(alloc, command)?;
