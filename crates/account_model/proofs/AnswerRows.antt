@@ -13,8 +13,9 @@ use Rattle.account_words.specs.Request.{Request}
 use Rattle.account_model.specs.Groupadd.{groupadd}
 use Rattle.account_model.specs.declared.refusal.Refusal.TheVariants.{Multiple}
 use Rattle.std.proofs.Common.{◌∙◌, ap}
-use Rattle.account_words.specs.Words.{request_of}
-use Rattle.account_model.specs.Answer.{Changed, FileProblem, files_problem, files_eq, succeeding, answer, answer_made, unusable as unusable_answer, deed, new_problem, passes_limit, TableTooLarge, TableAbsent, SettingsTooLarge, BadSettingAt}
+use Rattle.account_words.specs.Words.{is_batch, request_of}
+use Rattle.account_model.specs.Batch.{written_by}
+use Rattle.account_model.specs.Answer.{Changed, FileProblem, files_problem, files_eq, succeeding, answer, answer_under, answer_written, unusable as unusable_answer, deed, new_problem, passes_limit, TableTooLarge, TableAbsent, SettingsTooLarge, BadSettingAt}
 use Rattle.account_model.proofs.Image.{image}
 use Rattle.account_words.proofs.SettingsImage.{image_defs, file}
 use Rattle.account_formats.specs.Tables.{passwd_records, files_after}
@@ -63,8 +64,9 @@ large_settings bytes large = rw (large, answer, first_some) refl
 -- a new group above the limit is answered as one that was read
 large_new_table :
     (files : Files) (made : Made) → new_problem made.files ≡ Some (TableTooLarge Group)
-    → answer_made Groupadd files made ≡ unusable_answer Groupadd (TableTooLarge Group)
-large_new_table files made large = rw (large, answer_made) refl
+    → answer_written Groupadd files (written_by Groupadd made)
+    ≡ unusable_answer Groupadd (TableTooLarge Group)
+large_new_table files made large = rw (large, answer_written) refl
 
 -- `groupadd -P R q`: an absent group is seen before a bad number of login.defs
 table_before_settings : answer_to (words "groupadd -P R q") (record nothing { group = None })
@@ -141,16 +143,20 @@ answer-made :
     (request : Request) (files : Files) (made : Made)
     → files_problem files None ≡ None
     → outcome_of (action_of request [] today files []) files ≡ Ok made
-    → answer request [] today files None ≡ answer_made request.tool files made
-answer-made request files made usable outcome = rw (usable, outcome, answer) refl
+    → is_batch request.tool ≡ false
+    → answer request [] today files None
+    ≡ answer_written request.tool files (written_by request.tool made)
+answer-made request files made usable outcome single =
+    rw (usable, single, outcome, answer, answer_under) refl
 
 -- the answer to a change within the limits
 changed-made :
     (tool : Tool) (files : Files) (made : Made)
     → new_problem made.files ≡ None
     → files_eq files made.files ≡ false
-    → answer_made tool files made ≡ succeeding tool (Changed made.files) made
-changed-made tool files made small differ = rw (small, differ, answer_made) refl
+    → answer_written tool files (written_by tool made)
+    ≡ succeeding (Changed made.files) (written_by tool made)
+changed-made tool files made small differ = rw (small, differ, answer_written) refl
 
 -- a passwd within the limit, in front of tables without a problem
 first-small :
@@ -168,7 +174,7 @@ unfolding digits
 any_passwd bytes small =
     answer-made adding_q (with_passwd bytes) (record
     { files = with_q bytes; status = 0; output = []; notices = [] })
-    (first-small (None ∷ None ∷ None ∷ None ∷ None ∷ None ∷ []) bytes small) (q-outcome bytes)
+    (first-small (None ∷ None ∷ None ∷ None ∷ None ∷ None ∷ []) bytes small) (q-outcome bytes) refl
     ∙ changed-made Groupadd (with_passwd bytes)
     (record { files = with_q bytes; status = 0; output = []; notices = [] })
     (first-small (None ∷ None ∷ None ∷ None ∷ None ∷ []) bytes small)

@@ -1,6 +1,7 @@
--- A deed is a change.
-use Rattle.std.proofs.Common.{◌≡◌, ◌≢◌, ℕ, ◌≤◌, Bool, true, false, not, List, [], ◌∷◌, length, refl, sym, ◌∙◌, subst, inl, inr, map}
-use Rattle.std.specs.Prelude.{Option, Some, None, is_some, nat_le, unwrap_or, Ok, Err, if◌then◌else◌}
+-- Claim: a deed is a change (`deed-is`). Way: its new files are made by the lines of a batch or by the tool
+-- (`deed-makes`), each of which leaves a table standing where it stood; they differ from the old, within their limits.
+use Rattle.std.proofs.Common.{◌≡◌, ◌≢◌, ℕ, ◌≤◌, Bool, true, false, not, List, [], ◌∷◌, length, refl, sym, ◌∙◌, subst, inl, inr, map, absurd}
+use Rattle.std.specs.Prelude.{◌⊎◌, ⊤, Result, Option, Some, None, is_some, nat_le, unwrap_or, Ok, Err, if◌then◌else◌}
 use Rattle.std.specs.List.{list_all, AllByRecursion}
 use Rattle.account_formats.specs.Records.{passwd_format, shadow_format, group_format, gshadow_format, subid_format}
 use Rattle.std.proofs.lemmas.Bool.{leb-true, and_cases, true≢false}
@@ -15,15 +16,20 @@ use Rattle.account_formats.specs.Format.{Format}
 use Rattle.account_formats.specs.Edits.{Edit}
 use Rattle.acct_text.specs.Files.{table_of}
 use Rattle.account_formats.specs.Tables.{Script, table_after, files_after}
-use Rattle.account_words.specs.Settings.{settings_of}
+use Rattle.account_words.specs.declared.tool.Tool.TheVariants.{Batch}
+use Rattle.account_words.specs.BatchLines.{LineRequest, line_requests}
+use Rattle.account_words.specs.Settings.{Setting, settings_of}
+use Rattle.account_words.specs.Words.{is_batch}
 use Rattle.account_words.specs.Request.{Request}
-use Rattle.account_model.specs.Action.{Action, made_by, outcome_of, multiple_entries}
+use Rattle.account_model.specs.Action.{Action, Made, outcome_of}
+use Rattle.account_model.specs.Batch.{LineRefusal, Written, batch, written_by}
 use Rattle.account_model.specs.Change.{action_of}
 use Rattle.acct_text.specs.Limits.{table_limit}
 use Rattle.acct_text.specs.Tables.{all_tables}
 use Rattle.acct_text.specs.Contents.{same_content, IsChange}
-use Rattle.account_model.specs.Answer.{Answer, FileProblem, Same, Changed, TableTooLarge, passes_limit, new_table_problem, new_problem, files_problem, files_eq, answer_outcome, new_files, deed, succeeding, unusable}
+use Rattle.account_model.specs.Answer.{Answer, FileProblem, Same, Changed, TableTooLarge, passes_limit, new_table_problem, new_problem, files_problem, files_eq, answer_lines, answer_outcome, answer_under, new_files, deed, succeeding, unusable}
 use Rattle.acct_text.proofs.NumberLaws.{some-inj}
+use Rattle.account_model.proofs.BatchLaws.{any-line, batch-keeps, outcome-made}
 
 -- ---- Tables that differ
 
@@ -124,70 +130,151 @@ within-limit tab (Some new) bytes none e =
 
 -- ---- The deed
 
--- the new files are those of a script, within the limits, and they differ
-record ComesFrom (script : Script) (old new : Files) : Type 0 where
-  files : files_after script old ≡ new
+-- the lines of a batch make the new files
+pub record IsByLines (request : Request) (input : List ℕ) (day : ℕ) (old : Files)
+    (settings : List Setting) (new : Files) : Type 0 where
+  pub is : is_batch request.tool ≡ true
+  pub written : Written
+  pub outcome : batch (line_requests input) day settings old ≡ Ok written
+  pub files : written.files ≡ new
+
+-- the request's tool makes them
+pub record IsByTool (request : Request) (input : List ℕ) (day : ℕ) (old : Files)
+    (settings : List Setting) (new : Files) : Type 0 where
+  pub made : Made
+  pub outcome : outcome_of (action_of request input day old settings) old ≡ Ok made
+  pub files : made.files ≡ new
+
+-- the new files are within the limits, and they differ
+record IsOther (old new : Files) : Type 0 where
   small : new_problem new ≡ None
   differ : files_eq old new ≡ false
 
--- what a tool made is changed, by its problem and whether it is the same
-made-by :
-    (tool : Tool) (action : Action) (old new : Files) (problem : Option FileProblem) (same : Bool)
-    → new_problem (files_after action.script old) ≡ problem
-    → files_eq old (files_after action.script old) ≡ same
+-- what is left, by its problem and whether it is the same
+written-is :
+    (tool : Tool) (old new : Files) (written : Written) (problem : Option FileProblem) (same : Bool)
+    → new_problem written.files ≡ problem
+    → files_eq old written.files ≡ same
     → new_files (elim problem as (λ p. Answer) [
       | Some p ↦ unusable tool p
-      | None ↦ succeeding tool (if same then Same else Changed (files_after action.script old))
-          (made_by action old)
+      | None ↦ succeeding (if same then Same else Changed written.files) written
     ]).cause ≡ Some new
-    → ComesFrom action.script old new
-made-by tool action old new (Some p) same is_problem is_same e = cc
-made-by tool action old new None true is_problem is_same e = cc
-made-by tool action old new None false is_problem is_same e = record {
-  files = some-inj e;
-  small = subst (λ f. new_problem f ≡ None) (some-inj e) is_problem;
-  differ = subst (λ f. files_eq old f ≡ false) (some-inj e) is_same;
-}
+    → (written.files ≡ new) × IsOther old new
+written-is tool old new written (Some p) same is_problem is_same e = absurd (cc)
+written-is tool old new written None true is_problem is_same e = absurd (cc)
+written-is tool old new written None false is_problem is_same e = (
+  some-inj e,
+  record {
+    small = subst (λ (f : Files). new_problem f ≡ None) (some-inj e) is_problem;
+    differ = subst (λ (f : Files). files_eq old f ≡ false) (some-inj e) is_same;
+  },
+)
 
--- a tool's outcome is changed, by its refusal and multiple entries
-outcome-by : (tool : Tool) (action : Action) (old new : Files) (refusal multiple : Option Refusal)
-    → new_files (answer_outcome tool old (elim refusal [
-      | Some r ↦ Err r
-      | None ↦ elim multiple [ Some r ↦ Err r | None ↦ Ok (made_by action old) ]
-    ])).cause ≡ Some new
-    → ComesFrom action.script old new
-outcome-by tool action old new (Some r) multiple e = cc
-outcome-by tool action old new None (Some r) e = cc
-outcome-by tool action old new None None e =
-    made-by tool action old new (new_problem (files_after action.script old))
-    (files_eq old (files_after action.script old)) refl refl e
+module _ (request : Request) (input : List ℕ) (day : ℕ) (old : Files) (settings : List Setting)
+    (new : Files) where
+  -- the new files, and who makes them
+  abbrev pub IsMadeNew : Type 0
+  IsMadeNew = IsByLines request input day old settings new
+      ⊎ IsByTool request input day old settings new
 
--- an answer is changed, by the problem of the files
-answer-by :
-    (tool : Tool) (action : Action) (old new : Files) (problem : Option FileProblem)
-    → new_files (elim problem as (λ p. Answer) [
-      | Some p ↦ unusable tool p
-      | None ↦ answer_outcome tool old
-          (outcome_of action old)
-    ]).cause ≡ Some new
-    → ComesFrom action.script old new
-answer-by tool action old new (Some p) e = cc
-answer-by tool action old new None e = outcome-by tool action old new (first_some action.refusals)
-    (multiple_entries action.script old) e
+  -- a batch, by the outcome of its lines
+  lines-make :
+      (outcome : Result Written LineRefusal)
+      → is_batch request.tool ≡ true
+      → batch (line_requests input) day settings old ≡ outcome
+      → new_files (answer_lines old outcome).cause ≡ Some new
+      → IsMadeNew × IsOther old new
+  lines-make (Err line) is outcome e = absurd (cc)
+  lines-make (Ok written) is outcome e =
+      let parts = written-is Batch old new written (new_problem written.files)
+      (files_eq old written.files) refl refl e
+      in (inl (record { is = is; written = written; outcome = outcome; files = parts.0 }), parts.1)
 
--- files that come from a script are a change
-comes-is :
-    (script : Script) (old new : Files)
-    → ComesFrom script old new
-    → IsChange (table_of old) (table_of new)
-comes-is script old new comes = record {
-  changed = differing old new all_tables comes.differ;
-  standing = λ tab. subst (λ f. is_some (table_of f tab) ≡ is_some (table_of old tab)) comes.files
-      (files-stand script old tab);
-  small = λ tab bytes e. within-limit tab (table_of new tab) bytes
-      (each-table (λ tab. new_table_problem tab (table_of new tab) ≡ None)
-      (small-among new all_tables comes.small) tab) e;
-}
+  -- another tool, by its outcome
+  tool-makes :
+      (outcome : Result Made Refusal)
+      → outcome_of (action_of request input day old settings) old ≡ outcome
+      → new_files (answer_outcome request.tool old outcome).cause ≡ Some new
+      → IsMadeNew × IsOther old new
+  tool-makes (Err refusal) outcome e = absurd (cc)
+  tool-makes (Ok made) outcome e =
+      let parts = written-is request.tool old new (written_by request.tool made)
+      (new_problem made.files) (files_eq old made.files) refl refl e
+      in (inr (record { made = made; outcome = outcome; files = parts.0 }), parts.1)
+
+  -- by whether the request is a batch
+  under-makes :
+      (is : Bool)
+      → is_batch request.tool ≡ is
+      → new_files (if is then answer_lines old (batch (line_requests input) day settings old)
+      else answer_outcome request.tool old
+      (outcome_of (action_of request input day old settings) old)).cause ≡ Some new
+      → IsMadeNew × IsOther old new
+  under-makes true is e =
+      lines-make (batch (line_requests input) day settings old) is refl e
+  under-makes false is e =
+      tool-makes (outcome_of (action_of request input day old settings) old) refl e
+
+  -- by the problem of the files
+  answer-makes :
+      (problem : Option FileProblem)
+      → new_files (elim problem as (λ p. Answer) [
+        | Some p ↦ unusable request.tool p
+        | None ↦ answer_under request input day old settings
+      ]).cause ≡ Some new
+      → IsMadeNew × IsOther old new
+  answer-makes (Some p) e = absurd (cc)
+  answer-makes None e = under-makes (is_batch request.tool) refl e
+
+-- a deed's new files are made by the lines of a batch, or by the tool
+pub deed-makes :
+    (request : Request) (input : List ℕ) (day : ℕ) (old : Files) (defs : Option (List ℕ))
+    (new : Files)
+    → deed request input day old defs ≡ Some new
+    → IsMadeNew request input day old (settings_of (unwrap_or defs [])) new
+deed-makes request input day old defs new e =
+    (answer-makes request input day old (settings_of (unwrap_or defs [])) new
+    (files_problem old defs) e).0
+
+-- ---- A change
+
+-- each table of the one stands where it does in the other
+abbrev pub StandAlike : Files → Files → Type 0
+StandAlike old new = (tab : Tab) → is_some (table_of new tab) ≡ is_some (table_of old tab)
+
+-- what a tool makes
+made-stands :
+    (action : Action) (old : Files) (made : Made)
+    → outcome_of action old ≡ Ok made
+    → StandAlike old made.files
+made-stands action old made outcome tab =
+    subst (λ (one : Made). is_some (table_of one.files tab) ≡ is_some (table_of old tab))
+    (outcome-made action old made outcome).made (files-stand action.script old tab)
+
+-- what the lines of a batch make
+pub batch-stands :
+    (lines : List LineRequest) (day : ℕ) (settings : List Setting) (old : Files)
+    (written : Written)
+    → batch lines day settings old ≡ Ok written
+    → StandAlike old written.files
+batch-stands lines day settings old written outcome =
+    batch-keeps day settings (StandAlike old) (λ line. ⊤) lines old written
+    (λ line so files made is alike tab.
+    made-stands (action_of line.request [] day files settings) files made is tab ∙ alike tab)
+    (any-line (λ line. ⊤) lines (λ line. tt)) outcome (λ tab. refl)
+
+-- whoever makes the new files
+new-stand :
+    (request : Request) (input : List ℕ) (day : ℕ) (old : Files) (settings : List Setting)
+    (new : Files)
+    → IsMadeNew request input day old settings new
+    → StandAlike old new
+new-stand request input day old settings new (inl by_lines) =
+    subst (StandAlike old) by_lines.files
+    (batch-stands (line_requests input) day settings old by_lines.written by_lines.outcome)
+new-stand request input day old settings new (inr by_tool) =
+    subst (StandAlike old) by_tool.files
+    (made-stands (action_of request input day old settings) old by_tool.made by_tool.outcome)
 
 -- a deed is a change
 pub deed-is :
@@ -196,6 +283,12 @@ pub deed-is :
     → deed request input day old defs ≡ Some new
     → IsChange (table_of old) (table_of new)
 deed-is request input day old defs new e =
-    let action = action_of request input day old (settings_of (unwrap_or defs []))
-    in comes-is action.script old new (answer-by request.tool action old new
-    (files_problem old defs) e)
+    let settings = settings_of (unwrap_or defs [])
+    in let makes = answer-makes request input day old settings new (files_problem old defs) e
+    in record {
+      changed = differing old new all_tables makes.1.differ;
+      standing = new-stand request input day old settings new makes.0;
+      small = λ tab bytes is. within-limit tab (table_of new tab) bytes
+          (each-table (λ tab. new_table_problem tab (table_of new tab) ≡ None)
+          (small-among new all_tables makes.1.small) tab) is;
+    }

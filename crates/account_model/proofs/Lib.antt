@@ -2,6 +2,8 @@ pub mod RenamingLaws
 mod MessageRows
 mod Image
 mod AnswerRows
+mod BatchRows
+pub mod BatchLaws
 pub mod DeedLaws
 pub mod RefusalFacts
 pub mod WrittenScripts

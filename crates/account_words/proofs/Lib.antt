@@ -8,6 +8,7 @@ pub mod SpelledIsRead
 pub mod DateRows
 pub mod WordRows
 mod LineRows
+mod BatchLineRows
 mod SettingRows
 pub mod Sets
 pub mod IdsLaws

@@ -7,8 +7,9 @@
 
 ghost use Rattle.ids_apart.specs.Laws.{DeedsKeepIdsApart};
 
-/// A deed of any tool makes no two ranges of subordinate IDs meet that were apart; and without `-o`
-/// it gives no two users one UID and no two groups one GID, where all were distinct before.
+/// A deed of any tool makes no two ranges of subordinate IDs meet that were apart; and without `-o`,
+/// which a line of a batch may have too, it gives no two users one UID and no two groups one GID,
+/// where all were distinct before.
 pub fn deeds_keep_ids_apart()
     ensures { DeedsKeepIdsApart }
 {}

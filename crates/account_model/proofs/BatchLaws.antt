@@ -1,0 +1,119 @@
+-- Claim: what each line's tool keeps, a batch keeps (`batch-keeps`). Way: the first line is carried out,
+-- and so are those behind it on the files that it leaves (`line-carried`).
+use Rattle.std.proofs.Common.{◌≡◌, ℕ, List, [], ◌∷◌, refl, subst, ap, absurd}
+use Rattle.std.specs.Prelude.{◌×◌, Option, Some, None, Result, Ok, Err}
+use Rattle.std.specs.List.{AllByRecursion}
+use Rattle.acct_text.specs.declared.files.Files.{Files}
+use Rattle.account_formats.specs.Text.{first_some}
+use Rattle.account_words.specs.BatchLines.{LineRequest}
+use Rattle.account_words.specs.Settings.{Setting}
+use Rattle.account_model.specs.declared.refusal.Refusal.{Refusal}
+use Rattle.account_model.specs.Action.{Action, Made, made_by, multiple_entries, outcome_of}
+use Rattle.account_model.specs.Batch.{LineRefusal, Written, batch, before_others, with_rest, written_by}
+use Rattle.account_model.specs.Change.{action_of}
+
+-- what is wrapped in `Ok`
+ok-inj : {X Y : Type 0} {x y : X} → Ok {E = Y} x ≡ Ok y → x ≡ y
+ok-inj is = cc
+
+-- ---- One command
+
+-- the tool doesn't refuse, and makes this
+pub record IsMade (action : Action) (files : Files) (made : Made) : Type 0 where
+  pub passes : first_some action.refusals ≡ None
+  pub single : multiple_entries action.script files ≡ None
+  pub made : made_by action files ≡ made
+
+-- an outcome, by the refusal and by multiple entries
+made-by :
+    (action : Action) (files : Files) (made : Made) (refusal multiple : Option Refusal)
+    → first_some action.refusals ≡ refusal
+    → multiple_entries action.script files ≡ multiple
+    → (elim refusal as (λ r. Result Made Refusal) [
+      | Some r ↦ Err r
+      | None ↦ elim multiple [ Some r ↦ Err r | None ↦ Ok (made_by action files) ]
+    ]) ≡ Ok made
+    → IsMade action files made
+made-by action files made (Some r) multiple passes single is = absurd (cc)
+made-by action files made None (Some r) passes single is = absurd (cc)
+made-by action files made None None passes single is =
+    record { passes = passes; single = single; made = cc }
+
+-- what has an outcome that isn't a refusal is made
+pub outcome-made :
+    (action : Action) (files : Files) (made : Made)
+    → outcome_of action files ≡ Ok made
+    → IsMade action files made
+outcome-made action files made is = made-by action files made (first_some action.refusals)
+    (multiple_entries action.script files) refl refl is
+
+-- ---- The lines
+
+-- the line is carried out, and those behind it
+record LineCarried (outcome : Result Made Refusal) (rest : Files → Result Written LineRefusal)
+    (written : Written) : Type 0 where
+  made : Made
+  outcome : outcome ≡ Ok made
+  others : Written
+  rest : rest made.files ≡ Ok others
+  files : others.files ≡ written.files
+
+-- those behind it, by their outcome
+others-carried :
+    (made : Made) (first written : Written) (rest : Files → Result Written LineRefusal)
+    (others : Result Written LineRefusal)
+    → rest made.files ≡ others
+    → before_others first others ≡ Ok written
+    → LineCarried (Ok made) rest written
+others-carried made first written rest (Err refused) behind is = absurd (cc)
+others-carried made first written rest (Ok others) behind is = record {
+  made = made;
+  outcome = refl;
+  others = others;
+  rest = behind;
+  files = ap (λ (one : Written). one.files) (ok-inj is);
+}
+
+-- a line, by its outcome
+line-carried :
+    (line : LineRequest) (outcome : Result Made Refusal)
+    (rest : Files → Result Written LineRefusal) (written : Written)
+    → with_rest line outcome rest ≡ Ok written
+    → LineCarried outcome rest written
+line-carried line (Err refusal) rest written is = absurd (cc)
+line-carried line (Ok made) rest written is =
+    others-carried made (written_by line.request.tool made) written rest (rest made.files) refl is
+
+module _ (day : ℕ) (settings : List Setting) (Holds : Files → Type 0) where
+  -- the line's tool keeps it, on whatever files
+  abbrev pub LineKeeps : LineRequest → Type 0
+  LineKeeps line = (files : Files) (made : Made)
+      → outcome_of (action_of line.request [] day files settings) files ≡ Ok made
+      → Holds files
+      → Holds made.files
+
+  -- the claim, for lines of which each is so that its tool keeps it
+  pub batch-keeps :
+      (IsSo : LineRequest → Type 0) (lines : List LineRequest) (old : Files) (written : Written)
+      → ((line : LineRequest) → IsSo line → LineKeeps line)
+      → AllByRecursion IsSo lines
+      → batch lines day settings old ≡ Ok written
+      → Holds old
+      → Holds written.files
+  batch-keeps IsSo [] old written keep all is holds =
+      subst (λ (one : Written). Holds one.files) (ok-inj is) holds
+  batch-keeps IsSo (line ∷ rest) old written keep all is holds =
+      let carried = line-carried line
+      (outcome_of (action_of line.request [] day old settings) old) (batch rest day settings)
+      written is
+      in subst Holds carried.files
+      (batch-keeps IsSo rest carried.made.files carried.others keep all.1 carried.rest
+      (keep line all.0 old carried.made carried.outcome holds))
+
+-- what is so of any line is so of all
+pub any-line :
+    (IsSo : LineRequest → Type 0) (lines : List LineRequest)
+    → ((line : LineRequest) → IsSo line)
+    → AllByRecursion IsSo lines
+any-line IsSo [] so = tt
+any-line IsSo (line ∷ rest) so = (so line, any-line IsSo rest so)
