@@ -20,11 +20,15 @@ use Rattle.account_model.specs.declared.refusal.Refusal.{Refusal}
 use Rattle.account_words.specs.declared.tool.Tool.{Tool}
 use Rattle.account_formats.specs.Text.{first_some}
 use Rattle.account_formats.specs.Tables.{files_after}
-use Rattle.account_model.specs.Action.{Action, Made, made_by, multiple_entries, outcome_of}
-use Rattle.account_model.proofs.DeedLaws.{deed-is, files-stand}
+use Rattle.account_model.specs.Action.{Action, Made, outcome_of}
+use Rattle.account_model.specs.Batch.{LineRefusal, Written, batch, written_by}
+use Rattle.account_model.proofs.BatchLaws.{outcome-made}
+use Rattle.account_model.proofs.DeedLaws.{batch-stands, deed-is, files-stand}
 use Rattle.account_model.specs.Change.{action_of}
-use Rattle.account_words.specs.Settings.{bad_line, settings_of}
-use Rattle.account_model.specs.Answer.{FileProblem, TableTooLarge, BadSettingAt, Same, Changed, Answer as ToolAnswer, answer_outcome, succeeding, unusable, passes_limit, must_stand, table_problem, settings_problem, files_problem, new_table_problem, new_problem, files_eq, cause_of, new_files}
+use Rattle.account_words.specs.BatchLines.{line_requests}
+use Rattle.account_words.specs.Settings.{Setting, bad_line, settings_of}
+use Rattle.account_words.specs.Words.{is_batch}
+use Rattle.account_model.specs.Answer.{FileProblem, TableTooLarge, BadSettingAt, Same, Changed, Answer as ToolAnswer, answer_lines, answer_outcome, answer_under, answer_written, refused, refused_line, succeeding, unusable, passes_limit, must_stand, table_problem, settings_problem, files_problem, new_table_problem, new_problem, files_eq, cause_of, new_files}
 use Rattle.std.specs.Prelude.{IfOk}
 use Rattle.std.specs.Result.{result_err}
 use Rattle.login_defs.specs.declared.defs.Defs.{Defs}
@@ -32,8 +36,9 @@ use Rattle.login_defs.specs.declared.defs.DefsFault.{DefsFault}
 use Rattle.login_defs.specs.declared.defs.DefsFault.TheVariants.{BadNumber}
 use Rattle.login_defs.specs.Faults.{file_fault}
 use Rattle.tool_answers.specs.declared.decision.Decision.{Decision}
-use Rattle.tool_answers.specs.declared.decision.Decision.TheVariants.{Change as DecidesChange, Same as DecidesSame, Refuse}
-use Rattle.tool_answers.specs.Decisions.{Decides, decision_by, decision_of, made_output, refusal_output}
+use Rattle.tool_answers.specs.declared.decision.Decision.TheVariants.{Change as DecidesChange, Same as DecidesSame, Refuse, RefuseLine}
+use Rattle.tool_answers.specs.Decisions.{decision_by, decision_of, decision_of_lines, line_refusal_output, refusal_output, written_output}
+use Rattle.batch_commands.specs.Deciding.{command_decision}
 use Rattle.commit_steps.specs.States.{MakesChange, with_tables}
 use Rattle.commit_steps.proofs.WithTables.{makes-change, with-changed}
 use Rattle.suite_answers.specs.declared.cause.Cause.TheVariants.{BadSetting}
@@ -44,6 +49,7 @@ use Rattle.suite_session.specs.Runner.{Question}
 use Rattle.suite_session.specs.Answers.{answer_on, cause_of_answer, given_for, IsAnswerOn}
 use Rattle.suite_session.specs.Deeds.{is_change}
 use Rattle.suite_session.specs.Loading.{DecidesOn}
+use Rattle.suite_session.proofs.AnswerLemmas.{batch-tool}
 use Rattle.suite_core.specs.Deciding.{bad_line as bad_line_of, AnswersDecision, large_table, settings_text}
 
 -- ---- The files that were loaded
@@ -178,22 +184,12 @@ module _ (old new : Contents)
       by-test rest true same = rest same
       by-test rest false same = absurd (cc same)
 
--- what a tool made are the files after its edits
-made-files : (action : Action) (files : Files) (made : Made) → outcome_of action files ≡ Ok made →
-    files_after action.script files ≡ made.files
-made-files action files made = by (first_some action.refusals) (multiple_entries action.script files)
-  where
-    by : (refusal multiple : Option Refusal) → (elim refusal as (λ one. Result Made Refusal) [
-      | Some one ↦ Err one
-      | None ↦ elim multiple as (λ one. Result Made Refusal) [
-        | Some one ↦ Err one
-        | None ↦ Ok (made_by action files)
-      ]
-    ]) ≡ Ok made → files_after action.script files ≡ made.files
-    by (Some refusal) multiple is = absurd (cc is)
-    by None (Some refusal) is = absurd (cc is)
-    by None None is =
-        let same : made_by action files ≡ made = cc is in ap (λ (one : Made). one.files) same
+-- what a tool made has each table where it stood
+made-stands : (action : Action) (files : Files) (made : Made) → outcome_of action files ≡ Ok made →
+    (table : Tab) → is_some (table_of made.files table) ≡ is_some (table_of files table)
+made-stands action files made is table =
+    subst (λ (one : Made). is_some (table_of one.files table) ≡ is_some (table_of files table))
+    (outcome-made action files made is).made (files-stand action.script files table)
 
 -- ---- The answer
 
@@ -210,25 +206,30 @@ answer-is asked files defs given told is cause status out err = record {
 }
 
 module _ (asked : Question) (files : Files) (defs : Option Bytes) where
-  -- what the tool comes to
-  abbrev outcome : Result Made Refusal
-  outcome = outcome_of (action_of asked.request asked.command.input asked.command.day files
-      (settings_of (settings_text defs))) files
+  abbrev tool : Tool
+  tool = asked.request.tool
+
+  abbrev settings : List Setting
+  settings = settings_of (settings_text defs)
+
+  -- the answer on files that can be used
+  abbrev under : ToolAnswer
+  under = answer_under asked.request asked.command.input asked.command.day files settings
 
   -- the answer by the problem of the files
   by-problem : (problem : Option FileProblem) → files_problem files defs ≡ problem →
       answer_on asked files defs ≡ (elim problem as (λ one. ToolAnswer) [
-        | Some found ↦ unusable asked.request.tool found
-        | None ↦ answer_outcome asked.request.tool files outcome
+        | Some found ↦ unusable tool found
+        | None ↦ under
       ])
   by-problem problem is = ap (λ (one : Option FileProblem). elim one as (λ other. ToolAnswer) [
-    | Some found ↦ unusable asked.request.tool found
-    | None ↦ answer_outcome asked.request.tool files outcome
+    | Some found ↦ unusable tool found
+    | None ↦ under
   ]) is
 
   -- a bad setting is the answer
   pub decides-setting : (line : ℕ) → files_problem files defs ≡ Some (BadSettingAt line) →
-      DecidesOn asked files defs (Stay (given_for asked.request.tool (BadSetting line)))
+      DecidesOn asked files defs (Stay (given_for tool (BadSetting line)))
   decides-setting line is =
       let told = by-problem (Some (BadSettingAt line)) is in (
         answer-is asked files defs _ _ told refl refl refl refl,
@@ -238,54 +239,37 @@ module _ (asked : Question) (files : Files) (defs : Option Bytes) where
   module _ (sound : files_problem files defs ≡ None)
       (small : (table : Tab) (bytes : Bytes) → table_of files table ≡ Some bytes →
       length bytes ≤ table_limit) where
-    abbrev tool : Tool
-    tool = asked.request.tool
+    -- What a command leaves, to which this is the answer.
+    module _ (written : Written) (is : answer_on asked files defs ≡ answer_written tool files written)
+        (stands : (table : Tab) →
+        is_some (table_of written.files table) ≡ is_some (table_of files table)) where
+      -- the tables that differ once it is done
+      abbrev changed : List NewTable
+      changed = changed_tables (table_of files) (table_of written.files)
 
-    -- what the tool does
-    abbrev action : Action
-    action = action_of asked.request asked.command.input asked.command.day files
-        (settings_of (settings_text defs))
-
-    -- the tables that differ once it is done
-    abbrev changed : Made → List NewTable
-    changed made = changed_tables (table_of files) (table_of made.files)
-
-    -- the answer is that to the outcome
-    of-outcome : answer_on asked files defs ≡ answer_outcome tool files outcome
-    of-outcome = by-problem None sound
-
-    module _ (made : Made) (is : outcome ≡ Ok made) where
-      -- the same tables stand
-      made-stands : (table : Tab) →
-          is_some (table_of made.files table) ≡ is_some (table_of files table)
-      made-stands table =
-          subst (λ (new : Files). is_some (table_of new table) ≡ is_some (table_of files table))
-          (made-files action files made is) (files-stand action.script files table)
-
-      -- the answer to what the tool made, by the problem of that
-      abbrev made-answer : Option FileProblem → ToolAnswer
-      made-answer problem = elim problem as (λ other. ToolAnswer) [
+      -- the answer to what is left, by the problem of that
+      abbrev written-answer : Option FileProblem → ToolAnswer
+      written-answer problem = elim problem as (λ other. ToolAnswer) [
         | Some found ↦ unusable tool found
-        | None ↦ succeeding tool (cause_of files made.files) made
+        | None ↦ succeeding (cause_of files written.files) written
       ]
 
-      -- the answer to what the tool made, by the first large table
-      of-made : (large : Option Tab) → large_table (changed made) ≡ large →
-          answer_on asked files defs ≡ made-answer (option_map TableTooLarge large)
-      of-made large is_large =
-          of-outcome ∙ (ap (answer_outcome tool files) is
-          ∙ ap made-answer (new-among (table_of files) (table_of made.files) small made-stands
-          all_tables ∙ ap (λ (one : Option Tab). option_map TableTooLarge one) is_large))
+      -- the answer to what is left, by the first large table
+      of-written : (large : Option Tab) → large_table changed ≡ large →
+          answer_on asked files defs ≡ written-answer (option_map TableTooLarge large)
+      of-written large is_large =
+          is ∙ ap written-answer (new-among (table_of files) (table_of written.files) small stands
+          all_tables ∙ ap (λ (one : Option Tab). option_map TableTooLarge one) is_large)
 
-      -- the tool makes what stands already
-      same-on : changed made ≡ [] → (decided : Decided) →
-          AnswersDecision asked (DecidesSame (made_output tool made)) decided →
+      -- what stands already is left
+      same-on : changed ≡ [] → (decided : Decided) →
+          AnswersDecision asked (DecidesSame (written_output written)) decided →
           DecidesOn asked files defs decided
       same-on none (Stay given) shown =
-          let same = none-differs (table_of files) (table_of made.files) small made-stands
+          let same = none-differs (table_of files) (table_of written.files) small stands
           all_tables none in
-          let told = of-made None (ap large_table none)
-          ∙ ap (λ (one : Bool). succeeding tool (if one then Same else Changed made.files) made) same
+          let told = of-written None (ap large_table none)
+          ∙ ap (λ (one : Bool). succeeding (if one then Same else Changed written.files) written) same
           in (
             subst (λ (one : Answer). IsAnswerOn asked files defs one) (sym shown)
                 (answer-is asked files defs _ _ told refl refl refl refl),
@@ -293,69 +277,125 @@ module _ (asked : Question) (files : Files) (defs : Option Bytes) where
           )
       same-on none (Changes new given) shown = absurd shown
 
-      -- the tool makes other files
-      change-on : (tables : List NewTable) → changed made ≡ tables →
-          files_eq files made.files ≡ false → (decided : Decided) →
-          AnswersDecision asked (DecidesChange tables (made_output tool made)) decided →
+      -- other files are left
+      change-on : (tables : List NewTable) → changed ≡ tables →
+          files_eq files written.files ≡ false → (decided : Decided) →
+          AnswersDecision asked (DecidesChange tables (written_output written)) decided →
           DecidesOn asked files defs decided
       change-on tables are differs (Changes new given) shown =
-          let told = of-made None (ap large_table are ∙ shown.1)
-          ∙ ap (λ (one : Bool). succeeding tool (if one then Same else Changed made.files) made)
+          let told = of-written None (ap large_table are ∙ shown.1)
+          ∙ ap (λ (one : Bool). succeeding (if one then Same else Changed written.files) written)
           differs in
           let cause = ap (λ (one : ToolAnswer). one.cause) told in
           let allowed = deed-is asked.request asked.command.input asked.command.day files defs
-          made.files (ap new_files cause) in
+          written.files (ap new_files cause) in
           subst (λ (one : List NewTable). DecidesOn asked files defs (Changes one given))
           (are ∙ sym shown.0) (
             subst (λ (one : Answer). IsAnswerOn asked files defs one) (sym shown.2)
                 (answer-is asked files defs _ _ told refl refl refl refl),
-            cause ∙ ap Changed (sym (with-changed files made.files allowed)),
-            makes-change files made.files allowed,
+            cause ∙ ap Changed (sym (with-changed files written.files allowed)),
+            makes-change files written.files allowed,
           )
       change-on tables are differs (Stay given) shown =
-          let told = of-made (Some shown.0) (ap large_table are ∙ shown.1) in (
+          let told = of-written (Some shown.0) (ap large_table are ∙ shown.1) in (
             subst (λ (one : Answer). IsAnswerOn asked files defs one) (sym shown.2)
                 (answer-is asked files defs _ _ told refl refl refl refl),
             ap (λ (one : ToolAnswer). is_change one.cause) told,
           )
 
       -- by the tables that differ
-      by-made : (tables : List NewTable) → changed made ≡ tables → (decided : Decided) →
-          AnswersDecision asked (decision_by tables (made_output tool made)) decided →
+      by-tables : (tables : List NewTable) → changed ≡ tables → (decided : Decided) →
+          AnswersDecision asked (decision_by tables (written_output written)) decided →
           DecidesOn asked files defs decided
-      by-made [] none decided shown = same-on none decided shown
-      by-made (first ∷ rest) are decided shown =
-          change-on (first ∷ rest) are (differs (files_eq files made.files) refl) decided shown
+      by-tables [] none decided shown = same-on none decided shown
+      by-tables (first ∷ rest) are decided shown =
+          change-on (first ∷ rest) are (differs (files_eq files written.files) refl) decided shown
         where
-          differs : (same : Bool) → files_eq files made.files ≡ same →
-              files_eq files made.files ≡ false
+          differs : (same : Bool) → files_eq files written.files ≡ same →
+              files_eq files written.files ≡ false
           differs true same = absurd (cc (sym are
-              ∙ all-same (table_of files) (table_of made.files) small made-stands all_tables same))
+              ∙ all-same (table_of files) (table_of written.files) small stands all_tables same))
           differs false same = same
 
+      -- the answer to what is left
+      pub leaves-on : (decided : Decided) →
+          AnswersDecision asked (decision_by changed (written_output written)) decided →
+          DecidesOn asked files defs decided
+      leaves-on decided shown = by-tables changed refl decided shown
+
     -- the tool refuses
-    refuses-on : (refusal : Refusal) → outcome ≡ Err refusal → (decided : Decided) →
+    refuses-on : (refusal : Refusal) → answer_on asked files defs ≡ refused tool refusal →
+        (decided : Decided) →
         AnswersDecision asked (Refuse refusal (refusal_output tool refusal)) decided →
         DecidesOn asked files defs decided
-    refuses-on refusal is (Stay given) shown =
-        let told = of-outcome ∙ ap (answer_outcome tool files) is in (
-          subst (λ (one : Answer). IsAnswerOn asked files defs one) (sym shown)
-              (answer-is asked files defs _ _ told refl refl refl refl),
-          ap (λ (one : ToolAnswer). is_change one.cause) told,
-        )
-    refuses-on refusal is (Changes new given) shown = absurd shown
+    refuses-on refusal told (Stay given) shown = (
+      subst (λ (one : Answer). IsAnswerOn asked files defs one) (sym shown)
+          (answer-is asked files defs _ _ told refl refl refl refl),
+      ap (λ (one : ToolAnswer). is_change one.cause) told,
+    )
+    refuses-on refusal told (Changes new given) shown = absurd shown
 
-    by-outcome : (came : Result Made Refusal) → outcome ≡ came → (decided : Decided) →
+    -- the tool of a line refuses
+    refuses-line : (line : LineRefusal) → answer_on asked files defs ≡ refused_line line →
+        (decided : Decided) →
+        AnswersDecision asked
+        (RefuseLine line.number line.refusal (line_refusal_output line)) decided →
+        DecidesOn asked files defs decided
+    refuses-line line told (Stay given) shown = (
+      subst (λ (one : Answer). IsAnswerOn asked files defs one) (sym shown)
+          (answer-is asked files defs _ _ told refl refl refl refl),
+      ap (λ (one : ToolAnswer). is_change one.cause) told,
+    )
+    refuses-line line told (Changes new given) shown = absurd shown
+
+    -- what the tool comes to by itself
+    abbrev outcome : Result Made Refusal
+    outcome = outcome_of
+        (action_of asked.request asked.command.input asked.command.day files settings) files
+
+    -- what the lines come to
+    abbrev lines : Result Written LineRefusal
+    lines = batch (line_requests asked.command.input) asked.command.day settings files
+
+    by-tool : (came : Result Made Refusal) → outcome ≡ came →
+        answer_on asked files defs ≡ answer_outcome tool files came → (decided : Decided) →
         AnswersDecision asked (decision_of tool files came) decided →
         DecidesOn asked files defs decided
-    by-outcome (Err refusal) is decided shown = refuses-on refusal is decided shown
-    by-outcome (Ok made) is decided shown = by-made made is (changed made) refl decided shown
+    by-tool (Err refusal) is told decided shown = refuses-on refusal told decided shown
+    by-tool (Ok made) is told decided shown =
+        leaves-on (written_by tool made) told
+        (made-stands (action_of asked.request asked.command.input asked.command.day files settings)
+        files made is) decided shown
+
+    by-lines : is_batch tool ≡ true → (came : Result Written LineRefusal) → lines ≡ came →
+        answer_on asked files defs ≡ answer_lines files came → (decided : Decided) →
+        AnswersDecision asked (decision_of_lines files came) decided →
+        DecidesOn asked files defs decided
+    by-lines is_one (Err line) is told decided shown = refuses-line line told decided shown
+    by-lines is_one (Ok written) is told decided shown =
+        leaves-on written
+        (told ∙ ap (λ (one : Tool). answer_written one files written)
+        (sym (batch-tool tool is_one)))
+        (batch-stands (line_requests asked.command.input) asked.command.day settings files written is)
+        decided shown
+
+    by-command : (is_one : Bool) → is_batch tool ≡ is_one → (decided : Decided) →
+        AnswersDecision asked (if is_one then decision_of_lines files lines
+        else decision_of tool files outcome) decided →
+        DecidesOn asked files defs decided
+    by-command true is decided shown = by-lines is lines refl
+        (by-problem None sound ∙ ap (λ (one : Bool). if one then answer_lines files lines
+        else answer_outcome tool files outcome) is) decided shown
+    by-command false is decided shown = by-tool outcome refl
+        (by-problem None sound ∙ ap (λ (one : Bool). if one then answer_lines files lines
+        else answer_outcome tool files outcome) is) decided shown
 
     -- the claim
-    pub decides-on : (decision : Decision) → Decides tool files outcome decision →
+    pub decides-on : (decision : Decision) →
+        decision ≡ command_decision asked.request asked.command.input asked.command.day files settings →
         (decided : Decided) → AnswersDecision asked decision decided →
         DecidesOn asked files defs decided
-    decides-on decision is decided shown = by-outcome outcome refl decided
+    decides-on decision is decided shown = by-command (is_batch tool) refl decided
         (subst (λ (one : Decision). AnswersDecision asked one decided) is shown)
 
 -- ---- The settings that were read

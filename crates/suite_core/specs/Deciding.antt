@@ -1,25 +1,21 @@
--- What a command answers on given files by what its tool decides (account_model/specs/Answer).
+-- What a command answers on given files by what it decides (account_model/specs/Answer).
 use Rattle.std.specs.Prelude.{◌≡◌, ℕ, List, [], find, Option, Some, None, option_map, unwrap_or}
 use Rattle.acct_text.specs.declared.Tab.{Tab}
 use Rattle.acct_text.specs.declared.files.Files.{Files}
 use Rattle.acct_text.specs.declared.new_tables.NewTable.{NewTable}
 use Rattle.acct_text.specs.Bytes.{Bytes}
 use Rattle.acct_outside.specs.declared.Name.TheVariants.{Table}
-use Rattle.account_model.specs.Action.{outcome_of}
 use Rattle.account_model.specs.Answer.{passes_limit}
-use Rattle.account_model.specs.Change.{action_of}
-use Rattle.account_words.specs.Settings.{Setting}
 use Rattle.login_defs.specs.declared.defs.Defs.{Defs}
 use Rattle.login_defs.specs.declared.defs.DefsFault.{DefsFault}
 use Rattle.login_defs.specs.declared.defs.DefsFault.TheVariants.{BadNumber}
-use Rattle.login_defs.specs.Held.{HasSettings}
 use Rattle.tool_answers.specs.declared.decision.Output.{Output}
 use Rattle.tool_answers.specs.declared.decision.Decision.{Decision}
-use Rattle.tool_answers.specs.declared.decision.Decision.TheVariants.{Change, Same, Refuse}
-use Rattle.tool_answers.specs.Decisions.{Decides}
+use Rattle.tool_answers.specs.declared.decision.Decision.TheVariants.{Change, Same, Refuse, RefuseLine}
+use Rattle.batch_commands.specs.Deciding.{CommandDecides}
 use Rattle.suite_answers.specs.declared.cause.Which.TheVariants.{File}
 use Rattle.suite_answers.specs.declared.cause.Cause.{Cause}
-use Rattle.suite_answers.specs.declared.cause.Cause.TheVariants.{Changed, Same as IsSame, Refused, TooLarge}
+use Rattle.suite_answers.specs.declared.cause.Cause.TheVariants.{Changed, Same as IsSame, Refused, RefusedLine, TooLarge}
 use Rattle.suite_answers.specs.declared.answer.Answer.{Answer}
 use Rattle.suite_session.specs.declared.tools.Decided.{Decided}
 use Rattle.suite_session.specs.declared.tools.Decided.TheVariants.{Change as Changes, Stay}
@@ -34,18 +30,16 @@ settings_text defs = unwrap_or defs []
 abbrev pub bad_line : DefsFault → ℕ
 bad_line (BadNumber line) = line
 
--- the tool decides so on the files, whichever settings these are
-abbrev pub ToolDecides : Question → Defs → Files → Decision → Type 0
-ToolDecides asked defs files decision = (settings : List Setting) → HasSettings defs settings →
-    Decides asked.request.tool files
-    (outcome_of (action_of asked.request asked.command.input asked.command.day files settings) files)
-    decision
+-- the command decides so on the files, whichever settings these are
+abbrev pub QuestionDecides : Question → Defs → Files → Decision → Type 0
+QuestionDecides asked defs files decision =
+    CommandDecides defs asked.command.day asked.request asked.command.input files decision
 
 -- the first of new tables that passes the limit
 abbrev pub large_table : List NewTable → Option Tab
 large_table tables = option_map (λ new. new.table) (find (λ new. passes_limit new.bytes) tables)
 
--- the answer with this cause and what the tool prints
+-- the answer with this cause and what the command prints
 abbrev pub with_output : Cause → Output → Answer
 with_output cause output = record {
   outcome = record { status = output.status; cause = cause };
@@ -57,6 +51,8 @@ with_output cause output = record {
 abbrev pub AnswersDecision : Question → Decision → Decided → Type 0
 AnswersDecision asked (Refuse refusal output) (Stay given) =
     given ≡ with_output (Refused refusal) output
+AnswersDecision asked (RefuseLine line refusal output) (Stay given) =
+    given ≡ with_output (RefusedLine line refusal) output
 AnswersDecision asked (Same output) (Stay given) = given ≡ with_output IsSame output
 AnswersDecision asked (Change new output) (Changes tables given) = (tables ≡ new)
     × (large_table new ≡ None) × (given ≡ with_output Changed output)

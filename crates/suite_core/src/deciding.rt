@@ -1,5 +1,5 @@
-// What the tools of the suite answer on the files that were loaded. Which tool that is, `suite_tools`
-// tells.
+// What the tools of the suite answer on the files that were loaded. Which tool that is, or which
+// tools, `batch_commands` tells.
 ghost use Rattle.std.specs.Prelude.{◌≡◌, ◌≤◌, IfOk, IfSome, length};
 ghost use Rattle.std.specs.Result.{result_err};
 ghost use Rattle.std.specs.Option.{option_copied};
@@ -9,17 +9,17 @@ ghost use Rattle.account_words.specs.Settings.{settings_of};
 ghost use Rattle.login_defs.specs.Faults.{file_fault};
 ghost use Rattle.login_defs.specs.Held.{HasSettings, IsHeld};
 ghost use Rattle.suite_session.specs.Answers.{given_for};
-ghost use Rattle.suite_core.specs.Deciding.{AnswersDecision, ToolDecides, bad_line, large_table, settings_text, with_output};
+ghost use Rattle.suite_core.specs.Deciding.{AnswersDecision, QuestionDecides, bad_line, large_table, settings_text, with_output};
 
 use acct_outside::Name;
 use acct_text::{Bytes, Files, NewTables, TABLE_LIMIT, Tab};
+use batch_commands::{Decision, Output};
 use login_defs::{Defs, DefsFault};
 use std::alloc::{AllocError, Global};
 use suite_answers::{Answer, Cause, Outcome, Which};
 use suite_session::{Decided, Question, Tools};
-use suite_tools::{Decision, Output, ToolRequest};
 
-/// The twelve tools of the suite, as one.
+/// The tools of the suite, as one.
 #[derive(Drop)]
 pub struct Suite;
 
@@ -32,7 +32,7 @@ impl Tools for Suite {
     ) -> Result<Decided, AllocError> {
         match settings_in(defs) {
             Ok(settings) => {
-                let decision = decide_tool(alloc, asked, files, &settings)?;
+                let decision = decide_command(alloc, asked, files, &settings)?;
                 answer_to(alloc, asked, decision)
             }
             Err(fault) => bad_setting(alloc, asked, fault),
@@ -62,21 +62,21 @@ fn settings_in(defs: Option<&Bytes>) -> Result<Defs, DefsFault>
     }
 }
 
-/// What the tool that is asked for decides on the files, by the settings.
-fn decide_tool(
+/// What the command decides on the files, by the settings.
+fn decide_command(
     alloc: Global,
     asked: &Question,
     files: &Files,
     settings: &Defs,
 ) -> Result<Decision, AllocError>
     requires { IsHeld settings.now }
-    ensures { IfOk result (ToolDecides asked.now settings.now files.now) }
+    ensures { IfOk result (QuestionDecides asked.now settings.now files.now) }
 {
-    let request = ToolRequest::of(asked.parsed(), asked.input());
-    suite_tools::decide(alloc, &request, files, settings, asked.day())
+    let day = asked.day();
+    batch_commands::decide(alloc, asked.parsed(), asked.input(), files, settings, day)
 }
 
-/// The answer to what the tool decides.
+/// The answer to what the command decides.
 fn answer_to(alloc: Global, asked: &Question, decision: Decision) -> Result<Decided, AllocError>
     ensures { IfOk result (AnswersDecision asked.now decision) }
 {
@@ -85,6 +85,10 @@ fn answer_to(alloc: Global, asked: &Question, decision: Decision) -> Result<Deci
         Decision::Same(output) => Ok(Decided::Stay(with_output(Cause::Same, output))),
         Decision::Refuse(refusal, output) => {
             Ok(Decided::Stay(with_output(Cause::Refused(refusal), output)))
+        }
+        Decision::RefuseLine(line, refusal, output) => {
+            let cause = Cause::RefusedLine(line, refusal);
+            Ok(Decided::Stay(with_output(cause, output)))
         }
     }
 }
@@ -128,7 +132,7 @@ fn passes_limit(bytes: &[u8]) -> bool
     bytes.len() as u64 > TABLE_LIMIT
 }
 
-/// The answer with this cause and what the tool prints.
+/// The answer with this cause and what the command prints.
 fn with_output(cause: Cause, output: Output) -> Answer
     ensures { result ≡ with_output cause output }
 {

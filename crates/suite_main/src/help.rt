@@ -5,6 +5,7 @@
 ghost use Rattle.std.specs.Prelude.{◌≡◌, true};
 ghost use Rattle.suite_main.specs.HelpTexts.{helps_with, names_tools};
 
+mod batch;
 mod chage;
 mod chpasswd;
 mod getsubids;
@@ -55,6 +56,7 @@ Tools:
   pwck       check or sort passwd and shadow
   grpck      check or sort group and gshadow
   getsubids  list the subordinate IDs of a user
+  batch      carry out a list of commands as one
 
 Exit status, where no tool has answered:
   0    a text or a rehearsal was asked for
@@ -83,5 +85,6 @@ pub(crate) fn text_of(tool: Tool) -> &'static str
         Tool::Pwck => pwck::text(),
         Tool::Grpck => grpck::text(),
         Tool::Getsubids => getsubids::text(),
+        Tool::Batch => batch::text(),
     }
 }
