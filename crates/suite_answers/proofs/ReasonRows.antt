@@ -1,14 +1,16 @@
--- What is said of what a session met, and with which status: rows of `status_of` and `reason_text`.
+-- What is said of what a session met, and with which status: rows of `status_of`, `reason_text` and
+-- `told_line`.
 use Prim.Native.String.{String}
 use Rattle.std.specs.Prelude.{◌≡◌, ℕ, List, [], ◌∷◌, ◌++◌, codes, refl}
 use Rattle.std.specs.Fmt.{digits}
 use Rattle.acct_text.specs.Bytes.{newline}
 use Rattle.acct_outside.specs.declared.Name.TheVariants.{Intent}
 use Rattle.acct_outside.specs.declared.CommitStage.TheVariants.{Before, Unsure, Committed}
+use Rattle.account_words.specs.declared.word_fault.WordFault.TheVariants.{UnknownOption}
 use Rattle.account_words.specs.declared.tool.Tool.TheVariants.{Useradd, Groupadd, Groupdel, Pwck, Getsubids}
 use Rattle.suite_answers.specs.declared.cause.Which.TheVariants.{File}
-use Rattle.suite_answers.specs.declared.cause.Cause.TheVariants.{Held, Gone, Raced, Outrun, LockDamaged, Exhausted, IntentDamaged, TooLarge, DiskFault, Memory}
-use Rattle.suite_answers.specs.Answers.{message_of}
+use Rattle.suite_answers.specs.declared.cause.Cause.TheVariants.{BatchSyntax, Held, Gone, Raced, Outrun, LockDamaged, Exhausted, IntentDamaged, TooLarge, DiskFault, Memory}
+use Rattle.suite_answers.specs.Answers.{message_of, told_line}
 use Rattle.suite_answers.specs.Reasons.{status_of}
 
 -- the text as a line
@@ -67,3 +69,21 @@ disk_fault_status = refl
 memory : message_of Getsubids (Memory Committed)
     ≡ line "getsubids: want of memory after the commit"
 memory = refl
+
+-- ---- A line of a batch
+
+-- batch with the one line `groupadd -P X z`, as no line has a folder of its own
+line_fault : told_line (record {
+  line = record {
+    number = 1;
+    words = codes "groupadd" ∷ codes "-P" ∷ codes "X" ∷ codes "z" ∷ [];
+  };
+  fault = UnknownOption 1;
+})
+    ≡ record {
+      outcome = record { status = 2; cause = BatchSyntax 1 (UnknownOption 1) };
+      out = [];
+      err = line "batch: line 1: unknown option in word 1: -P";
+    }
+unfolding digits
+line_fault = refl

@@ -27,5 +27,7 @@ mod transcript;
 
 pub use beside::Between;
 pub use images::{Contents, IMAGE, folder_of, image, no_accounts, put, sound_folder, with_file};
-pub use play::{Streams, die_after, run, session_of, tables, text_at, told, told_with};
+pub use play::{
+    Streams, die_after, run, session_of, session_with, tables, text_at, told, told_with,
+};
 pub use transcript::{push_done, push_done_among};

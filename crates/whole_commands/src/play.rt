@@ -1,5 +1,6 @@
 // Commands that are run over a folder in memory, and what they tell and do, as text.
-ghost use Rattle.std.specs.Prelude.{IfOk};
+ghost use Rattle.std.specs.Prelude.{◌≤◌, length, IfOk};
+ghost use Rattle.acct_text.specs.Limits.{table_limit};
 ghost use Rattle.suite_session.specs.Session.{IsWaiting};
 
 use acct_outside::{
@@ -17,7 +18,7 @@ pub(crate) const DAY: u32 = 20000;
 /// What a command reads, what it prints to, and its clock.
 #[derive(Drop)]
 pub struct Streams {
-    /// What chpasswd(8) takes.
+    /// What chpasswd(8) takes, and a batch.
     pub input: MemorySource,
     /// Where the output goes.
     pub out: MemorySink,
@@ -106,8 +107,16 @@ pub fn die_after(
 pub fn session_of(alloc: Global, command: &[u8]) -> Result<Session, StartFault>
     ensures { IfOk result IsWaiting }
 {
+    session_with(alloc, command, b"")
+}
+
+/// The same of a command with this input, of at most 16 MiB.
+pub fn session_with(alloc: Global, command: &[u8], input: &[u8]) -> Result<Session, StartFault>
+    requires { length input.now ≤ table_limit }
+    ensures { IfOk result IsWaiting }
+{
     let words = words_of(alloc, command)?;
-    Session::start(alloc, words.as_slice(), Bytes::new(alloc), DAY)
+    Session::start(alloc, words.as_slice(), Bytes::of(alloc, input)?, DAY)
 }
 
 // The session after so many calls of the folder.
