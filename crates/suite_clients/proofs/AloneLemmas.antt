@@ -53,7 +53,7 @@ use Rattle.suite_session.specs.Grows.{Grows, none_new, others_new, own_new}
 use Rattle.suite_session.specs.Stands.{IsDecided}
 use Rattle.suite_course.specs.Streams.{Streams}
 use Rattle.suite_course.specs.declared.supplies.Lack.{Lack}
-use Rattle.suite_course.specs.declared.supplies.Lack.TheVariants.{Supply, Request}
+use Rattle.suite_course.specs.declared.supplies.Lack.TheVariants.{Supply, Line}
 use Rattle.suite_course.specs.Supplies.{Supplies, IsUnsupplied, Lacks, told_lack}
 use Rattle.suite_course.specs.Alone.{IsAlone, Leaves}
 use Rattle.suite_course.specs.Shows.{HasChanged, HasStayed, IsShownAt}
@@ -76,7 +76,7 @@ lack-cause : (tool : Tool) (before now : Supplies) (lack : Lack) → Lacks tool 
     IsDecided (told_lack tool lack).outcome.cause → ⊥
 lack-cause tool before now (Supply cause) due decided =
     unsupplied-cause tool before now cause due decided
-lack-cause tool before now (Request faulty) due decided = decided
+lack-cause tool before now (Line faulty) due decided = decided
 
 -- an answer to no tool's cause says that, or that a stream failed, or that there was no memory
 early-undecided : (tool : Option Tool) (answer : Answer) (was holds : Streams) (outcome : Outcome) →

@@ -46,7 +46,7 @@ use Rattle.suite_session.specs.Stands.{IsDiskFault}
 use Rattle.suite_course.specs.Open.{StandsOpen}
 use Rattle.suite_course.specs.Streams.{Streams, Serves}
 use Rattle.suite_course.specs.declared.supplies.Lack.{Lack}
-use Rattle.suite_course.specs.declared.supplies.Lack.TheVariants.{Supply, Request}
+use Rattle.suite_course.specs.declared.supplies.Lack.TheVariants.{Supply, Line}
 use Rattle.suite_course.specs.Supplies.{Supplies, IsTooMuch, IsUnsupplied, Lacks, LacksNothing, TakesAll, told_lack}
 use Rattle.suite_course.specs.Alone.{AnswersOnOld, IsAlone}
 use Rattle.suite_course.specs.Shows.{IsShownAt}
@@ -305,7 +305,7 @@ lack-memory : (tool : Tool) (before now : Supplies) (lack : Lack) → Lacks tool
     LacksNothing tool before now → (told_lack tool lack).outcome.cause ≡ Memory Before
 lack-memory tool before now (Supply cause) due lacks =
     unsupplied-memory tool before now cause due lacks
-lack-memory tool before now (Request faulty) due lacks =
+lack-memory tool before now (Line faulty) due lacks =
     let all = lacks.input (batch-reads tool due.0) in
     absurd (never-faulty tool before.left now.left all.0 due.1.input faulty all.1 all.3 due.0
     due.1.all_input due.1.first)

@@ -16,7 +16,7 @@ use Rattle.suite_answers.specs.declared.cause.Cause.{Cause}
 use Rattle.suite_answers.specs.declared.cause.Cause.TheVariants.{TooLarge, InputFault, Memory}
 use Rattle.suite_session.specs.Runner.{LinesAsk}
 use Rattle.suite_course.specs.declared.supplies.Lack.{Lack}
-use Rattle.suite_course.specs.declared.supplies.Lack.TheVariants.{Supply, Request}
+use Rattle.suite_course.specs.declared.supplies.Lack.TheVariants.{Supply, Line}
 use Rattle.suite_course.specs.Supplies.{Supplies, AllCame, ClockStays, IsOfInput, IsUnsupplied, Lacks, LacksLine, NotesInput, SomeCame, TakesAll, reads_input}
 
 -- the first claim
@@ -72,7 +72,7 @@ pub lacks-line : (tool : Tool) (before now : Supplies) (input : Bytes) (lack : L
     (reads_input tool ≡ false → now.left ≡ before.left) →
     NoneFailed before.input_faults now.input_faults → ClockStays before now →
     Lacks tool before now lack
-lacks-line tool before now input (Request faulty) within line took untouched noted stays = (
+lacks-line tool before now input (Line faulty) within line took untouched noted stays = (
   line.0,
   record {
     input = input;

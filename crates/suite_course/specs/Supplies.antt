@@ -20,7 +20,7 @@ use Rattle.suite_answers.specs.declared.answer.Answer.{Answer}
 use Rattle.suite_answers.specs.Answers.{told, told_line}
 use Rattle.suite_session.specs.Runner.{LinesAsk}
 use Rattle.suite_course.specs.declared.supplies.Lack.{Lack}
-use Rattle.suite_course.specs.declared.supplies.Lack.TheVariants.{Supply, Request}
+use Rattle.suite_course.specs.declared.supplies.Lack.TheVariants.{Supply, Line}
 
 -- the tool reads an input: the pairs of chpasswd(8), the lines of a batch
 abbrev pub reads_input : Tool → Bool
@@ -138,7 +138,7 @@ pub record LacksRequest (before now : Supplies) (faulty : FaultyLine) : Type 0 w
 
 -- what a command lacks that has this input: its first line that asks for nothing, or memory to tell
 abbrev pub LacksLine : Tool → Bytes → Lack → Type 0
-LacksLine tool input (Request faulty) =
+LacksLine tool input (Line faulty) =
     (is_batch tool ≡ true) × (first_faulty input ≡ Some faulty)
 LacksLine tool input (Supply (Memory Before)) = ⊤
 LacksLine tool input lack = ⊥
@@ -146,13 +146,13 @@ LacksLine tool input lack = ⊥
 -- why the command doesn't run: it has no input or no day, or a line of its input asks for nothing
 abbrev pub Lacks : Tool → Supplies → Supplies → Lack → Type 0
 Lacks tool before now (Supply cause) = IsUnsupplied tool before now cause
-Lacks tool before now (Request faulty) =
+Lacks tool before now (Line faulty) =
     (is_batch tool ≡ true) × LacksRequest before now faulty
 
 -- the answer that tells it
 abbrev pub told_lack : Tool → Lack → Answer
 told_lack tool (Supply cause) = told tool cause
-told_lack tool (Request faulty) = told_line faulty
+told_lack tool (Line faulty) = told_line faulty
 
 -- nothing lacks: no fault of the source or of the clock was counted, and what the source had left, where
 -- the tool reads it, is within the limit of an input, and each line of a batch asks for something

@@ -84,7 +84,7 @@ fn answer_to_lack(alloc: Global, tool: Tool, lack: Lack) -> Result<Answer, Alloc
 {
     match lack {
         Lack::Supply(cause) => Answer::of_cause(alloc, tool, cause),
-        Lack::Request(faulty) => Answer::of_line(
+        Lack::Line(faulty) => Answer::of_line(
             alloc,
             faulty.number,
             faulty.words.as_slice(),

@@ -32,7 +32,7 @@ pub(crate) enum Lack {
     /// It has no input or no day, for this cause.
     Supply(Cause),
     /// This line of a batch asks for nothing.
-    Request(FaultyLine),
+    Line(FaultyLine),
 }
 
 impl From<Cause> for Lack {
@@ -82,7 +82,7 @@ fn lines_ask(alloc: Global, tool: Tool, input: &Bytes) -> Result<(), Lack>
 {
     match faulty_line(alloc, tool, input) {
         Ok(None) => Ok(()),
-        Ok(Some(faulty)) => Err(Lack::Request(faulty)),
+        Ok(Some(faulty)) => Err(Lack::Line(faulty)),
         Err(_) => Err(Lack::Supply(Cause::Memory(CommitStage::Before))),
     }
 }
