@@ -199,11 +199,16 @@ module _ (day : ℕ) (settings : List Setting) where
   -- behind the last line all is written
   pub all-written :
       (written : Written)
-      → written.status ≡ 0
-      → with_left [] written ≡ Ok written
-  all-written written zero = λ i. Ok (record {
+      → with_left [] written
+      ≡ Ok (record {
+        files = written.files;
+        status = 0;
+        output = written.output;
+        error = written.error;
+      })
+  all-written written = λ i. Ok (record {
     files = written.files;
-    status = sym zero i;
+    status = 0;
     output = append-nil written.output i;
     error = append-nil written.error i;
   })

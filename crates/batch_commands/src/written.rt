@@ -4,7 +4,7 @@ ghost use Rattle.acct_text.specs.ChangedTables.{changed_bytes, changed_tables, w
 ghost use Rattle.acct_text.specs.Files.{table_of};
 ghost use Rattle.acct_text.specs.declared.Tab.{Tab as Table};
 ghost use Rattle.account_model.specs.Batch.{nothing_on};
-ghost use Rattle.tool_answers.specs.Decisions.{decision_by, written_output};
+ghost use Rattle.tool_answers.specs.Decisions.{decision_by};
 ghost use Rattle.batch_commands.specs.Writing.{StandWhere, with_files, with_listed, with_output};
 
 use acct_text::{Bytes, Files, NewTables, Tab};
@@ -79,7 +79,8 @@ impl Written {
     pub(crate) fn into_decision(self, alloc: Global, first: &Files) -> Result<Decision, AllocError>
         requires { StandWhere first.now self.files }
         ensures { IfOk result (λ decision. decision ≡ decision_by
-            (changed_tables (table_of first.now) (table_of self.files)) (written_output self)) }
+            (changed_tables (table_of first.now) (table_of self.files))
+            (record { status = 0; out = self.output; err = self.error })) }
     {
         let output = Output {
             status: CARRIED_OUT,

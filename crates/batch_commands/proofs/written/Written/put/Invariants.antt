@@ -1,0 +1,11 @@
+use Rattle.std.proofs.Common.{◌≡◌, length}
+use Rattle.batch_commands.specs.Writing.{with_listed}
+use Rattle.batch_commands.proofs.written.Written.put.Given as goal
+
+abbrev pub decreases-tables : goal.decreases-tables
+decreases-tables l = length l.tables.items
+
+-- what is left, put in its places, makes the same files
+abbrev pub invariant-tables : goal.invariant-tables
+invariant-tables l =
+    with_listed l.tables.items l.self.files ≡ with_listed l.fn.tables l.initial.self.files
