@@ -1,7 +1,7 @@
 -- Claim: what each line's tool keeps, a batch keeps (`batch-keeps`). Way: the first line is carried out,
 -- and so are those behind it on the files that it leaves (`line-carried`).
-use Rattle.std.proofs.Common.{◌≡◌, ℕ, List, [], ◌∷◌, refl, subst, ap, absurd}
-use Rattle.std.specs.Prelude.{◌×◌, Option, Some, None, Result, Ok, Err}
+use Rattle.std.proofs.Common.{◌≡◌, ℕ, List, [], ◌∷◌, refl, subst, ap}
+use Rattle.std.specs.Prelude.{Option, Some, None, Result, Ok, Err}
 use Rattle.std.specs.List.{AllByRecursion}
 use Rattle.acct_text.specs.declared.files.Files.{Files}
 use Rattle.account_formats.specs.Text.{first_some}
@@ -13,8 +13,13 @@ use Rattle.account_model.specs.Batch.{LineRefusal, Written, batch, before_others
 use Rattle.account_model.specs.Change.{action_of}
 
 -- what is wrapped in `Ok`
-ok-inj : {X Y : Type 0} {x y : X} → Ok {E = Y} x ≡ Ok y → x ≡ y
-ok-inj is = cc
+ok-inj :
+    {X Y : Type 0} {x y : X} (one two : Result X Y)
+    → one ≡ Ok x
+    → two ≡ Ok y
+    → one ≡ two
+    → x ≡ y
+ok-inj one two is_x is_y same = cc
 
 -- ---- One command
 
@@ -22,7 +27,7 @@ ok-inj is = cc
 pub record IsMade (action : Action) (files : Files) (made : Made) : Type 0 where
   pub passes : first_some action.refusals ≡ None
   pub single : multiple_entries action.script files ≡ None
-  pub made : made_by action files ≡ made
+  pub makes : made_by action files ≡ made
 
 -- an outcome, by the refusal and by multiple entries
 made-by :
@@ -37,7 +42,7 @@ made-by :
 made-by action files made (Some r) multiple passes single is = absurd (cc)
 made-by action files made None (Some r) passes single is = absurd (cc)
 made-by action files made None None passes single is =
-    record { passes = passes; single = single; made = cc }
+    record { passes = passes; single = single; makes = ok-inj _ _ refl refl is }
 
 -- what has an outcome that isn't a refusal is made
 pub outcome-made :
@@ -53,9 +58,9 @@ outcome-made action files made is = made-by action files made (first_some action
 record LineCarried (outcome : Result Made Refusal) (rest : Files → Result Written LineRefusal)
     (written : Written) : Type 0 where
   made : Made
-  outcome : outcome ≡ Ok made
+  is : outcome ≡ Ok made
   others : Written
-  rest : rest made.files ≡ Ok others
+  behind : rest made.files ≡ Ok others
   files : others.files ≡ written.files
 
 -- those behind it, by their outcome
@@ -68,10 +73,10 @@ others-carried :
 others-carried made first written rest (Err refused) behind is = absurd (cc)
 others-carried made first written rest (Ok others) behind is = record {
   made = made;
-  outcome = refl;
+  is = refl;
   others = others;
-  rest = behind;
-  files = ap (λ (one : Written). one.files) (ok-inj is);
+  behind = behind;
+  files = ap (λ (one : Written). one.files) (ok-inj _ _ refl refl is);
 }
 
 -- a line, by its outcome
@@ -101,14 +106,14 @@ module _ (day : ℕ) (settings : List Setting) (Holds : Files → Type 0) where
       → Holds old
       → Holds written.files
   batch-keeps IsSo [] old written keep all is holds =
-      subst (λ (one : Written). Holds one.files) (ok-inj is) holds
+      subst (λ (one : Written). Holds one.files) (ok-inj _ _ refl refl is) holds
   batch-keeps IsSo (line ∷ rest) old written keep all is holds =
       let carried = line-carried line
       (outcome_of (action_of line.request [] day old settings) old) (batch rest day settings)
       written is
       in subst Holds carried.files
-      (batch-keeps IsSo rest carried.made.files carried.others keep all.1 carried.rest
-      (keep line all.0 old carried.made carried.outcome holds))
+      (batch-keeps IsSo rest carried.made.files carried.others keep all.1 carried.behind
+      (keep line all.0 old carried.made carried.is holds))
 
 -- what is so of any line is so of all
 pub any-line :

@@ -8,8 +8,8 @@ use Rattle.acct_text.specs.declared.Tab.TheVariants.{Group}
 use Rattle.account_words.specs.LineWords.{backslash}
 use Rattle.account_words.specs.declared.word_fault.WordFault.{WordFault}
 use Rattle.account_model.specs.declared.refusal.Refusal.{Refusal}
-use Rattle.account_model.specs.declared.refusal.Refusal.TheVariants.{GroupExists, Multiple, NoUser}
-use Rattle.account_model.specs.Answer.{Answer, Changed, RefusedLine, Same}
+use Rattle.account_model.specs.declared.refusal.Refusal.TheVariants.{GroupExists, Multiple, NoShadow}
+use Rattle.account_model.specs.Answer.{Answer, RefusedLine}
 use Rattle.account_model.proofs.Commands.{words, lines, answer_with, changed, same, small, nothing}
 
 -- what a batch answers on files without settings, by its lines
@@ -39,8 +39,8 @@ unfolding digits
 third_refuses = refl
 
 -- skipped lines count, and the status is that of the line's tool
-second_refuses : batch_on nothing (lines "# no such user|chage -E 0 ann")
-    ≡ refused_line 2 1 (NoUser (codes "ann")) "batch: line 2: chage: unknown user ann"
+second_refuses : batch_on nothing (lines "# no shadow|chage -E 0 ann")
+    ≡ refused_line 2 15 NoShadow "batch: line 2: chage: shadow does not exist"
 unfolding digits
 second_refuses = refl
 

@@ -1,6 +1,6 @@
 -- Claim: a deed is a change (`deed-is`). Way: its new files are made by the lines of a batch or by the tool
 -- (`deed-makes`), each of which leaves a table standing where it stood; they differ from the old, within their limits.
-use Rattle.std.proofs.Common.{◌≡◌, ◌≢◌, ℕ, ◌≤◌, Bool, true, false, not, List, [], ◌∷◌, length, refl, sym, ◌∙◌, subst, inl, inr, map, absurd}
+use Rattle.std.proofs.Common.{◌≡◌, ◌≢◌, ℕ, ◌≤◌, Bool, true, false, not, List, [], ◌∷◌, length, refl, sym, ◌∙◌, subst, inl, inr, map}
 use Rattle.std.specs.Prelude.{◌⊎◌, ⊤, Result, Option, Some, None, is_some, nat_le, unwrap_or, Ok, Err, if◌then◌else◌}
 use Rattle.std.specs.List.{list_all, AllByRecursion}
 use Rattle.account_formats.specs.Records.{passwd_format, shadow_format, group_format, gshadow_format, subid_format}
@@ -249,7 +249,7 @@ made-stands :
     → StandAlike old made.files
 made-stands action old made outcome tab =
     subst (λ (one : Made). is_some (table_of one.files tab) ≡ is_some (table_of old tab))
-    (outcome-made action old made outcome).made (files-stand action.script old tab)
+    (outcome-made action old made outcome).makes (files-stand action.script old tab)
 
 -- what the lines of a batch make
 pub batch-stands :

@@ -42,7 +42,7 @@ module _ (request : Request) (input : List ℕ) (day : ℕ) (old : Files) (setti
 
   -- the edits make the new files
   made_files : files_after script old ≡ made.files
-  made_files = ap (λ (one : Made). one.files) is_made.made
+  made_files = ap (λ (one : Made). one.files) is_made.makes
 
   -- what they print of the four tables reads back
   written : IsWrittenScript (without_hashes script)
