@@ -1,7 +1,7 @@
 -- Claim: a deed keeps apart what was apart (`deeds-keep`). Way: what a tool makes that doesn't refuse and touches no
 -- multiple name keeps it, as the records of each table are those of the old, edited; so a deed keeps it, which is made by
 -- its tool or, line by line, by those of a batch (`deed-keeps`).
-use Rattle.std.proofs.Common.{◌≡◌, ℕ, true, List, [], ap, inl, inr, subst}
+use Rattle.std.proofs.Common.{◌≡◌, ℕ, true, List, [], ap, inl, inr, refl, subst}
 use Rattle.std.specs.Prelude.{⊤, Option, Some, unwrap_or, Ok}
 use Rattle.std.specs.List.{AllByRecursion}
 use Rattle.acct_text.specs.declared.files.Files.{Files}
@@ -140,8 +140,8 @@ deeds-keep = record {
   subgids = always-kept SubgidsAreApart subgids-kept;
   uids = λ request input day old defs new shares.
       deed-keeps UidsAreDistinct SharesNoId uids-kept request input day old defs new
-      shares.request shares.lines;
+      shares.itself shares.lines;
   gids = λ request input day old defs new shares.
       deed-keeps GidsAreDistinct SharesNoId gids-kept request input day old defs new
-      shares.request shares.lines;
+      shares.itself shares.lines;
 }

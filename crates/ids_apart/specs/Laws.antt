@@ -2,7 +2,7 @@
 use Rattle.std.specs.Prelude.{◌≡◌, ℕ, List, true, false, Option, Some, codes, ⊤}
 use Rattle.std.specs.List.{AllByRecursion}
 use Rattle.acct_text.specs.declared.files.Files.{Files}
-use Rattle.account_words.specs.BatchLines.{LineRequest, line_requests}
+use Rattle.account_words.specs.BatchLines.{line_requests}
 use Rattle.account_words.specs.Request.{Request, has_option}
 use Rattle.account_words.specs.Words.{is_batch}
 use Rattle.account_model.specs.Answer.{deed}
@@ -15,7 +15,7 @@ SharesNoId request = has_option (codes "o") request ≡ false
 
 -- neither the request nor, where it is a batch, a line of its input has `-o`
 pub record ShareNoIds (request : Request) (input : List ℕ) : Type 0 where
-  pub request : SharesNoId request
+  pub itself : SharesNoId request
   pub lines : is_batch request.tool ≡ true →
       AllByRecursion (λ line. SharesNoId line.request) (line_requests input)
 
