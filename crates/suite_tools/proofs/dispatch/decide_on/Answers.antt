@@ -177,18 +177,18 @@ edits-requires-in-Batch c =
     let is : c.args.asked.now.tool ≡ Batch = cc in
     let asking = asking_with c.args.asked.now c.args.input.now in
     is-of-tool asking c.args.day c.args.tables.now c.args.defs.now Batch
-    (Ok c.new-script.result) is c.requires.in_time c.requires.held
-    (batch-acts asking c.args.day c.args.tables.now c.args.defs.now c.new-script.result
-    c.new-script.ensures)
+    (Ok c.new.result) is c.requires.in_time c.requires.held
+    (batch-acts asking c.args.day c.args.tables.now c.args.defs.now c.new.result
+    c.new.ensures)
 
 pub returns-in-Batch : goal.returns-in-Batch
 returns-in-Batch c =
     let is : c.args.asked.now.tool ≡ Batch = cc in
     let asking = asking_with c.args.asked.now c.args.input.now in
     by-script asking c.args.day c.args.tables.now c.args.defs.now Batch
-    c.tool-tool.result (Ok c.new-script.result) c.edits-in-Batch.result is
+    c.tool-tool.result (Ok c.new.result) c.edits-in-Batch.result is
     (c.tool-tool.ensures ∙ is)
-    (batch-acts asking c.args.day c.args.tables.now c.args.defs.now c.new-script.result
-    c.new-script.ensures)
+    (batch-acts asking c.args.day c.args.tables.now c.args.defs.now c.new.result
+    c.new.ensures)
     (silent-batch asking c.args.day c.args.tables.now c.args.defs.now)
     c.edits-in-Batch.ensures
