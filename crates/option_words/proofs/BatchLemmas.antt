@@ -1,22 +1,22 @@
 -- Claims: the lines of a text are its first line and those behind it (`lines-cut`, `lines-whole`).
 -- So the next line is skipped (`skipped-line`) or is the first that isn't (`first-line`); and it asks
 -- for something (`first-request`, `has-no_fault`) or has a fault (`faulty-request`, `first-fault`).
-use Rattle.std.proofs.Common.{◌≡◌, ℕ, ◌+◌, ◌<◌, List, [], ◌∷◌, true, false, Bool, length, map, lt_irrefl, refl, sym, ◌∙◌, ap, Option, Some, None, Result, Ok, Err}
+use Rattle.std.proofs.Common.{◌≡◌, ◌≢◌, ℕ, ◌+◌, ◌<◌, List, [], ◌∷◌, true, false, Bool, length, map, lt_irrefl, refl, sym, ◌∙◌, ap, Option, Some, None, Result, Ok, Err}
 use Rattle.std.specs.Prelude.{filter, option_map, is_some, slice_get, if◌then◌else◌}
 use Rattle.std.specs.List.{cons_option, enumerate_from}
 use Rattle.acct_text.specs.Bytes.{newline}
-use Rattle.acct_text.specs.Lines.{Line, lines_of, lines_of_pieces}
+use Rattle.acct_text.specs.Lines.{Line, lines_of_pieces}
 use Rattle.acct_text.specs.Pieces.{cut_at}
 use Rattle.acct_text.proofs.Cut.{cut_at-is}
 use Rattle.account_formats.specs.Text.{first_some}
 use Rattle.account_words.specs.declared.word_fault.WordFault.{WordFault}
 use Rattle.account_words.specs.declared.words_of.WordsOf.TheVariants.{Line as OfLine}
-use Rattle.account_words.specs.BatchLines.{BatchLine, FaultyLine, LineRequest, asked_by, has_words, line_numbered, with_fault}
+use Rattle.account_words.specs.BatchLines.{BatchLine, LineRequest, has_words, line_numbered, with_fault}
 use Rattle.account_words.specs.LineWords.{split_line}
 use Rattle.account_words.specs.Options.{Word}
 use Rattle.account_words.specs.Request.{Request}
 use Rattle.account_words.specs.Words.{AsksLine, fault_line, request_as}
-use Rattle.account_words.proofs.AsksLaws.{asked_is_read, asks_as_no_fault}
+use Rattle.account_words.proofs.AsksLaws.{asked_is_read}
 use Rattle.option_words.specs.Batch.{all_from, line_at, lines_from, requests_of}
 
 -- ---- The first line of a text
@@ -63,10 +63,20 @@ module _ (number : ℕ) (text : List ℕ) (line : BatchLine) (rest : List BatchL
   pub skipped-line : line.words ≡ [] → lines_from number text ≡ filter has_words rest
   skipped-line none = by-words false (ap (λ words. is_some (slice_get words 0)) none)
 
-  -- a line with words is the first
-  pub first-line : (word : Word) (words : List Word) → line.words ≡ word ∷ words
-      → lines_from number text ≡ line ∷ filter has_words rest
-  first-line word words some = by-words true (ap (λ words. is_some (slice_get words 0)) some)
+-- a line with words is the first
+pub first-line :
+    (number : ℕ) (text before behind : List ℕ) (words : List Word)
+    → all_from number text ≡ line_at number before ∷ all_from (number + 1) behind
+    → words ≡ split_line before
+    → words ≢ []
+    → lines_from number text
+    ≡ record { number = number; words = words } ∷ lines_from (number + 1) behind
+first-line number text before behind [] cut are some = absurd (some refl)
+first-line number text before behind (word ∷ words) cut are some =
+    by-words number text (record { number = number; words = word ∷ words })
+    (all_from (number + 1) behind)
+    (cut ∙ ap (λ (words : List Word). record { number = number; words = words }
+    ∷ all_from (number + 1) behind) (sym are)) true refl
 
 -- ---- What a line asks for
 

@@ -1,5 +1,5 @@
 // The lines of a batch, one after another: those that have words, and what they ask for.
-ghost use Rattle.std.specs.Prelude.{◌≡◌, ◌∷◌, ◌+◌, ◌<◌, ◌≤◌, ℕ, [], length, IfOk, MatchOption};
+ghost use Rattle.std.specs.Prelude.{◌≡◌, ◌≢◌, ◌∷◌, ◌+◌, ◌<◌, ◌≤◌, ℕ, [], length, IfOk, MatchOption};
 ghost use Rattle.acct_text.specs.Limits.{table_limit};
 ghost use Rattle.account_words.specs.BatchLines.{batch_lines, first_faulty};
 ghost use Rattle.account_words.specs.Words.{fault_line};
@@ -134,8 +134,7 @@ impl<'a> BatchLines<'a> {
                     let number = line.number;
                     return Ok(Some(LineRequest { number, parsed }));
                 }
-                Err(WordFault::Memory) => return Err(AllocError),
-                Err(_) => {}
+                Err(fault) => drop(told(fault)?),
             }
         }
         Ok(None)
@@ -167,8 +166,17 @@ fn fault_of(alloc: Global, words: &[Word]) -> Result<Option<WordFault>, AllocErr
 {
     match read_line_words(alloc, words) {
         Ok(_) => Ok(None),
-        Err(WordFault::Memory) => Err(AllocError),
-        Err(fault) => Ok(Some(fault)),
+        Err(fault) => Ok(Some(told(fault)?)),
+    }
+}
+
+/// The fault, where it is one of the words; the error says that it was want of memory.
+fn told(fault: WordFault) -> Result<WordFault, AllocError>
+    ensures { IfOk result (λ found. (found ≡ fault) × (fault ≢ WordFault.Memory)) }
+{
+    match fault {
+        WordFault::Memory => Err(AllocError),
+        _ => Ok(fault),
     }
 }
 
