@@ -2,7 +2,7 @@
 -- status 0, or edits nothing (`is-plain`); without edits all files stay, which is no change. What the
 -- lines of a batch write has status 0 (`batch-zero`).
 use Rattle.std.proofs.Common.{◌≡◌, ◌⊎◌, inl, inr, refl, sym, ap, ◌∙◌, ℕ, Bool, true, false, List, []}
-use Rattle.std.specs.Prelude.{◌∷◌, ⊤, codes, Option, Some, None, unwrap_or, if◌then◌else◌, Ok, Err}
+use Rattle.std.specs.Prelude.{◌∷◌, ⊤, codes, Result, Option, Some, None, unwrap_or, if◌then◌else◌, Ok, Err}
 use Rattle.std.proofs.lemmas.Bool.{true≢false}
 use Rattle.std.proofs.lemmas.Slice.Eq.{bytes_eq-Decides}
 use Rattle.acct_text.specs.Bytes.{Bytes}
@@ -157,9 +157,9 @@ under-succeeds : (request : Request) (input : Bytes) (day : ℕ) (old : Files)
     Succeeds (if lines then answer_lines old (batch (line_requests input) day settings old)
     else answer_outcome request.tool old
     (outcome_of (action_of request input day old settings) old))
-under-succeeds request input day old settings true =
+under-succeeds request input day old settings true new changed =
     lines-succeed old (batch (line_requests input) day settings old)
-    (batch-zero (line_requests input) day settings old)
+    (batch-zero (line_requests input) day settings old) new changed
 under-succeeds request input day old settings false new changed =
     outcome-succeeds request.tool (action_of request input day old settings) old
     (first_some (action_of request input day old settings).refusals)
@@ -174,8 +174,8 @@ answer-succeeds : (request : Request) (input : Bytes) (day : ℕ) (old : Files)
       | None ↦ answer_under request input day old settings
     ])
 answer-succeeds request input day old settings (Some problem) new changed = absurd (cc)
-answer-succeeds request input day old settings None =
-    under-succeeds request input day old settings (is_batch request.tool)
+answer-succeeds request input day old settings None new changed =
+    under-succeeds request input day old settings (is_batch request.tool) new changed
 
 -- the law
 pub changes-succeed : ChangesSucceed
