@@ -10,7 +10,6 @@ use Rattle.acct_text.specs.declared.files.Files.{Files}
 use Rattle.acct_text.specs.Limits.{last_day}
 use Rattle.account_words.specs.declared.tool.Tool.{Tool}
 use Rattle.account_words.specs.declared.tool.Tool.TheVariants.{Useradd, Usermod, Groupadd, Groupmod, Groupdel, Gpasswd, Chpasswd, Batch}
-use Rattle.account_formats.specs.Tables.{no_edits}
 use Rattle.account_model.specs.Action.{Action, outcome_of}
 use Rattle.account_model.specs.Change.{action_by}
 use Rattle.account_model.specs.Groupadd.{is_content}
@@ -135,9 +134,9 @@ module _ (asking : Asking) (day : ℕ) (files : Files) (defs : Defs) where
   pub silent-batch : (settings : List Setting) → IsSilent (action_as Batch settings)
   silent-batch settings = record { status = refl; output = refl; notices = refl }
 
-  -- a batch has no edits of its own
+  -- a batch acts by the script that has its edits, of which there are none
   pub batch-acts :
       (script : Script)
-      → seen_script script ≡ no_edits
+      → ((settings : List Setting) → seen_script script ≡ (action_as Batch settings).script)
       → ActsAs Batch (Ok script)
-  batch-acts script without settings held = record { unrefused = refl; edits = without }
+  batch-acts script edits settings held = record { unrefused = refl; edits = edits settings }

@@ -179,7 +179,7 @@ edits-requires-in-Batch c =
     is-of-tool asking c.args.day c.args.tables.now c.args.defs.now Batch
     (Ok c.new.result) is c.requires.in_time c.requires.held
     (batch-acts asking c.args.day c.args.tables.now c.args.defs.now c.new.result
-    c.new.ensures)
+    (λ settings. c.new.ensures))
 
 pub returns-in-Batch : goal.returns-in-Batch
 returns-in-Batch c =
@@ -189,6 +189,6 @@ returns-in-Batch c =
     c.tool-tool.result (Ok c.new.result) c.edits-in-Batch.result is
     (c.tool-tool.ensures ∙ is)
     (batch-acts asking c.args.day c.args.tables.now c.args.defs.now c.new.result
-    c.new.ensures)
+    (λ settings. c.new.ensures))
     (silent-batch asking c.args.day c.args.tables.now c.args.defs.now)
     c.edits-in-Batch.ensures
