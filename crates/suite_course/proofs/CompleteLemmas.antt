@@ -3,7 +3,7 @@
 -- line that asks for nothing, though nothing lacked, found no memory (`ends-unsupplied`).
 -- Way: cause by cause (`answers-as`): what a tool answers on is the files of the entry (AloneLemmas); what
 -- others leave it doesn't meet (OpenLemmas); and each fault is counted.
-use Rattle.std.proofs.Common.{◌≡◌, refl, sym, ap, subst, ◌∙◌, ◌∷◌, ◌++◌, [], ◌+◌, ◌≤◌, length, ◌⊎◌, inl, inr, Option, Some, None, Result, Ok, Err, arith}
+use Rattle.std.proofs.Common.{◌≡◌, refl, sym, ap, subst, true, ◌∙◌, ◌∷◌, ◌++◌, [], ◌+◌, ◌≤◌, length, ◌⊎◌, inl, inr, Option, Some, None, Result, Ok, Err, arith}
 use Rattle.std.specs.List.{AllByRecursion}
 use Rattle.std.proofs.Math.Nat.{min-eq_left, min-eq_right}
 use Rattle.std.proofs.lemmas.Bool.{cases_lt}
