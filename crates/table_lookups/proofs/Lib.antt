@@ -2,3 +2,4 @@ pub mod RecordLemmas
 pub mod FileLemmas
 pub mod FirstLemmas
 pub mod StoppingLemmas
+pub mod NumberLemmas

@@ -2,18 +2,23 @@
 ghost use Rattle.std.specs.Prelude.{◌≡◌, Bool, find, IfOk};
 ghost use Rattle.acct_text.specs.Lines.{lines_of};
 ghost use Rattle.account_formats.specs.Tables.{table_records};
-ghost use Rattle.table_lookups.specs.Accepting.{is_accepted};
+ghost use Rattle.table_lookups.specs.Accepting.{IsNumberOf, is_accepted};
 ghost use Rattle.table_lookups.specs.TablesOfLines.{lines_in};
 
 use acct_lines::{GroupLine, GroupRecord, PasswdLine, PasswdRecord, TableRecord};
-use acct_tables::{Lines, read_record};
+use acct_tables::{Lines, from_mark, read_record};
 use acct_text::Bytes;
+use itoa::Buffer;
 use std::alloc::{AllocError, Global};
 
 /// A test of the records R, made on a line where it stands.
 pub trait RecordTest<R: TableRecord> {
     // whether a record passes
     ghost accepts: { Self → R → Bool };
+
+    /// A number whose decimal text the line of each record has that passes.
+    fn number(&self) -> u32
+        ensures { IsNumberOf R.format (accepts self.now) result };
 
     /// Whether the line is a record that passes. It takes no memory.
     fn passes(&self, line: &[u8]) -> bool
@@ -31,6 +36,10 @@ impl RecordTest<PasswdRecord> for OfGid {
 
     ghost accepts = { λ test user. user.gid == test.gid };
 
+    fn number(&self) -> u32 {
+        self.gid
+    }
+
     fn passes(&self, line: &[u8]) -> bool {
         match PasswdLine::read(line) {
             Ok(user) => user.gid == self.gid,
@@ -43,6 +52,10 @@ impl RecordTest<GroupRecord> for OfGid {
     ghost use Rattle.std.specs.Prelude.{◌==◌};
 
     ghost accepts = { λ test group. group.gid == test.gid };
+
+    fn number(&self) -> u32 {
+        self.gid
+    }
 
     fn passes(&self, line: &[u8]) -> bool {
         match GroupLine::read(line) {
@@ -62,7 +75,7 @@ pub fn text_of(file: &Option<Bytes>) -> &[u8]
     }
 }
 
-/// The first record of the file that passes the test.
+/// The first record of the file that passes the test. Only lines with its number are read.
 pub fn first_passing<R: TableRecord + Drop, T: RecordTest<R>>(
     alloc: Global,
     file: &Option<Bytes>,
@@ -71,11 +84,14 @@ pub fn first_passing<R: TableRecord + Drop, T: RecordTest<R>>(
     ensures { IfOk result (λ found.
         found ≡ find (T.accepts test.now) (table_records R.format file.now)) }
 {
-    let mut left = Lines::of(text_of(file));
+    let mut buffer = Buffer::new();
+    let number = buffer.format(test.number()).as_bytes();
+    let mut left = Lines::of(from_mark(text_of(file), number));
     'lines: while let Some(line) = left.take() {
         if test.passes(line.text) {
             return read_record(alloc, line.text);
         }
+        left = Lines::of(from_mark(left.bytes(), number));
     }
     Ok(None)
 }

@@ -1,1 +1,2 @@
 pub mod UserdelLemmas
+pub mod OtherNumbers

@@ -43,6 +43,13 @@ impl<'a> RecordTest<PasswdRecord> for OtherWith<'a> {
 
     ghost accepts = { λ test user. is_other_with test.name.now test.id user };
 
+    fn number(&self) -> u32 {
+        match self.id {
+            AccountId::Uid(uid) => uid,
+            AccountId::Gid(gid) => gid,
+        }
+    }
+
     fn passes(&self, line: &[u8]) -> bool {
         match PasswdLine::read(line) {
             Ok(user) => user.name != self.name && has_id(&user, self.id),

@@ -1,16 +1,24 @@
-use Rattle.std.proofs.Common.{◌∙◌, length, sym, ap, arith}
+use Rattle.std.proofs.Common.{◌∙◌, length, sym, ap, arith, subst}
 use Rattle.std.specs.Prelude.{find}
 use Rattle.std.proofs.lemmas.Result.{IfOk-weaker}
+use Rattle.acct_text.specs.Lines.{lines_of}
 use Rattle.account_formats.specs.Format.{records_of}
+use Rattle.acct_tables.specs.Marks.{IsFromMark}
 use Rattle.table_lookups.proofs.FileLemmas.{records-in}
+use Rattle.table_lookups.proofs.NumberLemmas.{marked-fewer, marked-passing}
 use Rattle.table_lookups.proofs.RecordLemmas.{find-accepted, find-refused}
 use Rattle.table_lookups.proofs.search.first_passing.Goals as goal
 
 pub lines-init : goal.lines-init
 lines-init g c =
-    ap (find (g.T.RecordTest.accepts c.args.test.now))
-    (records-in g.R.TableRecord.format c.of-left.result c.args.file.now
-    (c.of-left.ensures ∙ c.text_of.ensures))
+    let format = g.R.TableRecord.format in
+    let test = g.T.RecordTest.accepts c.args.test.now in
+    let text = c.text_of.result.now in
+    let from = subst (λ mark. IsFromMark mark text c.from_mark.result.now)
+    (c.as_bytes-number.ensures.value ∙ c.format.ensures.text) c.from_mark.ensures in
+    ap (λ lines. find test (records_of format lines)) c.of-left.ensures
+    ∙ marked-passing format test c.number.result c.number.ensures text c.from_mark.result.now from
+    ∙ ap (find test) (records-in format (lines_of text) c.args.file.now c.text_of.ensures)
 
 pub returns-then-passes : goal.returns-then-passes
 returns-then-passes g c =
@@ -31,12 +39,29 @@ lines-preserved g c =
     let test = g.T.RecordTest.accepts c.args.test.now in
     let kept = format.read c.in-Some.line.text.now in
     let rest = records_of format c.take.new.self in
-    sym (find-refused test kept rest (sym c.passes.ensures ∙ c.if-passes.false))
+    let next = c.bytes.result.now in
+    let from = subst (λ mark. IsFromMark mark next c.from_mark-in-Some.result.now)
+    (c.as_bytes-number.ensures.value ∙ c.format.ensures.text) c.from_mark-in-Some.ensures in
+    ap (λ lines. find test (records_of format lines)) c.of-left-in-Some.ensures
+    ∙ marked-passing format test c.number.result c.number.ensures next
+    c.from_mark-in-Some.result.now from
+    ∙ ap (λ lines. find test (records_of format lines)) c.bytes.ensures.lines
+    ∙ sym (find-refused test kept rest (sym c.passes.ensures ∙ c.if-passes.false))
     ∙ ap (λ lines. find test (records_of format lines)) (sym c.in-Some.ensures.taken)
     ∙ c.lines.invariant
 
 pub lines-smaller : goal.lines-smaller
-lines-smaller g c = omega (arith, ap length c.in-Some.ensures.taken)
+lines-smaller g c =
+    let next = c.bytes.result.now in
+    let fewer = marked-fewer c.as_bytes-number.result.now next c.from_mark-in-Some.result.now
+    c.from_mark-in-Some.ensures in
+    omega (
+      arith,
+      ap length c.in-Some.ensures.taken,
+      ap length c.of-left-in-Some.ensures,
+      ap length c.bytes.ensures.lines,
+      fewer,
+    )
 
 pub returns : goal.returns
 returns g c =

@@ -1,4 +1,4 @@
-use Rattle.std.proofs.Common.{◌∙◌, [], length, ap, subst, arith}
+use Rattle.std.proofs.Common.{◌∙◌, length, ap, subst, arith}
 use Rattle.account_formats.specs.Format.{records_of}
 use Rattle.account_formats.specs.Tables.{table_records}
 use Rattle.table_lookups.specs.FirstLines.{Tells, has_name, told_names}
