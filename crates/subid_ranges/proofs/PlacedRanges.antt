@@ -1,5 +1,6 @@
 -- Claim: what a search finds in the lines left is by the range of the next, and by what is left
--- behind it (`meeting-here`, `meeting-behind`, `owned-here`, `owned-behind`).
+-- behind it (`meeting-here`, `meeting-behind`, `owned-here`, `owned-behind`); and a line of another
+-- owner has none of the owner's (`other-owned`).
 use Rattle.std.proofs.Common.{◌≡◌, ℕ, ◌+◌, Bool, true, false, List, [], ◌∷◌, refl, sym, ◌∙◌, ap}
 use Rattle.std.specs.Prelude.{Option, Some, None, ◌||◌, not, is_none, map, filter, if◌then◌else◌}
 use Rattle.std.specs.List.{AllByRecursion, cons_option, list_any, position_from}
@@ -7,7 +8,9 @@ use Rattle.std.proofs.lemmas.Bool.{le-leb, true≢false}
 use Rattle.acct_text.specs.Lines.{Line}
 use Rattle.account_formats.specs.declared.records.SubidRecord.{SubidRecord}
 use Rattle.account_words.specs.FreeRange.{Meeting, meets}
+use Rattle.account_formats.specs.Naming.{first_field}
 use Rattle.account_formats.specs.Records.{last_id, subid_format}
+use Rattle.account_formats.proofs.NamingLaws.{subid-names_first}
 use Rattle.account_words.specs.SubidOwner.{is_owned}
 use Rattle.account_model.specs.UsermodRanges.{line_meets}
 use Rattle.subid_ranges.specs.Owned.{first_and_count, owned_one, owned_ranges}
@@ -29,6 +32,23 @@ owned-by :
     ≡ cons_option (owned_one name uid found) (map first_and_count (filter (is_owned name uid) rest))
 owned-by name uid None rest = refl
 owned-by name uid (Some r) rest = owned-test name uid r rest (is_owned name uid r) refl
+
+-- by what a line of another owner reads as
+other-by :
+    (name : List ℕ) (uid : Option ℕ) (found : Option SubidRecord)
+    → ((r : SubidRecord) → found ≡ Some r → is_owned name uid r ≡ false)
+    → None ≡ owned_one name uid found
+other-by name uid None other = refl
+other-by name uid (Some r) other = rw (other r refl) refl
+
+-- a line of another owner
+pub other-owned :
+    (name : List ℕ) (uid : Option ℕ) (line : List ℕ)
+    → ((r : SubidRecord) → r.owner ≡ first_field line → is_owned name uid r ≡ false)
+    → None ≡ owned_one name uid (subid_format.read line)
+other-owned name uid line other =
+    other-by name uid (subid_format.read line)
+    (λ r read. other r (sym (subid-names_first line r read)))
 
 module _ (line : Line) (left rest : List Line) (is : left ≡ line ∷ rest) where
   module _ (first last number : ℕ) where

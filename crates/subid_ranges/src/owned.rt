@@ -5,6 +5,7 @@ ghost use Rattle.account_formats.specs.Records.{subid_format};
 ghost use Rattle.subid_ranges.specs.Owned.{owned_one, owned_ranges};
 
 use crate::range_line::range_in;
+use acct_lines::first_field;
 use acct_tables::{Lines, is_owner};
 use std::marker::Model;
 
@@ -57,13 +58,13 @@ impl<'a> Iterator for OwnedRanges<'a> {
     }
 }
 
-// The range that a line is, where it is the owner's.
+// The range that a line is, where it is the owner's. A line of another owner isn't read further.
 fn owned_in(line: &[u8], owner: &[u8], uid: Option<u32>) -> Option<(u32, u32)>
     ensures { result ≡ owned_one owner.now uid (subid_format.read line.now) }
 {
-    let range = range_in(line)?;
-    if !is_owner(range.owner, owner, uid) {
+    if !is_owner(first_field(line), owner, uid) {
         return None;
     }
+    let range = range_in(line)?;
     Some((range.first, range.count))
 }
