@@ -91,7 +91,7 @@ fn primary_gid(
 }
 
 // The GID of the own group of a user of the UID: the UID where no group has it, and else a chosen
-// one.
+// one, for which alone all GIDs are gathered.
 fn own_gid(
     alloc: Global,
     asked: &Asked,
@@ -102,6 +102,9 @@ fn own_gid(
     ensures { IfOk result (Gives settings.now
         (λ under. gid_beside asked.now tables.now under uid)) }
 {
+    if tables.group_of_gid(alloc, uid)?.is_none() {
+        return Ok(Some(uid));
+    }
     let used = tables.used_gids(alloc)?;
     let kind = asked.kind();
     Ok(used.choose(settings.range(IdSort::Gid, kind), kind, Some(uid)))
