@@ -61,8 +61,8 @@ fn carry_out(
         written.old.files)) }
 {
     let no_input = Bytes::new(alloc);
-    let parsed = &line.parsed;
-    match decide_tool(alloc, parsed, &no_input, written.files(), defs, day)? {
+    let decision = decide_tool(alloc, &line.parsed, &no_input, written.files(), defs, day)?;
+    match decision {
         Decision::Change(tables, output) => {
             written.print(&output)?;
             written.put(tables);
@@ -72,6 +72,8 @@ fn carry_out(
             written.print(&output)?;
             Ok(None)
         }
-        Decision::Refuse(refusal, _) | Decision::RefuseLine(_, refusal, _) => Ok(Some(refusal)),
+        Decision::Refuse(refusal, _output) | Decision::RefuseLine(_, refusal, _output) => {
+            Ok(Some(refusal))
+        }
     }
 }
