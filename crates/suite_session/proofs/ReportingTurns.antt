@@ -16,7 +16,7 @@ use Rattle.acct_outside.specs.History.{History}
 use Rattle.acct_outside.specs.Moment.{Moment, Past}
 use Rattle.account_words.specs.declared.tool.Tool.{Tool}
 use Rattle.account_words.specs.Request.{is_report}
-use Rattle.account_model.specs.Answer.{AnswerCause, FileProblem, TableTooLarge, SettingsTooLarge, TableAbsent, BadSettingAt, Unusable, Refused, Same, Changed}
+use Rattle.account_model.specs.Answer.{AnswerCause, FileProblem, TableTooLarge, SettingsTooLarge, TableAbsent, BadSettingAt, Unusable, Refused, RefusedLine, Same, Changed}
 use Rattle.account_model.specs.Statuses.{file_status}
 use Rattle.suite_rules.specs.OwnLock.{kept_number}
 use Rattle.suite_rules.specs.Standing.{Standing, standing}
