@@ -32,9 +32,12 @@ use Rattle.user_creation.specs.declared.plan.NewIds.{NewIds}
 
 -- where a search finds nothing, there is none
 pub none-found :
-    {X : Type 0} {found sought : Option X} → found ≡ sought → is_none found ≡ true → sought ≡ None
-none-found {found = None} is none = sym is
-none-found {found = Some x} is none = absurd cc
+    {X : Type 0} (found sought : Option X)
+    → found ≡ sought
+    → is_none found ≡ true
+    → sought ≡ None
+none-found None sought is none = sym is
+none-found (Some x) sought is none = absurd cc
 
 -- a GID by which no group is found is unused
 pub find-unused :
