@@ -58,49 +58,37 @@ fn clock(
     RealClock::new((Stopped { seconds, epoch }, rt.alloc()))
 }
 
-#[test]
-fn days_end_with_the_year_9999(rt: HostRuntime) {
-    for (seconds, day) in [
-        (0, Ok(0)),
-        (86_399, Ok(0)),
-        (86_400, Ok(1)),
-        (253_402_300_799, Ok(2_932_896)),
-        (253_402_300_800, Err(ClockFault::Failed)),
-    ] {
-        assert_eq!(rt; clock(&rt, seconds, None).day(), day, "at {seconds}");
-    }
-}
+/// Seconds after 1970-01-01, SOURCE_DATE_EPOCH, and the day that the clock gives, if it gives one.
+const MOMENTS: [(u64, Option<&[u8]>, Option<u32>); 18] = [
+    (0, None, Some(0)),
+    (86_399, None, Some(0)),
+    (86_400, None, Some(1)),
+    (253_402_300_799, None, Some(2_932_896)),
+    (253_402_300_800, None, None),
+    (1_728_000_000, Some(b""), Some(20_000)),
+    (1_728_000_000, Some(b"0"), Some(0)),
+    (1_728_000_000, Some(b"86399"), Some(0)),
+    (1_728_000_000, Some(b"086400"), Some(1)),
+    (1_728_000_000, Some(b"253402300799"), Some(2_932_896)),
+    (0, Some(b"253402300800"), None),
+    (0, Some(b"18446744073709551616"), None),
+    (0, Some(b"-1"), None),
+    (0, Some(b"+1"), None),
+    (0, Some(b" 1"), None),
+    (0, Some(b"1.5"), None),
+    (0, Some(b"now"), None),
+    (0, Some(b"\xE9"), None),
+];
 
 #[test]
-fn the_environment_may_set_the_moment(rt: HostRuntime) {
-    let now = 1_728_000_000;
-    for (epoch, day) in [
-        (b"".as_slice(), 20_000),
-        (b"0".as_slice(), 0),
-        (b"86399".as_slice(), 0),
-        (b"086400".as_slice(), 1),
-        (b"253402300799".as_slice(), 2_932_896),
-    ] {
-        assert_eq!(rt; clock(&rt, now, Some(epoch)).day(), Ok(day), "at {epoch:?}");
+fn a_moment_has_its_day(rt: HostRuntime) -> Result<(), Fail> {
+    for (seconds, epoch, wanted) in MOMENTS {
+        let mut clock = clock(&rt, seconds, epoch);
+        assert_eq!(rt; clock.day().ok(), wanted, "at {seconds} {epoch:?}");
     }
-}
-
-#[test]
-fn a_moment_that_is_no_time_is_a_fault(rt: HostRuntime) -> Result<(), Fail> {
-    for epoch in [
-        b"253402300800".as_slice(),
-        b"18446744073709551616".as_slice(),
-        b"-1".as_slice(),
-        b"+1".as_slice(),
-        b" 1".as_slice(),
-        b"1.5".as_slice(),
-        b"now".as_slice(),
-        b"\xE9".as_slice(),
-    ] {
-        let mut clock = clock(&rt, 0, Some(epoch));
-        assert_eq!(rt; clock.day(), Err(ClockFault::Failed), "at {epoch:?}");
-        let why = clock.last_error().ok_or("no error")?.text(rt.alloc())?;
-        assert_eq!(rt; why.as_str(), "SOURCE_DATE_EPOCH is no time");
-    }
+    let mut clock = clock(&rt, 0, Some(b"now"));
+    assert_eq!(rt; clock.day(), Err(ClockFault::Failed));
+    let why = clock.last_error().ok_or("no error")?.text(rt.alloc())?;
+    assert_eq!(rt; why.as_str(), "SOURCE_DATE_EPOCH is no time");
     Ok(())
 }

@@ -6,7 +6,7 @@ use real_folder::RealFolder;
 use std::test::Fail;
 
 #[test]
-fn a_missing_folder_has_no_tables_and_no_listing(rt: HostRuntime) -> Result<(), Fail> {
+fn a_missing_folder_has_no_tables_no_listing_and_no_token(rt: HostRuntime) -> Result<(), Fail> {
     let by = token(&rt, "me")?;
     let mut folder = entered(&rt, "out/missing")?;
     finds_nothing(&rt, &mut folder, &by)
@@ -21,7 +21,12 @@ fn finds_nothing(
     is_so(matches!(found, Found::Absent), "the table is absent")?;
     is_so(folder.locks(by).is_err(), "the listing fails")?;
     is_so(folder.faults() == 1, "one fault is counted")?;
-    Ok(())
+    let token = folder.begin(&[], &Bytes::new(rt.alloc()), 20000);
+    is_so(token.is_err(), "no token is given")?;
+    is_so(
+        tells(rt, folder, "out/missing/etc: No such file or directory")?,
+        "the error names the folder",
+    )
 }
 
 #[test]
@@ -44,14 +49,5 @@ fn fails_each_call(
         "the write fails",
     )?;
     is_so(folder.faults() == 3, "three faults are counted")?;
-    Ok(())
-}
-
-#[test]
-fn a_missing_folder_gives_no_token(rt: HostRuntime) -> Result<(), Fail> {
-    let mut folder = entered(&rt, "out/missing")?;
-    let token = folder.begin(&[], &Bytes::new(rt.alloc()), 20000);
-    assert!(rt; token.is_err());
-    assert!(rt; tells(&rt, &folder, "out/missing/etc: No such file or directory")?);
     Ok(())
 }
