@@ -1,6 +1,7 @@
 mod DayRows
 mod IdRows
 mod LineRows
+mod RangeRows
 mod SettingRows
 mod TextRows
 mod ValueRows

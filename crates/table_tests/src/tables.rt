@@ -6,7 +6,7 @@ ghost use Rattle.account_formats.specs.Records.{group_format};
 ghost use Rattle.account_formats.specs.Written.{IsWritten};
 
 use acct_lines::{GroupRecord, TableRecord};
-use acct_tables::{EditedLines, Table, TableFault, find_record};
+use acct_tables::Table;
 use std::alloc::{AllocError, Global};
 use std::test::Fail;
 
@@ -26,41 +26,26 @@ fn has(alloc: Global, table: &Table<GroupRecord>, wanted: &[u8]) -> Result<bool,
     Ok(table.text(alloc)?.as_slice() == wanted)
 }
 
-// The GID of a group, where there is one.
-fn gid(found: Option<GroupRecord>) -> Option<u32> {
-    Some(found?.gid)
-}
-
 // The GID of a group of a table, where there is one.
 fn gid_of(found: Option<&GroupRecord>) -> Option<u32> {
     Some(found?.gid)
 }
 
-#[test]
-fn a_line_without_an_end_gets_one_behind_which_is_added(rt: HostRuntime) -> Result<(), Fail> {
-    let alloc = rt.alloc();
-    let mut table: Table<GroupRecord> = Table::load(alloc, b"# x\na:x:1:")?;
-    assert_eq!(rt; table.append(group(alloc, b"b:x:02:,")?), Ok(()));
-    assert!(rt; has(alloc, &table, b"# x\na:x:1:\nb:x:2:\n".as_slice())?);
-    Ok(())
+// Whether each edit by a name is done.
+fn edits_by_name(alloc: Global, table: &mut Table<GroupRecord>) -> Result<bool, AllocError> {
+    let is_added = table.append(group(alloc, b"c:x:3:")?).is_ok();
+    let is_replaced = table.replace(b"b", group(alloc, b"d:x:4:n,o")?).is_ok();
+    let is_renamed = table.rename_in_lists(b"o", b"n").is_ok();
+    Ok(is_added && is_replaced && is_renamed && table.remove(b"a").is_ok())
 }
 
 #[test]
-fn a_name_that_stands_twice_is_not_replaced(rt: HostRuntime) -> Result<(), Fail> {
+fn lines_are_edited_by_names(rt: HostRuntime) -> Result<(), Fail> {
     let alloc = rt.alloc();
-    let mut table: Table<GroupRecord> = Table::load(alloc, b"a:x:1:\na:x:2:")?;
-    let replaced = table.replace(b"a", group(alloc, b"c:x:3:")?);
-    assert_eq!(rt; replaced, Err(TableFault::Multiple(2)));
-    assert_eq!(rt; table.remove(b"b"), Err(TableFault::Absent));
-    Ok(())
-}
-
-#[test]
-fn a_member_is_renamed_once(rt: HostRuntime) -> Result<(), Fail> {
-    let alloc = rt.alloc();
-    let mut table: Table<GroupRecord> = Table::load(alloc, b"a:x:1:n,o,n,o\nb:x:02:p,")?;
-    assert_eq!(rt; table.rename_in_lists(b"o", b"n"), Ok(()));
-    assert!(rt; has(alloc, &table, b"a:x:1:n\nb:x:02:p,".as_slice())?);
+    let mut table: Table<GroupRecord> = Table::load(alloc, b"# x\na:x:1:\ne:x:05:o\nb:x:2:")?;
+    assert!(rt; edits_by_name(alloc, &mut table)?);
+    let wanted = b"# x\ne:x:5:n\nd:x:4:n\nc:x:3:\n".as_slice();
+    assert!(rt; has(alloc, &table, wanted)?);
     Ok(())
 }
 
@@ -83,25 +68,6 @@ fn lines_are_set_and_moved_by_their_places(rt: HostRuntime) -> Result<(), Fail> 
     table.append_any(group(alloc, b"b:x:4:")?)?;
     table.remove_at(0)?;
     assert!(rt; has(alloc, &table, b"c:x:3:\nb:x:4:\n".as_slice())?);
-    Ok(())
-}
-
-#[test]
-fn the_first_of_a_name_is_found_where_it_stands(rt: HostRuntime) -> Result<(), Fail> {
-    let alloc = rt.alloc();
-    let text = b"# x\nab:x:1:\na:x:2:\na:x:3:".as_slice();
-    assert_eq!(rt; gid(find_record(alloc, text, b"a")?), Some(2));
-    Ok(())
-}
-
-#[test]
-fn edited_lines_keep_the_bytes_of_the_same_record(rt: HostRuntime) -> Result<(), Fail> {
-    let alloc = rt.alloc();
-    let mut lines = EditedLines::of(alloc, b"a:x:01:\nb:x:2:")?;
-    lines.set_at(0, &group(alloc, b"a:x:1:")?)?;
-    lines.append_any(&group(alloc, b"c:x:3:")?)?;
-    let wanted = b"a:x:01:\nb:x:2:\nc:x:3:\n".as_slice();
-    assert_eq!(rt; lines.text()?.as_slice(), wanted);
     Ok(())
 }
 
