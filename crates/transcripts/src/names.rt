@@ -5,6 +5,9 @@ ghost use Rattle.acct_outside.specs.Contract.{IsName};
 use acct_outside::{GREATEST_LOCK, Name};
 use acct_text::{Tab, read_decimal};
 
+/// The greatest count in a line: a little over the 16 MiB that a table may have.
+const GREATEST_COUNT: u64 = 20_000_000;
+
 /// How the name of a lock begins.
 const LOCK: &[u8] = b"accounts.lock.";
 
@@ -55,4 +58,11 @@ fn other_name(text: &[u8]) -> Option<Name>
         b"login.defs" => Some(Name::Defs),
         _ => None,
     }
+}
+
+/// A count, with what stands behind the blank behind it.
+pub(crate) fn counted(text: &[u8]) -> Option<(usize, &[u8])> {
+    let place = text.iter().position(|byte| *byte == b' ')?;
+    let calls = read_decimal(&text[..place], GREATEST_COUNT).ok()?;
+    Some((calls as usize, &text[place + 1..]))
 }

@@ -2,13 +2,14 @@
 ghost use Rattle.std.specs.Prelude.{All, IfOk};
 ghost use Rattle.acct_outside.specs.Contract.{IsName};
 
-use crate::names::name_of;
-use crate::shown::{push_file, push_line, push_names};
-use acct_outside::{Effect, MemoryFolder, Mishap, Token};
-use acct_text::{Bytes, read_decimal};
+use crate::beside::{Beside, effect_of};
+use crate::names::{counted, name_of};
+use crate::shown::{push_repeated, show_in};
+use acct_outside::{MemoryFolder, Mishap, Token};
+use acct_text::Bytes;
 use std::alloc::{AllocError, Global};
 use std::mem;
-use whole_commands::{Between, Contents, IMAGE, die_after, push_done, push_done_among, put};
+use whole_commands::{Contents, Failing, IMAGE, Streams, die_after, put};
 
 /// A folder in the making, until a command runs in it.
 #[derive(Drop)]
@@ -22,8 +23,10 @@ pub(crate) struct Scene {
     plan: Vec<Mishap>,
     /// The input of the next command.
     input: Bytes,
-    /// The commands that run between the calls of the next.
-    others: Vec<Between>,
+    /// The stream of the next command that fails.
+    failing: Option<Failing>,
+    /// The commands beside the next.
+    beside: Beside,
     /// The folder, once a command ran in it.
     folder: Option<MemoryFolder>,
 }
@@ -44,7 +47,8 @@ impl Scene {
             alive: Vec::new(alloc),
             plan: Vec::new(alloc),
             input: Bytes::new(alloc),
-            others: Vec::new(alloc),
+            failing: None,
+            beside: Beside::none(alloc),
             folder: None,
         }
     }
@@ -66,33 +70,33 @@ impl Scene {
         Ok(scene)
     }
 
-    /// Plays a line, and gives what the transcript shows for it: the line itself, and behind a
-    /// command what it tells and does. A line of what was shown before gives nothing.
-    pub(crate) fn play(&mut self, line: &[u8]) -> Result<Bytes, AllocError> {
-        let mut shown = Bytes::new(self.alloc);
-        if let Some(command) = line.strip_prefix(b"$ ") {
-            push_line(&mut shown, line)?;
-            self.show(command, &mut shown)?;
-        } else if self.set(line)? {
-            push_line(&mut shown, line)?;
-        }
-        Ok(shown)
-    }
-
-    /// Does what a line without a command says, and tells whether it says something.
-    fn set(&mut self, line: &[u8]) -> Result<bool, AllocError> {
+    /// Plays a line, and pushes what it shows; tells whether the line says something. One of what was
+    /// shown before doesn't.
+    pub(crate) fn play(&mut self, line: &[u8], shown: &mut Bytes) -> Result<bool, AllocError> {
         match line {
             [] | [b'#', ..] => Ok(true),
+            [b'$', b' ', command @ ..] => self.show(command, shown),
+            [b'%', b' ', death @ ..] => self.die(death),
+            [b'&', b' ', other @ ..] => self.beside.add_between(other),
+            [b':', b' ', other @ ..] => self.let_wait(other),
+            [b'/', b' ', steps @ ..] => self.beside.add_steps(steps),
+            _ => self.set(line),
+        }
+    }
+
+    /// Does what a line says of the folder before the first command, or of the next command's streams.
+    fn set(&mut self, line: &[u8]) -> Result<bool, AllocError> {
+        match line {
             [b'=', b' ', scene @ ..] => self.begin(scene),
             [b'<', b' ', name @ ..] => self.put(name, b""),
             [b'<', b'<', b' ', name @ ..] => self.put_again(name),
-            [b'|', line @ ..] => self.add_line(line),
+            [b'|', line @ ..] => self.add_line(1, line),
+            [b'_', b' ', line @ ..] => self.add_repeated(line),
             [b'\\', ..] => self.open_last_line(),
-            [b'>', b' ', line @ ..] => self.add_input(line),
+            [b'>', b' ', line @ ..] => self.add_input(1, line),
+            [b'>', b'>', b' ', line @ ..] => self.add_repeated_input(line),
             [b'@', b' ', token @ ..] => self.let_live(token),
-            [b'!', b' ', mishap @ ..] => self.plan(mishap),
-            [b'%', b' ', death @ ..] => self.die(death),
-            [b'&', b' ', other @ ..] => self.let_run(other),
+            [b'!', b' ', mishap @ ..] => self.let_fail(mishap),
             _ => Ok(false),
         }
     }
@@ -132,12 +136,20 @@ impl Scene {
         Ok(true)
     }
 
-    /// Adds a line to the last file.
-    fn add_line(&mut self, line: &[u8]) -> Result<bool, AllocError> {
+    /// Adds a line to the last file: the text, so many times.
+    fn add_line(&mut self, count: usize, text: &[u8]) -> Result<bool, AllocError> {
         if let Some(file) = self.files.last_mut() {
-            push_line(&mut file.text, line)?;
+            push_repeated(&mut file.text, text, count)?;
         }
         Ok(true)
+    }
+
+    /// Adds a line to the last file, of a count and a text.
+    fn add_repeated(&mut self, line: &[u8]) -> Result<bool, AllocError> {
+        match counted(line) {
+            Some((count, text)) => self.add_line(count, text),
+            None => Ok(false),
+        }
     }
 
     /// Takes the end of the last file's last line away.
@@ -149,10 +161,18 @@ impl Scene {
         Ok(true)
     }
 
-    /// Adds a line to the input of the next command.
-    fn add_input(&mut self, line: &[u8]) -> Result<bool, AllocError> {
-        push_line(&mut self.input, line)?;
+    /// Adds a line to the input of the next command: the text, so many times.
+    fn add_input(&mut self, count: usize, text: &[u8]) -> Result<bool, AllocError> {
+        push_repeated(&mut self.input, text, count)?;
         Ok(true)
+    }
+
+    /// Adds a line to the input of the next command, of a count and a text.
+    fn add_repeated_input(&mut self, line: &[u8]) -> Result<bool, AllocError> {
+        match counted(line) {
+            Some((count, text)) => self.add_input(count, text),
+            None => Ok(false),
+        }
     }
 
     /// Tells a session alive.
@@ -164,16 +184,24 @@ impl Scene {
         Ok(true)
     }
 
-    /// Plans that a call of the folder fails.
-    fn plan(&mut self, mishap: &[u8]) -> Result<bool, AllocError> {
-        let (digits, effect) = match mishap.strip_suffix(b" happened") {
-            Some(digits) => (digits, Effect::Happened),
-            None => (
-                mishap.strip_suffix(b" nothing").unwrap_or(b""),
-                Effect::Nothing,
-            ),
+    /// Lets a call of the folder fail, or of a stream of the next command.
+    fn let_fail(&mut self, mishap: &[u8]) -> Result<bool, AllocError> {
+        if let Some((call, effect)) = counted(mishap) {
+            return self.plan(call as u64, effect);
+        }
+        self.failing = match mishap {
+            b"input" => Some(Failing::Input),
+            b"clock" => Some(Failing::Clock),
+            b"output" => Some(Failing::Output),
+            b"message" => Some(Failing::Message),
+            _ => return Ok(false),
         };
-        let Ok(call) = read_decimal(digits, 1000) else {
+        Ok(true)
+    }
+
+    /// Plans that a call of the folder fails.
+    fn plan(&mut self, call: u64, effect: &[u8]) -> Result<bool, AllocError> {
+        let Some(effect) = effect_of(self.alloc, effect)? else {
             return Ok(false);
         };
         self.plan.push(Mishap { call, effect })?;
@@ -192,28 +220,39 @@ impl Scene {
         }
     }
 
-    /// Lets a command run whole once the next one has made so many more calls.
-    fn let_run(&mut self, other: &[u8]) -> Result<bool, AllocError> {
-        let Some((calls, command)) = counted(other) else {
-            return Ok(false);
-        };
-        let command = Bytes::of(self.alloc, command)?;
-        self.others.push(Between { calls, command })?;
+    /// Lets a command with the input wait beside the next one.
+    fn let_wait(&mut self, other: &[u8]) -> Result<bool, AllocError> {
+        let input = mem::replace(&mut self.input, Bytes::new(self.alloc));
+        self.beside.add(other, input.as_slice())
+    }
+
+    /// Shows what a command tells and does, with those beside it.
+    fn show(&mut self, command: &[u8], shown: &mut Bytes) -> Result<bool, AllocError> {
+        self.make()?;
+        let input = mem::replace(&mut self.input, Bytes::new(self.alloc));
+        if self.beside.is_none() {
+            return self.show_alone(command, input.as_slice(), shown);
+        }
+        let mut beside = mem::replace(&mut self.beside, Beside::none(self.alloc));
+        if let Some(folder) = &mut self.folder {
+            beside.push_shown(folder, command, input.as_slice(), shown)?;
+        }
         Ok(true)
     }
 
-    /// Shows what a command tells and does.
-    fn show(&mut self, command: &[u8], shown: &mut Bytes) -> Result<(), AllocError> {
-        self.make()?;
-        let input = mem::replace(&mut self.input, Bytes::new(self.alloc));
-        let others = mem::replace(&mut self.others, Vec::new(self.alloc));
-        match &mut self.folder {
-            Some(folder) if others.is_empty() => {
-                show_in(self.alloc, folder, command, input.as_slice(), shown)
-            }
-            Some(folder) => push_done_among(self.alloc, shown, folder, command, others.as_slice()),
-            None => Ok(()),
+    /// Shows what a command with this input and no others beside it tells and does.
+    fn show_alone(
+        &mut self,
+        command: &[u8],
+        input: &[u8],
+        shown: &mut Bytes,
+    ) -> Result<bool, AllocError> {
+        let mut streams = Streams::new(self.alloc, input, self.failing)?;
+        self.failing = None;
+        if let Some(folder) = &mut self.folder {
+            show_in(self.alloc, folder, command, &mut streams, shown)?;
         }
+        Ok(true)
     }
 
     /// Makes the folder, where no command ran in it.
@@ -228,13 +267,6 @@ impl Scene {
     }
 }
 
-/// A number of calls, below 1000, with the command behind it.
-fn counted(text: &[u8]) -> Option<(usize, &[u8])> {
-    let place = text.iter().position(|byte| *byte == b' ')?;
-    let calls = read_decimal(&text[..place], 1000).ok()?;
-    Some((calls as usize, &text[place + 1..]))
-}
-
 /// The files by their names; a text that is no name has none.
 fn contents(alloc: Global, files: &[File]) -> Result<Contents, AllocError>
     ensures { IfOk result (λ files. All (λ file. IsName file.0) files.items) }
@@ -246,24 +278,4 @@ fn contents(alloc: Global, files: &[File]) -> Result<Contents, AllocError>
         }
     }
     Ok(contents)
-}
-
-/// Shows what a command tells and does in a folder, or what stands there.
-fn show_in(
-    alloc: Global,
-    folder: &mut MemoryFolder,
-    command: &[u8],
-    input: &[u8],
-    shown: &mut Bytes,
-) -> Result<(), AllocError> {
-    if command == b"ls".as_slice() {
-        return push_names(shown, folder);
-    }
-    match command.strip_prefix(b"cat ") {
-        Some(name) => match name_of(name) {
-            Some(name) => push_file(shown, folder, name),
-            None => push_line(shown, b" no such name"),
-        },
-        None => push_done(alloc, shown, folder, command, input),
-    }
 }

@@ -1,8 +1,10 @@
 // What a transcript shows of a folder: the names that stand in it, and the lines of a file, each
 // behind a blank.
+use crate::names::name_of;
 use acct_outside::{MemoryFolder, Name};
 use acct_text::{Bytes, Tab, push_decimal};
-use std::alloc::AllocError;
+use std::alloc::{AllocError, Global};
+use whole_commands::{Streams, push_done};
 
 /// What stands for the want of an end.
 const NO_END: &[u8] = b" (no newline at the end)\n";
@@ -11,6 +13,35 @@ const NO_END: &[u8] = b" (no newline at the end)\n";
 pub(crate) fn push_line(shown: &mut Bytes, line: &[u8]) -> Result<(), AllocError> {
     shown.push(line)?;
     shown.push(b"\n")
+}
+
+/// Pushes a line of the text, so many times.
+pub(crate) fn push_repeated(
+    shown: &mut Bytes,
+    text: &[u8],
+    count: usize,
+) -> Result<(), AllocError> {
+    for _ in 0..count {
+        shown.push(text)?;
+    }
+    shown.push(b"\n")
+}
+
+/// Pushes what was shown at the numbers from the first to the last, behind a line with these.
+pub(crate) fn push_run(
+    played: &mut Bytes,
+    first: u64,
+    last: u64,
+    shown: &[u8],
+) -> Result<(), AllocError> {
+    played.push(b" at ")?;
+    push_decimal(played, first)?;
+    if first < last {
+        played.push(b" to ")?;
+        push_decimal(played, last)?;
+    }
+    played.push(b"\n")?;
+    played.push(shown)
 }
 
 /// Pushes each line of a file; nothing where it is empty or absent.
@@ -77,4 +108,24 @@ fn push_name(
     shown.push(b" ")?;
     shown.push(text.as_bytes())?;
     push_line(shown, ending.as_bytes())
+}
+
+/// Shows what a command tells and does in a folder, or what stands there.
+pub(crate) fn show_in(
+    alloc: Global,
+    folder: &mut MemoryFolder,
+    command: &[u8],
+    streams: &mut Streams,
+    shown: &mut Bytes,
+) -> Result<(), AllocError> {
+    if command == b"ls".as_slice() {
+        return push_names(shown, folder);
+    }
+    match command.strip_prefix(b"cat ") {
+        Some(name) => match name_of(name) {
+            Some(name) => push_file(shown, folder, name),
+            None => push_line(shown, b" no such name"),
+        },
+        None => push_done(alloc, shown, folder, command, streams),
+    }
 }

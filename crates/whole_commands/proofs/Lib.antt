@@ -1,1 +1,1 @@
-mod TurnedSessions
+pub mod WaitingLemmas

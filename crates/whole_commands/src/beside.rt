@@ -1,72 +1,116 @@
-// Commands beside others: sessions that have their turns between those of others, in one folder that
-// tells its history. Each belongs there whatever the others do.
-ghost use Rattle.std.specs.Prelude.{IfOk, OnOk};
-ghost use Rattle.acct_outside.specs.Memory.{moment_of};
-ghost use Rattle.suite_session.specs.Belongs.{Belongs};
-ghost use Rattle.suite_session.specs.Turning.{KeepsOthers};
-ghost use Rattle.whole_commands.specs.Beside.{AllBelong, ComesApart, OthersBelong};
+// Commands beside others: sessions that take the steps of a schedule in the folder in memory that they
+// share.
+ghost use Rattle.std.specs.Prelude.{All, IfOk};
+ghost use Rattle.suite_session.specs.Session.{IsWaiting};
 
-use crate::play::session_of;
-use acct_outside::MemoryFolder;
-use acct_text::{Bytes, push_decimal};
+use crate::play::{DAY, words_of};
+use acct_outside::{Effect, MemoryFolder};
+use acct_text::{Bytes, TABLE_LIMIT, push_decimal};
+use side_by_side::{Step, play};
 use std::alloc::{AllocError, Global};
-use std::mem;
 use suite_core::Session;
 use suite_session::StartFault;
 
 /// More calls of the folder than a command here makes.
-pub(crate) const ALL: usize = 64;
+pub const TO_END: usize = 100;
 
-/// A command without input that runs whole once another, which waits meanwhile, has made so many more
-/// calls of the folder.
+/// A command that is to be run, and its input.
 #[derive(Drop)]
-pub struct Between {
-    /// How many calls the other makes first.
-    pub calls: usize,
-    /// The words of the command, with a blank between two.
-    pub command: Bytes,
+pub struct Asked {
+    command: Bytes,
+    input: Bytes,
 }
 
-// The session makes so many calls of the folder, as far as it has them left.
-fn turns(session: &mut Session, folder: &mut MemoryFolder, calls: usize)
-    requires { Belongs (moment_of folder.old) session.old }
-    ensures belongs { Belongs (moment_of folder.new) session.new }
-    ensures others { KeepsOthers (moment_of folder.old) (moment_of folder.new) session.old
-        session.new }
-{
-    for _ in 0..calls {
-        session.turn(folder);
+impl Asked {
+    /// The words of the command, with a blank between two, and what chpasswd(8) or a batch takes.
+    pub fn of(alloc: Global, command: &[u8], input: &[u8]) -> Result<Self, AllocError> {
+        let command = Bytes::of(alloc, command)?;
+        let input = Bytes::of(alloc, input)?;
+        Ok(Asked { command, input })
     }
 }
 
-// A session that has made so many calls.
-pub(crate) fn begun(
+/// Pushes so many turns of the session at the place, as far as it has them left.
+pub fn push_turns(steps: &mut Vec<Step>, place: usize, count: usize) -> Result<(), AllocError> {
+    for _ in 0..count {
+        steps.push(Step::Turn(place))?;
+    }
+    Ok(())
+}
+
+/// The sessions of these commands, which haven't begun.
+///
+/// The error is the first fault of the words of one, or `Memory`.
+pub fn sessions_of(alloc: Global, commands: &[Asked]) -> Result<Vec<Session>, StartFault>
+    ensures { IfOk result (λ sessions. All IsWaiting sessions.items) }
+{
+    let mut sessions = Vec::new(alloc);
+    for command in commands {
+        let session = session_of(alloc, command)?;
+        if let Err(failed) = sessions.push(session) {
+            return Err(AllocError::from(failed).into());
+        }
+    }
+    Ok(sessions)
+}
+
+// The session of a command, which hasn't begun; `Memory` too where its input has more than 16 MiB.
+fn session_of(alloc: Global, asked: &Asked) -> Result<Session, StartFault>
+    ensures { IfOk result IsWaiting }
+{
+    let words = words_of(alloc, asked.command.as_slice())?;
+    if asked.input.as_slice().len() as u64 > TABLE_LIMIT {
+        return Err(AllocError.into());
+    }
+    Session::start(alloc, words.as_slice(), asked.input.copy()?, DAY)
+}
+
+/// The sessions of these commands, once they took the steps in the folder.
+///
+/// The error is the first fault of the words of one, and then nothing is done, or `Memory`.
+pub(crate) fn played(
+    alloc: Global,
+    folder: &mut MemoryFolder,
+    commands: &[Asked],
+    steps: &[Step],
+) -> Result<Vec<Session>, StartFault> {
+    let mut sessions = sessions_of(alloc, commands)?;
+    play(&mut sessions, steps, folder)?;
+    Ok(sessions)
+}
+
+/// A command makes this many calls of the folder, and dies within the next, of which nothing happens.
+///
+/// The error is the fault of its words, and then nothing is done, or `Memory`.
+pub fn die_after(
     alloc: Global,
     folder: &mut MemoryFolder,
     command: &[u8],
     calls: usize,
-) -> Result<Session, StartFault>
-    ensures belongs { IfOk result (Belongs (moment_of folder.new)) }
-    ensures others { IfOk result (ComesApart folder.old folder.new) }
-{
-    let mut session = session_of(alloc, command)?;
-    turns(&mut session, folder, calls);
-    Ok(session)
+) -> Result<(), StartFault> {
+    let steps = death_after(alloc, calls)?;
+    let commands = [Asked::of(alloc, command, b"")?];
+    drop(played(alloc, folder, &commands, steps.as_slice())?);
+    Ok(())
 }
 
-// Turns the session to its end, and pushes what it tells, as a line.
-pub(crate) fn push_end(
-    told: &mut Bytes,
-    mut session: Session,
-    folder: &mut MemoryFolder,
-) -> Result<(), AllocError>
-    requires { Belongs (moment_of folder.old) session }
-    ensures { OthersBelong folder.old folder.new session }
-{
-    turns(&mut session, folder, ALL);
-    let pushed = push_answer(told, &session);
-    mem::forget(session);
-    pushed
+// So many turns of the session at place 0, and then its death.
+fn death_after(alloc: Global, calls: usize) -> Result<Vec<Step>, AllocError> {
+    let mut steps = Vec::new(alloc);
+    push_turns(&mut steps, 0, calls)?;
+    steps.push(Step::Die(0, Effect::Nothing))?;
+    Ok(steps)
+}
+
+/// Pushes what each session tells, that at place 0 behind the others.
+pub(crate) fn push_answers(told: &mut Bytes, sessions: &[Session]) -> Result<(), AllocError> {
+    let Some((first, others)) = sessions.split_first() else {
+        return Ok(());
+    };
+    for session in others {
+        push_answer(told, session)?;
+    }
+    push_answer(told, first)
 }
 
 // Pushes what the session tells: its status, and behind a blank what it prints.
@@ -82,40 +126,4 @@ fn push_answer(told: &mut Bytes, session: &Session) -> Result<(), AllocError> {
     told.push(b" ")?;
     told.push(out)?;
     told.push(err)
-}
-
-// Runs the command to its end, and pushes what it tells.
-fn push_told(
-    told: &mut Bytes,
-    alloc: Global,
-    folder: &mut MemoryFolder,
-    command: &[u8],
-) -> Result<(), StartFault>
-    ensures { OnOk result (AllBelong folder.old folder.new) }
-{
-    push_end(told, begun(alloc, folder, command, 0)?, folder)?;
-    Ok(())
-}
-
-// Runs a command without input among others, each of which runs whole between two of its calls, and
-// pushes what each tells, in the order in which they end.
-//
-// The error is the first fault of the words of one, or `Memory`.
-pub(crate) fn push_among(
-    told: &mut Bytes,
-    alloc: Global,
-    folder: &mut MemoryFolder,
-    command: &[u8],
-    others: &[Between],
-) -> Result<(), StartFault> {
-    let mut session = begun(alloc, folder, command, 0)?;
-    for other in others {
-        turns(&mut session, folder, other.calls);
-        if let Err(fault) = push_told(told, alloc, folder, other.command.as_slice()) {
-            mem::forget(session);
-            return Err(fault);
-        }
-    }
-    push_end(told, session, folder)?;
-    Ok(())
 }

@@ -1,71 +1,22 @@
-// Folders in memory with files for the tests.
+// Folders in memory, and the files of a small system.
 ghost use Rattle.std.specs.Prelude.{All, IfOk, OnOk};
 ghost use Rattle.acct_outside.specs.Contract.{IsName};
 
-use acct_outside::{MemoryFolder, Mishap, Name};
+use acct_outside::{MemoryFolder, Name};
 use acct_text::{Bytes, Tab};
 use std::alloc::{AllocError, Global};
 
-/// The files of a folder before a test.
+/// The files of a folder before its first command.
 pub type Contents = Vec<(Name, Bytes)>;
-
-/// The six tables and the settings of a small system.
-pub fn image(alloc: Global) -> Result<Contents, AllocError>
-    ensures { IfOk result (λ files. All (λ file. IsName file.0) files.items) }
-{
-    let mut files = Vec::new(alloc);
-    put(&mut files, Name::Table(Tab::Passwd), PASSWD)?;
-    put(&mut files, Name::Table(Tab::Shadow), SHADOW)?;
-    put(&mut files, Name::Table(Tab::Group), GROUP)?;
-    put(&mut files, Name::Table(Tab::Gshadow), GSHADOW)?;
-    put(&mut files, Name::Table(Tab::Subuid), SUBIDS)?;
-    put(&mut files, Name::Table(Tab::Subgid), SUBIDS)?;
-    put(&mut files, Name::Defs, SETTINGS)?;
-    Ok(files)
-}
-
-/// The same with this behind the text of each table.
-pub(crate) fn image_with(alloc: Global, behind: &[u8]) -> Result<Contents, AllocError>
-    ensures { IfOk result (λ files. All (λ file. IsName file.0) files.items) }
-{
-    let mut files = Vec::new(alloc);
-    put_both(&mut files, Name::Table(Tab::Passwd), PASSWD, behind)?;
-    put_both(&mut files, Name::Table(Tab::Shadow), SHADOW, behind)?;
-    put_both(&mut files, Name::Table(Tab::Group), GROUP, behind)?;
-    put_both(&mut files, Name::Table(Tab::Gshadow), GSHADOW, behind)?;
-    put_both(&mut files, Name::Table(Tab::Subuid), SUBIDS, behind)?;
-    put_both(&mut files, Name::Table(Tab::Subgid), SUBIDS, behind)?;
-    put(&mut files, Name::Defs, SETTINGS)?;
-    Ok(files)
-}
-
-// Puts a file of this text, and of what is behind it, among the others.
-fn put_both(files: &mut Contents, name: Name, text: &[u8], behind: &[u8]) -> Result<(), AllocError>
-    requires name { IsName name }
-    requires names { All (λ file. IsName file.0) files.old.items }
-    ensures { OnOk result (All (λ file. IsName file.0) files.new.items) }
-{
-    let mut both = Bytes::of(*files.allocator(), text)?;
-    both.push(behind)?;
-    put(files, name, both.as_slice())
-}
-
-/// The tables passwd and group, both empty.
-pub fn no_accounts(alloc: Global) -> Result<Contents, AllocError>
-    ensures { IfOk result (λ files. All (λ file. IsName file.0) files.items) }
-{
-    let mut files = Vec::new(alloc);
-    put(&mut files, Name::Table(Tab::Passwd), b"")?;
-    put(&mut files, Name::Table(Tab::Group), b"")?;
-    Ok(files)
-}
 
 /// The tables passwd and group, both empty, and this file, or it in place of one of them.
 pub fn with_file(alloc: Global, name: Name, text: &[u8]) -> Result<Contents, AllocError>
     requires { IsName name }
     ensures { IfOk result (λ files. All (λ file. IsName file.0) files.items) }
 {
-    let mut files = no_accounts(alloc)?;
+    let mut files = Vec::new(alloc);
+    put(&mut files, Name::Table(Tab::Passwd), b"")?;
+    put(&mut files, Name::Table(Tab::Group), b"")?;
     put(&mut files, name, text)?;
     Ok(files)
 }
@@ -96,18 +47,7 @@ pub const IMAGE: [(&[u8], &[u8]); 7] = [
 pub fn sound_folder(alloc: Global, files: Contents) -> Result<MemoryFolder, AllocError>
     requires { All (λ file. IsName file.0) files.items }
 {
-    folder_of(alloc, files, Vec::new(alloc))
-}
-
-/// A folder with these files, in which these calls fail.
-pub fn folder_of(
-    alloc: Global,
-    files: Contents,
-    plan: Vec<Mishap>,
-) -> Result<MemoryFolder, AllocError>
-    requires { All (λ file. IsName file.0) files.items }
-{
-    MemoryFolder::new(alloc, files, Vec::new(alloc), plan)
+    MemoryFolder::new(alloc, files, Vec::new(alloc), Vec::new(alloc))
 }
 
 const PASSWD: &[u8] = b"\

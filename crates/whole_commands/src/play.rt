@@ -1,19 +1,25 @@
 // Commands that are run over a folder in memory, and what they tell and do, as text.
-ghost use Rattle.std.specs.Prelude.{◌≤◌, length, IfOk};
-ghost use Rattle.acct_text.specs.Limits.{table_limit};
-ghost use Rattle.suite_session.specs.Session.{IsWaiting};
-
-use acct_outside::{
-    Call, Effect, Folder, MemoryClock, MemoryFolder, MemorySink, MemorySource, Name, Token,
-};
+use acct_outside::{Folder, MemoryClock, MemoryFolder, MemorySink, MemorySource, Name};
 use acct_text::{Bytes, Tab, Word, push_decimal};
 use std::alloc::{AllocError, Global};
-use std::mem;
-use suite_core::{Outcome, Session, run_suite};
-use suite_session::StartFault;
+use suite_core::{Outcome, run_suite};
 
 /// The day of each command, which is 2024-10-04.
 pub(crate) const DAY: u32 = 20000;
+
+/// A stream that fails: the input at its second take, which would show its end, the others at their
+/// first call.
+#[derive(Clone, Copy, PartialEq, Eq)]
+pub enum Failing {
+    /// What chpasswd(8) takes.
+    Input,
+    /// What gives the day.
+    Clock,
+    /// Where the output goes.
+    Output,
+    /// Where the message goes.
+    Message,
+}
 
 /// What a command reads, what it prints to, and its clock.
 #[derive(Drop)]
@@ -29,15 +35,28 @@ pub struct Streams {
 }
 
 impl Streams {
-    /// An input of this text, streams that hold nothing, and a clock of the day. No call of them fails.
-    pub fn new(alloc: Global, input: &[u8]) -> Result<Self, AllocError> {
+    /// An input of this text, streams that hold nothing, and a clock of the day, of which one may fail.
+    pub fn new(alloc: Global, input: &[u8], failing: Option<Failing>) -> Result<Self, AllocError> {
+        let takes = failing_calls(alloc, failing == Some(Failing::Input), 2)?;
+        let days = failing_calls(alloc, failing == Some(Failing::Clock), 1)?;
+        let outputs = failing_calls(alloc, failing == Some(Failing::Output), 1)?;
+        let messages = failing_calls(alloc, failing == Some(Failing::Message), 1)?;
         Ok(Streams {
-            input: MemorySource::new(alloc, Bytes::of(alloc, input)?, Vec::new(alloc)),
-            out: MemorySink::new(alloc, Vec::new(alloc)),
-            err: MemorySink::new(alloc, Vec::new(alloc)),
-            clock: MemoryClock::new(DAY, Vec::new(alloc)),
+            input: MemorySource::new(alloc, Bytes::of(alloc, input)?, takes),
+            out: MemorySink::new(alloc, outputs),
+            err: MemorySink::new(alloc, messages),
+            clock: MemoryClock::new(DAY, days),
         })
     }
+}
+
+// This call, where it fails.
+fn failing_calls(alloc: Global, fails: bool, call: u64) -> Result<Vec<u64>, AllocError> {
+    let mut calls = Vec::new(alloc);
+    if fails {
+        calls.push(call)?;
+    }
+    Ok(calls)
 }
 
 /// Runs a command on these streams.
@@ -59,23 +78,8 @@ pub fn run<F: Folder>(
     ))
 }
 
-/// What a command tells: its status, a blank, and what it prints on both streams.
-pub fn told(alloc: Global, folder: &mut MemoryFolder, command: &[u8]) -> Result<Bytes, AllocError> {
-    told_with(alloc, folder, command, b"")
-}
-
-/// The same of a command with this input.
-pub fn told_with(
-    alloc: Global,
-    folder: &mut MemoryFolder,
-    command: &[u8],
-    input: &[u8],
-) -> Result<Bytes, AllocError> {
-    told_on(alloc, folder, command, &mut Streams::new(alloc, input)?)
-}
-
-/// The same of a command on these streams.
-pub(crate) fn told_on(
+/// What a command tells on these streams: its status, a blank, and what it prints on both.
+pub(crate) fn told(
     alloc: Global,
     folder: &mut MemoryFolder,
     command: &[u8],
@@ -90,66 +94,13 @@ pub(crate) fn told_on(
     Ok(told)
 }
 
-/// The session of a command makes this many calls of the folder, and dies within the next, of which
-/// nothing happens.
-pub fn die_after(
-    alloc: Global,
-    folder: &mut MemoryFolder,
-    command: &[u8],
-    calls: usize,
-) -> Result<(), StartFault> {
-    // A session that dies frees nothing.
-    mem::forget(turned(session_of(alloc, command)?, folder, calls));
-    Ok(die_all(alloc, folder)?)
-}
-
-/// The session of a command, which hasn't begun.
-pub fn session_of(alloc: Global, command: &[u8]) -> Result<Session, StartFault>
-    ensures { IfOk result IsWaiting }
-{
-    session_with(alloc, command, b"")
-}
-
-/// The same of a command with this input, of at most 16 MiB.
-pub fn session_with(alloc: Global, command: &[u8], input: &[u8]) -> Result<Session, StartFault>
-    requires { length input.now ≤ table_limit }
-    ensures { IfOk result IsWaiting }
-{
-    let words = words_of(alloc, command)?;
-    Session::start(alloc, words.as_slice(), Bytes::of(alloc, input)?, DAY)
-}
-
-// The session after so many calls of the folder.
-fn turned(mut session: Session, folder: &mut MemoryFolder, calls: usize) -> Session
-    requires { IsWaiting session }
-{
-    for _ in 0..calls {
-        session.turn(folder);
-    }
-    session
-}
-
-// All sessions that run die.
-fn die_all(alloc: Global, folder: &mut MemoryFolder) -> Result<(), AllocError> {
-    for number in 1..10 {
-        let mut text = Bytes::of(alloc, b"m")?;
-        push_decimal(&mut text, number)?;
-        if let Some(token) = Token::read(alloc, text.as_slice())? {
-            if folder.runs(&token) {
-                folder.die(&token, Call::Locks, Effect::Nothing)?;
-            }
-        }
-    }
-    Ok(())
-}
-
 /// What stands at the name, and empty where nothing does.
 pub fn text_at(folder: &MemoryFolder, name: Name) -> &[u8] {
     folder.file(name).map_or(b"", |bytes| bytes.as_slice())
 }
 
-// The words of a command, cut at blanks. What stands between two `'` is one word.
-pub(crate) fn words_of(alloc: Global, command: &[u8]) -> Result<Vec<Word>, AllocError> {
+/// The words of a command, cut at blanks. What stands between two `'` is one word.
+pub fn words_of(alloc: Global, command: &[u8]) -> Result<Vec<Word>, AllocError> {
     let mut words = Vec::new(alloc);
     let mut is_quoted = false;
     for part in command.split(|byte| *byte == b'\'') {
@@ -174,7 +125,7 @@ fn push_words(alloc: Global, words: &mut Vec<Word>, part: &[u8]) -> Result<(), A
 }
 
 /// Each line of the tables, behind the name of its table and a blank.
-pub fn tables(alloc: Global, folder: &MemoryFolder) -> Result<Bytes, AllocError> {
+pub(crate) fn tables(alloc: Global, folder: &MemoryFolder) -> Result<Bytes, AllocError> {
     let mut tables = Bytes::new(alloc);
     for table in &Tab::all() {
         for line in text_at(folder, Name::Table(*table)).split(|byte| *byte == b'\n') {
@@ -190,7 +141,11 @@ pub fn tables(alloc: Global, folder: &MemoryFolder) -> Result<Bytes, AllocError>
 }
 
 /// Pushes a line for each line of the tables that went, `-passwd LINE`, and that came.
-pub fn push_changes(text: &mut Bytes, before: &Bytes, after: &Bytes) -> Result<(), AllocError> {
+pub(crate) fn push_changes(
+    text: &mut Bytes,
+    before: &Bytes,
+    after: &Bytes,
+) -> Result<(), AllocError> {
     push_lines_beside(text, b"-", before, after)?;
     push_lines_beside(text, b"+", after, before)
 }

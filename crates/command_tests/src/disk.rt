@@ -1,10 +1,10 @@
 // A command on the folder, the streams and the clock of the system. The image stands in out/, which is no
 // part of the repository.
-use crate::play::words_of;
 use real_folder::{RealClock, RealFolder, RealSink, RealSource};
 use std::fs;
 use std::test::Fail;
 use suite_core::run_suite;
+use whole_commands::words_of;
 
 // The status of a command on the objects of the system.
 fn status(rt: &HostRuntime, command: &[u8]) -> Result<u8, Fail> {
