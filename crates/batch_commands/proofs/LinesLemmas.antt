@@ -47,7 +47,7 @@ module _ (tool : Tool) (old : Written) where
       by : (differing : List NewTable)
           → changed_tables (table_of old.files) (table_of made.files) ≡ differing
           → Change tables output ≡ decision_by differing (made_output tool made)
-          → (None {X = Refusal} ≡ None) × (new ≡ with_made tool made old)
+          → IsCarriedOut tool old new None (Ok made)
       by [] are decides = absurd (cc decides)
       by (first ∷ rest) are decides =
           let same : tables ≡ first ∷ rest = cc in
@@ -74,7 +74,7 @@ module _ (tool : Tool) (old : Written) where
       by : (differing : List NewTable)
           → changed_tables (table_of old.files) (table_of made.files) ≡ differing
           → Same output ≡ decision_by differing (made_output tool made)
-          → (None {X = Refusal} ≡ None) × (new ≡ with_made tool made old)
+          → IsCarriedOut tool old new None (Ok made)
       by (first ∷ rest) are decides = absurd (cc decides)
       by [] none decides =
           let prints : output ≡ made_output tool made = cc in
@@ -122,7 +122,7 @@ pub tool-stands :
     → outcome_of action old.files ≡ outcome
     → StandsAll tool old outcome
 tool-stands tool action old (Err refusal) is = tt
-tool-stands tool action old (Ok made) is table =
+tool-stands tool action old (Ok made) is = λ table.
     subst (λ (one : Made). is_some (table_of one.files table) ≡ is_some (table_of old.files table))
     (outcome-made action old.files made is).made (files-stand action.script old.files table)
 

@@ -66,12 +66,18 @@ module _ (old new : Files) (stand : StandWhere old new) where
           put ∙ sym (put-again table content behind
           (sym is ∙ (sym (same-is (table_of old table) (table_of new table) same) ∙ sym there)))
       by false differs (Some bytes) is = ap (with_table table (Some bytes)) put
-      by false differs None is = absurd (gone (table_of old table) (stand table))
+      by false differs None is = absurd (gone (table_of old table) refl)
         where
-          gone : (content : Option Bytes) → is_some (table_of new table) ≡ is_some content
-              → ⊥
-          gone None standing = absurd (cc)
-          gone (Some bytes) standing = absurd (cc)
+          gone : (content : Option Bytes) → table_of old table ≡ content → ⊥
+          gone None absent =
+              let wrong : true ≡ false =
+              sym (ap (λ (one : Option Bytes). same_content one (table_of new table)) absent
+              ∙ ap (same_content None) is) ∙ differs in
+              absurd (cc)
+          gone (Some bytes) stood =
+              let wrong : false ≡ true =
+              sym (ap is_some is) ∙ (stand table ∙ ap is_some stood) in
+              absurd (cc)
 
   -- the claim
   pub changed-listed : with_listed (changed_tables (table_of old) (table_of new)) old ≡ new

@@ -1,5 +1,5 @@
 // What a batch decides: line by line, each on what the lines before it have written.
-ghost use Rattle.std.specs.Prelude.{◌≡◌, ◌≤◌, length, List, IfOk, OnOk};
+ghost use Rattle.std.specs.Prelude.{◌≤◌, [], length, List, IfOk, OnOk};
 ghost use Rattle.acct_text.specs.Limits.{last_day, table_limit};
 ghost use Rattle.account_model.specs.Action.{outcome_of};
 ghost use Rattle.account_model.specs.Change.{action_of};

@@ -8,4 +8,4 @@ decreases-tables l = length l.tables.items
 -- what is left, put in its places, makes the same files
 abbrev pub invariant-tables : goal.invariant-tables
 invariant-tables l =
-    with_listed l.tables.items l.self.files ≡ with_listed l.fn.tables l.initial.self.files
+    with_listed l.tables.items l.self-inside.files ≡ with_listed l.fn.tables l.initial.self-inside.files
