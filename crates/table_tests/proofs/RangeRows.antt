@@ -1,6 +1,6 @@
 -- Rows of the first of the least free range, beside those of account_words: the bounds and the count of a
 -- new range, over files in several orders (useradd(8), subuid(5)).
-use Rattle.std.specs.Prelude.{◌≡◌, ℕ, List, Option, [], ◌∷◌, ◌×◌, codes, refl, Some, None, map}
+use Rattle.std.specs.Prelude.{◌≡◌, ℕ, List, Option, [], ◌∷◌, codes, refl, Some, None, map}
 use Rattle.account_formats.specs.declared.records.SubidRecord.{SubidRecord}
 use Rattle.account_words.specs.FreeRange.{free_range}
 
@@ -9,7 +9,7 @@ held first count = record { owner = codes "a"; first = first; count = count }
 
 -- where a range of each case begins: the bounds, and the count
 abbrev starts : List (ℕ × ℕ × ℕ) → List SubidRecord → List (Option ℕ)
-starts cases records = map (λ c. free_range c.0 c.1.0 c.1.1 records) cases
+starts cases records = map (λ c. free_range c.0 c.1 c.2 records) cases
 
 -- ---- a file with two gaps
 
