@@ -3,7 +3,7 @@
 -- (`refused-by_conflict`), and else its edits (`made-user`). Way: what it does by its plan is what it
 -- has to do under the settings, as the plan is that of the settings.
 use Rattle.std.proofs.Common.{◌≡◌, ℕ, Bool, true, false, inl, inr, List, [], ◌∷◌, map, refl, sym, ap, ◌∙◌}
-use Rattle.std.specs.Prelude.{◌==◌, Option, Some, None, Err, is_none, option_and_then, option_map, unwrap_or, if◌then◌else◌}
+use Rattle.std.specs.Prelude.{◌==◌, Option, Some, None, Err, is_some, option_and_then, option_map, unwrap_or, if◌then◌else◌}
 use Rattle.std.proofs.lemmas.Bool.{cases_Bool}
 use Rattle.acct_text.specs.declared.files.Files.{Files}
 use Rattle.account_model.specs.declared.new_user.Plan.{Plan}
@@ -34,7 +34,7 @@ use Rattle.user_creation.specs.declared.plan.NewIds.{NewIds}
 pub none-found :
     {X : Type 0} (found sought : Option X)
     → found ≡ sought
-    → is_none found ≡ true
+    → is_some found ≡ false
     → sought ≡ None
 none-found None sought is none = sym is
 none-found (Some x) sought is none = absurd cc
