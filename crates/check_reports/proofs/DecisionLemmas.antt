@@ -137,6 +137,7 @@ module _ (request : Request) (files : Files) (today : ℕ) where
       → pwck_report request files today ≡ pwck request files today
   pwck-reports reports = rw reports refl
 
+module _ (request : Request) (files : Files) where
   -- grpck sorts with `-s`
   pub grpck-sorts :
       has_option (codes "s") request ≡ true → changes [] (grpck_sort files) ≡ grpck request files

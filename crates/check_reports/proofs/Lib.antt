@@ -2,6 +2,8 @@ pub mod DecisionLemmas
 pub mod RangeLines
 pub mod RecordWalk
 pub mod KnownLemmas
+pub mod UnknownLemmas
+pub mod ReadProblems
 pub mod PlaceLemmas
 pub mod ReportWalk
 pub mod ReportLemmas

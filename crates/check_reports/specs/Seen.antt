@@ -1,6 +1,8 @@
 -- The problems of pwck and grpck as account_model has them: one of the program stands for one of
 -- these (pwck(8), grpck(8)).
-use Rattle.std.specs.Prelude.{ℕ, List}
+use Rattle.std.specs.Prelude.{ℕ, List, map}
+use Rattle.acct_text.specs.declared.files.Files.{Files}
+use Rattle.account_model.specs.Grpck.{unknown_users}
 use Rattle.account_model.specs.Problems as model
 use Rattle.check_reports.specs.declared.problem.Listing.{Listing}
 use Rattle.check_reports.specs.declared.problem.Listing.TheVariants.{Administrator, Member}
@@ -27,3 +29,9 @@ seen_problem (UnknownMember group user) = model.UnknownMember group.now user.now
 abbrev pub unknown_problem : Listing → List ℕ → List ℕ → model.Problem
 unknown_problem Administrator group user = model.UnknownAdministrator group user
 unknown_problem Member group user = model.UnknownMember group user
+
+-- those of the users of a list of the group who aren't in passwd, each in its place
+abbrev pub unknown_problems :
+    Listing → List ℕ → Files → List (List ℕ) → List model.Problem
+unknown_problems listing group files users =
+    map (unknown_problem listing group) (unknown_users files users)

@@ -1,36 +1,38 @@
 // grpck (grpck(8)): reports the problems of group and gshadow (`-r`), or sorts them (`-s`).
-ghost use Rattle.std.specs.Prelude.{◌≡◌, ◌++◌, [], map, IfOk, OnOk};
+ghost use Rattle.std.specs.Prelude.{◌≡◌, ◌++◌, List, [], ◌∷◌, IfOk, OnOk};
+ghost use Rattle.account_formats.specs.declared.records.GroupRecord.{GroupRecord};
+ghost use Rattle.account_formats.specs.declared.records.GshadowRecord.{GshadowRecord};
+ghost use Rattle.account_formats.specs.Format.{has_named};
+ghost use Rattle.account_formats.specs.Records.{group_format, gshadow_format, read_names};
+ghost use Rattle.account_formats.specs.Text.{nonempty};
 ghost use Rattle.account_model.specs.Action.{changes};
-ghost use Rattle.account_model.specs.Grpck.{grpck, grpck_report, grpck_sort, unknown_users};
+ghost use Rattle.account_model.specs.Grpck.{group_problems, grpck, grpck_report, grpck_sort, gshadow_problems};
+ghost use Rattle.acct_lines.specs.Shown.{group_shown, gshadow_shown};
 ghost use Rattle.check_reports.specs.Decided.{DecidesBy};
-ghost use Rattle.check_reports.specs.Seen.{unknown_problem};
+ghost use Rattle.check_reports.specs.Seen.{unknown_problems};
 
 use crate::decision::{changed, push_sorted};
-use crate::known::Known;
+use crate::known_groups::KnownGroups;
 use crate::problem::{Listing, Problem};
 use crate::problems::Problems;
-use crate::report::{CheckedRecord, Report};
+use crate::report::{Checks, Report};
 use crate::sorting::{ById, sorted_file, sorted_like};
 use account_formats::{GroupRecord, GshadowRecord};
-use acct_lines::is_valid_name;
-use acct_text::{Files, Names, NewTables, Tab};
+use acct_lines::{GroupLine, GshadowLine, is_valid_name};
+use acct_tables::NameIndex;
+use acct_text::{Files, NewTables, Tab, cut_once};
 use command_values::Asked;
 use std::alloc::{AllocError, Global};
 use tool_answers::Decision;
 
 /// Sorts group and gshadow with `-s`, and else reports their problems.
-pub fn grpck(
-    alloc: Global,
-    asked: &Asked,
-    files: &Files,
-    today: u32,
-) -> Result<Decision, AllocError>
+pub fn grpck(alloc: Global, asked: &Asked, files: &Files) -> Result<Decision, AllocError>
     ensures { IfOk result (DecidesBy asked.now.tool (grpck asked.now files.now) files.now) }
 {
     if asked.has(b's') {
         return sort_groups(alloc, asked, files);
     }
-    let known = Known::gather(alloc, files, today)?;
+    let known = KnownGroups::gather(alloc, files)?;
     report_groups(alloc, asked, &known)
 }
 
@@ -49,86 +51,146 @@ fn sort_groups(alloc: Global, asked: &Asked, files: &Files) -> Result<Decision, 
 }
 
 /// Reports the problems of group and gshadow, in the order of lines.
-fn report_groups(alloc: Global, asked: &Asked, known: &Known) -> Result<Decision, AllocError>
+fn report_groups(alloc: Global, asked: &Asked, known: &KnownGroups) -> Result<Decision, AllocError>
     ensures { IfOk result
-        (DecidesBy asked.now.tool (grpck_report known.now.files) known.now.files) }
+        (DecidesBy asked.now.tool (grpck_report known.now) known.now) }
 {
     let files = known.files();
     let mut report = Report::new(alloc, false);
-    report.push_table::<GroupRecord>(alloc, known, known.groups(), &files.group, Tab::Group)?;
-    report.push_table::<GshadowRecord>(
+    report.push_table::<GroupRecord, KnownGroups>(
         alloc,
         known,
-        known.group_hashes(),
+        known.groups(),
+        &files.group,
+        Tab::Group,
+    )?;
+    report.push_table::<GshadowRecord, KnownGroups>(
+        alloc,
+        known,
+        known.hashes(),
         &files.gshadow,
         Tab::Gshadow,
     )?;
     Ok(report.told(alloc))
 }
 
-impl CheckedRecord for GroupRecord {
+impl<'a> Checks<GroupRecord> for KnownGroups<'a> {
     ghost use Rattle.account_model.specs.Grpck.{group_problems};
 
-    ghost problems = { λ sight. group_problems sight.files };
+    ghost problems = { group_problems };
 
-    fn problems<'a>(
-        &'a self,
+    fn problems<'t>(
+        &self,
         alloc: Global,
-        known: &Known,
-        is_repeated: bool,
-    ) -> Result<Problems<'a>, AllocError> {
-        let name = self.name.as_slice();
-        let mut problems = Problems::none(alloc);
-        problems.note_if(is_repeated, Problem::DuplicateName(name))?;
-        problems.note_if(!is_valid_name(name), Problem::InvalidGroupName(name))?;
-        note_unknown(&mut problems, known, name, Listing::Member, &self.members)?;
-        let lacks_entry = known.has_gshadow_file() && !known.has_gshadow(name);
-        problems.note_if(lacks_entry, Problem::NoGshadowEntry(name))?;
-        Ok(problems)
+        names: &NameIndex<'_>,
+        place: usize,
+        text: &'t [u8],
+    ) -> Result<Problems<'t>, AllocError> {
+        match GroupLine::read(text) {
+            Ok(group) => group_problems(alloc, self, &group, names.has_before(group.name, place)),
+            Err(_) => Problems::invalid_entry(alloc),
+        }
     }
 }
 
-impl CheckedRecord for GshadowRecord {
+/// The problems of a group of group, whose name an earlier one has, or none.
+fn group_problems<'t>(
+    alloc: Global,
+    known: &KnownGroups,
+    group: &GroupLine<'t>,
+    is_repeated: bool,
+) -> Result<Problems<'t>, AllocError>
+    ensures { IfOk result (λ found. (earlier : List GroupRecord)
+        → has_named group_format group.now.name.now earlier ≡ is_repeated
+        → found ≡ group_problems known.now earlier (group_shown group.now)) }
+{
+    let name = group.name;
+    let mut problems = Problems::none(alloc);
+    problems.note_if(is_repeated, Problem::DuplicateName(name))?;
+    problems.note_if(!is_valid_name(name), Problem::InvalidGroupName(name))?;
+    note_unknown(&mut problems, known, name, Listing::Member, group.members)?;
+    let lacks_entry = known.has_gshadow_file() && !known.has_gshadow(name);
+    problems.note_if(lacks_entry, Problem::NoGshadowEntry(name))?;
+    Ok(problems)
+}
+
+impl<'a> Checks<GshadowRecord> for KnownGroups<'a> {
     ghost use Rattle.account_model.specs.Grpck.{gshadow_problems};
 
-    ghost problems = { λ sight. gshadow_problems sight.files };
+    ghost problems = { gshadow_problems };
 
-    fn problems<'a>(
-        &'a self,
+    fn problems<'t>(
+        &self,
         alloc: Global,
-        known: &Known,
-        is_repeated: bool,
-    ) -> Result<Problems<'a>, AllocError> {
-        let name = self.name.as_slice();
-        let mut problems = Problems::none(alloc);
-        problems.note_if(is_repeated, Problem::DuplicateName(name))?;
-        problems.note_if(!known.has_group(name), Problem::NoGroupEntry(name))?;
-        note_unknown(
-            &mut problems,
-            known,
-            name,
-            Listing::Administrator,
-            &self.administrators,
-        )?;
-        note_unknown(&mut problems, known, name, Listing::Member, &self.members)?;
-        Ok(problems)
+        names: &NameIndex<'_>,
+        place: usize,
+        text: &'t [u8],
+    ) -> Result<Problems<'t>, AllocError> {
+        match GshadowLine::read(text) {
+            Ok(group) => gshadow_problems(alloc, self, &group, names.has_before(group.name, place)),
+            Err(_) => Problems::invalid_entry(alloc),
+        }
     }
 }
 
-/// Adds a problem for each user in the group's list who isn't in passwd.
-fn note_unknown<'a>(
-    problems: &mut Problems<'a>,
-    known: &Known,
-    group: &'a [u8],
-    listing: Listing,
-    users: &'a Names,
-) -> Result<(), AllocError>
-    ensures { OnOk result (problems.new ≡ problems.old ++ map
-        (unknown_problem listing group.now) (unknown_users known.now.files users.now)) }
+/// The problems of a group of gshadow, whose name an earlier one has, or none.
+fn gshadow_problems<'t>(
+    alloc: Global,
+    known: &KnownGroups,
+    group: &GshadowLine<'t>,
+    is_repeated: bool,
+) -> Result<Problems<'t>, AllocError>
+    ensures { IfOk result (λ found. (earlier : List GshadowRecord)
+        → has_named gshadow_format group.now.name.now earlier ≡ is_repeated
+        → found ≡ gshadow_problems known.now earlier (gshadow_shown group.now)) }
 {
-    for user in users.as_slice() {
-        let problem = listing.problem(group, user.as_slice());
-        problems.note_if(!known.has_user(user.as_slice()), problem)?;
+    let name = group.name;
+    let mut problems = Problems::none(alloc);
+    problems.note_if(is_repeated, Problem::DuplicateName(name))?;
+    problems.note_if(!known.has_group(name), Problem::NoGroupEntry(name))?;
+    note_unknown(
+        &mut problems,
+        known,
+        name,
+        Listing::Administrator,
+        group.administrators,
+    )?;
+    note_unknown(&mut problems, known, name, Listing::Member, group.members)?;
+    Ok(problems)
+}
+
+/// Adds a problem for each user in the group's list who isn't in passwd. The users have commas
+/// between them.
+fn note_unknown<'t>(
+    problems: &mut Problems<'t>,
+    known: &KnownGroups,
+    group: &'t [u8],
+    listing: Listing,
+    users: &'t [u8],
+) -> Result<(), AllocError>
+    ensures { OnOk result (problems.new ≡ problems.old
+        ++ unknown_problems listing group.now known.now (read_names users.now)) }
+{
+    let mut rest = users;
+    'users: while let Some(cut) = cut_once(b',', rest) {
+        note_user(problems, known, group, listing, cut.before)?;
+        rest = cut.behind;
     }
-    Ok(())
+    note_user(problems, known, group, listing, rest)
+}
+
+/// Adds a problem for the user in the group's list where passwd lacks it. Nothing between two
+/// commas is no user.
+fn note_user<'t>(
+    problems: &mut Problems<'t>,
+    known: &KnownGroups,
+    group: &'t [u8],
+    listing: Listing,
+    user: &'t [u8],
+) -> Result<(), AllocError>
+    ensures { OnOk result (problems.new ≡ problems.old
+        ++ unknown_problems listing group.now known.now (nonempty (user.now ∷ []))) }
+{
+    let is_unknown = !user.is_empty() && !known.has_user(user);
+    problems.note_if(is_unknown, listing.problem(group, user))
 }

@@ -1,17 +1,23 @@
 // pwck (pwck(8)): reports the problems of passwd and shadow (`-r`), or sorts them (`-s`).
-ghost use Rattle.std.specs.Prelude.{◌≡◌, [], IfOk};
+ghost use Rattle.std.specs.Prelude.{◌≡◌, List, [], IfOk};
+ghost use Rattle.account_formats.specs.declared.records.PasswdRecord.{PasswdRecord};
+ghost use Rattle.account_formats.specs.declared.records.ShadowRecord.{ShadowRecord};
+ghost use Rattle.account_formats.specs.Format.{has_named};
+ghost use Rattle.account_formats.specs.Records.{passwd_format, shadow_format};
 ghost use Rattle.account_model.specs.Action.{changes};
-ghost use Rattle.account_model.specs.Pwck.{is_after, pwck, pwck_report, pwck_sort};
+ghost use Rattle.account_model.specs.Pwck.{is_after, pwck, pwck_report, pwck_sort, shadow_problems, user_problems};
+ghost use Rattle.acct_lines.specs.Shown.{passwd_shown, shadow_shown};
 ghost use Rattle.check_reports.specs.Decided.{DecidesBy};
 
 use crate::decision::{changed, push_sorted};
-use crate::known::Known;
+use crate::known_users::KnownUsers;
 use crate::problem::Problem;
 use crate::problems::Problems;
-use crate::report::{CheckedRecord, Report};
+use crate::report::{Checks, Report};
 use crate::sorting::{ById, sorted_file, sorted_like};
 use account_formats::{PasswdRecord, ShadowRecord};
-use acct_lines::is_valid_name;
+use acct_lines::{PasswdLine, ShadowLine, is_valid_name};
+use acct_tables::NameIndex;
 use acct_text::{Files, NewTables, Tab};
 use command_values::Asked;
 use std::alloc::{AllocError, Global};
@@ -26,7 +32,7 @@ pub fn pwck(alloc: Global, asked: &Asked, files: &Files, today: u32) -> Result<D
     if asked.has(b's') {
         return sort_users(alloc, asked, files);
     }
-    let known = Known::gather(alloc, files, today)?;
+    let known = KnownUsers::gather(alloc, files, today)?;
     report_users(alloc, asked, &known)
 }
 
@@ -46,63 +52,111 @@ fn sort_users(alloc: Global, asked: &Asked, files: &Files) -> Result<Decision, A
 
 /// Reports the problems of passwd and shadow, in the order of lines. Notices are left out with
 /// `-q`, and count for the status all the same.
-fn report_users(alloc: Global, asked: &Asked, known: &Known) -> Result<Decision, AllocError>
+fn report_users(alloc: Global, asked: &Asked, known: &KnownUsers) -> Result<Decision, AllocError>
     ensures { IfOk result (DecidesBy asked.now.tool
         (pwck_report asked.now known.now.files known.now.today) known.now.files) }
 {
     let files = known.files();
     let mut report = Report::new(alloc, asked.has(b'q'));
-    report.push_table::<PasswdRecord>(alloc, known, known.users(), &files.passwd, Tab::Passwd)?;
-    report.push_table::<ShadowRecord>(alloc, known, known.hashes(), &files.shadow, Tab::Shadow)?;
+    report.push_table::<PasswdRecord, KnownUsers>(
+        alloc,
+        known,
+        known.users(),
+        &files.passwd,
+        Tab::Passwd,
+    )?;
+    report.push_table::<ShadowRecord, KnownUsers>(
+        alloc,
+        known,
+        known.hashes(),
+        &files.shadow,
+        Tab::Shadow,
+    )?;
     Ok(report.told(alloc))
 }
 
-impl CheckedRecord for PasswdRecord {
+impl<'a> Checks<PasswdRecord> for KnownUsers<'a> {
     ghost use Rattle.account_model.specs.Pwck.{user_problems};
 
     ghost problems = { λ sight. user_problems sight.files };
 
-    fn problems<'a>(
-        &'a self,
+    fn problems<'t>(
+        &self,
         alloc: Global,
-        known: &Known,
-        is_repeated: bool,
-    ) -> Result<Problems<'a>, AllocError> {
-        let name = self.name.as_slice();
-        let mut problems = Problems::none(alloc);
-        problems.note_if(is_repeated, Problem::DuplicateName(name))?;
-        problems.note_if(!is_valid_name(name), Problem::InvalidUserName(name))?;
-        problems.note_if(
-            !known.has_gid(self.gid),
-            Problem::NoPrimaryGroup(name, self.gid),
-        )?;
-        let lacks_entry = known.has_shadow_file() && !known.has_shadow(name);
-        problems.note_if(lacks_entry, Problem::NoShadowEntry(name))?;
-        let keeps_password = known.has_shadow_file() && self.password.as_slice() != b"x".as_slice();
-        problems.note_if(keeps_password, Problem::PasswordNotInShadow(name))?;
-        Ok(problems)
+        names: &NameIndex<'_>,
+        place: usize,
+        text: &'t [u8],
+    ) -> Result<Problems<'t>, AllocError> {
+        match PasswdLine::read(text) {
+            Ok(user) => user_problems(alloc, self, &user, names.has_before(user.name, place)),
+            Err(_) => Problems::invalid_entry(alloc),
+        }
     }
 }
 
-impl CheckedRecord for ShadowRecord {
+/// The problems of a user of passwd, whose name an earlier one has, or none.
+fn user_problems<'t>(
+    alloc: Global,
+    known: &KnownUsers,
+    user: &PasswdLine<'t>,
+    is_repeated: bool,
+) -> Result<Problems<'t>, AllocError>
+    ensures { IfOk result (λ found. (earlier : List PasswdRecord)
+        → has_named passwd_format user.now.name.now earlier ≡ is_repeated
+        → found ≡ user_problems known.now.files earlier (passwd_shown user.now)) }
+{
+    let name = user.name;
+    let mut problems = Problems::none(alloc);
+    problems.note_if(is_repeated, Problem::DuplicateName(name))?;
+    problems.note_if(!is_valid_name(name), Problem::InvalidUserName(name))?;
+    problems.note_if(
+        !known.has_gid(user.gid),
+        Problem::NoPrimaryGroup(name, user.gid),
+    )?;
+    let lacks_entry = known.has_shadow_file() && !known.has_shadow(name);
+    problems.note_if(lacks_entry, Problem::NoShadowEntry(name))?;
+    let keeps_password = known.has_shadow_file() && user.password != b"x".as_slice();
+    problems.note_if(keeps_password, Problem::PasswordNotInShadow(name))?;
+    Ok(problems)
+}
+
+impl<'a> Checks<ShadowRecord> for KnownUsers<'a> {
     ghost use Rattle.account_model.specs.Pwck.{shadow_problems};
 
     ghost problems = { λ sight. shadow_problems sight.files sight.today };
 
-    fn problems<'a>(
-        &'a self,
+    fn problems<'t>(
+        &self,
         alloc: Global,
-        known: &Known,
-        is_repeated: bool,
-    ) -> Result<Problems<'a>, AllocError> {
-        let name = self.name.as_slice();
-        let mut problems = Problems::none(alloc);
-        problems.note_if(is_repeated, Problem::DuplicateName(name))?;
-        problems.note_if(!known.has_user(name), Problem::NoPasswdEntry(name))?;
-        let is_future = is_after(known.today(), self.last_change);
-        problems.note_if(is_future, Problem::ChangeInFuture(name))?;
-        Ok(problems)
+        names: &NameIndex<'_>,
+        place: usize,
+        text: &'t [u8],
+    ) -> Result<Problems<'t>, AllocError> {
+        match ShadowLine::read(text) {
+            Ok(hash) => hash_problems(alloc, self, &hash, names.has_before(hash.name, place)),
+            Err(_) => Problems::invalid_entry(alloc),
+        }
     }
+}
+
+/// The problems of a line of shadow, whose name an earlier one has, or none.
+fn hash_problems<'t>(
+    alloc: Global,
+    known: &KnownUsers,
+    hash: &ShadowLine<'t>,
+    is_repeated: bool,
+) -> Result<Problems<'t>, AllocError>
+    ensures { IfOk result (λ found. (earlier : List ShadowRecord)
+        → has_named shadow_format hash.now.name.now earlier ≡ is_repeated
+        → found ≡ shadow_problems known.now.files known.now.today earlier (shadow_shown hash.now)) }
+{
+    let name = hash.name;
+    let mut problems = Problems::none(alloc);
+    problems.note_if(is_repeated, Problem::DuplicateName(name))?;
+    problems.note_if(!known.has_user(name), Problem::NoPasswdEntry(name))?;
+    let is_future = is_after(known.today(), hash.last_change);
+    problems.note_if(is_future, Problem::ChangeInFuture(name))?;
+    Ok(problems)
 }
 
 /// Whether a day lies after today, both in days since 1970-01-01.

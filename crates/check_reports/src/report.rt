@@ -3,20 +3,18 @@ ghost use Rattle.std.specs.Prelude.{◌≡◌, ◌+◌, ◌^◌, ◌<◌, ◌++�
 ghost use Rattle.acct_text.specs.declared.files.Files.{Files};
 ghost use Rattle.account_words.specs.declared.tool.Tool.{Tool};
 ghost use Rattle.account_model.specs.Action.{reports};
-ghost use Rattle.account_formats.specs.Format.{has_named};
 ghost use Rattle.account_model.specs.Problems as model;
 ghost use Rattle.account_model.specs.Problems.{at_line, is_nis, problem_line, problems_of_line, table_problems};
 ghost use Rattle.check_reports.specs.Decided.{DecidesBy};
-ghost use Rattle.check_reports.specs.Known.{Sight, TellsBefore, TellsOf};
+ghost use Rattle.check_reports.specs.Known.{TellsBefore, TellsOf, problems_in};
 ghost use Rattle.check_reports.specs.Reported.{status_of, with_problems};
 ghost use Rattle.check_reports.specs.Seen.{seen_problem};
 
 use crate::decision::told;
-use crate::known::Known;
 use crate::problem::Problem;
 use crate::problems::Problems;
 use acct_lines::TableRecord;
-use acct_tables::{Lines, NameIndex, read_record};
+use acct_tables::{Lines, NameIndex};
 use acct_text::{Bytes, Tab, push_decimal};
 use std::alloc::{AllocError, Global};
 use table_lookups::text_of;
@@ -25,21 +23,23 @@ use tool_answers::Decision;
 // The status of a report with a problem.
 const BAD_ENTRIES: u8 = 2;
 
-/// A record that is checked.
-pub(crate) trait CheckedRecord: TableRecord {
+/// What checks the records R, by what it knows of the tables.
+pub(crate) trait Checks<R: TableRecord> {
     // the problems of a record behind the earlier ones
-    ghost problems: { Sight → List Self → Self → List model.Problem };
+    ghost problems: { Self → List R → R → List model.Problem };
 
-    /// The problems of the record, whose name an earlier one has, or none.
-    fn problems<'a>(
-        &'a self,
+    /// The problems of a line at a place of its table, counted from 0, which is read where it
+    /// stands. The table has these names.
+    fn problems<'t>(
+        &self,
         alloc: Global,
-        known: &Known,
-        is_repeated: bool,
-    ) -> Result<Problems<'a>, AllocError>
-        ensures { IfOk result (λ found. (earlier : List Self)
-            → has_named Self.format (Self.format.name self.now) earlier ≡ is_repeated
-            → found ≡ problems known.now earlier self.now) };
+        names: &NameIndex<'_>,
+        place: usize,
+        text: &'t [u8],
+    ) -> Result<Problems<'t>, AllocError>
+        ensures { IfOk result (λ found. (before : List R)
+            → TellsBefore R.format names.now place before text.now
+            → found ≡ problems_in R.format (problems self.now) before text.now) };
 }
 
 /// What a check tells: a line for each problem that is shown, table after table.
@@ -66,34 +66,32 @@ impl Report {
 
     /// Adds the problems of a table by what is known and by its names, line after line; an absent
     /// table has none.
-    ///
-    /// A record is kept no longer than its line is looked at.
-    pub(crate) fn push_table<R: CheckedRecord + Drop>(
+    pub(crate) fn push_table<R: TableRecord, K: Checks<R>>(
         &mut self,
         alloc: Global,
-        known: &Known,
+        known: &K,
         names: &NameIndex<'_>,
         file: &Option<Bytes>,
         tab: Tab,
     ) -> Result<(), AllocError>
         requires { TellsOf R.format file.now names.now }
         ensures { OnOk result (self.new ≡ with_problems tab
-            (table_problems R.format (R.problems known.now) file.now) self.old) }
+            (table_problems R.format (K.problems known.now) file.now) self.old) }
     {
         let mut place = 0usize;
         let mut left = Lines::of(text_of(file));
         'lines: while let Some(line) = left.take() {
-            self.check_line::<R>(alloc, known, names, tab, place, line.text)?;
+            self.check_line::<R, K>(alloc, known, names, tab, place, line.text)?;
             place += 1;
         }
         Ok(())
     }
 
     /// Adds the problems of the line with this text at a place, counted from 0.
-    fn check_line<R: CheckedRecord + Drop>(
+    fn check_line<R: TableRecord, K: Checks<R>>(
         &mut self,
         alloc: Global,
-        known: &Known,
+        known: &K,
         names: &NameIndex<'_>,
         tab: Tab,
         place: usize,
@@ -103,10 +101,9 @@ impl Report {
         ensures { OnOk result ((before : List R)
             → TellsBefore R.format names.now place before text.now
             → self.new ≡ with_problems tab (at_line (place + 1)
-            (problems_of_line R.format (R.problems known.now) before text.now)) self.old) }
+            (problems_of_line R.format (K.problems known.now) before text.now)) self.old) }
     {
-        let item: Option<R> = read_record(alloc, text)?;
-        let problems = line_problems(alloc, text, &item, known, names, place)?;
+        let problems = line_problems::<R, K>(alloc, known, names, place, text)?;
         self.push_line(alloc, tab, place + 1, &problems)
     }
 
@@ -182,27 +179,22 @@ fn push_problem(
     out.push(b"\n")
 }
 
-/// The problems of the line with this text at a place, which is the record or other text.
-fn line_problems<'a, R: CheckedRecord + Drop>(
+/// The problems of the line with this text at a place; a line of NIS has none.
+fn line_problems<'t, R: TableRecord, K: Checks<R>>(
     alloc: Global,
-    text: &[u8],
-    item: &'a Option<R>,
-    known: &Known,
+    known: &K,
     names: &NameIndex<'_>,
     place: usize,
-) -> Result<Problems<'a>, AllocError>
+    text: &'t [u8],
+) -> Result<Problems<'t>, AllocError>
     ensures { IfOk result (λ problems. (before : List R)
         → TellsBefore R.format names.now place before text.now
-        → item.now ≡ R.format.read text.now
-        → problems ≡ problems_of_line R.format (R.problems known.now) before text.now) }
+        → problems ≡ problems_of_line R.format (K.problems known.now) before text.now) }
 {
     if is_nis(text) {
         return Ok(Problems::none(alloc));
     }
-    match item {
-        Some(item) => item.problems(alloc, known, names.has_before(item.name(), place)),
-        None => Problems::invalid_entry(alloc),
-    }
+    known.problems(alloc, names, place, text)
 }
 
 /// Whether the line belongs to NIS: it begins with `+` or `-`.

@@ -83,7 +83,7 @@ fn decide_on(
         Tool::Chage => ages(alloc, asked, tables),
         Tool::Chpasswd => edits(alloc, tool, tables, chpasswd(alloc, input, tables, day)),
         Tool::Pwck => pwck(alloc, asked, tables.files(), day),
-        Tool::Grpck => grpck(alloc, asked, tables.files(), day),
+        Tool::Grpck => grpck(alloc, asked, tables.files()),
         Tool::Getsubids => getsubids(alloc, asked, tables.files()),
         // A batch does nothing by itself: its lines are decided one by one, above this crate.
         Tool::Batch => edits(alloc, tool, tables, Ok(Script::new(alloc))),

@@ -1,10 +1,16 @@
-use Rattle.std.proofs.Common.{◌≡◌, ◌++◌, map, take}
-use Rattle.account_model.specs.Grpck.{unknown_users}
-use Rattle.check_reports.specs.Seen.{unknown_problem}
+use Rattle.std.proofs.Common.{◌≡◌, ◌++◌, length}
+use Rattle.acct_text.specs.Pieces.{cut_at}
+use Rattle.account_formats.specs.Records.{read_names}
+use Rattle.account_formats.specs.Text.{comma, nonempty}
+use Rattle.check_reports.specs.Seen.{unknown_problems}
 use Rattle.check_reports.proofs.grpck.note_unknown.Given as goal
 
--- behind those that were there stand the problems of the users so far
-abbrev pub invariant-loop-user : goal.invariant-loop-user
-invariant-loop-user l =
-    l.problems ≡ l.initial.problems ++ map (unknown_problem l.listing l.group)
-    (unknown_users l.known.files (take l.user-index l.user-items))
+-- the problems so far and those of the rest are those of all users of the list
+abbrev pub invariant-users : goal.invariant-users
+invariant-users l =
+    let of = unknown_problems l.listing l.group l.known in
+    l.problems ++ of (nonempty (cut_at comma l.rest))
+    ≡ l.initial.problems ++ of (read_names l.users)
+
+abbrev pub decreases-users : goal.decreases-users
+decreases-users l = length l.rest

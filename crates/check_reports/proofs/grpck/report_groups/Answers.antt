@@ -11,7 +11,7 @@ use Rattle.check_reports.proofs.grpck.report_groups.Goals as goal
 pub returns : goal.returns
 returns c =
     let tool = c.args.asked.now.tool in
-    let files = c.args.known.now.files in
+    let files = c.args.known.now in
     let none = c.new-report.result in
     let one = c.push_table.new.self in
     let both = c.push_table-2.new.self in

@@ -10,7 +10,7 @@ use Rattle.check_reports.proofs.report.Report.push_table.Goals as goal
 pub lines-init : goal.lines-init
 lines-init g c =
     let format = g.R.TableRecord.format in
-    let problems = g.R.CheckedRecord.problems c.args.known.now in
+    let problems = g.K.Checks.problems c.args.known.now in
     let are = c.of-left.ensures ∙ c.text_of.ensures in
     record {
       taken = record { done = []; joined = are };
@@ -56,7 +56,7 @@ lines-smaller g c = omega (arith, ap length c.in-Some.ensures.taken)
 pub returns : goal.returns
 returns g c =
     let format = g.R.TableRecord.format in
-    let problems = g.R.CheckedRecord.problems c.args.known.now in
+    let problems = g.K.Checks.problems c.args.known.now in
     report-end _ _ _ _ _ _ _ _ c.lines.invariant c.in_default.ensures.taken
     ∙ ap (λ problems. with_problems c.args.tab problems c.args.self.now)
     (report-in-lines format problems c.args.file.now)

@@ -9,7 +9,7 @@ use Rattle.check_reports.proofs.report.Report.push_table.Given as goal
 abbrev pub invariant-lines : goal.invariant-lines
 invariant-lines g l =
     let format = g.R.TableRecord.format in
-    let problems = g.R.CheckedRecord.problems l.known in
+    let problems = g.K.Checks.problems l.known in
     let all = lines_in l.file in
     IsReported format problems l.tab all l.left l.place l.self
     (with_problems l.tab (problems_behind format problems [] all) l.initial.self)

@@ -3,7 +3,7 @@ use Rattle.account_formats.specs.Records.{shadow_format}
 use Rattle.account_model.specs.Users.{has_shadow}
 use Rattle.check_reports.specs.Known.{Sight}
 use Rattle.check_reports.proofs.KnownLemmas.{has-told}
-use Rattle.check_reports.proofs.known.Known.has_shadow.Goals as goal
+use Rattle.check_reports.proofs.known_users.KnownUsers.has_shadow.Goals as goal
 
 pub returns : goal.returns
 returns c =

@@ -1,13 +1,12 @@
 use Rattle.std.proofs.Common.{◌∙◌, ap}
 use Rattle.account_formats.specs.Records.{group_format}
 use Rattle.account_model.specs.Users.{has_group}
-use Rattle.check_reports.specs.Known.{Sight}
 use Rattle.check_reports.proofs.KnownLemmas.{has-told}
-use Rattle.check_reports.proofs.known.Known.has_group.Goals as goal
+use Rattle.check_reports.proofs.known_groups.KnownGroups.has_group.Goals as goal
 
 pub returns : goal.returns
 returns c =
     c.has.ensures
     ∙ has-told group_format c.self.inside.files.now.group c.self.inside.groups
     c.args.name.now c.self.invariant.of_groups
-    ∙ ap (λ (sight : Sight). has_group c.args.name.now sight.files) c.self.view_is
+    ∙ ap (has_group c.args.name.now) c.self.view_is
