@@ -1,5 +1,5 @@
 use Rattle.user_removal.proofs.OtherNumbers.{gid-of-other, uid-of-other}
-use Rattle.user_removal.proofs.others.OtherWithRecordTest.number.Goals as goal
+use Rattle.user_removal.proofs.others.OtherWithRecordTestPasswdRecord.number.Goals as goal
 
 pub returns-in-Uid : goal.returns-in-Uid
 returns-in-Uid c =
