@@ -3,17 +3,18 @@
 -- written, with what the others make of it: at first (`none-written`), line by line (`line-written`), and
 -- at the end (`all-written`), or up to a line that refuses (`line-refuses`).
 use Rattle.std.proofs.Common.{◌≡◌, ◌∙◌, ◌++◌, ℕ, List, [], ◌∷◌, ap, refl, subst, sym, append_assoc, append-nil}
-use Rattle.std.specs.Prelude.{Option, Some, None, Result, Ok, Err, is_some, ⊤}
+use Rattle.std.specs.Prelude.{Some, None, Result, Ok, Err, is_some, ⊤}
 use Rattle.acct_text.specs.declared.files.Files.{Files}
 use Rattle.acct_text.specs.declared.new_tables.NewTable.{NewTable}
 use Rattle.acct_text.specs.ChangedTables.{changed_tables}
 use Rattle.acct_text.specs.Files.{table_of}
 use Rattle.account_words.specs.declared.tool.Tool.{Tool}
 use Rattle.account_words.specs.BatchLines.{LineRequest}
+use Rattle.account_words.specs.Request.{Request}
 use Rattle.account_words.specs.Settings.{Setting}
 use Rattle.account_model.specs.declared.refusal.Refusal.{Refusal}
 use Rattle.account_model.specs.Action.{Action, Made, outcome_of}
-use Rattle.account_model.specs.Batch.{LineRefusal, Written, batch, before_others, in_turn, nothing_on, with_rest, written_by}
+use Rattle.account_model.specs.Batch.{LineRefusal, Written, batch, before_others, nothing_on, with_rest, written_by}
 use Rattle.account_model.specs.Change.{action_of}
 use Rattle.account_model.specs.Messages.{messages}
 use Rattle.account_model.proofs.BatchLaws.{outcome-made}
@@ -22,6 +23,7 @@ use Rattle.tool_answers.specs.declared.decision.Decision.{Decision}
 use Rattle.tool_answers.specs.declared.decision.Decision.TheVariants.{Change, Same, Refuse, RefuseLine}
 use Rattle.tool_answers.specs.declared.decision.Output.{Output}
 use Rattle.tool_answers.specs.Decisions.{decision_by, decision_of, made_output}
+use Rattle.batch_commands.specs.Deciding.{tool_decision}
 use Rattle.batch_commands.specs.Writing.{IsCarriedOut, StandWhere, with_files, with_listed, with_made, with_output}
 use Rattle.batch_commands.proofs.ListedFiles.{changed-listed}
 
@@ -124,7 +126,21 @@ pub tool-stands :
 tool-stands tool action old (Err refusal) is = tt
 tool-stands tool action old (Ok made) is = λ table.
     subst (λ (one : Made). is_some (table_of one.files table) ≡ is_some (table_of old.files table))
-    (outcome-made action old.files made is).made (files-stand action.script old.files table)
+    (outcome-made action old.files made is).makes (files-stand action.script old.files table)
+
+-- what is decided for a request that is this one, without input, on files that are these
+pub decided-for :
+    (request asked : Request) (input : List ℕ) (day : ℕ) (seen files : Files)
+    (settings : List Setting) (decision : Decision)
+    → request ≡ asked
+    → input ≡ []
+    → seen ≡ files
+    → decision ≡ tool_decision request input day seen settings
+    → decision ≡ tool_decision asked [] day files settings
+decided-for request asked input day seen files settings decision same none at is =
+    subst (λ (one : Request). decision ≡ tool_decision one [] day files settings) same
+    (subst (λ (one : List ℕ). decision ≡ tool_decision request one day files settings) none
+    (subst (λ (one : Files). decision ≡ tool_decision request input day one settings) at is))
 
 -- ---- The lines of a batch
 
@@ -212,3 +228,19 @@ module _ (day : ℕ) (settings : List Setting) where
     output = append-nil written.output i;
     error = append-nil written.error i;
   })
+
+  -- so a batch without further lines has come to this
+  pub all-done :
+      (left : List LineRequest) (written : Written) (all : Result Written LineRefusal)
+      → left ≡ []
+      → with_left left written ≡ all
+      → all
+      ≡ Ok (record {
+        files = written.files;
+        status = 0;
+        output = written.output;
+        error = written.error;
+      })
+  all-done left written all none is =
+      sym is ∙ (ap (λ (lines : List LineRequest). with_left lines written) none
+      ∙ all-written written)

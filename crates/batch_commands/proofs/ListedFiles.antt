@@ -10,7 +10,7 @@ use Rattle.acct_text.specs.declared.files.Files.{Files}
 use Rattle.acct_text.specs.declared.new_tables.NewTable.{NewTable}
 use Rattle.acct_text.specs.Bytes.{Bytes}
 use Rattle.acct_text.specs.ChangedTables.{changed_among, changed_tables, with_new_table}
-use Rattle.acct_text.specs.Contents.{Contents, same_content}
+use Rattle.acct_text.specs.Contents.{same_content}
 use Rattle.acct_text.specs.Files.{table_of, with_table}
 use Rattle.batch_commands.specs.Writing.{StandWhere, with_listed}
 

@@ -1,5 +1,5 @@
 // What a batch decides: line by line, each on what the lines before it have written.
-ghost use Rattle.std.specs.Prelude.{◌≤◌, [], length, List, IfOk, OnOk};
+ghost use Rattle.std.specs.Prelude.{◌≤◌, [], length, List, IfOk};
 ghost use Rattle.acct_text.specs.Limits.{last_day, table_limit};
 ghost use Rattle.account_model.specs.Action.{outcome_of};
 ghost use Rattle.account_model.specs.Change.{action_of};
@@ -55,7 +55,7 @@ fn carry_out(
 ) -> Result<Option<Refusal>, AllocError>
     requires held { IsHeld defs.now }
     requires in_time { day ≤ last_day }
-    ensures { OnOk result (λ refusal. (settings : List Setting) → HasSettings defs.now settings
+    ensures { IfOk result (λ refusal. (settings : List Setting) → HasSettings defs.now settings
         → IsCarriedOut line.now.request.tool written.old written.new refusal
         (outcome_of (action_of line.now.request [] day written.old.files settings)
         written.old.files)) }

@@ -189,7 +189,7 @@ made-stands : (action : Action) (files : Files) (made : Made) → outcome_of act
     (table : Tab) → is_some (table_of made.files table) ≡ is_some (table_of files table)
 made-stands action files made is table =
     subst (λ (one : Made). is_some (table_of one.files table) ≡ is_some (table_of files table))
-    (outcome-made action files made is).made (files-stand action.script files table)
+    (outcome-made action files made is).makes (files-stand action.script files table)
 
 -- ---- The answer
 

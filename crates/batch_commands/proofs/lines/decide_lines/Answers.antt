@@ -1,0 +1,63 @@
+-- A line is written before the others, or refuses them; behind the last the batch is what is written.
+use Rattle.std.proofs.Common.{◌∙◌, Err, List, Option, ap, refl, subst, sym}
+use Rattle.std.proofs.lemmas.Result.{IfOk-weaker}
+use Rattle.account_words.specs.BatchLines.{LineRequest, line_requests}
+use Rattle.account_model.specs.declared.refusal.Refusal.{Refusal}
+use Rattle.account_model.specs.Batch.{batch}
+use Rattle.account_model.proofs.DeedLaws.{batch-stands}
+use Rattle.option_words.specs.Batch.{requests_of}
+use Rattle.tool_answers.specs.Decisions.{decision_of_lines}
+use Rattle.batch_commands.specs.Writing.{IsCarriedOut}
+use Rattle.batch_commands.proofs.LinesLemmas.{all-done, line-refuses, line-written, outcome_on, with_left}
+use Rattle.batch_commands.proofs.lines.decide_lines.Goals as goal
+
+pub lines-preserved : goal.lines-preserved
+lines-preserved c = λ settings holds.
+    let day = c.args.day in
+    let old = c.lines.written in
+    let new = c.carry_out.new.written in
+    let rest = requests_of c.next_request.new.self in
+    let line = c.in-Some.line in
+    let outcome = outcome_on day settings line old.files in
+    let first = rw c.in-Some.is at c.in_ok-line.ensures in
+    let carried = subst (λ (one : Option Refusal).
+    IsCarriedOut line.request.tool old new one outcome) c.in_default-2.is
+    (c.in_ok-refusal.ensures settings holds) in
+    sym (ap (λ (lines : List LineRequest). with_left day settings lines old) first
+    ∙ line-written day settings line rest old new outcome refl carried)
+    ∙ c.lines.invariant settings holds
+
+pub returns-in-Some-2 : goal.returns-in-Some-2
+returns-in-Some-2 c = IfOk-weaker c.refuse_line.result _ _ (λ decision is settings holds.
+    let day = c.args.day in
+    let old = c.lines.written in
+    let new = c.carry_out.new.written in
+    let rest = requests_of c.next_request.new.self in
+    let line = c.in-Some.line in
+    let outcome = outcome_on day settings line old.files in
+    let first = rw c.in-Some.is at c.in_ok-line.ensures in
+    let carried = subst (λ (one : Option Refusal).
+    IsCarriedOut line.request.tool old new one outcome) c.in-Some-2.is
+    (c.in_ok-refusal.ensures settings holds) in
+    is
+    ∙ (ap (λ (one : LineRequest). decision_of_lines c.args.files.now (Err (record {
+      number = one.number;
+      tool = one.request.tool;
+      refusal = c.in-Some-2.refusal;
+    }))) c.line.view_is
+    ∙ ap (decision_of_lines c.args.files.now)
+    (sym (sym (c.lines.invariant settings holds)
+    ∙ (ap (λ (lines : List LineRequest). with_left day settings lines old) first
+    ∙ line-refuses day settings line rest old new c.in-Some-2.refusal outcome refl carried)))))
+    c.refuse_line.ensures
+
+pub into_decision-requires : goal.into_decision-requires
+into_decision-requires c =
+    let settings = c.requires.held.settings in
+    let lines = line_requests c.args.input.now in
+    let files = c.args.files.now in
+    let none = rw c.in_default.is at c.in_ok-line.ensures in
+    batch-stands lines c.args.day settings files _
+    (all-done c.args.day settings (requests_of c.lines.lines) c.lines.written
+    (batch lines c.args.day settings files) none
+    (c.lines.invariant settings c.requires.held.held))
