@@ -1,6 +1,7 @@
 -- Claims: a session that was alone, in whose way nothing stood, gives the tool's answer on the files of
 -- its entry, or finds no memory (`ran-complete`); and a command that got no input or no day, or had a
--- line that asks for nothing, though nothing lacked, found no memory (`ends-unsupplied`).
+-- line that asks for nothing, though nothing lacked, found no memory (`ends-unsupplied`,
+-- `ends-without_supply`).
 -- Way: cause by cause (`answers-as`): what a tool answers on is the files of the entry (AloneLemmas); what
 -- others leave it doesn't meet (OpenLemmas); and each fault is counted.
 use Rattle.std.proofs.Common.{◌≡◌, refl, sym, ap, subst, true, ◌∙◌, ◌∷◌, ◌++◌, [], ◌+◌, ◌≤◌, length, ◌⊎◌, inl, inr, Option, Some, None, Result, Ok, Err, arith}
@@ -36,6 +37,7 @@ use Rattle.suite_answers.specs.declared.cause.Cause.{Cause}
 use Rattle.suite_answers.specs.declared.cause.Cause.TheVariants.{Changed, Same, Refused, RefusedLine, Syntax, BatchSyntax, Held, Gone, Raced, Outrun, LockDamaged, Exhausted, IntentDamaged, TooLarge, NoTable, BadSetting, DiskFault, InputFault, OutputFault, ClockFault, Memory}
 use Rattle.suite_answers.specs.declared.cause.Outcome.{Outcome}
 use Rattle.suite_answers.specs.declared.answer.Answer.{Answer}
+use Rattle.suite_answers.specs.Answers.{told}
 use Rattle.suite_answers.specs.Reasons.{stage_of}
 use Rattle.suite_session.specs.Runner.{LinesAsk, Question}
 use Rattle.acct_outside.specs.Moment.{Past, Moment}
@@ -343,3 +345,11 @@ ends-unsupplied tool before now was holds outcome lack due early = record {
   ends = early;
   complete = unsupplied-complete tool before now was holds outcome lack due early;
 }
+
+-- so it is for this cause, where the input or the day is what lacks; who calls knows no `Lack`
+pub ends-without_supply : (tool : Tool) (before now : Supplies) (was holds : Streams)
+    (outcome : Outcome) (cause : Cause) → IsUnsupplied tool before now cause →
+    EndsEarly (Some tool) (told tool cause) was holds outcome →
+    EndsUnsupplied tool before now was holds outcome
+ends-without_supply tool before now was holds outcome cause due early =
+    ends-unsupplied tool before now was holds outcome (Supply cause) due early

@@ -10,10 +10,10 @@ returns c = IfOk-weaker c.decide.result _ _ (λ decision decides settings holds.
     let asked = c.args.asked.now in
     let files = c.args.files.now in
     subst (λ (day : ℕ). decision
-    ≡ command_decision asked.request asked.command.input day files settings) c.day.ensures.value
+    ≡ command_decision asked.request asked.command.input day files settings) c.day-day.ensures.value
     (subst (λ (input : List ℕ). decision
-    ≡ command_decision asked.request input c.day.result files settings) c.input.ensures.value
+    ≡ command_decision asked.request input c.day-day.result files settings) c.input.ensures.value
     (subst (λ (request : Request). decision
-    ≡ command_decision request c.input.result.now c.day.result files settings) c.parsed.ensures
+    ≡ command_decision request c.input.result.now c.day-day.result files settings) c.parsed.ensures
     (decides settings holds))))
     c.decide.ensures

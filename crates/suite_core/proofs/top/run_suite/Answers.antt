@@ -8,11 +8,10 @@ use Rattle.option_words.specs.Parsed.{request_in}
 use Rattle.suite_answers.specs.declared.cause.Cause.TheVariants.{Memory}
 use Rattle.suite_answers.specs.Answers.{told, told_words}
 use Rattle.suite_session.specs.Runner.{question}
-use Rattle.suite_course.specs.declared.supplies.Lack.TheVariants.{Supply}
 use Rattle.suite_course.specs.Streams.{streams}
 use Rattle.suite_course.specs.Supplies.{AreSupplied, reads_input, supplies}
 use Rattle.suite_course.specs.Top.{EndsEarly, EndsUnsupplied, Ran}
-use Rattle.suite_course.proofs.CompleteLemmas.{ends-unsupplied}
+use Rattle.suite_course.proofs.CompleteLemmas.{ends-without_supply}
 use Rattle.suite_course.proofs.RanLemmas.{finished-ran}
 use Rattle.suite_course.proofs.SuppliesLemmas.{none-came}
 use Rattle.suite_core.proofs.TopLemmas.{named-asked, no-fault, one-request}
@@ -41,7 +40,7 @@ returns-in-Err-clause-ran g c = λ request asks.
     ] in
     inl (
       refl,
-      ends-unsupplied request.tool _ _ was holds c.refuse_words.result (Supply (Memory Before))
+      ends-without_supply request.tool _ _ was holds c.refuse_words.result (Memory Before)
           (refl, (record { gave = refl; faults = refl }, none-came (g.S.Source.moment c.args.input.now).left))
           (subst (λ (one : Option Tool).
           EndsEarly one (told request.tool (Memory Before)) was holds c.refuse_words.result)
