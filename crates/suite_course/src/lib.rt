@@ -16,3 +16,4 @@ mod supplies;
 pub use ending::refuse_words;
 pub use laws::{answers_keep_promises, tools_have_deeds};
 pub use running::run_request;
+pub use supplies::Lack;

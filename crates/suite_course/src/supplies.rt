@@ -28,7 +28,7 @@ pub(crate) struct Supplied {
 
 /// What a command lacks that doesn't run.
 #[derive(Drop)]
-pub(crate) enum Lack {
+pub enum Lack {
     /// It has no input or no day, for this cause.
     Supply(Cause),
     /// This line of a batch asks for nothing.
