@@ -85,13 +85,23 @@ pub(crate) fn told(
     command: &[u8],
     streams: &mut Streams,
 ) -> Result<Bytes, AllocError> {
-    let outcome = run(alloc, folder, command, streams)?;
+    let status = status_of(alloc, folder, command, streams)?;
     let mut told = Bytes::new(alloc);
-    push_decimal(&mut told, u64::from(outcome.status))?;
+    push_decimal(&mut told, u64::from(status))?;
     told.push(b" ")?;
     told.push(streams.out.held().as_slice())?;
     told.push(streams.err.held().as_slice())?;
     Ok(told)
+}
+
+// The status of a command on these streams.
+fn status_of(
+    alloc: Global,
+    folder: &mut MemoryFolder,
+    command: &[u8],
+    streams: &mut Streams,
+) -> Result<u8, AllocError> {
+    Ok(run(alloc, folder, command, streams)?.status)
 }
 
 /// What stands at the name, and empty where nothing does.
