@@ -37,19 +37,19 @@ fn lists(alloc: Global) -> Result<Vec<Vec<Step>>, AllocError> {
 }
 
 // The folder with the sessions of two commands.
-fn staged(alloc: Global) -> Result<StagedFolder<Suite>, Fail> {
+fn staged(alloc: Global, folder: MemoryFolder) -> Result<StagedFolder<Suite>, Fail> {
     let commands = [
         Asked::of(alloc, b"groupadd -P R staff", b"")?,
         Asked::of(alloc, b"groupadd -P R wheel", b"")?,
     ];
     let sessions = sessions_of(alloc, &commands)?;
-    Ok(StagedFolder::new(held(alloc)?, sessions, lists(alloc)?))
+    Ok(StagedFolder::new(folder, sessions, lists(alloc)?))
 }
 
 #[test]
 fn a_command_between_others_is_outrun(rt: HostRuntime) -> Result<(), Fail> {
     let alloc = rt.alloc();
-    let mut folder = staged(alloc)?;
+    let mut folder = staged(alloc, held(alloc)?)?;
     let mut streams = Streams::new(alloc, b"", None)?;
     run(alloc, &mut folder, b"groupadd -P R q", &mut streams)?;
     let told = b"groupadd: lock 5 was outrun by 6\n".as_slice();
