@@ -10,13 +10,14 @@ ghost use Rattle.tool_answers.specs.Refusing.{RefusesBy};
 ghost use Rattle.table_edits.specs.Acting.{ActsBy, IsReportOf};
 ghost use Rattle.table_edits.specs.SeenScript.{seen_script};
 ghost use Rattle.table_lookups.specs.Stopping.{StopsBy};
+ghost use Rattle.line_edits.specs.ShadowChanges.{given_days};
 ghost use Rattle.aging_commands.specs.AgingFields.{SetsAging};
 
 use crate::listing::aging_report;
 use account_model::Refusal;
 use acct_text::{Bytes, Names};
 use command_values::{Asked, Form, ToolFault, read_date, read_days};
-use line_edits::{ShadowAct, ShadowFields};
+use line_edits::{DaysChange, ShadowAct, ShadowFields};
 use std::alloc::{AllocError, Global};
 use table_edits::{Report, Script, hash_alone};
 use table_lookups::Tables;
@@ -100,17 +101,23 @@ fn aging_fields(asked: &Asked) -> ShadowFields
 }
 
 /// The day that the option gives; `-1` empties the field.
-fn date(asked: &Asked, letter: u8) -> Option<Option<u32>>
-    ensures { result ≡ option_and_then date_value (value_of (letter ∷ []) asked.now) }
+fn date(asked: &Asked, letter: u8) -> DaysChange
+    ensures { given_days result ≡ option_and_then date_value (value_of (letter ∷ []) asked.now) }
 {
-    read_date(asked.value(letter)?)
+    match asked.value(letter) {
+        Some(text) => DaysChange::of_value(read_date(text)),
+        None => DaysChange::Stays,
+    }
 }
 
 /// The number of days that the option gives; `-1` empties the field.
-fn days(asked: &Asked, letter: u8) -> Option<Option<u32>>
-    ensures { result ≡ option_and_then days_value (value_of (letter ∷ []) asked.now) }
+fn days(asked: &Asked, letter: u8) -> DaysChange
+    ensures { given_days result ≡ option_and_then days_value (value_of (letter ∷ []) asked.now) }
 {
-    read_days(asked.value(letter)?)
+    match asked.value(letter) {
+        Some(text) => DaysChange::of_value(read_days(text)),
+        None => DaysChange::Stays,
+    }
 }
 
 /// What is printed of the user; one that shadow lacks has no aging.

@@ -1,25 +1,33 @@
 -- What the changes of users make of a record of shadow (shadow(5)).
-use Rattle.std.specs.Prelude.{Bool, true, List, [], ◌∷◌, Some, is_none, unwrap_or, if◌then◌else◌}
+use Rattle.std.specs.Prelude.{ℕ, Bool, true, List, [], ◌∷◌, Option, None, Some, is_none, unwrap_or, if◌then◌else◌}
 use Rattle.account_formats.specs.declared.records.ShadowRecord.{ShadowRecord}
 use Rattle.account_formats.specs.Format.{is_named}
 use Rattle.account_formats.specs.Records.{shadow_format}
 use Rattle.line_edits.specs.HashChanges.{hash_by}
+use Rattle.line_edits.specs.declared.shadow_changes.DaysChange.{DaysChange}
+use Rattle.line_edits.specs.declared.shadow_changes.DaysChange.TheVariants.{Stays, Empties, Becomes}
 use Rattle.line_edits.specs.declared.shadow_changes.ShadowFields.{ShadowFields}
 use Rattle.line_edits.specs.declared.shadow_changes.ShadowAct.{ShadowAct}
 use Rattle.line_edits.specs.declared.shadow_changes.ShadowAct.TheVariants.{SetHash, SetLastChange, ChangeHash, SetFields}
 use Rattle.line_edits.specs.declared.shadow_changes.ShadowChange.{ShadowChange}
 use Rattle.line_edits.specs.declared.shadow_changes.ShadowChange.TheVariants.{Named, Remove}
 
+-- the value that a field of days is given, if it is given one; no number empties the field
+abbrev pub given_days : DaysChange → Option (Option ℕ)
+given_days Stays = None
+given_days Empties = Some None
+given_days (Becomes days) = Some (Some days)
+
 -- the record with the fields that are given (usermod(8), `-e`, `-f` and `-l`; chage(1))
 abbrev pub with_shadow_fields : ShadowFields → ShadowRecord → ShadowRecord
 with_shadow_fields fields r = record r {
   name = unwrap_or fields.name r.name;
-  last_change = unwrap_or fields.last_change r.last_change;
-  minimum = unwrap_or fields.minimum r.minimum;
-  maximum = unwrap_or fields.maximum r.maximum;
-  warning = unwrap_or fields.warning r.warning;
-  inactive = unwrap_or fields.inactive r.inactive;
-  expiration = unwrap_or fields.expiration r.expiration;
+  last_change = unwrap_or (given_days fields.last_change) r.last_change;
+  minimum = unwrap_or (given_days fields.minimum) r.minimum;
+  maximum = unwrap_or (given_days fields.maximum) r.maximum;
+  warning = unwrap_or (given_days fields.warning) r.warning;
+  inactive = unwrap_or (given_days fields.inactive) r.inactive;
+  expiration = unwrap_or (given_days fields.expiration) r.expiration;
 }
 
 -- the record after an act

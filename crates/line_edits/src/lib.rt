@@ -37,5 +37,5 @@ pub use memberships::{Membership, UserGroups};
 pub use multiple::first_multiple;
 pub use name_set::NameSet;
 pub use passwd_changes::{PasswdAct, PasswdChange, UserFields};
-pub use shadow_changes::{ShadowAct, ShadowChange, ShadowFields};
+pub use shadow_changes::{DaysChange, ShadowAct, ShadowChange, ShadowFields};
 pub use subid_changes::{RangeCut, SubidChange};

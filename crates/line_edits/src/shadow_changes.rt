@@ -1,6 +1,6 @@
 // What the tools do with records of shadow (shadow(5)).
-ghost use Rattle.std.specs.Prelude.{◌≡◌, None, IfOk};
-ghost use Rattle.line_edits.specs.ShadowChanges.{keeps_shadow_name, shadow_after, with_shadow_fields};
+ghost use Rattle.std.specs.Prelude.{◌≡◌, None, IfOk, unwrap_or};
+ghost use Rattle.line_edits.specs.ShadowChanges.{given_days, keeps_shadow_name, shadow_after, with_shadow_fields};
 
 use crate::fields::{copy_or, has_other_name};
 use crate::{Becoming, EditedRecord, HashChange};
@@ -21,24 +21,58 @@ pub enum ShadowAct {
     SetFields(ShadowFields),
 }
 
-/// Fields of a record of shadow that a tool sets. One that is none stays as it is. Of the days and
-/// numbers of days, `Some(None)` empties the field.
+/// What becomes of a field of shadow that holds a day or a number of days, or is empty.
+#[derive(Clone, Copy)]
+pub enum DaysChange {
+    /// It stays as it is.
+    Stays,
+    /// It becomes empty.
+    Empties,
+    /// It becomes this day, counted from 1970-01-01, or this number of days.
+    Becomes(u32),
+}
+
+impl DaysChange {
+    /// The change that a value asks for: none asks for nothing, and no number for an empty field.
+    pub fn of_value(value: Option<Option<u32>>) -> Self
+        ensures { given_days result ≡ value }
+    {
+        match value {
+            Some(Some(days)) => DaysChange::Becomes(days),
+            Some(None) => DaysChange::Empties,
+            None => DaysChange::Stays,
+        }
+    }
+
+    /// What the field holds after the change.
+    fn after(self, old: Option<u32>) -> Option<u32>
+        ensures { result ≡ unwrap_or (given_days self) old }
+    {
+        match self {
+            DaysChange::Stays => old,
+            DaysChange::Empties => None,
+            DaysChange::Becomes(days) => Some(days),
+        }
+    }
+}
+
+/// Fields of a record of shadow that a tool sets. A name that is none stays as it is.
 #[derive(Drop)]
 pub struct ShadowFields {
     /// The name of the user.
     pub name: Option<Bytes>,
     /// The day of the last change of the password, counted from 1970-01-01.
-    pub last_change: Option<Option<u32>>,
+    pub last_change: DaysChange,
     /// The days that have to pass before the password may be changed again.
-    pub minimum: Option<Option<u32>>,
+    pub minimum: DaysChange,
     /// The days after which the password has to be changed.
-    pub maximum: Option<Option<u32>>,
+    pub maximum: DaysChange,
     /// The days before that end on which the user is warned.
-    pub warning: Option<Option<u32>>,
+    pub warning: DaysChange,
     /// The days after that end on which the password is still taken.
-    pub inactive: Option<Option<u32>>,
+    pub inactive: DaysChange,
     /// The day on which the account expires, counted from 1970-01-01.
-    pub expiration: Option<Option<u32>>,
+    pub expiration: DaysChange,
 }
 
 impl ShadowFields {
@@ -46,22 +80,22 @@ impl ShadowFields {
     pub fn none() -> Self
         ensures { result ≡ record {
           name = None;
-          last_change = None;
-          minimum = None;
-          maximum = None;
-          warning = None;
-          inactive = None;
-          expiration = None;
+          last_change = DaysChange.Stays;
+          minimum = DaysChange.Stays;
+          maximum = DaysChange.Stays;
+          warning = DaysChange.Stays;
+          inactive = DaysChange.Stays;
+          expiration = DaysChange.Stays;
         } }
     {
         ShadowFields {
             name: None,
-            last_change: None,
-            minimum: None,
-            maximum: None,
-            warning: None,
-            inactive: None,
-            expiration: None,
+            last_change: DaysChange::Stays,
+            minimum: DaysChange::Stays,
+            maximum: DaysChange::Stays,
+            warning: DaysChange::Stays,
+            inactive: DaysChange::Stays,
+            expiration: DaysChange::Stays,
         }
     }
 }
@@ -162,12 +196,12 @@ fn with_fields(old: &ShadowRecord, fields: &ShadowFields) -> Result<ShadowRecord
     Ok(ShadowRecord {
         name: copy_or(&fields.name, &old.name)?,
         hash: old.hash.copy()?,
-        last_change: fields.last_change.unwrap_or(old.last_change),
-        minimum: fields.minimum.unwrap_or(old.minimum),
-        maximum: fields.maximum.unwrap_or(old.maximum),
-        warning: fields.warning.unwrap_or(old.warning),
-        inactive: fields.inactive.unwrap_or(old.inactive),
-        expiration: fields.expiration.unwrap_or(old.expiration),
+        last_change: fields.last_change.after(old.last_change),
+        minimum: fields.minimum.after(old.minimum),
+        maximum: fields.maximum.after(old.maximum),
+        warning: fields.warning.after(old.warning),
+        inactive: fields.inactive.after(old.inactive),
+        expiration: fields.expiration.after(old.expiration),
         rest: old.rest.copy()?,
     })
 }

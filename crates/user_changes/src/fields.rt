@@ -8,14 +8,15 @@ ghost use Rattle.account_words.specs.Request.{operand, value_of};
 ghost use Rattle.account_formats.specs.Tables.{no_edits};
 ghost use Rattle.account_model.specs.Usermod.{changed_shadow, changed_user};
 ghost use Rattle.account_words.specs.Values.{days_value, expiration_value};
+ghost use Rattle.line_edits.specs.ShadowChanges.{given_days};
 ghost use Rattle.table_edits.specs.Additions.{HasAlso};
-ghost use Rattle.user_changes.specs.Fields.{day_of_change, shadow_fields, user_fields};
+ghost use Rattle.user_changes.specs.Fields.{day_of_change, user_fields, SetsShadow};
 
 use crate::changes::new_name;
 use acct_text::Bytes;
 use command_values::{Asked, read_days, read_expiration};
 use given_groups::given_group;
-use line_edits::{PasswdAct, ShadowAct, ShadowFields, UserFields};
+use line_edits::{DaysChange, PasswdAct, ShadowAct, ShadowFields, UserFields};
 use std::alloc::{AllocError, Global};
 use table_edits::Script;
 use table_lookups::Tables;
@@ -72,16 +73,14 @@ fn user_fields(alloc: Global, asked: &Asked, tables: &Tables) -> Result<UserFiel
 
 // The fields of shadow that the options give.
 fn shadow_fields(alloc: Global, asked: &Asked, day: u32) -> Result<ShadowFields, AllocError>
-    ensures { IfOk result (λ fields. fields ≡ shadow_fields asked.now day) }
+    ensures { IfOk result (SetsShadow asked.now day) }
 {
     Ok(ShadowFields {
         name: Some(Bytes::of(alloc, new_name(asked))?),
         last_change: day_of_change(asked, day),
-        minimum: None,
-        maximum: None,
-        warning: None,
         inactive: inactive_days(asked),
         expiration: expiration_day(asked),
+        ..ShadowFields::none()
     })
 }
 
@@ -96,26 +95,32 @@ fn text_of(alloc: Global, asked: &Asked, letter: u8) -> Result<Option<Bytes>, Al
 }
 
 // The day of the last change, which a new password sets.
-fn day_of_change(asked: &Asked, day: u32) -> Option<Option<u32>>
+fn day_of_change(asked: &Asked, day: u32) -> DaysChange
     ensures { result ≡ day_of_change asked.now day }
 {
     if asked.has(b'p') {
-        Some(Some(day))
+        DaysChange::Becomes(day)
     } else {
-        None
+        DaysChange::Stays
     }
 }
 
-// The days of `-f`; `Some(None)` empties the field.
-fn inactive_days(asked: &Asked) -> Option<Option<u32>>
-    ensures { result ≡ option_and_then days_value (value_of (codes "f") asked.now) }
+// The days of `-f`; `-1` empties the field.
+fn inactive_days(asked: &Asked) -> DaysChange
+    ensures { given_days result ≡ option_and_then days_value (value_of (codes "f") asked.now) }
 {
-    read_days(asked.value(b'f')?)
+    match asked.value(b'f') {
+        Some(text) => DaysChange::of_value(read_days(text)),
+        None => DaysChange::Stays,
+    }
 }
 
-// The day of `-e`; `Some(None)` empties the field.
-fn expiration_day(asked: &Asked) -> Option<Option<u32>>
-    ensures { result ≡ option_and_then expiration_value (value_of (codes "e") asked.now) }
+// The day of `-e`; no text and `-1` empty the field.
+fn expiration_day(asked: &Asked) -> DaysChange
+    ensures { given_days result ≡ option_and_then expiration_value (value_of (codes "e") asked.now) }
 {
-    read_expiration(asked.value(b'e')?)
+    match asked.value(b'e') {
+        Some(text) => DaysChange::of_value(read_expiration(text)),
+        None => DaysChange::Stays,
+    }
 }
