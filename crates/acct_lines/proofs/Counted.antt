@@ -1,6 +1,6 @@
--- Claim: a text has one piece more than separators (`pieces-counted`), so that a line's fields are
--- counted before they are cut. Way: both numbers are counts of the separators in the text.
-use Rattle.std.proofs.Common.{◌≡◌, ℕ, ◌+◌, List, length, ap, sym, ◌∙◌}
+-- Claim: a text has one piece more than separators (`pieces-counted`), so at least one
+-- (`some-piece`). Way: both numbers are counts of the separators in the text.
+use Rattle.std.proofs.Common.{◌≡◌, ◌≢◌, ℕ, ◌+◌, List, [], length, ap, sym, ◌∙◌, arith}
 use Rattle.std.proofs.lemmas.List.Splits.{length-slice_split}
 use Rattle.memchr.specs.Find.{is_byte, places}
 use Rattle.memchr.proofs.lemmas.CallerLemmas.{length-places}
@@ -15,3 +15,10 @@ pub pieces-counted :
 pieces-counted separator text count found counted listed =
     ap (λ n. n + 1) (counted ∙ ap length listed ∙ length-places (is_byte separator) text)
     ∙ sym (length-slice_split (is_byte separator) text)
+
+-- at least one piece
+pub some-piece : (separator : ℕ) (text : List ℕ) → cut_at separator text ≢ []
+some-piece separator text none =
+    let counted = length-slice_split (is_byte separator) text in
+    let empty = ap length none in
+    absurd (omega (arith, counted, empty))

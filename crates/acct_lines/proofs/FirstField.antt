@@ -1,6 +1,6 @@
 -- Claim: a line begins with its first field (`begins-first`), so one that begins otherwise has
 -- another (`other-first`). Way: the fields, with a colon between each two, give the line.
-use Rattle.std.proofs.Common.{◌≡◌, ◌∙◌, ℕ, ◌<◌, true, false, List, [], ◌∷◌, ◌++◌, length, refl, sym, ap, lt_irrefl, append-nil}
+use Rattle.std.proofs.Common.{◌≡◌, ◌∙◌, ℕ, ◌<◌, false, List, [], ◌∷◌, ◌++◌, length, refl, sym, ap, lt_irrefl, append-nil}
 use Rattle.std.specs.Prelude.{◌==◌, bytes_eq}
 use Rattle.std.specs.List.{join_with_byte, starts_with}
 use Rattle.std.proofs.lemmas.Bool.{false_from_ne_true, true≢false}

@@ -1,117 +1,176 @@
--- Claim: fields that were taken one by one, as many as there are, are all fields of the line
--- (`are-taken`; `three-taken` and its likes for the tables' numbers of fields). Way: what is left
--- behind as many as there are is empty.
-use Rattle.std.proofs.Common.{◌≡◌, ℕ, List, [], ◌∷◌, length, refl, sym, ◌∙◌, ap, arith}
-use Rattle.acct_lines.specs.Fields.{AreFields}
+-- Claim: fields that were taken one by one until none is left are all fields of the line, and where
+-- others are left, or more were to be taken, the line has another number of fields (`all` and
+-- `other` of `three-taken` and its likes for the tables' numbers of fields). Way: field by field,
+-- what is left before follows from what is left then (`none-left`), and the other way round
+-- (`all-taken`).
+use Rattle.std.proofs.Common.{◌≡◌, ◌≢◌, ◌==◌, ℕ, false, List, [], ◌∷◌, length, Option, Some, refl, sym, subst, ◌∙◌, arith}
+use Rattle.std.proofs.lemmas.Bool.{ne_eqb}
+use Rattle.acct_text.specs.Bytes.{colon}
+use Rattle.acct_text.specs.Pieces.{fields_of}
+use Rattle.acct_lines.specs.declared.fields.Fields.{Fields}
+use Rattle.acct_lines.specs.declared.fields.Fields.TheVariants.{Left, Taken, Missing}
+use Rattle.acct_lines.specs.Fields.{AreFields, IsTaken, fields_left}
+use Rattle.acct_lines.proofs.Counted.{some-piece}
 
--- these were taken from the list, one by one
-abbrev AreTakenFrom : List (List ℕ) → List (List ℕ) → Type 0
-AreTakenFrom fields [] = Unit {0}
-AreTakenFrom fields (field ∷ taken) =
-    (rest : List (List ℕ)) × ((fields ≡ field ∷ rest) × AreTakenFrom rest taken)
+-- what is left of the fields
+abbrev FieldsLeft : Type 0
+FieldsLeft = Option (List (List ℕ))
 
--- as many as there were are all
+-- these were taken, one by one
+abbrev AreTaken : FieldsLeft → List (List ℕ) → FieldsLeft → Type 0
+AreTaken before [] left = before ≡ left
+AreTaken before (field ∷ taken) left =
+    (between : FieldsLeft) × (IsTaken before field between × AreTaken between taken left)
+
+-- where none is left, they were all that were left before
+none-left :
+    (before : FieldsLeft) (taken : List (List ℕ))
+    → AreTaken before taken (Some [])
+    → before ≡ Some taken
+none-left before [] same = same
+none-left before (field ∷ taken) from =
+    from.1.0.first taken (none-left from.0 taken from.1.1)
+
+-- where as many were taken as there were, none is left
 all-taken :
-    (fields taken : List (List ℕ))
-    → AreTakenFrom fields taken
+    (before left : FieldsLeft) (fields taken : List (List ℕ))
+    → before ≡ Some fields
+    → AreTaken before taken left
     → length fields ≡ length taken
-    → taken ≡ fields
-all-taken [] [] none counted = refl
-all-taken (field ∷ fields) [] none counted = absurd (omega arith)
-all-taken fields (field ∷ taken) from counted =
-    let fewer : length from.0 ≡ length taken =
-    omega (arith, counted, ap length from.1.0)
-    in ap (λ left. field ∷ left) (all-taken from.0 taken from.1.1 fewer) ∙ sym from.1.0
+    → left ≡ Some []
+all-taken before left [] [] is same counted = sym same ∙ is
+all-taken before left [] (field ∷ taken) is from counted = absurd (omega (arith, counted))
+all-taken before left (next ∷ fields) [] is same counted = absurd (omega (arith, counted))
+all-taken before left (next ∷ fields) (field ∷ taken) is from counted =
+    let others = from.1.0.others next fields is in
+    all-taken from.0 left fields taken others from.1.1 (omega (arith, counted))
 
--- so they are the fields of the line
+-- no field is left only where all are taken: a part of a line has a field at least
+pub none-left-taken : (fields : Fields) → fields_left fields ≡ Some [] → fields ≡ Taken
+none-left-taken (Left rest) none =
+    let empty : fields_of rest.now ≡ [] = cc in
+    absurd (some-piece colon rest.now empty)
+none-left-taken Taken none = refl
+none-left-taken Missing none = absurd cc
+
+-- what fields that were taken tell of the line, by what is left
+pub record AreTakenOf (count : ℕ) (line : List ℕ) (fields : List (List ℕ)) (left : FieldsLeft)
+    : Type 0 where
+  -- where none is left, they are its fields
+  pub all : left ≡ Some [] → AreFields count line fields
+  -- else it has another number of them
+  pub other : left ≢ Some [] → (length (fields_of line) == count) ≡ false
+
+-- so they do
 are-taken :
-    (count : ℕ) (line : List ℕ) (fields taken : List (List ℕ))
-    → AreFields count line fields
-    → length taken ≡ count
-    → AreTakenFrom fields taken
-    → AreFields count line taken
-are-taken count line fields taken are counted from = record {
-  cut = all-taken fields taken from (are.counted ∙ sym counted) ∙ are.cut;
-  counted = counted;
+    (line : List ℕ) (fields : List (List ℕ)) (left : FieldsLeft)
+    → AreTaken (Some (fields_of line)) fields left
+    → AreTakenOf (length fields) line fields left
+are-taken line fields left from = record {
+  all = λ none. record {
+    cut =
+        let same : Some (fields_of line) ≡ Some fields =
+        none-left _ fields (subst (AreTaken (Some (fields_of line)) fields) none from)
+        in cc;
+    counted = refl;
+  };
+  other = λ some. ne_eqb _ _
+      (λ counted. some (all-taken _ left (fields_of line) fields refl from counted));
 }
 
 -- three fields
 pub three-taken :
-    {line a b c : List ℕ} {fields r1 r2 r3 : List (List ℕ)}
-    → AreFields 3 line fields
-    → fields ≡ a ∷ r1
-    → r1 ≡ b ∷ r2
-    → r2 ≡ c ∷ r3
-    → AreFields 3 line (a ∷ b ∷ c ∷ [])
-three-taken {a = a} {b = b} {c = c} are e1 e2 e3 =
-    are-taken 3 _ _ (a ∷ b ∷ c ∷ []) are refl (_, (e1, (_, (e2, (_, (e3, tt))))))
+    (line : List ℕ) {a b c : List ℕ} {r1 r2 r3 : FieldsLeft}
+    → IsTaken (Some (fields_of line)) a r1
+    → IsTaken r1 b r2
+    → IsTaken r2 c r3
+    → AreTakenOf 3 line (a ∷ b ∷ c ∷ []) r3
+three-taken line {a = a} {b = b} {c = c} t1 t2 t3 =
+    are-taken line (a ∷ b ∷ c ∷ []) _ (_, (t1, (_, (t2, (_, (t3, refl))))))
 
 -- four fields
 pub four-taken :
-    {line a b c d : List ℕ} {fields r1 r2 r3 r4 : List (List ℕ)}
-    → AreFields 4 line fields
-    → fields ≡ a ∷ r1
-    → r1 ≡ b ∷ r2
-    → r2 ≡ c ∷ r3
-    → r3 ≡ d ∷ r4
-    → AreFields 4 line (a ∷ b ∷ c ∷ d ∷ [])
-four-taken {a = a} {b = b} {c = c} {d = d} are e1 e2 e3 e4 =
-    are-taken 4 _ _ (a ∷ b ∷ c ∷ d ∷ []) are refl (_, (e1, (_, (e2, (_, (e3, (_, (e4, tt))))))))
+    (line : List ℕ) {a b c d : List ℕ} {r1 r2 r3 r4 : FieldsLeft}
+    → IsTaken (Some (fields_of line)) a r1
+    → IsTaken r1 b r2
+    → IsTaken r2 c r3
+    → IsTaken r3 d r4
+    → AreTakenOf 4 line (a ∷ b ∷ c ∷ d ∷ []) r4
+four-taken line {a = a} {b = b} {c = c} {d = d} t1 t2 t3 t4 =
+    are-taken line (a ∷ b ∷ c ∷ d ∷ []) _ (_, (t1, (_, (t2, (_, (t3, (_, (t4, refl))))))))
 
 -- seven fields
 pub seven-taken :
-    {line a b c d e f g : List ℕ} {fields r1 r2 r3 r4 r5 r6 r7 : List (List ℕ)}
-    → AreFields 7 line fields
-    → fields ≡ a ∷ r1
-    → r1 ≡ b ∷ r2
-    → r2 ≡ c ∷ r3
-    → r3 ≡ d ∷ r4
-    → r4 ≡ e ∷ r5
-    → r5 ≡ f ∷ r6
-    → r6 ≡ g ∷ r7
-    → AreFields 7 line (a ∷ b ∷ c ∷ d ∷ e ∷ f ∷ g ∷ [])
-seven-taken {a = a} {b = b} {c = c} {d = d} {e = e} {f = f} {g = g} are
-    e1 e2 e3 e4 e5 e6 e7 =
-    are-taken 7 _ _ (a ∷ b ∷ c ∷ d ∷ e ∷ f ∷ g ∷ []) are refl
-    (_, (e1, (_, (e2, (_, (e3, (_, (e4, (_, (e5, (_, (e6, (_, (e7, tt))))))))))))))
+    (line : List ℕ) {a b c d e f g : List ℕ} {r1 r2 r3 r4 r5 r6 r7 : FieldsLeft}
+    → IsTaken (Some (fields_of line)) a r1
+    → IsTaken r1 b r2
+    → IsTaken r2 c r3
+    → IsTaken r3 d r4
+    → IsTaken r4 e r5
+    → IsTaken r5 f r6
+    → IsTaken r6 g r7
+    → AreTakenOf 7 line (a ∷ b ∷ c ∷ d ∷ e ∷ f ∷ g ∷ []) r7
+seven-taken line {a = a} {b = b} {c = c} {d = d} {e = e} {f = f} {g = g} t1 t2 t3 t4 t5 t6 t7 =
+    are-taken line (a ∷ b ∷ c ∷ d ∷ e ∷ f ∷ g ∷ []) _
+    (_, (t1, (_, (t2, (_, (t3, (_, (t4, (_, (t5, (_, (t6, (_, (t7, refl))))))))))))))
 
 -- nine fields
 pub nine-taken :
-    {line a b c d e f g h i : List ℕ} {fields r1 r2 r3 r4 r5 r6 r7 r8 r9 : List (List ℕ)}
-    → AreFields 9 line fields
-    → fields ≡ a ∷ r1
-    → r1 ≡ b ∷ r2
-    → r2 ≡ c ∷ r3
-    → r3 ≡ d ∷ r4
-    → r4 ≡ e ∷ r5
-    → r5 ≡ f ∷ r6
-    → r6 ≡ g ∷ r7
-    → r7 ≡ h ∷ r8
-    → r8 ≡ i ∷ r9
-    → AreFields 9 line (a ∷ b ∷ c ∷ d ∷ e ∷ f ∷ g ∷ h ∷ i ∷ [])
-nine-taken {a = a} {b = b} {c = c} {d = d} {e = e} {f = f} {g = g} {h = h} {i = i} are
-    e1 e2 e3 e4 e5 e6 e7 e8 e9 =
-    are-taken 9 _ _ (a ∷ b ∷ c ∷ d ∷ e ∷ f ∷ g ∷ h ∷ i ∷ []) are refl (
+    (line : List ℕ) {a b c d e f g h i : List ℕ} {r1 r2 r3 r4 r5 r6 r7 r8 r9 : FieldsLeft}
+    → IsTaken (Some (fields_of line)) a r1
+    → IsTaken r1 b r2
+    → IsTaken r2 c r3
+    → IsTaken r3 d r4
+    → IsTaken r4 e r5
+    → IsTaken r5 f r6
+    → IsTaken r6 g r7
+    → IsTaken r7 h r8
+    → IsTaken r8 i r9
+    → AreTakenOf 9 line (a ∷ b ∷ c ∷ d ∷ e ∷ f ∷ g ∷ h ∷ i ∷ []) r9
+nine-taken line {a = a} {b = b} {c = c} {d = d} {e = e} {f = f} {g = g} {h = h} {i = i}
+    t1 t2 t3 t4 t5 t6 t7 t8 t9 =
+    are-taken line (a ∷ b ∷ c ∷ d ∷ e ∷ f ∷ g ∷ h ∷ i ∷ []) _ (
       _,
       (
-        e1,
+        t1,
         (
           _,
           (
-            e2,
+            t2,
             (
               _,
               (
-                e3,
+                t3,
                 (
                   _,
                   (
-                    e4,
+                    t4,
                     (
                       _,
                       (
-                        e5,
-                        (_, (e6, (_, (e7, (_, (e8, (_, (e9, tt)))))))),
+                        t5,
+                        (
+                          _,
+                          (
+                            t6,
+                            (
+                              _,
+                              (
+                                t7,
+                                (
+                                  _,
+                                  (
+                                    t8,
+                                    (
+                                      _,
+                                      (t9, refl),
+                                    ),
+                                  ),
+                                ),
+                              ),
+                            ),
+                          ),
+                        ),
                       ),
                     ),
                   ),

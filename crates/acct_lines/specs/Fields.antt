@@ -1,25 +1,37 @@
 -- The fields of a line as they are read: so many as the table has, and the first with a name.
-use Rattle.std.specs.Prelude.{◌≡◌, ◌≢◌, ℕ, true, false, List, [], length, Option, None, Some}
+use Rattle.std.specs.Prelude.{◌≡◌, ◌≢◌, ℕ, true, false, List, [], ◌∷◌, length, Option, None, Some}
 use Rattle.account_formats.specs.declared.fault.LineFault.{LineFault}
 use Rattle.account_formats.specs.declared.fault.LineFault.TheVariants.{FieldCount, EmptyName}
 use Rattle.acct_text.specs.Bytes.{is_empty}
 use Rattle.acct_text.specs.Pieces.{fields_of}
-use denote.Ref.{Bor}
+use Rattle.acct_lines.specs.declared.fields.Fields.{Fields}
+use Rattle.acct_lines.specs.declared.fields.Fields.TheVariants.{Left, Taken, Missing}
 
--- the fields of the part of a line that is left; behind the last one there is none
-abbrev pub fields_left : Option (Bor (List ℕ)) → List (List ℕ)
-fields_left None = []
-fields_left (Some rest) = fields_of rest.now
+-- the fields that are left to be taken; none where more were to be taken than the line has
+abbrev pub fields_left : Fields → Option (List (List ℕ))
+fields_left (Left rest) = Some (fields_of rest.now)
+fields_left Taken = Some []
+fields_left Missing = None
+
+-- the field was taken from those that were left before, and these are left then
+pub record IsTaken (before : Option (List (List ℕ))) (field : List ℕ)
+    (left : Option (List (List ℕ))) : Type 0 where
+  -- it stood in front of those that are left
+  pub first : (rest : List (List ℕ)) → left ≡ Some rest → before ≡ Some (field ∷ rest)
+  -- all but the first are left
+  pub others :
+      (next : List ℕ) (rest : List (List ℕ)) → before ≡ Some (next ∷ rest) → left ≡ Some rest
+
+-- the fault of a line that has more fields than were taken, or fewer
+pub record IsOtherCount (line : List ℕ) (left : Option (List (List ℕ))) (fault : LineFault)
+    : Type 0 where
+  pub other : left ≢ Some []
+  pub told : fault ≡ FieldCount (length (fields_of line))
 
 -- the fields of the line, which has this number of them
 pub record AreFields (count : ℕ) (line : List ℕ) (fields : List (List ℕ)) : Type 0 where
   pub cut : fields ≡ fields_of line
   pub counted : length fields ≡ count
-
--- the fault of a line that has another number of fields
-pub record IsMiscount (count : ℕ) (line : List ℕ) (fault : LineFault) : Type 0 where
-  pub other : length (fields_of line) ≢ count
-  pub told : fault ≡ FieldCount (length (fields_of line))
 
 -- the name that a first field is, which isn't empty
 pub record IsNameIn (field name : List ℕ) : Type 0 where

@@ -1,70 +1,71 @@
 // A line cut into its fields where they stand, and what each kind of field holds. Fields are counted
 // from 1.
-ghost use Rattle.std.specs.Prelude.{◌≡◌, ◌<◌, ◌+◌, ◌++◌, [], ◌∷◌, IfOk, MatchResult, OnOk, bytes_eq, length};
+ghost use Rattle.std.specs.Prelude.{◌≡◌, ◌++◌, [], ◌∷◌, Some, IfOk, MatchResult, OnOk, bytes_eq, length};
 ghost use Rattle.std.specs.Option.{ok_or};
 ghost use Rattle.account_formats.specs.Records.{read_count, read_days, read_id, read_names};
 ghost use Rattle.account_formats.specs.Text.{is_listed, nonempty};
 ghost use Rattle.acct_text.specs.Numbers.{number_within};
-ghost use Rattle.acct_lines.specs.Fields.{AreFields, IsMiscount, IsNameIn, IsUnnamed};
+ghost use Rattle.acct_text.specs.Pieces.{fields_of};
+ghost use Rattle.acct_lines.specs.Fields.{IsNameIn, IsOtherCount, IsTaken, IsUnnamed, fields_left};
 ghost use Rattle.account_formats.specs.Naming.{first_field as first_of};
 
 use account_formats::{GREATEST_DAYS, GREATEST_ID, LineFault};
 use acct_text::{Names, cut_once, read_decimal};
 use memchr::memchr_iter;
 use std::alloc::{AllocError, Global};
-use std::marker::Model;
 
-/// The fields of a line that are still to be taken, each a part of the line.
-#[derive(Drop)]
-pub(crate) struct Fields<'a> {
-    // the line behind the last field that was taken, and none behind the last of all
-    rest: Option<&'a [u8]>,
-}
-
-impl<'a> Model for Fields<'a> {
-    ghost use Rattle.std.specs.Prelude.{ℕ, List};
-    ghost use Rattle.acct_text.specs.Pieces.{cut_at};
-    ghost use Rattle.acct_lines.specs.Fields.{fields_left};
-
-    ghost Value = { List (List ℕ) };
-
-    ghost view = { λ f. fields_left f.rest };
+/// How far the fields of a line are taken, each a part of the line.
+#[derive(Clone, Copy, Drop)]
+pub(crate) enum Fields<'a> {
+    /// The part of the line that holds the fields behind those that were taken.
+    Left(&'a [u8]),
+    /// All are taken.
+    Taken,
+    /// One was to be taken where none was left.
+    Missing,
 }
 
 impl<'a> Fields<'a> {
-    /// The fields of a line that has this number of them.
-    ///
-    /// `FieldCount` with their number comes where the line has more or fewer.
-    pub(crate) fn of(line: &'a [u8], count: usize) -> Result<Self, LineFault>
-        ensures { MatchResult result (AreFields count line.now) (IsMiscount count line.now) }
-    {
-        let found = memchr_iter(b':', line).count() + 1;
-        if found != count {
-            return Err(LineFault::FieldCount(found));
-        }
-        Ok(Fields { rest: Some(line) })
-    }
-
-    /// Takes the next field.
+    /// Takes the next field; an empty one where none is left.
     pub(crate) fn take(&mut self) -> &'a [u8]
-        requires { 0 < length self.old }
-        ensures taken { self.old ≡ result.now ∷ self.new }
-        ensures left { length self.old ≡ length self.new + 1 }
+        ensures { IsTaken (fields_left self.old) result.now (fields_left self.new) }
     {
-        let Some(rest) = self.rest else {
+        let Fields::Left(rest) = *self else {
+            *self = Fields::Missing;
             return &[];
         };
         match cut_once(b':', rest) {
             Some(cut) => {
-                self.rest = Some(cut.behind);
+                *self = Fields::Left(cut.behind);
                 cut.before
             }
             None => {
-                self.rest = None;
+                *self = Fields::Taken;
                 rest
             }
         }
     }
+
+    /// Ends the taking of the line's fields.
+    ///
+    /// `FieldCount` with their number comes where more or fewer were taken. They are counted then
+    /// alone.
+    pub(crate) fn end(self, line: &[u8]) -> Result<(), LineFault>
+        ensures { MatchResult result (λ _. fields_left self.entry ≡ Some [])
+            (IsOtherCount line.now (fields_left self.entry)) }
+    {
+        match self {
+            Fields::Taken => Ok(()),
+            _ => Err(LineFault::FieldCount(field_count(line))),
+        }
+    }
+}
+
+// The number of fields of a line.
+fn field_count(line: &[u8]) -> usize
+    ensures { result ≡ length (fields_of line.now) }
+{
+    memchr_iter(b':', line).count() + 1
 }
 
 /// The UID, the GID or the first subordinate ID that the field at a place is.

@@ -45,7 +45,7 @@ impl<'a> GroupLine<'a> {
             (λ shown. group_format.read line.now ≡ Some (group_shown shown))
             (λ first. group_fault line.now ≡ Some first) }
     {
-        Ok(group_fields!(read_fields, line as GroupLine of 4))
+        Ok(group_fields!(read_fields, line as GroupLine))
     }
 
     /// A copy of the record that the line shows.

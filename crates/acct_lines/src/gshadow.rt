@@ -45,7 +45,7 @@ impl<'a> GshadowLine<'a> {
             (λ shown. gshadow_format.read line.now ≡ Some (gshadow_shown shown))
             (λ first. gshadow_fault line.now ≡ Some first) }
     {
-        Ok(gshadow_fields!(read_fields, line as GshadowLine of 4))
+        Ok(gshadow_fields!(read_fields, line as GshadowLine))
     }
 
     /// A copy of the record that the line shows.

@@ -54,7 +54,7 @@ impl<'a> PasswdLine<'a> {
             (λ shown. passwd_format.read line.now ≡ Some (passwd_shown shown))
             (λ first. passwd_fault line.now ≡ Some first) }
     {
-        Ok(passwd_fields!(read_fields, line as PasswdLine of 7))
+        Ok(passwd_fields!(read_fields, line as PasswdLine))
     }
 
     /// A copy of the record that the line shows.

@@ -61,7 +61,7 @@ impl<'a> ShadowLine<'a> {
             (λ shown. shadow_format.read line.now ≡ Some (shadow_shown shown))
             (λ first. shadow_fault line.now ≡ Some first) }
     {
-        Ok(shadow_fields!(read_fields, line as ShadowLine of 9))
+        Ok(shadow_fields!(read_fields, line as ShadowLine))
     }
 
     /// A copy of the record that the line shows.

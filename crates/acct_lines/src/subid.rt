@@ -44,7 +44,7 @@ impl<'a> SubidLine<'a> {
             (λ shown. subid_format.read line.now ≡ Some (subid_shown shown))
             (λ first. subid_fault line.now ≡ Some first) }
     {
-        let range = subid_fields!(read_fields, line as SubidLine of 3);
+        let range = subid_fields!(read_fields, line as SubidLine);
         if is_bad_range(range.first, range.count) {
             return Err(LineFault::BadRange);
         }

@@ -4,14 +4,15 @@
 // what it holds. `text` is any text; `names` is a list with commas between its names; `id`, `count`
 // and `days` are numbers, each with the place of its field, counted from 1.
 
-/// Reads the fields of a line that has so many of them, as the record that the line shows; the
-/// faults come in the order of `LineFault`.
+/// Reads the fields of a line, as many as are named, as the record that the line shows; the faults
+/// come in the order of `LineFault`.
 macro_rules! read_fields {
-    ($line:tt as $shown:ident of $count:literal;
+    ($line:tt as $shown:ident;
         $name:ident, $($field:ident: $kind:ident $(($place:literal))?,)+) => {{
-        let mut fields = Fields::of($line, $count)?;
+        let mut fields = Fields::Left($line);
         let $name = fields.take();
         $(let $field = fields.take();)+
+        fields.end($line)?;
         $($(let $field = fields::$kind($place, $field)?;)?)+
         let $name = fields::name($name)?;
         $shown { $name, $($field,)+ }
