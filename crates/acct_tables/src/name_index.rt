@@ -61,8 +61,11 @@ impl<'a> NameIndex<'a> {
         requires room { place + 1 < 2 ^ 64 }
         ensures { OnOk result (IsNoted name.now place (told self.old) (told self.new)) }
     {
-        let noted = with_last(place, self.get(name));
-        self.names.insert(name, noted)?;
+        // A name is hashed once where this is its first record, as mostly.
+        let Some(found) = self.names.insert(name, with_last(place, None))? else {
+            return Ok(());
+        };
+        self.names.insert(name, with_last(place, Some(found)))?;
         Ok(())
     }
 
@@ -73,6 +76,17 @@ impl<'a> NameIndex<'a> {
         self.names.get(name).copied()
     }
 
+    /// The records of the name, as `get` tells them. Where it is the name that was noted at this turn,
+    /// counted from 0 over the different names, it isn't hashed.
+    pub fn get_near(&self, name: &[u8], turn: usize) -> Option<NamedLines>
+        ensures { result ≡ told self.now name.now }
+    {
+        match self.names.get_index(turn) {
+            Some((noted, lines)) if *noted == name => Some(*lines),
+            _ => self.get(name),
+        }
+    }
+
     /// Whether a record has the name.
     pub fn has(&self, name: &[u8]) -> bool
         ensures { result ≡ is_some (told self.now name.now) }
@@ -80,11 +94,20 @@ impl<'a> NameIndex<'a> {
         self.get(name).is_some()
     }
 
+    /// Whether a record has the name. Where it is the name that was noted at this turn, as in
+    /// `get_near`, it isn't hashed.
+    pub fn has_near(&self, name: &[u8], turn: usize) -> bool
+        ensures { result ≡ is_some (told self.now name.now) }
+    {
+        self.get_near(name, turn).is_some()
+    }
+
     /// Whether a record in front of this place, counted from 0 over all lines, has the name.
     pub fn has_before(&self, name: &[u8], place: usize) -> bool
         ensures { result ≡ begins_before place (told self.now name.now) }
     {
-        match self.get(name) {
+        // In a table of records with different names, each is noted at the turn of its line.
+        match self.get_near(name, place) {
             Some(found) => found.first < place,
             None => false,
         }
