@@ -1,6 +1,6 @@
 -- What a command answers beside the decisions of its tool: the outcome, no output, and one line on
 -- the error stream.
-use Rattle.std.specs.Prelude.{◌≡◌, ⊤, ℕ, List, [], codes}
+use Rattle.std.specs.Prelude.{ℕ, List, []}
 use Rattle.account_words.specs.declared.tool.Tool.{Tool}
 use Rattle.account_words.specs.declared.tool.Tool.TheVariants.{Batch}
 use Rattle.account_words.specs.declared.word_fault.WordFault.{WordFault}
@@ -62,22 +62,3 @@ told_words words fault =
 abbrev pub told_line : FaultyLine → Answer
 told_line faulty = says (BatchSyntax faulty.line.number faulty.fault) (syntax_status Batch)
     (line_fault_message faulty)
-
--- ---- Any answer
-
--- an answer with this cause is the one that the words or the tool have for it; what the tool
--- decides and what a stream that failed leaves is said elsewhere
-abbrev pub SaysCause : List Word → Tool → Answer → Cause → Type 0
-SaysCause words tool answer Changed = ⊤
-SaysCause words tool answer Same = ⊤
-SaysCause words tool answer (Refused refusal) = ⊤
-SaysCause words tool answer (RefusedLine line refusal) = ⊤
-SaysCause words tool answer (OutputFault stage) = ⊤
-SaysCause words tool answer (Syntax fault) = answer ≡ told_words words fault
-SaysCause words tool answer (BatchSyntax line fault) =
-    (faulty : FaultyLine) × (answer ≡ told_line faulty)
-SaysCause words tool answer cause = answer ≡ told tool cause
-
--- the answer of the tool to the words says its own cause
-abbrev pub Says : List Word → Tool → Answer → Type 0
-Says words tool answer = SaysCause words tool answer answer.outcome.cause
