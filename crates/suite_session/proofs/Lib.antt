@@ -22,6 +22,7 @@ mod LoadingTurns
 mod LockingLemmas
 mod LockingTurns
 mod MeetingLemmas
+mod IntentMeeting
 pub mod MetLemmas
 mod NextLemmas
 mod OwnCallLemmas

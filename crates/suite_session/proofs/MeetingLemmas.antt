@@ -1,6 +1,6 @@
 -- Claims: after each call of a session the next state is to tell what the call's answer shows: on the way
--- to the lock and after a read of the intent (`look-on` to `withdraw-ends`, `intent-on`), and after a call
--- that shows nothing (`quiet-on`) or that failed (`fault-ends`).
+-- to the lock (`look-on` to `withdraw-ends`, `confirm-on`), and after a call that shows nothing
+-- (`quiet-on`) or that failed (`fault-ends`). IntentMeeting has that after a read of the intent.
 -- Way: each answer leads on or to the one refusal that it shows.
 use Rattle.std.proofs.Common.{◌≡◌, ◌≢◌, refl, sym, ap, subst, ◌∙◌, ◌+◌, ℕ, List, inl, inr, Option, Some, None, Result, Ok, Err}
 use Rattle.acct_text.specs.Bytes.{Bytes}
@@ -19,16 +19,13 @@ use Rattle.acct_outside.specs.Names.{greatest_lock}
 use Rattle.acct_outside.specs.Tokens.{Token}
 use Rattle.acct_outside.specs.Folder.{greatest}
 use Rattle.acct_outside.specs.Calls.{Call, Answer, Found, lists, reads, asks, creates, removes, found_absent, found_bytes, found_too_large}
-use Rattle.intent_file.specs.Intent.{Intended, ReadsIntent}
-use Rattle.intent_file.specs.Parts.{FirstFault}
-use Rattle.intent_file.proofs.FirstFaultIsOne.{first_fault_is_one_holds}
 use Rattle.suite_rules.specs.OwnLock.{OwnLock, lock_uncalled, lock_made, made_number}
 use Rattle.suite_rules.specs.Listing.{Listing}
 use Rattle.suite_rules.specs.Outcomes.{LeadsTo, at_stage}
 use Rattle.suite_rules.specs.Standing.{Standing}
 use Rattle.lock_steps.specs.LockText.{IsDamaged}
 use Rattle.lock_steps.specs.States.{Lister, Asker, Maker, Overtaken, Kept}
-use Rattle.lock_steps.specs.Stands.{HasListed, HasLooked, HasReadHeld, HasJudged, HasMade, WasOvertaken, Keeps, KnowsAnything}
+use Rattle.lock_steps.specs.Stands.{HasListed, HasLooked, HasReadHeld, HasJudged, HasMade, WasOvertaken}
 use Rattle.lock_steps.specs.declared.LockRefusal.TheVariants.{Held as LockHeld, Gone as LockGone, Raced as LockRaced, Outrun as LockOutrun, Damaged, Exhausted as LocksExhausted}
 use Rattle.lock_steps.specs.declared.LockEnd.{LockEnd}
 use Rattle.lock_steps.specs.declared.LockEnd.TheVariants.{Refused, Folder}
@@ -37,11 +34,6 @@ use Rattle.lock_steps.specs.declared.judging.Told.TheVariants.{Judged, Ask}
 use Rattle.lock_steps.specs.declared.claiming.Confirmed.{Confirmed}
 use Rattle.lock_steps.specs.declared.claiming.Confirmed.TheVariants.{Keeper, Loser}
 use Rattle.lock_steps.specs.Outcomes.{Looks, Reads, Asks, Claims, Confirms, Withdraws, loser_of, LeadsTo as LocksLeadTo}
-use Rattle.recovery.specs.declared.IntentSeen.{IntentSeen}
-use Rattle.recovery.specs.declared.IntentSeen.TheVariants.{Clean, Listed}
-use Rattle.recovery.specs.declared.RecoveryEnd.{RecoveryEnd}
-use Rattle.recovery.specs.declared.RecoveryEnd.TheVariants.{Fault, Damaged as IntentIsDamaged, TooLarge as IntentIsLarge}
-use Rattle.recovery.specs.Outcomes.{FindsIntent}
 use Rattle.commit_steps.specs.States.{next_name}
 use Rattle.account_words.specs.declared.tool.Tool.{Tool}
 use Rattle.suite_answers.specs.declared.cause.Which.TheVariants.{File}
@@ -52,7 +44,6 @@ use Rattle.suite_session.specs.declared.state.State.{State}
 use Rattle.suite_session.specs.declared.state.State.TheVariants.{Withdrawing, ReadingIntent, Unlocking, Answering}
 use Rattle.suite_session.specs.Causes.{HasListedNone}
 use Rattle.suite_session.specs.Locking.{after_listing, cause_of_end, cause_of_fault}
-use Rattle.suite_session.specs.Recovering.{Refuses}
 use Rattle.suite_session.specs.Stands.{AnswersWith, LeavesWith, FindsNoMemory, IsMemory}
 use Rattle.suite_session.specs.Telling.{IsLater, IsToTell, MayFollow}
 use Rattle.suite_session.proofs.CauseLemmas.{told-cause, given-cause}
@@ -137,7 +128,8 @@ fault-ends tool stage fault state told call answer Stood is =
 
 -- no answer of the call shows anything
 abbrev pub IsQuiet : Call → Type 0
-IsQuiet call = (given : Answer call) (stood : Standing) (met : Cause) → Shows call given stood met → ⊥
+IsQuiet call =
+    (given : Answer call) (stood : Standing) (met : Cause) → Shows call given stood met → ⊥
 
 -- after such a call that was done, nothing new is to be told
 pub quiet-on : (call : Call) → IsQuiet call → (answer : Result (Answer call) FolderFault)
@@ -159,6 +151,7 @@ pub leads-done : {A State : Type 0} (next : State) (staged : FolderFault → Sta
 leads-done next staged (Ok answer) state shown = (answer, refl)
 leads-done next staged (Err fault) state shown = absurd shown
 
+-- the fault in which a step of the commit ends is the one that its call met
 pub leads-ended : {A State : Type 0} (next : State) (stage : CommitStage)
     (answer : Result A FolderFault) (fault : StageFault) →
     LeadsTo next (at_stage stage) answer (Err fault) → answer ≡ Err fault.fault
@@ -172,6 +165,7 @@ pub locks-done : {A State : Type 0} (next : State) (answer : Result A FolderFaul
 locks-done next (Ok answer) state shown = (answer, refl)
 locks-done next (Err fault) state shown = absurd shown
 
+-- the fault in which a step of the lock ends is the one that its call met
 pub locks-ended : {A State : Type 0} (next : State) (answer : Result A FolderFault)
     (fault : FolderFault) → LocksLeadTo next answer (Err fault) → answer ≡ Err fault
 locks-ended next (Err came) fault shown = ap Err (sym shown)
@@ -195,7 +189,8 @@ listed-none : (own : OwnLock) (number : ℕ) (IsSuch : Listing → Type 0) (stoo
 listed-none own number IsSuch stood none listed = absurd (cc (sym none.unlisted ∙ listed.listed))
 
 -- the second listing, by the greatest lock that it shows
-listed-tells : (state : State) (claimed : Maker) (numbers : List ℕ) → ((other : ℕ) → greatest numbers ≡ other →
+listed-tells : (state : State) (claimed : Maker) (numbers : List ℕ) →
+    ((other : ℕ) → greatest numbers ≡ other →
     other ≢ claimed.number → IsToTell state (Outrun claimed.number other)) → (stood : Standing) →
     HasMade claimed stood → (met : Cause) → Shows lists numbers stood met → IsToTell state met
 listed-tells state claimed numbers tells stood held Exhausted shows =
@@ -215,12 +210,14 @@ listed-tells state claimed numbers tells stood held met shows = absurd shows
 module _ (tool : Tool) (state : State) where
   -- a step that came to a fault
   folder-ends : (came fault : FolderFault) → AnswersWith tool (cause_of_end (Folder came)) state →
-      came ≡ fault → (call : Call) (Stood : Standing → Type 0) → MeetsBy call (Err fault) Stood state
+      came ≡ fault → (call : Call) (Stood : Standing → Type 0) →
+      MeetsBy call (Err fault) Stood state
   folder-ends came fault told is call Stood =
       fault-ends tool Before came state told call (Err fault) Stood (ap Err (sym is))
 
   -- the first listing shows no other greatest lock
-  unlisted-tells : (numbers : List ℕ) (stood : Standing) → HasListedNone stood → (number other : ℕ) →
+  unlisted-tells : (numbers : List ℕ) (stood : Standing) → HasListedNone stood →
+      (number other : ℕ) →
       Shows lists numbers stood (Outrun number other) → ⊥
   unlisted-tells numbers stood held number other (greatest_is, apart, inl made) =
       none-made stood.own number held.owns made
@@ -266,7 +263,8 @@ module _ (tool : Tool) (state : State) where
   look-ends looking answer end shown told = absurd shown
 
   -- a read of a lock with one of the two texts
-  free-none : (number : ℕ) (text : Bytes) → (IsDamaged text → ⊥) → (stood : Standing) (met : Cause) →
+  free-none : (number : ℕ) (text : Bytes) → (IsDamaged text → ⊥) →
+      (stood : Standing) (met : Cause) →
       Shows (reads (Lock number)) (found_bytes text) stood met → ⊥
   free-none number text sound stood (Gone gone) shows = absurd (cc shows.1)
   free-none number text sound stood (LockDamaged damaged) shows = sound shows.1
@@ -278,7 +276,8 @@ module _ (tool : Tool) (state : State) where
   read-on seen (Ok (found_bytes text)) (Judged judged) shown = λ stood held met shows. absurd
       (free-none seen.greatest text (λ damage. damage.not_free shown.0) stood met shows)
   read-on seen (Ok (found_bytes text)) (Ask asking) shown = λ stood held met shows. absurd
-      (free-none seen.greatest text (λ damage. damage.not_held asking.asked shown.0) stood met shows)
+      (free-none seen.greatest text
+      (λ damage. damage.not_held asking.asked shown.0) stood met shows)
   read-on seen (Ok found_absent) told shown = absurd shown
   read-on seen (Ok found_too_large) told shown = absurd shown
   read-on seen (Err fault) told shown = absurd shown
@@ -321,7 +320,8 @@ module _ (tool : Tool) (state : State) where
   read-ends seen answer end shown told = absurd shown
 
   -- the verdict on its holder
-  dead-none : (holder : Token) (stood : Standing) (met : Cause) → Shows (asks holder) Dead stood met → ⊥
+  dead-none : (holder : Token) (stood : Standing) (met : Cause) →
+      Shows (asks holder) Dead stood met → ⊥
   dead-none holder stood (Held held) shows = absurd (cc shows.1)
   dead-none holder stood met shows = shows
 
@@ -349,7 +349,8 @@ module _ (tool : Tool) (state : State) where
   ask-ends asking answer end shown told = absurd shown
 
   -- the create of the next lock
-  done-none : (number : ℕ) (stood : Standing) (met : Cause) → Shows (creates number) Done stood met → ⊥
+  done-none : (number : ℕ) (stood : Standing) (met : Cause) →
+      Shows (creates number) Done stood met → ⊥
   done-none number stood (Raced raced) shows = absurd (cc shows.1)
   done-none number stood met shows = shows
 
@@ -362,7 +363,8 @@ module _ (tool : Tool) (state : State) where
   claim-on judged (Err fault) claimed shown = absurd shown
 
   raced-tells : (number raced : ℕ) → raced ≡ number → AnswersWith tool (Raced raced) state →
-      (stood : Standing) (met : Cause) → Shows (creates number) Exists stood met → IsToTell state met
+      (stood : Standing) (met : Cause) → Shows (creates number) Exists stood met →
+      IsToTell state met
   raced-tells number raced is told stood (Raced other) shows =
       subst (λ (one : ℕ). IsToTell state (Raced one)) (is ∙ shows.0)
       (answers-tell tool (Raced raced) state told)
@@ -411,73 +413,11 @@ module _ (tool : Tool) (state : State) where
 
   pub withdraw-told : (loser : Overtaken) (answer : Result (Unit {0}) FolderFault) (end : LockEnd) →
       Withdraws loser answer end → AnswersWith tool (cause_of_end end) state → (met : Cause) →
-      IsToTell (Withdrawing loser) met → IsToTell state met × MayFollow met (removes (Lock loser.number))
+      IsToTell (Withdrawing loser) met →
+      IsToTell state met × MayFollow met (removes (Lock loser.number))
   withdraw-told loser answer end shown told met is =
       subst (λ (one : Cause). IsToTell state one × MayFollow one (removes (Lock loser.number))) is
       (outrun-told loser answer end shown told, tt)
-
-  -- ---- The intent
-
-  -- a read of an intent that stands and reads
-  read-none : (bytes : Bytes) (intent : Intended) → ReadsIntent bytes intent → (stood : Standing)
-      (met : Cause) → Shows (reads Intent) (found_bytes bytes) stood met → ⊥
-  read-none bytes intent reads_it stood (IntentDamaged part) shows =
-      let same : shows.0 ≡ bytes = cc shows.1 in
-      first_fault_is_one_holds.none_if_read bytes part intent
-      (subst (λ (one : Bytes). FirstFault one part) same shows.2) reads_it
-  read-none bytes intent reads_it stood (TooLarge (File Intent)) shows = absurd (cc shows.0)
-  read-none bytes intent reads_it stood met shows = shows
-
-  -- or of none
-  absent-none : (stood : Standing) (met : Cause) → Shows (reads Intent) found_absent stood met → ⊥
-  absent-none stood (IntentDamaged part) shows = absurd (cc shows.1)
-  absent-none stood (TooLarge (File Intent)) shows = absurd (cc shows.0)
-  absent-none stood met shows = shows
-
-  pub intent-on : (keeper : Kept) (answer : Result Found FolderFault) (seen : IntentSeen) →
-      FindsIntent keeper answer (Ok seen) →
-      MeetsBy (reads Intent) answer (Keeps keeper KnowsAnything) state
-  intent-on keeper (Ok found_absent) (Clean kept) shown =
-      λ stood held met shows. absurd (absent-none stood met shows)
-  intent-on keeper (Ok (found_bytes bytes)) (Listed recovering) shown = λ stood held met shows.
-      absurd (read-none bytes shown.intent shown.reads_it stood met shows)
-  intent-on keeper answer seen shown = absurd shown
-
-  -- one of an intent of which a part doesn't stand
-  part-tells : (bytes : Bytes) (part : ℕ) (kept : Kept) → FirstFault bytes part →
-      LeavesWith tool kept (IntentDamaged part) state → (stood : Standing) (met : Cause) →
-      Shows (reads Intent) (found_bytes bytes) stood met → IsToTell state met
-  part-tells bytes part kept first leaves stood (IntentDamaged other) shows =
-      let same : shows.0 ≡ bytes = cc shows.1 in
-      subst (λ (one : ℕ). IsToTell state (IntentDamaged one))
-      (first_fault_is_one_holds.one_part bytes part other first
-      (subst (λ (one : Bytes). FirstFault one other) same shows.2))
-      (leaves-tell tool kept (IntentDamaged part) state leaves)
-  part-tells bytes part kept first leaves stood (TooLarge (File Intent)) shows = absurd (cc shows.0)
-  part-tells bytes part kept first leaves stood met shows = absurd shows
-
-  -- or of one that is too large
-  large-tells : (kept : Kept) → LeavesWith tool kept (TooLarge (File Intent)) state →
-      (stood : Standing) (met : Cause) → Shows (reads Intent) found_too_large stood met →
-      IsToTell state met
-  large-tells kept leaves stood (TooLarge (File Intent)) shows =
-      leaves-tell tool kept (TooLarge (File Intent)) state leaves
-  large-tells kept leaves stood (IntentDamaged part) shows = absurd (cc shows.1)
-  large-tells kept leaves stood met shows = absurd shows
-
-  pub intent-ends : (keeper : Kept) (answer : Result Found FolderFault) (end : RecoveryEnd) →
-      FindsIntent keeper answer (Err end) → Refuses tool end state →
-      MeetsBy (reads Intent) answer (Keeps keeper KnowsAnything) state
-  intent-ends keeper (Ok (found_bytes bytes)) (IntentIsDamaged part kept) shown refuses =
-      λ stood held. part-tells bytes part kept shown.0 refuses stood
-  intent-ends keeper (Ok (found_bytes bytes)) (Fault fault) shown refuses =
-      λ stood held met shows. fault-tells tool fault.stage fault.fault state refuses met
-  intent-ends keeper (Ok found_too_large) (IntentIsLarge kept) shown refuses =
-      λ stood held. large-tells kept refuses stood
-  intent-ends keeper (Err fault) (Fault came) shown refuses =
-      fault-ends tool came.stage came.fault state refuses (reads Intent) (Err fault)
-      (Keeps keeper KnowsAnything) (ap Err (sym (ap (λ (one : StageFault). one.fault) shown)))
-  intent-ends keeper answer end shown refuses = absurd shown
 
 -- the second listing leads to a keeper, or to a session that was outrun and is to tell that
 confirm-loser : (claimed : Maker) (numbers : List ℕ) (loser : Overtaken) →
@@ -487,6 +427,7 @@ confirm-loser claimed numbers loser is other greatest_is =
     ap (λ (one : Overtaken). Outrun one.number one.greatest) is
     ∙ ap (λ (one : ℕ). Outrun claimed.number one) greatest_is
 
+-- so what is to be told behind it was met there
 pub confirm-on : (claimed : Maker) (answer : Result (List ℕ) FolderFault) (confirmed : Confirmed) →
     Confirms claimed answer (Ok confirmed) →
     MeetsBy lists answer (HasMade claimed) (after_listing confirmed)

@@ -5,7 +5,7 @@ use Rattle.acct_outside.specs.declared.CommitStage.TheVariants.{Before}
 use Rattle.lock_steps.specs.Stands.{Keeps, KnowsAnything}
 use Rattle.suite_session.proofs.TurnLemmas.{may-step, turn-made, turns}
 use Rattle.suite_session.proofs.RecoveringTurns.{seen-stands, seen-quiet, refused-stands, refused-failed}
-use Rattle.suite_session.proofs.MeetingLemmas.{intent-on, intent-ends}
+use Rattle.suite_session.proofs.IntentMeeting.{intent-on, intent-ends}
 use Rattle.suite_session.specs.declared.state.State.TheVariants.{ReadingIntent}
 use Rattle.suite_session.proofs.CallsLemmas.{intent-calls, refused-calls}
 use Rattle.suite_session.proofs.recovering.read_intent.Goals as goal
