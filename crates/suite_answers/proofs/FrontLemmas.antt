@@ -31,7 +31,8 @@ front-behind first second before between now (Err fault) whole puts = (
 )
 
 -- a front of the first piece is one of both
-front-first : (first second before now : Bytes) → HoldsFront first before now → HoldsFront (first ++ second) before now
+front-first : (first second before now : Bytes) → HoldsFront first before now →
+    HoldsFront (first ++ second) before now
 front-first first second before now puts = (
   puts.0,
   puts.1 ++ second,
@@ -49,7 +50,8 @@ told-front (Some before) None text result told = absurd told
 told-front (Some before) (Some now) text result told = puts-front text before now result told
 
 -- a second piece behind a first, where the stream tells
-pub told-then : (before between now : Option Bytes) (first second : Bytes) (result : Result (Unit {0}) SinkFault)
+pub told-then : (before between now : Option Bytes) (first second : Bytes)
+    (result : Result (Unit {0}) SinkFault)
     → WhereBytesTold before between (PutsFront first (Ok tt))
     → WhereBytesTold between now (PutsFront second result)
     → WhereBytesTold before now (PutsFront (first ++ second) result)
@@ -68,4 +70,5 @@ pub told-first : (before now : Option Bytes) (first second : Bytes) (fault : Sin
 told-first None None first second fault told = tt
 told-first None (Some now) first second fault told = absurd told
 told-first (Some before) None first second fault told = absurd told
-told-first (Some before) (Some now) first second fault told = front-first first second before now told
+told-first (Some before) (Some now) first second fault told =
+    front-first first second before now told

@@ -22,7 +22,11 @@ pub memory-pieces :
     → words ≡ stage_text stage
     → memory_message tool stage ≡ name ++ (codes ": want of memory " ++ (words ++ newline ∷ []))
 memory-pieces tool stage name words named worded =
-    append_assoc (speaker tool ++ codes ": ") (codes "want of memory " ++ stage_text stage) (newline ∷ [])
-    ∙ append_assoc (speaker tool) (codes ": ") ((codes "want of memory " ++ stage_text stage) ++ newline ∷ [])
-    ∙ ap (λ (text : List ℕ). speaker tool ++ (codes ": want of memory " ++ (text ++ newline ∷ []))) (sym worded)
-    ∙ ap (λ (text : List ℕ). text ++ (codes ": want of memory " ++ (words ++ newline ∷ []))) (sym named)
+    append_assoc (speaker tool ++ codes ": ")
+    (codes "want of memory " ++ stage_text stage) (newline ∷ [])
+    ∙ append_assoc (speaker tool) (codes ": ")
+    ((codes "want of memory " ++ stage_text stage) ++ newline ∷ [])
+    ∙ ap (λ (text : List ℕ). speaker tool ++ (codes ": want of memory " ++ (text ++ newline ∷ [])))
+    (sym worded)
+    ∙ ap (λ (text : List ℕ). text ++ (codes ": want of memory " ++ (words ++ newline ∷ [])))
+    (sym named)

@@ -50,7 +50,8 @@ exhausted_for_report = refl
 
 -- ---- The intent, the disk and the memory
 
-intent_damaged : message_of Groupadd (IntentDamaged 2) ≡ line "groupadd: intent is damaged in part 2"
+intent_damaged : message_of Groupadd (IntentDamaged 2)
+    ≡ line "groupadd: intent is damaged in part 2"
 unfolding digits
 intent_damaged = refl
 

@@ -32,7 +32,8 @@ deed_by read command contents defs = elim read [
       (deed request command.input command.day (files_of contents) defs)
 ]
 
-module _ (IsAsked : Request → List ℕ → Type 0) (Holds : Files → Type 0) (kept : IsKept IsAsked Holds) where
+module _ (IsAsked : Request → List ℕ → Type 0) (Holds : Files → Type 0)
+    (kept : IsKept IsAsked Holds) where
   -- the files after a deed, if there is one
   deed-keeps :
       (request : Request) (command : Command) (contents : Contents) (defs : Option Bytes)

@@ -123,7 +123,8 @@ module _ (old new : Contents)
       problems = map (λ other. new_table_problem other (new other)) tables
 
       by-limit : (bytes : Bytes) (passes : Bool) →
-          first_some problems ≡ option_map TableTooLarge (large_table (changed_among tables old new)) →
+          first_some problems
+          ≡ option_map TableTooLarge (large_table (changed_among tables old new)) →
           first_some ((if passes then Some (TableTooLarge table) else None) ∷ problems)
           ≡ option_map TableTooLarge (option_map (λ one. one.table)
           (if passes then Some (record { table = table; bytes = bytes })
@@ -133,7 +134,8 @@ module _ (old new : Contents)
 
       cases : (same : Bool) → same_content (old table) (new table) ≡ same →
           (content : Option Bytes) → new table ≡ content →
-          first_some problems ≡ option_map TableTooLarge (large_table (changed_among tables old new)) →
+          first_some problems
+          ≡ option_map TableTooLarge (large_table (changed_among tables old new)) →
           first_some (new_table_problem table content ∷ problems)
           ≡ option_map TableTooLarge (large_table (if same then changed_among tables old new
           else with_new_table table content (changed_among tables old new)))
@@ -245,7 +247,8 @@ module _ (asked : Question) (files : Files) (defs : Option Bytes) where
       (small : (table : Tab) (bytes : Bytes) → table_of files table ≡ Some bytes →
       length bytes ≤ table_limit) where
     -- What a command leaves, to which this is the answer.
-    module _ (written : Written) (is : answer_on asked files defs ≡ answer_written tool files written)
+    module _ (written : Written)
+        (is : answer_on asked files defs ≡ answer_written tool files written)
         (stands : (table : Tab) →
         is_some (table_of written.files table) ≡ is_some (table_of files table)) where
       -- the tables that differ once it is done
@@ -274,7 +277,8 @@ module _ (asked : Question) (files : Files) (defs : Option Bytes) where
           let same = none-differs (table_of files) (table_of written.files) small stands
           all_tables none in
           let told = of-written None (ap large_table none)
-          ∙ ap (λ (one : Bool). succeeding (if one then Same else Changed written.files) written) same
+          ∙ ap (λ (one : Bool). succeeding (if one then Same else Changed written.files) written)
+          same
           in (
             subst (λ (one : Answer). IsAnswerOn asked files defs one) (sym shown)
                 (answer-is asked files defs _ _ told refl refl refl refl),
@@ -381,7 +385,8 @@ module _ (asked : Question) (files : Files) (defs : Option Bytes) where
         leaves-on written
         (told ∙ ap (λ (one : Tool). answer_written one files written)
         (sym (batch-tool tool is_one)))
-        (batch-stands (line_requests asked.command.input) asked.command.day settings files written is)
+        (batch-stands (line_requests asked.command.input) asked.command.day settings
+        files written is)
         decided shown
 
     by-command : (is_one : Bool) → is_batch tool ≡ is_one → (decided : Decided) →
@@ -397,7 +402,8 @@ module _ (asked : Question) (files : Files) (defs : Option Bytes) where
 
     -- the claim
     pub decides-on : (decision : Decision) →
-        decision ≡ command_decision asked.request asked.command.input asked.command.day files settings →
+        decision
+        ≡ command_decision asked.request asked.command.input asked.command.day files settings →
         (decided : Decided) → AnswersDecision asked decision decided →
         DecidesOn asked files defs decided
     decides-on decision is decided shown = by-command (is_batch tool) refl decided

@@ -26,6 +26,7 @@ named Grpck arguments = refl
 named Getsubids arguments = refl
 named Batch arguments = refl
 
+-- words that ask for a request name its tool
 pub named-asked : (words : List Word) (request : Request) → Asks words request →
     named_tool words ≡ Some request.tool
 named-asked words request asks = ap named_tool asks.tool ∙ named request.tool asks.arguments

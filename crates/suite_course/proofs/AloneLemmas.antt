@@ -58,7 +58,8 @@ suffixes (event ∷ newer) old (head ∷ other) older is =
     ]
 
 -- what holds of all events holds of the later ones
-pub all-rest : (P : Event → Type 0) (newer between : History) → AllByRecursion P (newer ++ between) →
+pub all-rest : (P : Event → Type 0) (newer between : History) →
+    AllByRecursion P (newer ++ between) →
     AllByRecursion P between
 all-rest P [] between all = all
 all-rest P (event ∷ newer) between all = all-rest P newer between all.1

@@ -100,7 +100,8 @@ module _ (entry now : Folder) (listing : Option Listing) where
       made_number own ≡ Some number → (one : Listing) → listing ≡ Some one →
       one.follows_create ≡ true → LocksAlone entry now listing own →
       LocksAlone entry later listed_then own
-  outrun-alone later listed_then lock_uncalled number made one listed follows held = absurd (cc made)
+  outrun-alone later listed_then lock_uncalled number made one listed follows held =
+      absurd (cc made)
   outrun-alone later listed_then (lock_made own) number made one listed follows held =
       absurd (true≢false (sym follows
       ∙ there (λ other. other.follows_create ≡ false) listing one listed held.1))
@@ -145,6 +146,7 @@ watch-noted entry name found one is = cases (is_watched name && one.is_judged)
     cases true = record { numbers = is.numbers; texts = is.texts }
     cases false = is
 
+-- a listing that followed no creation follows none after a file was watched
 watch-follows : (name : Name) (found : Found) (one : Listing) → one.follows_create ≡ false →
     (watch_step name found one).follows_create ≡ false
 watch-follows name found one is = cases (is_watched name && one.is_judged)
@@ -163,6 +165,7 @@ verdict-noted : (entry : Folder) (token : Token) (verdict : Verdict) (one : List
 verdict-noted entry token Alive one is = is
 verdict-noted entry token Dead one is = record { numbers = is.numbers; texts = is.texts }
 
+-- nor after a verdict on a holder
 verdict-follows : (token : Token) (verdict : Verdict) (one : Listing) →
     one.follows_create ≡ false → (verdict_step token verdict one).follows_create ≡ false
 verdict-follows token Alive one is = is
@@ -263,7 +266,8 @@ module _ (deeds : SuiteDeeds) (history : History) (token : Token) (entry folder 
         LocksAfter (renames FreeStage (Lock number)) result
     free-locks number result keeper =
         subst (λ (own : OwnLock). LocksAlone entry (changed_by token
-        (renames FreeStage (Lock number)) (effect_of (renames FreeStage (Lock number)) result) folder)
+        (renames FreeStage (Lock number))
+        (effect_of (renames FreeStage (Lock number)) result) folder)
         stood.listing (free_step FreeStage (Lock number)
         (effect_of (renames FreeStage (Lock number)) result) own)) (sym keeper.keeps)
         (freed (effect_of (renames FreeStage (Lock number)) result))

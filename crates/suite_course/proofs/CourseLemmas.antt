@@ -165,7 +165,8 @@ unbegun-from asked entry between now answer told narrows unbegun = record {
 
 -- and stays so while as much is told
 pub unbegun-stays : (asked : Question) (entry between now : Moment) (answer : Answer) →
-    now.told ≡ between.told → IsUnbegun asked entry between answer → IsUnbegun asked entry now answer
+    now.told ≡ between.told → IsUnbegun asked entry between answer →
+    IsUnbegun asked entry now answer
 unbegun-stays asked entry between now answer told unbegun = record {
   fault = unbegun.fault;
   begin = subst (λ (one : Option Past).
@@ -201,7 +202,8 @@ comes-turn asked entry between now (Waiting question) (Begun runner state) comes
             turns.0 ∙ comes.turns.stands.0,
             stands,
             new-from runner.token entry.told between.told
-                (grew-extends entry.admits runner.token 0 entry.told between.told first.grew) turns.2,
+                (grew-extends entry.admits runner.token 0 entry.told between.told first.grew)
+                turns.2,
           )) both.risen both;
     }
 comes-turn asked entry between now (Waiting question) (Unbegun tool answer) comes none turns =

@@ -33,7 +33,8 @@ use Rattle.suite_course.proofs.RanLemmas.{stays-turns}
 -- ---- A fault of a stream
 
 -- an answer of which the streams were to take a message has one
-has-message : (tool : Option Tool) (cause : Cause) (answer : Answer) → answer.outcome.cause ≡ cause →
+has-message : (tool : Option Tool) (cause : Cause) (answer : Answer) →
+    answer.outcome.cause ≡ cause →
     text_of tool answer ≢ [] → HasMessage answer
 has-message tool (Memory stage) answer is some =
     inr (subst (λ (one : Cause). IsMemory one) (sym is) tt)
@@ -52,9 +53,11 @@ has-text tool answer (inr some) = inr (has-message tool answer.outcome.cause ans
 -- where a stream failed, the session had an answer with a text, and hasn't answered
 pub is-to-put : (asked : Question) (entry now : Moment) (tool : Tool) (was holds : Streams)
     (put : Result (Unit {0}) SinkFault) (phase : Phase) → Comes asked entry now phase →
-    IsSome (answer_of phase) → IfSome (answer_of phase) (λ given. Serves (Some tool) given was holds put) →
+    IsSome (answer_of phase) →
+    IfSome (answer_of phase) (λ given. Serves (Some tool) given was holds put) →
     (fault : SinkFault) → put ≡ Err fault → IsToPut phase
-is-to-put asked entry now tool was holds put (Begun runner (Answering given)) comes some served fault is =
+is-to-put asked entry now tool was holds put (Begun runner (Answering given)) comes some
+    served fault is =
     has-text (Some tool) given (served.texted fault is)
 is-to-put asked entry now tool was holds put (Unbegun named given) comes some served fault is =
     has-text (Some tool) given (served.texted fault is)
@@ -84,6 +87,7 @@ state-answers : (fault : SinkFault) (state : State) → IsSome (given_in state) 
 state-answers fault (Answering answer) some = refl
 state-answers fault state some = absurd (cc some)
 
+-- a phase that has an answer has one behind the streams
 pub streams-answer : (put : Result (Unit {0}) SinkFault) (phase : Phase) →
     IsSome (answer_of phase) → IsSome (answer_of (phase_after put phase))
 streams-answer (Ok unit) phase some = some
@@ -99,6 +103,7 @@ answers-after : (put : Result (Unit {0}) SinkFault) (runner : Runner) (given : A
 answers-after (Ok unit) runner given = refl
 answers-after (Err fault) runner given = refl
 
+-- a command that didn't begin has the answer behind the streams, and still didn't begin
 unbegun-after : (put : Result (Unit {0}) SinkFault) (tool : Tool) (given : Answer) →
     phase_after put (Unbegun tool given) ≡ Unbegun tool (after_streams put given)
 unbegun-after (Ok unit) tool given = refl
@@ -107,7 +112,8 @@ unbegun-after (Err fault) tool given = refl
 -- ---- The end
 
 -- a count that rose stays risen
-risen-later : (before between now : ℕ) → before ≤ between → HasRisen before between → between ≤ now →
+risen-later : (before between now : ℕ) → before ≤ between → HasRisen before between →
+    between ≤ now →
     HasRisen before now
 risen-later before between now below (inl less) later = inl (omega (arith, less, later))
 risen-later before between now below (inr last) later = elim (cases_lt last_count now) [
@@ -170,7 +176,8 @@ module _ (asked : Question) (entry between now : Moment) (was holds : Streams) (
   ends-unbegun tool given comes served concludes =
       by-last concludes.last concludes.turns concludes.ends
     where
-      by-last : (last : Phase) → SessionTurns between now (Unbegun tool (after_streams put given)) last →
+      by-last : (last : Phase) →
+          SessionTurns between now (Unbegun tool (after_streams put given)) last →
           outcome_of last ≡ Some outcome → Finished asked entry now was holds outcome
       by-last (Unbegun same final) turns ends =
           let is : outcome ≡ (after_streams put given).outcome =

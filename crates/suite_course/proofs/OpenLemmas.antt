@@ -400,7 +400,8 @@ module _ (deeds : SuiteDeeds) (first : Folder) (old new : History) (token : Toke
         uncalled)))
 
     -- what it read of the intent stood at the moment
-    read-stood : (found : Found) (met : Met token (reads Intent) found HasKept new) (bytes : Bytes) →
+    read-stood : (found : Found) (met : Met token (reads Intent) found HasKept new)
+        (bytes : Bytes) →
         (after first met.older).file Intent ≡ Some bytes → entry.file Intent ≡ Some bytes
     read-stood found met bytes is = elim (intent-then found met) [
       | inl stands ↦ sym stands ∙ is

@@ -146,7 +146,8 @@ module _ (asked : Question) (entry now : Moment) where
 
     -- it has run, or its begin gave no token
     runs-or-not : (by : Token) (made : ℕ) (was told : Option Past) → was ≡ entry.told →
-        told ≡ now.told → AnsweredAs asked entry now by given last_status ⊎ IsUnbegun asked entry now given →
+        told ≡ now.told →
+        AnsweredAs asked entry now by given last_status ⊎ IsUnbegun asked entry now given →
         Grew entry.admits by made was told → StaysOursWhere entry.admits was told →
         WhereTold was told (RunsOrNot asked entry.admits given outcome)
     runs-or-not by made None None was_is told_is stands grew stays = tt
@@ -167,7 +168,8 @@ module _ (asked : Question) (entry now : Moment) where
         let begin = subst (λ (one : Option Past). WhereTold one (Some past)
         (TellsBegin entry.admits asked.command (Err unbegun.fault))) (sym was_is)
         (subst (λ (one : Option Past). WhereTold entry.told one
-        (TellsBegin entry.admits asked.command (Err unbegun.fault))) (sym told_is) unbegun.begin) in (
+        (TellsBegin entry.admits asked.command (Err unbegun.fault))) (sym told_is)
+        unbegun.begin) in (
           grew.0,
           inr (record { fault = unbegun.fault; begin = begin.1; tells = unbegun.tells }),
         )
@@ -219,7 +221,8 @@ stays-turns entry now token told narrows never_falls stands none = record {
   stands = stands;
   grew = subst (λ (one : Option Past). Grew entry.admits token 0 entry.told one) (sym told)
       (grew-nothing entry.admits token entry.told);
-  lawful = λ deeds ours. subst (λ (one : Option Past). StaysLawfulWhere deeds entry.admits entry.told one)
+  lawful = λ deeds ours.
+      subst (λ (one : Option Past). StaysLawfulWhere deeds entry.admits entry.told one)
       (sym told) (still-lawful deeds entry.admits entry.told);
   narrows = narrows;
   never_falls = never_falls;
@@ -281,22 +284,24 @@ pub unbegun-finished : (asked : Question) (entry now : Moment) (was holds : Stre
     Serves (Some asked.request.tool) (memory_answer Before) was holds put →
     outcome ≡ (after_streams put (memory_answer Before)).outcome →
     Finished asked entry now was holds outcome
-unbegun-finished asked entry now was holds outcome put told narrows never_falls served ends = record {
-  given = memory_answer Before;
-  says = refl;
-  put = put;
-  served = served;
-  ends = ends;
-  token = [];
-  made = 0;
-  turns = stays-turns entry now [] told narrows never_falls
-      (inr (record {
-        fault = NoFolderMemory;
-        begin = subst (λ (one : Option Past).
-            WhereTold entry.told one (TellsBegin entry.admits asked.command (Err NoFolderMemory)))
-            (sym told) (untold-begin entry.admits asked.command entry.told);
-        tells = inl refl;
-        says = refl;
-      }))
-      (λ outside. outside);
-}
+unbegun-finished asked entry now was holds outcome put told narrows never_falls
+    served ends = record {
+      given = memory_answer Before;
+      says = refl;
+      put = put;
+      served = served;
+      ends = ends;
+      token = [];
+      made = 0;
+      turns = stays-turns entry now [] told narrows never_falls
+          (inr (record {
+            fault = NoFolderMemory;
+            begin = subst (λ (one : Option Past).
+                WhereTold entry.told one
+                (TellsBegin entry.admits asked.command (Err NoFolderMemory)))
+                (sym told) (untold-begin entry.admits asked.command entry.told);
+            tells = inl refl;
+            says = refl;
+          }))
+          (λ outside. outside);
+    }

@@ -118,6 +118,7 @@ text-same number text one = cases (number == greatest one.numbers)
     cases true = refl
     cases false = refl
 
+-- a file that was watched leaves the listed numbers as they were
 watch-same : (name : Name) (found : Found) (one : Listing) →
     (watch_step name found one).numbers ≡ one.numbers
 watch-same name found one = cases (is_watched name && one.is_judged)
@@ -130,6 +131,7 @@ watch-same name found one = cases (is_watched name && one.is_judged)
     cases true = refl
     cases false = refl
 
+-- and so does a verdict on a holder
 verdict-same : (token : Token) (verdict : Verdict) (one : Listing) →
     (verdict_step token verdict one).numbers ≡ one.numbers
 verdict-same token Alive one = refl

@@ -102,7 +102,8 @@ module _ (deeds : SuiteDeeds) (ours : AreOfTools deeds) where
         (λ is. called-free runner.token answer past.history (came.free is))
 
   -- of none that has no answer
-  nothing-promised : (told : Option Past) → IfSome told (λ past. Lawful deeds past.first past.history →
+  nothing-promised : (told : Option Past) →
+      IfSome told (λ past. Lawful deeds past.first past.history →
       Unit {0})
   nothing-promised None = tt
   nothing-promised (Some past) = λ lawful. tt

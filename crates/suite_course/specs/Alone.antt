@@ -31,10 +31,12 @@ pub record IsAlone (token : Token) (old new : History) : Type 0 where
 
 -- The answer is that on the settled files as they stood at the earlier moment. They are now what the
 -- session's own commitments made of them: one deed, or none.
-pub record IsAnswerOnOld (deeds : SuiteDeeds) (asked : Question) (first : Folder) (old new : History)
+pub record IsAnswerOnOld (deeds : SuiteDeeds) (asked : Question) (first : Folder)
+    (old new : History)
     (token : Token) (given : Answer) : Type 0 where
   pub is_answer :
-      IsAnswerOn asked (files_of (settled (after first old))) (settings_file (after first old)) given
+      IsAnswerOn asked (files_of (settled (after first old)))
+      (settings_file (after first old)) given
   pub settles : (table : Tab) → settled (after first new) table
       ≡ fold_deeds deeds (settings_file (after first old)) (settled (after first old))
       (commitments_of token (committed new)) table
@@ -70,7 +72,8 @@ pub record Leaves (asked : Question) (first : Folder) (old new : History) (token
       IsBackedUp (after first old) (after first new) table
 
 -- there was no memory, or the answer is the tool's on the settled files of the earlier moment
-abbrev pub AnswersOnOld : SuiteDeeds → Question → Folder → History → History → Token → Answer → Type 0
+abbrev pub AnswersOnOld : SuiteDeeds → Question → Folder → History → History → Token →
+    Answer → Type 0
 AnswersOnOld deeds asked first old new token given =
     ((stage : CommitStage) × (given.outcome.cause ≡ Memory stage))
     ⊎ IsAnswerOnOld deeds asked first old new token given

@@ -80,8 +80,10 @@ IsOfInput cause = ⊥
 
 -- The command has this input and this day: all that the source had left, for a tool that reads it, of
 -- which each line of a batch asks for something, and the day that the clock gave. Neither failed.
-pub record AreSupplied (tool : Tool) (before now : Supplies) (input : Bytes) (day : ℕ) : Type 0 where
-  pub all_input : reads_input tool ≡ true → WhereBytesTold before.left now.left (TakesAll (Ok input))
+pub record AreSupplied (tool : Tool) (before now : Supplies) (input : Bytes)
+    (day : ℕ) : Type 0 where
+  pub all_input : reads_input tool ≡ true →
+      WhereBytesTold before.left now.left (TakesAll (Ok input))
   pub no_input : reads_input tool ≡ false → input ≡ []
   pub within : length input ≤ table_limit
   pub lines_ask : LinesAsk tool input

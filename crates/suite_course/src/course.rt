@@ -23,8 +23,9 @@ pub(crate) fn finish<T: Tools, F: Folder, O: Sink, E: Sink>(
     err: &mut E,
 ) -> Outcome
     requires { IsWaiting session }
-    ensures { (asked : Question) → session ≡ Waiting asked → tool ≡ asked.request.tool → Finished asked
-        (F.moment folder.old) (F.moment folder.new) (streams (O.moment out.old) (E.moment err.old))
+    ensures { (asked : Question) → session ≡ Waiting asked → tool ≡ asked.request.tool →
+        Finished asked (F.moment folder.old) (F.moment folder.new)
+        (streams (O.moment out.old) (E.moment err.old))
         (streams (O.moment out.new) (E.moment err.new)) result }
 {
     let session = to_answer(session, folder);

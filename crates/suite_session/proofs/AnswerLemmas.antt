@@ -225,6 +225,7 @@ cause-stage (RefusedLine line refusal) stays = refl
 cause-stage Same stays = refl
 cause-stage (Changed new) stays = absurd (true≢false stays)
 
+-- an answer to a command that changes nothing tells a cause from before the commit
 pub stay-stage : (asked : Question) (files : Files) (defs : Option Bytes) (given : Answer) →
     IsAnswerOn asked files defs given → is_change (answer_on asked files defs).cause ≡ false →
     stage_of given.outcome.cause ≡ Before
@@ -242,6 +243,7 @@ cause-quiet (RefusedLine line refusal) fault = fault
 cause-quiet Same fault = fault
 cause-quiet (Changed new) fault = fault
 
+-- no answer to a command tells a cause that comes from outside
 pub answer-quiet : (asked : Question) (files : Files) (defs : Option Bytes) (given : Answer) →
     IsAnswerOn asked files defs given → IsOutside given.outcome.cause → ⊥
 answer-quiet asked files defs given is_answer fault = cause-quiet
@@ -430,7 +432,8 @@ missed-shown runner table keeper history missing held runs = inl (
     seen = held.is_read.keeps.knows.seen;
     clean = held.is_read.keeps.knows.clean;
     is_answer = λ files defs agree. absent-answers runner.asked files defs table
-        (missed-problem keeper held.files table missing held.sound (standing runner.token history).knows
+        (missed-problem keeper held.files table missing held.sound
+        (standing runner.token history).knows
         held.is_read.keeps.knows files defs agree);
   },
   record {

@@ -134,7 +134,8 @@ module _ (bytes_of : NewTable → Bytes) (walker : Walker) (next : NewTable)
       subst (λ (some_texts : List Bytes).
       texts_appends (walker.staged + 1) some_texts < texts_appends walker.staged some_texts)
       (sym texts-are)
-      (appended-fewer walker.staged (bytes_of next) (texts (drop 1 (tables_left walker))) begun some)
+      (appended-fewer walker.staged (bytes_of next)
+      (texts (drop 1 (tables_left walker))) begun some)
 
   -- from a table to the next no more are left
   moved-on : texts_appends 0 (texts (drop (walker.place + 1) (changed walker.change)))

@@ -94,7 +94,8 @@ begin-first admits command token old new gives event only =
     cc one
 
 -- its token is new
-pub begin-new : (admits : Admission) (command : Command) (token : Token) (before now : Option Past) →
+pub begin-new : (admits : Admission) (command : Command) (token : Token)
+    (before now : Option Past) →
     WhereTold before now (TellsBegin admits command (Ok token)) → IsNew before token
 begin-new admits command token None now tells = tt
 begin-new admits command token (Some before) (Some now) tells =
@@ -176,7 +177,8 @@ begin-came admits runner state is (Some before) None tells = absurd tells
 -- it keeps a history lawful, for whatever deeds
 begin-lawful : (deeds : SuiteDeeds) (admits : Admission) (command : Command)
     (result : Result Token FolderFault) (before now : Option Past) →
-    WhereTold before now (TellsBegin admits command result) → StaysLawfulWhere deeds admits before now
+    WhereTold before now (TellsBegin admits command result) →
+    StaysLawfulWhere deeds admits before now
 begin-lawful deeds admits command result None None tells = tt
 begin-lawful deeds admits command (Ok token) (Some before) (Some now) tells =
     let event = tells.1.0 in
@@ -184,10 +186,12 @@ begin-lawful deeds admits command (Ok token) (Some before) (Some now) tells =
       tells.0,
       λ others lawful. subst (Lawful deeds before.first) (sym came.last)
           (goes_on _ came.between
-          (others-lawful deeds admits before.first others before.history came.between came.others lawful)
+          (others-lawful deeds admits before.first others before.history came.between
+          came.others lawful)
           (record {
             keeps = record {
-              life_rule = subst (λ (lived : Life). MayCall lived (begins command)) (sym event.given.1) tt;
+              life_rule = subst (λ (lived : Life). MayCall lived (begins command))
+                  (sym event.given.1) tt;
               permitted = free_begin command;
             };
             gives = event.given;
@@ -199,7 +203,8 @@ begin-lawful deeds admits command (Err Failed) (Some before) (Some now) tells =
       tells.0,
       λ others lawful. subst (Lawful deeds before.first) (sym came.last)
           (goes_on _ came.between
-          (others-lawful deeds admits before.first others before.history came.between came.others lawful)
+          (others-lawful deeds admits before.first others before.history came.between
+          came.others lawful)
           (record { keeps = tt; gives = event.given })),
     )
 begin-lawful deeds admits command (Err NoMemory) (Some before) (Some now) tells = (

@@ -145,7 +145,8 @@ turn-leaves before now (Begun runner state) (Over same answer) turns =
     record { most = 1; grew = turns.2.grew; narrows = turns.2.narrows }
 turn-leaves before now (Over runner answer) (Over same given) turns =
     stays-left before now turns.2
-turn-leaves before now (Unbegun tool answer) (Unbegun same given) turns = stays-left before now turns.2
+turn-leaves before now (Unbegun tool answer) (Unbegun same given) turns =
+    stays-left before now turns.2
 turn-leaves before now (Waiting asked) (Waiting other) turns = absurd turns
 turn-leaves before now (Waiting asked) (Over runner answer) turns = absurd turns
 turn-leaves before now (Begun runner state) (Waiting other) turns = absurd turns
@@ -229,7 +230,8 @@ module _ (before now : Moment) (old new : Phase) (turns : SessionTurns before no
     where
       here : (past : Past) → before.told ≡ Some past → (token : Token) →
           token_of other ≡ Some token → Present before.admits token past
-      here past is token its = subst (λ (told : Option Past). IfSome told (Present before.admits token))
+      here past is token its =
+          subst (λ (told : Option Past). IfSome told (Present before.admits token))
           is (present before other belongs token its)
 
       by-phase : (past : Past) → before.told ≡ Some past → (was next : Phase) →

@@ -87,7 +87,8 @@ state-own now runner state stands =
     told-as now.told (λ past runs. runs.own) (state-runs now runner state stands)
 
 -- what follows from two facts follows where they are told
-pub told-both : {P Q R : Past → Type 0} (told : Option Past) → ((past : Past) → P past → Q past → R past) →
+pub told-both : {P Q R : Past → Type 0} (told : Option Past) →
+    ((past : Past) → P past → Q past → R past) →
     IfSome told P → IfSome told Q → IfSome told R
 told-both None leads first second = tt
 told-both (Some past) leads first second = leads past first second
@@ -186,7 +187,8 @@ module _ (before now : Moment) (runner : Runner) (others : OthersCame before now
   -- and may answer still
   answer-stays : MayAnswer before runner.token → MayAnswer now runner.token
   answer-stays = told-stays before.told now.told (λ was past came may. record {
-    runs = ap runs_in (others-leave runner.token was.history past.history came).same_life ∙ may.runs;
+    runs = ap runs_in (others-leave runner.token was.history past.history came).same_life
+        ∙ may.runs;
     own = still-own may.own;
   }) others.came
 
@@ -359,6 +361,7 @@ failed-twice fault Failed (Answering answer) = refl
 failed-twice fault NoMemory (Answering answer) = refl
 failed-twice fault first own = refl
 
+-- so whatever the streams met before, the last fault leaves the same state
 failed-after : (fault : SinkFault) (put : Result (Unit {0}) SinkFault) (own : State) →
     state_failed fault (state_after put own) ≡ state_failed fault own
 failed-after fault (Ok unit) own = refl
@@ -370,6 +373,7 @@ answer-twice : (fault first : SinkFault) (given : Answer) →
 answer-twice fault Failed given = refl
 answer-twice fault NoMemory given = refl
 
+-- and the same answer
 answer-after : (fault : SinkFault) (put : Result (Unit {0}) SinkFault) (given : Answer) →
     after_fault fault (after_streams put given) ≡ after_fault fault given
 answer-after fault (Ok unit) given = refl
@@ -381,6 +385,7 @@ own-text : (put : Result (Unit {0}) SinkFault) (own state : State) → state ≡
 own-text (Ok unit) own state left texted has = subst HasTextIn left has
 own-text (Err first) own state left texted has = texted first refl
 
+-- and so was the text of an answer
 given-text : (put : Result (Unit {0}) SinkFault) (given answer : Answer) →
     answer ≡ after_streams put given →
     ((fault : SinkFault) → put ≡ Err fault → HasText given) → HasText answer → HasText given

@@ -42,6 +42,7 @@ appends-more event events = cases (is_append event.call)
     cases true = omega arith
     cases false = omega arith
 
+-- a further event adds the calls of others that it counts for
 others-more : (event : Event) (events : History) →
     others_in (event ∷ events) ≡ others_in events + others_by event.call
 others-more event events = cases (is_append event.call)
@@ -69,6 +70,7 @@ record GrewBy (was past : Past) (token : Token) (call : Call) : Type 0 where
   pub others : others_in (own_events token past.history)
       ≤ others_in (own_events token was.history) + others_by call
 
+-- one call that was made, or none, adds at most what that call counts for
 grew-by : (was past : Past) (token : Token) (call : Call) (NoMemory : Type 0) →
     OneMade was past token call NoMemory → GrewBy was past token call
 grew-by was past token call NoMemory (inl made) =
@@ -127,10 +129,12 @@ sums-same : (was now old new by most : ℕ) → now ≤ was + by → by ≡ 0 �
     was + old ≤ most → now + new ≤ most
 sums-same was now old new by most more none fewer within = omega (arith, more, none, fewer, within)
 
+-- where the first call is all that was made
 sums-first : (now new lower : ℕ) → now ≡ 1 → new + 1 ≤ most_calls + lower →
     now + new ≤ most_calls + lower
 sums-first now new lower only fewer = omega (arith, only, fewer)
 
+-- where no call is left to come
 sums-last : (was now by most : ℕ) → now ≤ was + by → was + by ≤ most → now ≤ most
 sums-last was now by most more within = omega (arith, more, within)
 
@@ -227,16 +231,20 @@ module _ (admits : Admission) (runner : Runner) (was past : Past)
       CountsTo (Some past) runner state next → HasCalled runner.token state was.history →
       HasCalled runner.token next past.history
   called-then next (Looking looking) NoMemory made counts called =
-      nears-then (state_call (Looking looking)) (grew-by was past runner.token _ NoMemory made) next (Looking looking) refl refl
+      nears-then (state_call (Looking looking)) (grew-by was past runner.token _ NoMemory made) next
+      (Looking looking) refl refl
       (omega arith) counts called
   called-then next (Reading seen) NoMemory made counts called =
-      nears-then (state_call (Reading seen)) (grew-by was past runner.token _ NoMemory made) next (Reading seen) refl refl
+      nears-then (state_call (Reading seen)) (grew-by was past runner.token _ NoMemory made) next
+      (Reading seen) refl refl
       (omega arith) counts called
   called-then next (Asking asking) NoMemory made counts called =
-      nears-then (state_call (Asking asking)) (grew-by was past runner.token _ NoMemory made) next (Asking asking) refl refl
+      nears-then (state_call (Asking asking)) (grew-by was past runner.token _ NoMemory made) next
+      (Asking asking) refl refl
       (omega arith) counts called
   called-then next (Claiming judged) NoMemory made counts called =
-      nears-then (state_call (Claiming judged)) (grew-by was past runner.token _ NoMemory made) next (Claiming judged) refl refl
+      nears-then (state_call (Claiming judged)) (grew-by was past runner.token _ NoMemory made) next
+      (Claiming judged) refl refl
       (omega arith) counts called
   called-then next (Confirming claimed) NoMemory made counts called =
       let grew = grew-by was past runner.token (state_call (Confirming claimed)) NoMemory made in
@@ -306,7 +314,8 @@ module _ (token : Token) (old new : History) (came : ByOthers (of_others token) 
     lower = called.lower;
     most = called.most;
     counts = counts-still called.counts;
-    within = subst (λ (events : History). others_in events + calls_left state ≤ most_calls + called.lower)
+    within = subst (λ (events : History). others_in events + calls_left state
+        ≤ most_calls + called.lower)
         (sym others-leave.same_events) called.within;
     appended = subst (λ (events : History). appends_in events + appends_left state ≤ most_appends)
         (sym others-leave.same_events) called.appended;

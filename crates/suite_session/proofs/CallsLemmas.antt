@@ -84,6 +84,7 @@ backup-apart walker next = cases (has_staged walker)
     cases true = refl
     cases false = refl
 
+-- the call that installs a table is no append
 install-apart : (walker : Walker) (next : NewTable) → is_append (install_call walker next) ≡ false
 install-apart walker next = cases (has_staged walker)
   where
@@ -246,25 +247,31 @@ pub unlocking-some : (keeper : Kept) (answer : FinalAnswer) →
     1 < calls_left (Unlocking keeper answer)
 unlocking-some keeper answer = omega arith
 
+-- who is to unlock has more than two calls left
 pub unlocking-more : (keeper : Kept) (answer : FinalAnswer) →
     2 < calls_left (Unlocking keeper answer)
 unlocking-more keeper answer = omega arith
 
+-- who installs tables has more than one call left
 pub installing-some : (walker : Walker) (answer : FinalAnswer) →
     1 < calls_left (Installing walker answer)
 installing-some walker answer = omega arith
 
+-- who is to commit has more than one call left
 pub committing-some : (stager : Stager) (answer : FinalAnswer) →
     1 < calls_left (Committing stager answer)
 committing-some stager answer = omega arith
 
+-- who backs tables up has more than one call left
 pub backing-some : (walker : Walker) (answer : FinalAnswer) →
     1 < calls_left (BackingUp walker answer)
 backing-some walker answer = omega arith
 
+-- who recovers the tables of an intent has more than one call left
 pub recovering-some : (recovering : Recoverer) → 1 < calls_left (Recovering recovering)
 recovering-some recovering = omega arith
 
+-- who moves a table of an intent has more than one call left
 pub moving-some : (moving : Mover) → 1 < calls_left (Moving moving)
 moving-some moving = omega arith
 
@@ -298,6 +305,7 @@ looked-calls request looking seen true =
 looked-calls request looking seen false =
     record { fewer = omega arith; appends = omega arith; next = inl tt }
 
+-- the state behind the first listing is nearer to the end
 pub look-calls : (request : Request) (looking : Token) (seen : Lister) →
     Nears (Looking looking) (after_look request seen)
 look-calls request looking seen = looked-calls request looking seen _
@@ -316,6 +324,7 @@ pub ask-calls : (request : Request) (asking : Asker) (judged : Lister) →
 ask-calls request asking judged =
     judged-calls (Asking asking) judged (is_report request) (omega arith) (omega arith)
 
+-- to confirm a lock is nearer to the end than to claim it
 pub claim-calls : (judged : Lister) (claimed : Maker) → Nears (Claiming judged) (Confirming claimed)
 claim-calls judged claimed =
     record { fewer = omega arith; appends = omega arith; next = inl tt }

@@ -206,6 +206,7 @@ pub fault-failed : (stage : CommitStage) (fault : FolderFault) →
 fault-failed stage Failed told = refl
 fault-failed stage NoMemory told = absurd told
 
+-- a call that the system failed gives a cause from outside, whatever the stage
 pub fault-outside : (stage : CommitStage) (fault : FolderFault) → fault ≡ Failed →
     IsOutside (cause_of_fault stage fault)
 fault-outside stage fault is =

@@ -152,7 +152,8 @@ loaded-small : (reader : Reader) (inputs : Inputs) (answer : Result Found Folder
     (bytes : Bytes) → table_of inputs.files table ≡ Some bytes → length bytes ≤ table_limit
 loaded-small reader inputs answer sound shown table bytes is =
     sound.small table bytes
-    (ap (λ (files : Files). table_of files table) (sym (done-files reader inputs answer shown)) ∙ is)
+    (ap (λ (files : Files). table_of files table) (sym (done-files reader inputs answer shown))
+    ∙ is)
 
 -- after a read
 pub loads-calls : (runner : Runner) (reader : Reader) (loading : Loaded) (state : State)
@@ -208,6 +209,7 @@ walked-fewer : (walker next : Walker) → next ≡ step_on walker → 0 < steps_
 walked-fewer walker next is some = subst (λ (one : Walker). steps_left one < steps_left walker)
     (sym is) (fewer-steps walker some)
 
+-- a walk over the tables keeps the lock that it began with
 walked-keeper : (walker next : Walker) → next ≡ step_on walker →
     next.change.inputs.keeper ≡ walker.change.inputs.keeper
 walked-keeper walker next is = ap (λ (one : Walker). one.change.inputs.keeper) is
@@ -245,7 +247,8 @@ backed-more walker next answer table is_next is some =
     let appends = ap (λ (one : Walker). appends_left (BackingUp one answer)) is in
     let piece = subst (λ (count : ℕ). 0 < count)
     (ap (λ (found : Option NewTable). unwrap_or (option_map
-    (λ one. pieces_left walker.staged (old_bytes walker.change one.table)) found) 0) is_next) some in
+    (λ one. pieces_left walker.staged (old_bytes walker.change one.table)) found) 0) is_next)
+    some in
     let begun = begun-left walker.staged (old_bytes walker.change table.table) piece in
     let less = walk-appends (λ new. old_bytes walker.change new.table) walker table is_next begun
     piece in

@@ -59,6 +59,7 @@ commit-cause : (came : FolderFault) →
 commit-cause Failed told = refl
 commit-cause NoMemory told = absurd told
 
+-- where the call of the commit ends in a cause from outside, the system failed it at the commit
 pub commit-failed : {A State : Type 0} (next : State) (answer : Result A FolderFault)
     (fault : StageFault) → LeadsTo next at_commit answer (Err fault) →
     IsOutside (cause_of_fault fault.stage fault.fault) → fault ≡ at_commit Failed
@@ -72,6 +73,7 @@ commit-same : (came : FolderFault) → (at_commit came).fault ≡ came
 commit-same Failed = refl
 commit-same NoMemory = refl
 
+-- the fault in which the commit ends is the one that its call met
 pub commit-ended : {A State : Type 0} (next : State) (answer : Result A FolderFault)
     (fault : StageFault) → LeadsTo next at_commit answer (Err fault) → answer ≡ Err fault.fault
 commit-ended next (Err came) fault shown =
@@ -209,7 +211,8 @@ module _ (before now : Moment) (runner : Runner) (answer : FinalAnswer) where
       pub commit-grew : Grew before.admits runner.token 1 before.told now.told
       commit-grew = subst (λ (token : Token). Grew before.admits token 1 before.told now.told)
           stood.same
-          (tells-grow before.admits change.inputs.keeper.token (renames IntentStage Intent) made.answer
+          (tells-grow before.admits change.inputs.keeper.token
+          (renames IntentStage Intent) made.answer
           before.told now.told (λ past is between others. tt) made.told)
 
       -- so it is extended

@@ -60,7 +60,8 @@ later-may named later = tt
 -- the rules allow a death within a call that they allow
 died-keeps : (deeds : SuiteDeeds) (history : History) (token : Token) (call : Call)
     (effect : Effect) → MayCall (life token history) call →
-    Permits deeds (standing token history) call → KeepsRulesOrNone deeds history token call (died effect)
+    Permits deeds (standing token history) call →
+    KeepsRulesOrNone deeds history token call (died effect)
 died-keeps deeds history token (begins command) effect may permits = tt
 died-keeps deeds history token call effect may permits =
     record { life_rule = may; permitted = permits }
@@ -118,7 +119,8 @@ module _ (before : MemoryFolder) (runner : Runner) (state : State)
       died-so = record {
         told = told-so;
         ended = subst (λ (past : Past). is_running runner.token past.history ≡ false) (sym told-so)
-            (rw ((bytes_eq-Decides runner.token runner.token).1 refl) (died-ends (state_call state) _
+            (rw ((bytes_eq-Decides runner.token runner.token).1 refl)
+            (died-ends (state_call state) _
             (life runner.token (past_of before).history) runs-there.runs));
       }
 

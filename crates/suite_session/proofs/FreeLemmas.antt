@@ -63,6 +63,7 @@ own-uncalled token (event ∷ history) free = cases (is_of token event)
     cases true step rest = step
     cases false step rest = rest
 
+-- who changed nothing has called for no lock
 pub free-uncalled : (token : Token) (history : History) → ChangesNothing token history →
     (standing token history).own ≡ lock_uncalled
 free-uncalled token history free =
@@ -115,6 +116,7 @@ kept-held : (keeper : Kept) (Knows : Knowledge → Type 0) (stood : Standing) �
     Keeps keeper Knows stood → stood.own ≡ lock_uncalled → ⊥
 kept-held keeper Knows stood keeps uncalled = absurd (cc (sym keeps.locks.owns ∙ uncalled))
 
+-- a lock that was made has been called for
 made-held : (number : ℕ) (stood : Standing) → stood.own ≡ lock_made number →
     stood.own ≡ lock_uncalled → ⊥
 made-held number stood made uncalled = absurd (cc (sym made ∙ uncalled))
@@ -176,6 +178,7 @@ gathering-free reading = cases (slice_get reading.left 0)
     cases None = tt
     cases (Some name) = tt
 
+-- each call of a state in which nothing is held changes nothing
 state-free : (state : State) → IsFreeState state → IsFreeCall (state_call state)
 state-free (Looking looking) free = tt
 state-free (Reading seen) free = tt
@@ -201,6 +204,7 @@ left-most state = omega arith
 abbrev pub list_calls : ℕ
 list_calls = 43 + most_lower
 
+-- who is still to list the locks has so many calls more than a report has left
 left-listing : (state : State) → IsToList state → report_left state + list_calls ≤ calls_left state
 left-listing (Looking looking) is = omega arith
 left-listing (Reading seen) is = omega arith
@@ -229,6 +233,7 @@ on-fewer old new one same counts =
     let most = left-most new in
     omega (arith, one, same, fewer, most)
 
+-- a call that gathers files counts once among the calls of others
 gathering-other : (reading : Gatherer) → others_by (gathering_call reading) ≡ 1
 gathering-other reading = cases (slice_get reading.left 0)
   where
@@ -263,6 +268,7 @@ with-one : (token : Token) (call : Call) (result : CallResult (CallAnswer call))
 with-one token call result old new is free changes =
     subst (AllByRecursion (λ event. IsFreeCall event.call)) (sym is) (free, changes)
 
+-- a further event makes the events longer by one
 one-longer : (events old : History) (event : Event) → events ≡ event ∷ old →
     length events ≡ length old + 1
 one-longer events old event is = ap (λ (one : History). length one) is ∙ omega arith

@@ -165,14 +165,16 @@ grew-none admits token other (Some before) None grew = absurd grew
 
 -- what grew twice, while the folder admitted no more the second time, grew by both
 pub grew-then : (admits fewer : Admission) (token : Token) (made most : ℕ)
-    (entry between now : Option Past) → Narrows admits fewer → Grew admits token made entry between →
+    (entry between now : Option Past) → Narrows admits fewer →
+    Grew admits token made entry between →
     Grew fewer token most between now → Grew admits token (made + most) entry now
 grew-then admits fewer token made most None None None narrows first second = tt
-grew-then admits fewer token made most (Some entry) (Some between) (Some now) narrows first second = (
-  second.0 ∙ first.0,
-  grows-then admits token entry.history between.history made most now.history first.1
-      (grows-wider admits fewer narrows token between.history most now.history second.1),
-)
+grew-then admits fewer token made most (Some entry) (Some between) (Some now)
+    narrows first second = (
+      second.0 ∙ first.0,
+      grows-then admits token entry.history between.history made most now.history first.1
+          (grows-wider admits fewer narrows token between.history most now.history second.1),
+    )
 grew-then admits fewer token made most None None (Some now) narrows first second = absurd second
 grew-then admits fewer token made most None (Some between) now narrows first second = absurd first
 grew-then admits fewer token made most (Some entry) None now narrows first second = absurd first

@@ -23,6 +23,7 @@ content-more : (reader more : Reader) (next : Option Tab) (content : Option Byte
 content-more reader more (Some table) content shown = (table, refl, shown.1)
 content-more reader more None content shown = absurd shown
 
+-- a reader that goes on has read the table that was next, and keeps what it holds
 pub more-shown : (reader more : Reader) (answer : Result Found FolderFault) →
     Loads reader answer (Ok (More more)) →
     (content : Option Bytes) × ((table : Tab) × (reader.next ≡ Some table)
@@ -40,6 +41,7 @@ content-done : (reader : Reader) (inputs : Inputs) (next : Option Tab) (content 
 content-done reader inputs None content shown = shown
 content-done reader inputs (Some table) content shown = absurd shown
 
+-- a reader that is done keeps the lock that it began with
 pub done-keeper : (reader : Reader) (inputs : Inputs) (answer : Result Found FolderFault) →
     Loads reader answer (Ok (Done inputs)) → inputs.keeper ≡ reader.keeper
 done-keeper reader inputs (Ok found_absent) shown = ap (λ (one : Inputs). one.keeper)
@@ -49,6 +51,7 @@ done-keeper reader inputs (Ok (found_bytes bytes)) shown = ap (λ (one : Inputs)
 done-keeper reader inputs (Ok found_too_large) shown = absurd shown
 done-keeper reader inputs (Err fault) shown = absurd shown
 
+-- and the tables that it read are those of before its last read
 pub done-files : (reader : Reader) (inputs : Inputs) (answer : Result Found FolderFault) →
     Loads reader answer (Ok (Done inputs)) → inputs.files ≡ reader.files
 done-files reader inputs (Ok found_absent) shown = ap (λ (one : Inputs). one.files)
@@ -68,11 +71,13 @@ content-missing reader missing kept (Some table) shown = (
 )
 content-missing reader missing kept None shown = absurd shown
 
+-- no table that is there is told as missing
 content-there : (reader : Reader) (missing : Tab) (kept : Kept) (next : Option Tab)
     (bytes : Bytes) → LoadsContent reader next (Some bytes) (Err (NoTable missing kept)) → ⊥
 content-there reader missing kept (Some table) bytes shown = never-missing table bytes shown.0
 content-there reader missing kept None bytes shown = absurd shown
 
+-- a table that is told as missing is one without which no command goes on, and the lock is kept
 pub missing-shown : (reader : Reader) (missing : Tab) (kept : Kept)
     (answer : Result Found FolderFault) → Loads reader answer (Err (NoTable missing kept)) →
     (is_missing missing None ≡ true) × (kept ≡ reader.keeper)
@@ -89,6 +94,7 @@ content-small : (reader : Reader) (name : Name) (kept : Kept) (next : Option Tab
 content-small reader name kept (Some table) content shown = shown
 content-small reader name kept None content shown = shown
 
+-- a file that is told as too large was found too large, was the next, and the lock is kept
 pub large-shown : (reader : Reader) (name : Name) (kept : Kept)
     (answer : Result Found FolderFault) →
     Loads reader answer (Err (TooLarge name kept)) →
@@ -106,6 +112,7 @@ content-faultless : (reader : Reader) (fault : StageFault) (next : Option Tab)
 content-faultless reader fault (Some table) content shown = shown
 content-faultless reader fault None content shown = shown
 
+-- a fault of a read comes before the commit
 pub fault-before : (reader : Reader) (fault : StageFault) (answer : Result Found FolderFault) →
     Loads reader answer (Err (Fault fault)) → fault.stage ≡ Before
 fault-before reader fault (Err came) shown = ap (λ (one : StageFault). one.stage) shown

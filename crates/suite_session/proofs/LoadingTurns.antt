@@ -82,7 +82,8 @@ pub load-came : (reader : Reader) (answer : Result Found FolderFault) (fault : S
     Loads reader answer (Err (Fault fault)) → answer ≡ Err fault.fault
 load-came reader (Err came) fault shown =
     ap Err (sym (ap (λ (one : StageFault). one.fault) shown))
-load-came reader (Ok found_absent) fault shown = absurd (no-fault reader reader.next None fault shown)
+load-came reader (Ok found_absent) fault shown =
+    absurd (no-fault reader reader.next None fault shown)
 load-came reader (Ok (found_bytes bytes)) fault shown =
     absurd (no-fault reader reader.next (Some bytes) fault shown)
 load-came reader (Ok found_too_large) fault shown = absurd shown
@@ -144,8 +145,10 @@ module _ (before now : Moment) (runner : Runner) (reader : Reader)
     stay-due answer is_answer stays None stood = tt
     stay-due answer is_answer stays (Some past) stood = record {
       asked = stood.holds.asked;
-      commits = stood.holds.commits ∙ sym (stay-stage runner.asked inputs.files inputs.defs answer is_answer stays);
-      shown = stay-shown runner inputs answer past.history stood.holds.holds stood.runs is_answer stays;
+      commits = stood.holds.commits
+          ∙ sym (stay-stage runner.asked inputs.files inputs.defs answer is_answer stays);
+      shown = stay-shown runner inputs answer past.history stood.holds.holds
+          stood.runs is_answer stays;
     }
 
     -- it is given once the lock is free
@@ -371,6 +374,7 @@ decided-quiet runner inputs (BackingUp walker answer) decided fault = fault
 decided-quiet runner inputs (Unlocking keeper answer) decided fault = fault
 decided-quiet runner inputs state decided fault = absurd decided
 
+-- no state behind a read tells a cause from outside
 pub loads-quiet : (runner : Runner) (loading : Loaded) (state : State) →
     LoadsTo runner loading state → TellsOutside state → ⊥
 loads-quiet runner (More more) state leads fault = subst TellsOutside leads fault

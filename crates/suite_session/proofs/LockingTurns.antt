@@ -126,6 +126,7 @@ judged-by-quiet : (judged : Lister) (report : Bool) →
 judged-by-quiet judged true fault = fault
 judged-by-quiet judged false fault = fault
 
+-- so the state behind the last lock that was judged tells of none
 pub judged-quiet : (request : Request) (judged : Lister) →
     TellsOutside (after_judging request judged) → ⊥
 judged-quiet request judged = judged-by-quiet judged _
@@ -146,5 +147,6 @@ looked-quiet : (request : Request) (seen : Lister) (is_none : Bool) →
 looked-quiet request seen true fault = judged-quiet request seen fault
 looked-quiet request seen false fault = fault
 
+-- so the state behind the first listing tells of none
 pub look-quiet : (request : Request) (seen : Lister) → TellsOutside (after_look request seen) → ⊥
 look-quiet request seen fault = looked-quiet request seen _ fault

@@ -67,7 +67,8 @@ module _ (runner : Runner) (told : Option Past) where
       (fault : FolderFault) → answer ≡ Err fault → Meets (cause_of_fault Before fault)
 
   -- that its own call came to one
-  pub fault-meets : (call : Call) (came fault : FolderFault) → Ended call (Err fault) → came ≡ fault →
+  pub fault-meets : (call : Call) (came fault : FolderFault) →
+      Ended call (Err fault) → came ≡ fault →
       Meets (cause_of_end (Folder came))
   fault-meets call came fault ended is = ended came (ap Err (sym is))
 

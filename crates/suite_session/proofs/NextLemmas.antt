@@ -124,7 +124,8 @@ module _ (now : Moment) (runner : Runner) where
               command = runner.asked.command;
               is_asked = runs.asked;
               is_deed = ap (λ (deed : Command → Contents → Option Bytes → Option Contents).
-                  deed runner.asked.command (table_of stager.change.inputs.files) stager.change.inputs.defs)
+                  deed runner.asked.command (table_of stager.change.inputs.files)
+                  stager.change.inputs.defs)
                   ours.is_deed ∙ made-deed runner answer stager.change stands.of_change;
             },
           )) may stands.stands

@@ -91,7 +91,8 @@ module _ (before now : Moment) (runner : Runner) (commit : CommitStage) (Held : 
           tells.0,
           inr (
             met,
-            (stayed before.admits runner.token stood.own was.history past.history tells.1).same_events,
+            (stayed before.admits runner.token stood.own was.history past.history
+                tells.1).same_events,
           ),
         )
         by-told answer None (Some past) stood met tells = absurd tells
@@ -108,13 +109,15 @@ module _ (before now : Moment) (runner : Runner) (commit : CommitStage) (Held : 
             ByOthers before.admits was.history between → Remembers runner.token old was.history →
             Remembers runner.token old between
         before-call was between stood others =
-            tells-others (IsToTell old) runner.token before.admits stood.own was.history between others
+            tells-others (IsToTell old) runner.token before.admits stood.own
+            was.history between others
 
         held-then : (was : Past) (between : History) →
             StandsWhere before.admits (Some was) runner.token (Runs runner commit Held) →
             ByOthers before.admits was.history between → Held (standing runner.token between)
         held-then was between stood others = subst Held
-            (sym (stayed before.admits runner.token stood.own was.history between others).same_standing)
+            (sym (stayed before.admits runner.token stood.own was.history between
+            others).same_standing)
             stood.holds.holds
 
         by-told : (answer : Result (Answer call) FolderFault) (was told : Option Past) →

@@ -74,6 +74,7 @@ damaged-keeper keeper (Ok found_absent) part kept shown = absurd shown
 damaged-keeper keeper (Ok found_too_large) part kept shown = absurd shown
 damaged-keeper keeper (Err fault) part kept shown = absurd shown
 
+-- and so does the refusal of an intent that is too large
 large-keeper : (keeper : Kept) (answer : Result Found FolderFault) (kept : Kept) →
     FindsIntent keeper answer (Err (TooLarge kept)) → kept.token ≡ keeper.token
 large-keeper keeper (Ok found_too_large) kept shown = ap (λ (one : Kept). one.token) shown

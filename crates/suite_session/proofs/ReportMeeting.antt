@@ -80,6 +80,7 @@ gathered-judged token reading stood held = record {
   is_such = held.is_such.0;
 }
 
+-- and so was what it found at the intent
 gathered-watched : (number : ℕ) (found : Found) (reading : Gatherer) (stood : Standing) →
     number ≡ reading.number → (held : HasGathered reading stood) → held.is_such.1.found ≡ found →
     HasWatched number Intent found stood

@@ -75,7 +75,8 @@ as-found false (Some kept) (Some bytes) is = cases (nat_lt table_limit (length b
 
 -- the first problem of a list is that of the first that has one
 first-of : {X : Type 0} (test : X → Bool) (problem : X → Option FileProblem)
-    (bad : X → FileProblem) → ((one : X) → problem one ≡ cond (test one) (Some (bad one)) None) → (all : List X)
+    (bad : X → FileProblem) →
+    ((one : X) → problem one ≡ cond (test one) (Some (bad one)) None) → (all : List X)
     (rest : List (Option FileProblem)) → first_some (map problem all ++ rest)
     ≡ (elim (find test all) [ Some one ↦ Some (bad one) | None ↦ first_some rest ])
 first-of test problem bad each [] rest = refl
@@ -187,6 +188,7 @@ pub record IsUsable (gathered : Gathered) : Type 0 where
   pub tables : (table : Tab) → is_bad gathered table ≡ false
   pub settings : is_large gathered Defs ≡ false
 
+-- files of which no problem is told are usable
 pub none-usable : (gathered : Gathered) → first_problem gathered ≡ None → IsUsable gathered
 none-usable gathered none = by-found (find (is_bad gathered) all_tables) refl none
   where
@@ -212,16 +214,19 @@ fine-small : (large rest : Bool) → (large || rest) ≡ false → large ≡ fal
 fine-small false rest is = refl
 fine-small true rest is = absurd (true≢false is)
 
+-- a file that is wanted and has no problem is there
 fine-stands : (large : Bool) (content : Option Bytes) →
     (large || (true && is_none content)) ≡ false → IsSome content
 fine-stands false (Some bytes) is = refl
 fine-stands false None is = absurd (true≢false is)
 fine-stands true content is = absurd (true≢false is)
 
+-- of usable files passwd is there
 pub passwd-stands : (gathered : Gathered) → IsUsable gathered → IsSome gathered.files.passwd
 passwd-stands gathered usable =
     fine-stands (is_large gathered (Table Passwd)) gathered.files.passwd (usable.tables Passwd)
 
+-- and so is group
 pub group-stands : (gathered : Gathered) → IsUsable gathered → IsSome gathered.files.group
 group-stands gathered usable =
     fine-stands (is_large gathered (Table Group)) gathered.files.group (usable.tables Group)
@@ -245,7 +250,8 @@ module _ (shown : Shown) (gathered : Gathered) (found : HasFound shown.file gath
               IsKept (is_large gathered (Table table)) (table_of gathered.files table)
               (table_of files table)
           by-listed (Some new) is = subst
-              (λ (large : Bool). IsKept large (table_of gathered.files table) (table_of files table))
+              (λ (large : Bool). IsKept large (table_of gathered.files table)
+              (table_of files table))
               (sym (found.taken table new is).0)
               (agree.listed table new (same-listed found.found table ∙ is)
               ∙ sym (found.listed table new is))
@@ -285,7 +291,8 @@ module _ (shown : Shown) (gathered : Gathered) (found : HasFound shown.file gath
               (if large then Some SettingsTooLarge else None) ≡ Some problem →
               first_some (settings_problem (unwrap_or defs []) ∷ []) ≡ Some problem
           by-settings true kept same = ap
-              (λ (one : Option FileProblem). first_some (one ∷ [])) (large-settings defs kept) ∙ same
+              (λ (one : Option FileProblem). first_some (one ∷ [])) (large-settings defs kept)
+              ∙ same
           by-settings false kept same = absurd (cc same)
 
           by-table : (bad : Option Tab) → (elim bad [
@@ -303,7 +310,8 @@ module _ (shown : Shown) (gathered : Gathered) (found : HasFound shown.file gath
         table-same : (table : Tab) → table_of files table ≡ table_of gathered.files table
         table-same table = subst (λ (large : Bool). IsKept large (table_of gathered.files table)
             (table_of files table))
-            (fine-small (is_large gathered (Table table)) _ (usable.tables table)) (table-kept table)
+            (fine-small (is_large gathered (Table table)) _ (usable.tables table))
+            (table-kept table)
 
         -- the second claim
         pub shown-files : files ≡ gathered.files
@@ -336,7 +344,8 @@ module _ (shown : Shown) (gathered : Gathered) (found : HasFound shown.file gath
           shown.file name ≡ Some (found_as (is_large gathered name) content) →
           whole_at shown name ≡ Some content
       whole-found name content fine is = ap (option_and_then whole_content) is
-          ∙ (ap (λ (large : Bool). whole_content (found_as large content)) fine ∙ kept-whole content)
+          ∙ (ap (λ (large : Bool). whole_content (found_as large content)) fine
+          ∙ kept-whole content)
 
       has-shown : HasShown asked shown
       has-shown = record {

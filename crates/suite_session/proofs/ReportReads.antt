@@ -70,6 +70,7 @@ input-quiet (Table table) is given stood met shows = shows
 input-quiet Defs is given stood met shows = shows
 input-quiet name is given stood met shows = absurd (true≢false (sym is))
 
+-- so no read of a gatherer shows a cause
 pub gather-quiet : (reading : Gatherer) → is_input (next_name reading) ≡ true →
     IsQuietFor (reads (next_name reading)) (HasGathered reading)
 gather-quiet reading is given stood held = input-quiet (next_name reading) is given stood
@@ -87,12 +88,14 @@ abbrev pub Came : {A : Type 0} → Result A FolderFault → FolderFault → Type
 Came {A = A} answer fault =
     (answer ≡ Err fault) ⊎ ((given : A) × (answer ≡ Ok given) × (fault ≡ NoMemory))
 
+-- the fault in which the first read of the intent ends came from the call, or memory was wanting
 pub watch-came : (watcher : Lister) (answer : Result Found FolderFault) (fault : FolderFault) →
     ReadsIntentFirst watcher answer (Err fault) → Came answer fault
 watch-came watcher (Ok found) NoMemory shown = inr (found, refl, refl)
 watch-came watcher (Ok found) Failed shown = absurd shown
 watch-came watcher (Err came) fault shown = inl (ap Err (sym shown))
 
+-- and so did that of each further read
 pub gather-came : (reading : Gatherer) (answer : Result Found FolderFault) (fault : FolderFault) →
     ReadsOn reading answer (Err fault) → Came answer fault
 gather-came reading (Ok found_too_large) NoMemory shown = inr (found_too_large, refl, refl)
@@ -107,6 +110,7 @@ watch-on watcher (Ok found) reading shown state =
     λ stood held met shows. absurd (watch-quiet watcher found stood held met shows)
 watch-on watcher (Err fault) reading shown state = absurd shown
 
+-- nor does a further read that leads on
 pub gather-on : (reading : Gatherer) (answer : Result Found FolderFault) (more : Gatherer) →
     ReadsOn reading answer (Ok more) → is_input (next_name reading) ≡ true → (state : State) →
     MeetsBy (reads (next_name reading)) answer (HasGathered reading) state
@@ -120,6 +124,7 @@ pub watch-token : (watcher : Lister) (answer : Result Found FolderFault) (readin
 watch-token watcher (Ok found) reading shown = ap (λ (one : Gatherer). one.token) shown.1
 watch-token watcher (Err fault) reading shown = absurd shown
 
+-- and so does a gatherer that reads on
 pub gather-token : (reading : Gatherer) (answer : Result Found FolderFault) (more : Gatherer) →
     ReadsOn reading answer (Ok more) → more.token ≡ reading.token
 gather-token reading (Ok found) more shown = ap (λ (one : Gatherer). one.token) shown
@@ -176,6 +181,7 @@ few-behind test (one ∷ all) = cases (test one) (few-behind test all)
     cases true few = omega (arith, few)
     cases false few = omega (arith, few)
 
+-- behind the first read of the intent fewer calls are left
 pub watch-calls : (watcher : Lister) (answer : Result Found FolderFault) (reading : Gatherer) →
     ReadsIntentFirst watcher answer (Ok reading) →
     LeavesFewer (Watching watcher) (Gathering reading)

@@ -70,6 +70,7 @@ made-stays tool files made is = cases (new_problem made.files) (files_eq files m
     cases None true equal = refl
     cases None false equal = absurd (true≢false (sym equal))
 
+-- the answer to an action that edits nothing tells no change
 outcome-stays : (tool : Tool) (files : Files) (action : Action) → action.script ≡ no_edits →
     is_change (answer_outcome tool files (outcome_of action files)).cause ≡ false
 outcome-stays tool files action none =
@@ -131,11 +132,13 @@ by-sorting : (sorts : Bool) (sorting reporting : Action) → sorts ≡ false →
 by-sorting false sorting reporting is none = none
 by-sorting true sorting reporting is none = absurd (true≢false is)
 
+-- a tool that lists, or else changes, edits nothing where it lists
 by-listing : (lists : Bool) (listing changing : Action) → lists ≡ true →
     listing.script ≡ no_edits → (if lists then listing else changing).script ≡ no_edits
 by-listing true listing changing is none = none
 by-listing false listing changing is none = absurd (true≢false (sym is))
 
+-- a request that a report answers edits nothing, whatever its tool
 tool-unedited : (tool : Tool) (request : Request) (input : Bytes) (day : ℕ) (files : Files)
     (settings : List Setting) → broken_rule tool request.options ≡ None →
     is_reporting tool request ≡ true →
@@ -179,7 +182,8 @@ report-stays words request input day files defs asks is = cases (files_problem f
     action = action_of request input day files settings
 
     under : (is_one : Bool) → is_one ≡ false →
-        is_change (if is_one then answer_lines files (batch (line_requests input) day settings files)
+        is_change (if is_one then answer_lines files
+        (batch (line_requests input) day settings files)
         else answer_outcome request.tool files (outcome_of action files)).cause ≡ false
     under true single = absurd (true≢false single)
     under false single = outcome-stays request.tool files action

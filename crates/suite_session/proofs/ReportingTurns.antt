@@ -206,7 +206,8 @@ module _ (before now : Moment) (runner : Runner) (reading : Gatherer)
       memory-stands (Answering answer) (inr (none ∙ ap memory_answer (problem-stage problem)))
   files-stands readable None is (Answering answer) (inl (is_answer, stays)) =
       reported-gives answer
-      (answer_on runner.asked report.gathered.files report.gathered.defs).cause is_answer.has_cause stays
+      (answer_on runner.asked report.gathered.files report.gathered.defs).cause
+      is_answer.has_cause stays
       (subst (Says runner.asked answer) is_answer.has_cause
       (answer-says runner.asked report.gathered.files report.gathered.defs answer is_answer))
       (λ one reported asked. stays-shown runner report is_one small readable one reported asked is
@@ -226,7 +227,8 @@ module _ (before now : Moment) (runner : Runner) (reading : Gatherer)
 
   -- on an intent that doesn't read
   intent-stands : (cause : Cause) (state : State) →
-      AnswersWith runner.asked.request.tool cause state → IsPlain cause → HasMetNow now runner cause → Before ≡ stage_of cause →
+      AnswersWith runner.asked.request.tool cause state → IsPlain cause →
+      HasMetNow now runner cause → Before ≡ stage_of cause →
       StandsAs now runner state
   intent-stands cause state told plain met is =
       let shown = confirmed made.answer made.shown in

@@ -107,6 +107,7 @@ one-call call = cases (is_append call)
 both-fewer : (new old more less : ℕ) → new < old → more ≤ less → new + more < old + less
 both-fewer new old more less fewer few = omega (arith, fewer, few)
 
+-- who leaves fewer calls has fewer calls and appends left in all
 call-fewer : (old new : State) → LeavesFewer old new →
     calls_left new + appends_left new < calls_left old + appends_left old
 call-fewer old new counts =

@@ -258,12 +258,14 @@ own-there token history newer older event own parts none =
     ∙ (ap (λ (one : History). own_events token one) (sym parts) ∙ none)) in
     absurd (cc (sym there ∙ empty))
 
+-- who made no call has met nothing
 met-there : (token : Token) (history : History) (call : Call) (answer : Answer call)
     (Stood : Standing → Type 0) → own_events token history ≡ [] →
     Met token call answer Stood history → ⊥
 met-there token history call answer Stood none met =
     own-there token history met.newer met.older _ refl met.parts none
 
+-- and has met no intent
 intent-there : (token : Token) (history : History) (found : Found) →
     own_events token history ≡ [] → MetIntent token found history → ⊥
 intent-there token history found none (inl met) = met-there token history _ _ _ none met

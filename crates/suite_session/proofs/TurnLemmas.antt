@@ -244,7 +244,8 @@ module _ (before now : Moment) (runner : Runner) (commit : CommitStage) (Held : 
       StandsIn now token (Keeps keeper KnowsAnything) → StandsAs now runner state
   leaves-turn keeper cause (Unlocking kept answer) shown plain met quiet is owned next =
       let tool = runner.asked.request.tool in
-      let has = ap (λ (given : FinalAnswer). given.outcome.cause) shown.1 ∙ given-cause tool cause in
+      let has = ap (λ (given : FinalAnswer). given.outcome.cause) shown.1
+      ∙ given-cause tool cause in
       let at = is ∙ ap stage_of (sym has) in
       record {
         same = ap (λ (one : Kept). one.token) shown.0 ∙ owned;
@@ -280,7 +281,8 @@ module _ (before now : Moment) (runner : Runner) (commit : CommitStage) (Held : 
         never_falls = never_falls;
         risen = risen;
       };
-      makes_one = subst (λ one. MakesOne before.told now.told runner.token one (FindsNoMemory state))
+      makes_one = subst (λ one. MakesOne before.told now.told runner.token one
+          (FindsNoMemory state))
           (sym is) (makes-one before now runner commit Held stands token same call no_answer Shows
           made old state meets);
       remembers = stays-told before now runner commit Held stands token same call no_answer Shows

@@ -43,7 +43,8 @@ leads next (Err fault) state shown = absurd shown
 -- a call on the way out may follow whatever is to be told, which is no fault outside the session
 pub out-follows : (cause met : Cause) → cause ≡ met → (IsOutside cause → ⊥) → (call : Call) →
     IsLeavingCall call → MayFollow met call
-out-follows cause met is quiet call leaving = by-met met (λ outside. quiet (subst IsOutside (sym is) outside))
+out-follows cause met is quiet call leaving =
+    by-met met (λ outside. quiet (subst IsOutside (sym is) outside))
   where
     by-met : (one : Cause) → (IsOutside one → ⊥) → MayFollow one call
     by-met (DiskFault stage) inside = absurd (inside tt)
@@ -88,7 +89,8 @@ module _ (before now : Moment) (runner : Runner) (answer : FinalAnswer) where
         turns before now runner commit (Keeps keeper KnowsAnything) stood.stands keeper.token
         stood.same call tt _ (λ result stood. refl) made lawful never_falls
         (Unlocking keeper answer) (Unlocking kept answer) called
-        (quiet-on call (λ given one met shows. shows) made.answer tt _ _ (locks-done _ _ _ made.shown).1)
+        (quiet-on call (λ given one met shows. shows) made.answer tt _ _
+        (locks-done _ _ _ made.shown).1)
         (λ met is_told. (
           is_told,
           out-follows answer.outcome.cause met is_told stood.quiet call tt,
@@ -123,13 +125,15 @@ module _ (before now : Moment) (runner : Runner) (answer : FinalAnswer) where
         let is = leads (freeing_of keeper) made.answer freeing made.shown in
         let call = writes FreeStage free_text in
         let stands = goes-on before now runner commit (Keeps keeper KnowsAnything) stood.stands
-        keeper.token stood.same call tt _ (λ result stood. refl) made (HasStagedFree freeing) next in
+        keeper.token stood.same call tt _ (λ result stood. refl) made
+        (HasStagedFree freeing) next in
         let kept_work = subst (λ (token : Token). Leaves work token before now) stood.same
         left in
         turns before now runner commit (Keeps keeper KnowsAnything) stood.stands keeper.token
         stood.same call tt _ (λ result stood. refl) made lawful never_falls
         (Unlocking keeper answer) (Freeing freeing answer) called
-        (quiet-on call (λ given one met shows. shows) made.answer tt _ _ (locks-done _ _ _ made.shown).1)
+        (quiet-on call (λ given one met shows. shows) made.answer tt _ _
+        (locks-done _ _ _ made.shown).1)
         (λ met is_told. (
           is_told,
           out-follows answer.outcome.cause met is_told stood.quiet call tt,
@@ -171,7 +175,8 @@ module _ (before now : Moment) (runner : Runner) (answer : FinalAnswer) where
         turns before now runner commit (HasStagedFree freeing) stood.stands freeing.token
         stood.same call tt _ (λ result stood. refl) made lawful never_falls
         (Freeing freeing answer) (Answering answer) refl
-        (quiet-on call (λ given one met shows. shows) made.answer tt _ _ (locks-done _ _ _ made.shown).1)
+        (quiet-on call (λ given one met shows. shows) made.answer tt _ _
+        (locks-done _ _ _ made.shown).1)
         (λ met is_told. (
           inl is_told,
           out-follows answer.outcome.cause met is_told stood.quiet call tt,

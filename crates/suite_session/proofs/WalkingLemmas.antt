@@ -86,6 +86,7 @@ install-calls Stood walker next = cases (has_staged walker)
     cases true = tt
     cases false = tt
 
+-- a call that installs a table leaves the command of the intent as it was
 pub install-quiet : (walker : Walker) (next : NewTable)
     (result : CallResult (Answer (install_call walker next))) (stood : Standing) →
     own_command (standing_step (install_call walker next) result stood) ≡ own_command stood
@@ -99,6 +100,7 @@ install-quiet walker next = cases (has_staged walker)
     cases true result stood = refl
     cases false result stood = refl
 
+-- a call that installs a table tells no cause by itself
 pub install-shows : (walker : Walker) (next : NewTable) → IsQuiet (install_call walker next)
 install-shows walker next = cases (has_staged walker)
   where
@@ -142,6 +144,7 @@ one-more most news few true table content = omega (arith, few)
 one-more most news few false table None = omega (arith, few)
 one-more most news few false table (Some bytes) = omega (arith, few)
 
+-- of some tables at most as many are changed
 pub changed-most : (tables : List Tab) (old new : Contents) →
     length (changed_among tables old new) ≤ length tables
 changed-most [] old new = search (arith, rules)
@@ -170,18 +173,22 @@ fewer-steps walker some = elim (cases_Bool (has_staged walker)) [
     less : (staged : Bool) → has_staged walker ≡ staged → 0 < steps_left walker →
         then-left staged < steps_left walker
     less true is left = subst (λ (one : Bool).
-        then-left true < 2 * (length (changed walker.change) - walker.place) - (if one then 1 else 0))
+        then-left true < 2 * (length (changed walker.change) - walker.place)
+        - (if one then 1 else 0))
         (sym is) (omega (
           arith,
           subst (λ (one : Bool).
-              0 < 2 * (length (changed walker.change) - walker.place) - (if one then 1 else 0)) is left,
+              0 < 2 * (length (changed walker.change) - walker.place) - (if one then 1 else 0))
+              is left,
         ))
     less false is left = subst (λ (one : Bool).
-        then-left false < 2 * (length (changed walker.change) - walker.place) - (if one then 1 else 0))
+        then-left false < 2 * (length (changed walker.change) - walker.place)
+        - (if one then 1 else 0))
         (sym is) (omega (
           arith,
           subst (λ (one : Bool).
-              0 < 2 * (length (changed walker.change) - walker.place) - (if one then 1 else 0)) is left,
+              0 < 2 * (length (changed walker.change) - walker.place) - (if one then 1 else 0))
+              is left,
         ))
 
 -- a step on keeps the change

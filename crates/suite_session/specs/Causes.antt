@@ -143,7 +143,8 @@ pub record HasFailed (token : Token) (history : History) : Type 0 where
   pub call : Call
   pub no_answer : (status : ℕ) → call ≢ answers status
   pub effect : Effect
-  pub parts : history ≡ newer ++ record { token = token; call = call; result = failed effect } ∷ older
+  pub parts : history ≡ newer
+      ++ record { token = token; call = call; result = failed effect } ∷ older
 
 -- ---- All causes
 

@@ -81,7 +81,8 @@ pub record AnswersLarge (runner : Runner) (answer : Answer) (history : History) 
   pub reader : Reader
   pub sound : AreSound reader.next reader.files
   pub is_next : name ≡ next_name reader.next
-  pub met : Met runner.token (reads (next_name reader.next)) found_too_large (HasRead reader) history
+  pub met : Met runner.token (reads (next_name reader.next)) found_too_large
+      (HasRead reader) history
   pub says : answer ≡ given_for runner.asked.request.tool (TooLarge (File name))
 
 -- At an earlier moment of the history the session was a keeper that hadn't called its commit, and none

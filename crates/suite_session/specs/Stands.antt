@@ -209,7 +209,8 @@ FindsNoMemory state = ⊥
 
 -- the history is longer, where one is told
 abbrev pub Extends : Option Past → Option Past → Type 0
-Extends before now = WhereTold before now (λ first old new. (newer : History) × (new ≡ newer ++ old))
+Extends before now =
+    WhereTold before now (λ first old new. (newer : History) × (new ≡ newer ++ old))
 
 -- Turns of the session of one token, between two moments, to what stands so: the history got events
 -- that were admitted from others, and at most so many of the session's own; a lawful one stays lawful;

@@ -29,7 +29,8 @@ impl<T: Tools> Session<T> {
         ensures told { OnErr result (past_of folder.new ≡ past_of folder.old) }
         ensures faults { faults_of folder.new ≡ faults_of folder.old }
         ensures lawful { StaysOurs (moment_of folder.old) (moment_of folder.new) }
-        ensures others { KeepsOthers (moment_of folder.old) (moment_of folder.new) self.old self.new }
+        ensures others { KeepsOthers (moment_of folder.old) (moment_of folder.new)
+            self.old self.new }
     {
         if let Phase::Waiting(asked) = &self.phase {
             let answer = memory_answer(self.alloc, CommitStage::Before);

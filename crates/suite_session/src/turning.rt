@@ -50,7 +50,8 @@ fn stepped<T: Tools, F: Folder>(
     requires { Belongs (F.moment folder.old) (Phase.Begun runner state) }
     ensures turns { SessionTurns (F.moment folder.old) (F.moment folder.new)
         (Phase.Begun runner state) result }
-    ensures nearer { given_in state ≡ None → phase_left result < calls_left state + appends_left state }
+    ensures nearer { given_in state ≡ None →
+        phase_left result < calls_left state + appends_left state }
     ensures ends { IsSome (given_in state) → IsSome (outcome_of result) }
 {
     match state {

@@ -33,15 +33,21 @@ returns-in-Err-clause-syntax g c = λ found is. (
 pub returns-in-Err-clause-ran : goal.returns-in-Err-clause-ran
 returns-in-Err-clause-ran g c = λ request asks.
     let was = streams (g.O.Sink.moment c.args.out.now) (g.E.Sink.moment c.args.err.now) in
-    let holds = streams (g.O.Sink.moment c.refuse_words.new.out) (g.E.Sink.moment c.refuse_words.new.err) in
+    let holds = streams (g.O.Sink.moment c.refuse_words.new.out)
+    (g.E.Sink.moment c.refuse_words.new.err) in
     let memory = elim c.in-Err.ensures.first_fault as (λ one. c.in-Err.fault ≡ NoMemory) [
       | inl found ↦ absurd (no-fault c.args.words.now request c.in-Err.fault asks found)
       | inr memory ↦ memory
     ] in
     inl (
       refl,
-      ends-without_supply request.tool _ _ was holds c.refuse_words.result (Memory Before)
-          (refl, (record { gave = refl; faults = refl }, none-came (g.S.Source.moment c.args.input.now).left))
+      ends-without_supply request.tool _ _ was holds c.refuse_words.result (Memory Before) (
+        refl,
+        (
+          record { gave = refl; faults = refl },
+          none-came (g.S.Source.moment c.args.input.now).left,
+        ),
+      )
           (subst (λ (one : Option Tool).
           EndsEarly one (told request.tool (Memory Before)) was holds c.refuse_words.result)
           (named-asked c.args.words.now request asks)
@@ -58,11 +64,13 @@ returns-in-Ok-clause-ran g c = λ request asks.
     let entry = g.F.Folder.moment c.args.folder.now in
     let now = g.F.Folder.moment c.run_request.new.folder in
     let was = streams (g.O.Sink.moment c.args.out.now) (g.E.Sink.moment c.args.err.now) in
-    let holds = streams (g.O.Sink.moment c.run_request.new.out) (g.E.Sink.moment c.run_request.new.err) in
+    let holds = streams (g.O.Sink.moment c.run_request.new.out)
+    (g.E.Sink.moment c.run_request.new.err) in
     let same = one-request c.args.words.now (request_in c.in-Ok.parsed) request
     c.in-Ok.ensures.request asks in
     let first = supplies (g.S.Source.moment c.args.input.now) (g.C.Clock.moment c.args.clock.now) in
-    let last = supplies (g.S.Source.moment c.run_request.new.input) (g.C.Clock.moment c.run_request.new.clock) in
+    let last = supplies (g.S.Source.moment c.run_request.new.input)
+    (g.C.Clock.moment c.run_request.new.clock) in
     subst (λ (one : Request). ((c.run_request.new.folder ≡ c.args.folder.now)
     × EndsUnsupplied one.tool first last was holds c.run_request.result)
     ⊎ ((text : Bytes) × (day : ℕ) × AreSupplied one.tool first last text day

@@ -25,12 +25,14 @@ conclude-requires g c =
     let entry = g.F.Folder.moment c.args.folder.now in
     let between = g.F.Folder.moment c.to_answer-session.new.folder in
     let was = streams (g.O.Sink.moment c.args.out.now) (g.E.Sink.moment c.args.err.now) in
-    let holds = streams (g.O.Sink.moment c.put_answer-put.new.out) (g.E.Sink.moment c.put_answer-put.new.err) in
+    let holds = streams (g.O.Sink.moment c.put_answer-put.new.out)
+    (g.E.Sink.moment c.put_answer-put.new.err) in
     let session = c.to_answer-session.result in
     let waits = waiting-is c.args.session c.requires in
     record {
       belongs = subst (λ (one : Phase). Belongs between one) (sym c.after_streams.ensures)
-          (streams-belong waits.0 entry between c.args.tool was holds c.put_answer-put.result session
+          (streams-belong waits.0 entry between c.args.tool was holds
+          c.put_answer-put.result session
           (c.to_answer-session.ensures.comes waits.0 waits.1) c.to_answer-session.ensures.answers
           c.put_answer-put.ensures);
       answers = subst (λ (one : Phase). IsSome (answer_of one)) (sym c.after_streams.ensures)
@@ -43,7 +45,8 @@ returns g c = λ asked is tool.
     let between = g.F.Folder.moment c.to_answer-session.new.folder in
     let now = g.F.Folder.moment c.conclude.new.folder in
     let was = streams (g.O.Sink.moment c.args.out.now) (g.E.Sink.moment c.args.err.now) in
-    let holds = streams (g.O.Sink.moment c.put_answer-put.new.out) (g.E.Sink.moment c.put_answer-put.new.err) in
+    let holds = streams (g.O.Sink.moment c.put_answer-put.new.out)
+    (g.E.Sink.moment c.put_answer-put.new.err) in
     finishes asked entry between now was holds c.conclude.result c.put_answer-put.result
     c.args.tool c.to_answer-session.result c.after_streams.result tool
     (c.to_answer-session.ensures.comes asked is) c.to_answer-session.ensures.answers

@@ -17,7 +17,8 @@ returns-in-Ok g c =
     let asked : Question = question c.args.words.now (request_in c.args.parsed)
     c.args.supplied.input c.args.supplied.day in
     finished-from asked entry between now was holds c.finish.result [] c.enter.ensures.told
-    (stays-turns entry between [] {S = Unit {0}} {T = ⊥} c.enter.ensures.told c.enter.ensures.narrows
+    (stays-turns entry between [] {S = Unit {0}} {T = ⊥} c.enter.ensures.told
+    c.enter.ensures.narrows
     c.enter.ensures.never_falls tt (λ none. none))
     (c.finish.ensures asked c.in-Ok.ensures.session refl)
 

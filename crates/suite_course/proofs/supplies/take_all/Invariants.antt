@@ -9,7 +9,8 @@ use Rattle.suite_course.proofs.supplies.take_all.Given as goal
 -- take failed
 abbrev pub invariant-pieces : goal.invariant-pieces
 invariant-pieces g l =
-    WhereBytesTold (g.S.Source.moment l.initial.source).left (g.S.Source.moment l.source).left (Came l.input)
+    WhereBytesTold (g.S.Source.moment l.initial.source).left
+    (g.S.Source.moment l.source).left (Came l.input)
     × (length l.input ≤ table_limit + 1)
     × NoneFailed (g.S.Source.moment l.initial.source).faults (g.S.Source.moment l.source).faults
 

@@ -22,7 +22,8 @@ returns-in-Ok g c = record {
   turns =
       let before = g.F.Folder.moment c.args.folder.now in
       let now = g.F.Folder.moment c.back_up_next.new.folder in
-      let shown = at-place c.args.backing (some-left _ _ c.left.ensures c.if-left-eq0.false) c.in-Ok.ensures.call in
+      let shown = at-place c.args.backing (some-left _ _ c.left.ensures c.if-left-eq0.false)
+      c.in-Ok.ensures.call in
       let done = leads-done (step_on c.args.backing) before_commit _ c.in-Ok.backing shown.1.shown
       in
       turns before now c.args.runner.now Before (BacksUp c.args.backing)
@@ -44,7 +45,8 @@ returns-in-Ok g c = record {
       (step-change c.args.backing) shown.1 c.in-Ok.ensures.next)
       (λ fault. fault);
   counts =
-      let shown = at-place c.args.backing (some-left _ _ c.left.ensures c.if-left-eq0.false) c.in-Ok.ensures.call in
+      let shown = at-place c.args.backing (some-left _ _ c.left.ensures c.if-left-eq0.false)
+      c.in-Ok.ensures.call in
       backed-calls c.args.backing c.in-Ok.backing c.args.answer shown.0 shown.2
       (leads-on (step_on c.args.backing) before_commit shown.1.answer c.in-Ok.backing shown.1.shown)
       (some-left _ _ c.left.ensures c.if-left-eq0.false) c.requires.whole;
@@ -55,7 +57,8 @@ returns-in-Err g c = record {
   turns =
       let before = g.F.Folder.moment c.args.folder.now in
       let now = g.F.Folder.moment c.back_up_next.new.folder in
-      let shown = at-place c.args.backing (some-left _ _ c.left.ensures c.if-left-eq0.false) c.in-Err.ensures.call in
+      let shown = at-place c.args.backing (some-left _ _ c.left.ensures c.if-left-eq0.false)
+      c.in-Err.ensures.call in
       let fault = c.in-Err.fault in
       let stage = leads-stage (step_on c.args.backing) Before shown.1.answer fault shown.1.shown in
       faults before now c.args.runner.now Before (BacksUp c.args.backing)

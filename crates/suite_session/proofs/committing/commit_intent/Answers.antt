@@ -35,16 +35,19 @@ returns-in-Ok g c = record {
               c.in-Ok.ensures.call c.commit.ensures.own c.in-Ok.installing
               (leads-on (walk_of c.args.staged.change) at_commit c.in-Ok.ensures.call.answer
               c.in-Ok.installing c.in-Ok.ensures.call.shown) c.in-Ok.ensures.next;
-          grew = commit-grew before now c.args.runner.now c.args.answer c.args.staged c.requires.stands _
+          grew = commit-grew before now c.args.runner.now c.args.answer c.args.staged
+              c.requires.stands _
               c.in-Ok.ensures.call c.commit.ensures.own;
           lawful = λ deeds ours. c.commit.ensures.lawful deeds
-              (is-deed before now c.args.runner.now c.args.answer c.args.staged c.requires.stands deeds
+              (is-deed before now c.args.runner.now c.args.answer c.args.staged
+              c.requires.stands deeds
               ours);
           narrows = c.in-Ok.ensures.call.narrows;
           never_falls = c.commit.ensures.faults.never_falls;
           risen = λ fault. absurd fault;
         };
-        makes_one = subst (λ (one : Call). MakesOne before.told now.told c.args.runner.now.token one ⊥)
+        makes_one = subst (λ (one : Call). MakesOne before.told now.told
+            c.args.runner.now.token one ⊥)
             (sym (commits-whole c.args.staged c.requires.whole))
             (makes-one before now c.args.runner.now Before
             (HasStagedIntent c.args.staged) c.requires.stands.stands _ c.requires.stands.same
@@ -77,22 +80,26 @@ returns-in-Err g c = record {
       in
       record {
         turns = record {
-          stands = unsure-stands before now c.args.runner.now c.args.answer c.args.staged c.requires.stands
+          stands = unsure-stands before now c.args.runner.now c.args.answer c.args.staged
+              c.requires.stands
               _
               c.in-Err.ensures.call c.commit.ensures.own fault c.given_up.result c.given_up.ensures
               c.in-Err.ensures.unsure
               (fault-met before now c.args.runner.now Before
               (HasStagedIntent c.args.staged) c.requires.stands.stands _ c.requires.stands.same
               (renames IntentStage Intent) tt _ c.in-Err.ensures.call fault.stage fault.fault is);
-          grew = commit-grew before now c.args.runner.now c.args.answer c.args.staged c.requires.stands _
+          grew = commit-grew before now c.args.runner.now c.args.answer c.args.staged
+              c.requires.stands _
               c.in-Err.ensures.call c.commit.ensures.own;
           lawful = λ deeds ours. c.commit.ensures.lawful deeds
-              (is-deed before now c.args.runner.now c.args.answer c.args.staged c.requires.stands deeds
+              (is-deed before now c.args.runner.now c.args.answer c.args.staged
+              c.requires.stands deeds
               ours);
           narrows = c.in-Err.ensures.call.narrows;
           never_falls = c.commit.ensures.faults.never_falls;
           risen = λ told. c.commit.ensures.faults.failed (c.in-Err.is
-              ∙ ap Err (commit-failed (walk_of c.args.staged.change) c.in-Err.ensures.call.answer fault
+              ∙ ap Err (commit-failed (walk_of c.args.staged.change)
+              c.in-Err.ensures.call.answer fault
               c.in-Err.ensures.call.shown (answers-fault tool
               (cause_of_fault fault.stage fault.fault) c.given_up.result c.given_up.ensures told)));
         };

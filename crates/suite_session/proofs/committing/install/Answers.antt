@@ -34,7 +34,8 @@ returns-in-Ok g c = record {
       let shown = at-piece (λ one. pieces_left walker.staged one.bytes)
       (next_table walker) some c.in-Ok.ensures.call in
       let done = leads-done (append_on walker) after_commit _ c.in-Ok.installing shown.1.shown in
-      turns before now c.args.runner.now Committed (Installs walker) c.requires.stands (token_of walker)
+      turns before now c.args.runner.now Committed (Installs walker) c.requires.stands
+      (token_of walker)
       c.requires.same (installs_more walker shown.0) tt _ (λ result stood. refl) shown.1
       c.append_next.ensures.lawful c.append_next.ensures.faults.never_falls
       (Installing walker c.args.answer) (Installing c.in-Ok.installing c.args.answer)
@@ -54,7 +55,8 @@ returns-in-Ok g c = record {
       let shown = at-piece (λ one. pieces_left walker.staged one.bytes)
       (next_table walker) some c.in-Ok.ensures.call in
       installed-more walker c.in-Ok.installing c.args.answer shown.0 shown.2
-      (leads-on (append_on walker) after_commit shown.1.answer c.in-Ok.installing shown.1.shown) some;
+      (leads-on (append_on walker) after_commit shown.1.answer c.in-Ok.installing shown.1.shown)
+      some;
 }
 
 pub returns-in-Err : goal.returns-in-Err
@@ -74,7 +76,8 @@ returns-in-Err g c = record {
       c.append_next.ensures.lawful c.append_next.ensures.faults.never_falls
       (Installing walker c.args.answer) c.given_up.result (adds-on walker shown.0 shown.2 some)
       (λ met none. absurd none) fault.stage fault.fault
-      (leads-ended (append_on walker) Committed _ fault shown.1.shown) c.given_up.ensures (sym stage)
+      (leads-ended (append_on walker) Committed _ fault shown.1.shown)
+      c.given_up.ensures (sym stage)
       (λ failed. c.append_next.ensures.faults.failed (c.in-Err.is ∙ ap Err
       (leads-failed (append_on walker) Committed _ fault shown.1.shown
       (fault-outside fault.stage fault.fault failed))));

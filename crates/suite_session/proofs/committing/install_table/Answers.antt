@@ -22,7 +22,8 @@ returns-in-Ok g c = record {
   turns =
       let before = g.F.Folder.moment c.args.folder.now in
       let now = g.F.Folder.moment c.install_next.new.folder in
-      let shown = at-place c.args.installing (some-left _ _ c.left.ensures c.if-left-eq0.false) c.in-Ok.ensures.call in
+      let shown = at-place c.args.installing (some-left _ _ c.left.ensures c.if-left-eq0.false)
+      c.in-Ok.ensures.call in
       let done = leads-done (step_on c.args.installing) after_commit _ c.in-Ok.installing
       shown.1.shown in
       turns before now c.args.runner.now Committed (Installs c.args.installing)
@@ -43,7 +44,8 @@ returns-in-Ok g c = record {
       shown.1.shown) c.in-Ok.ensures.next)
       (λ fault. fault);
   counts =
-      let shown = at-place c.args.installing (some-left _ _ c.left.ensures c.if-left-eq0.false) c.in-Ok.ensures.call in
+      let shown = at-place c.args.installing (some-left _ _ c.left.ensures c.if-left-eq0.false)
+      c.in-Ok.ensures.call in
       installed-calls c.args.installing c.in-Ok.installing c.args.answer shown.0 shown.2
       (leads-on (step_on c.args.installing) after_commit shown.1.answer c.in-Ok.installing
       shown.1.shown)
@@ -55,7 +57,8 @@ returns-in-Err g c = record {
   turns =
       let before = g.F.Folder.moment c.args.folder.now in
       let now = g.F.Folder.moment c.install_next.new.folder in
-      let shown = at-place c.args.installing (some-left _ _ c.left.ensures c.if-left-eq0.false) c.in-Err.ensures.call in
+      let shown = at-place c.args.installing (some-left _ _ c.left.ensures c.if-left-eq0.false)
+      c.in-Err.ensures.call in
       let fault = c.in-Err.fault in
       let stage = leads-stage (step_on c.args.installing) Committed shown.1.answer fault
       shown.1.shown in

@@ -41,7 +41,8 @@ returns-in-Ok g c = record {
       (λ fault. fault);
   counts =
       intended-calls c.args.backing c.in-Ok.staged c.args.answer
-      (leads-on (begun_of c.args.backing.change) before_commit _ c.in-Ok.staged c.in-Ok.ensures.call.shown)
+      (leads-on (begun_of c.args.backing.change) before_commit _ c.in-Ok.staged
+      c.in-Ok.ensures.call.shown)
       c.requires.left c.requires.whole;
 }
 
@@ -51,7 +52,8 @@ returns-in-Err g c = record {
       let before = g.F.Folder.moment c.args.folder.now in
       let now = g.F.Folder.moment c.stage_intent.new.folder in
       let fault = c.in-Err.fault in
-      let stage = leads-stage (begun_of c.args.backing.change) Before c.in-Err.ensures.call.answer fault
+      let stage = leads-stage (begun_of c.args.backing.change) Before
+      c.in-Err.ensures.call.answer fault
       c.in-Err.ensures.call.shown in
       faults before now c.args.runner.now Before (BacksUp c.args.backing)
       c.requires.stands.stands (token_of c.args.backing) c.requires.stands.same

@@ -18,7 +18,8 @@ returns-in-Ok g c = record {
   turns =
       let before = g.F.Folder.moment c.args.folder.now in
       let now = g.F.Folder.moment c.ask.new.folder in
-      rw c.after_judging.ensures (turns before now c.args.runner.now Before (HasReadHeld c.args.asking) c.requires.1
+      rw c.after_judging.ensures
+      (turns before now c.args.runner.now Before (HasReadHeld c.args.asking) c.requires.1
       c.args.asking.token c.requires.0 (asks c.args.asking.asked) tt _ (λ result stood. refl)
       c.in-Ok.ensures.call
       c.ask.ensures.lawful c.ask.ensures.faults.never_falls
@@ -34,7 +35,8 @@ returns-in-Ok g c = record {
       c.in-Ok.ensures.call (HasJudged c.in-Ok.judged) c.in-Ok.ensures.next))
       (judged-quiet c.args.runner.now.asked.request c.in-Ok.judged));
   counts =
-      rw c.after_judging.ensures (ask-calls c.args.runner.now.asked.request c.args.asking c.in-Ok.judged);
+      rw c.after_judging.ensures
+      (ask-calls c.args.runner.now.asked.request c.args.asking c.in-Ok.judged);
 }
 
 pub returns-in-Err : goal.returns-in-Err

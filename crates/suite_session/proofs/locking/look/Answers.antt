@@ -32,7 +32,8 @@ returns-in-Ok g c = record {
       c.in-Ok.seen c.in-Ok.ensures.call c.in-Ok.ensures.next)
       (look-quiet c.args.runner.now.asked.request c.in-Ok.seen));
   counts =
-      rw c.after_look.ensures (look-calls c.args.runner.now.asked.request c.args.looking c.in-Ok.seen);
+      rw c.after_look.ensures (look-calls c.args.runner.now.asked.request
+      c.args.looking c.in-Ok.seen);
 }
 
 pub returns-in-Err : goal.returns-in-Err

@@ -31,7 +31,8 @@ returns-in-Ok g c = record {
       (λ met none. absurd none)
       (read-stands before now c.args.runner.now c.args.seen c.requires.2 c.requires.0 c.requires.3
       c.in-Ok.told
-      c.in-Ok.ensures.call c.in-Ok.ensures.next) (read-quiet c.args.runner.now.asked.request c.in-Ok.told));
+      c.in-Ok.ensures.call c.in-Ok.ensures.next)
+      (read-quiet c.args.runner.now.asked.request c.in-Ok.told));
   counts =
       rw c.after_read.ensures (read-calls c.args.runner.now.asked.request c.args.seen c.in-Ok.told);
 }

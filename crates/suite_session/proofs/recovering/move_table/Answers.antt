@@ -81,6 +81,7 @@ returns-in-Err g c = record {
   counts =
       let moving = c.args.moving in
       let some = some-left _ _ c.pieces.ensures c.if-pieces-eq0.false in
-      answers-append _ _ c.stopped.result c.stopped.ensures (Moving moving) (moving-some moving) some
+      answers-append _ _ c.stopped.result c.stopped.ensures (Moving moving)
+      (moving-some moving) some
       (moving-appends moving some);
 }

@@ -30,7 +30,8 @@ returns-in-Ok g c = record {
       let done = leads-done (moved_once c.args.moving) before_commit _ c.in-Ok.recovering
       shown.1.shown in
       turns before now c.args.runner.now Before (HasStagedNext c.args.moving) c.requires.stands.2
-      c.args.moving.keeper.token c.requires.stands.0 (installs shown.0) tt _ (λ result stood. refl) shown.1
+      c.args.moving.keeper.token c.requires.stands.0 (installs shown.0) tt _
+      (λ result stood. refl) shown.1
       c.move_next.ensures.lawful c.move_next.ensures.faults.never_falls (Moving c.args.moving)
       (Recovering c.in-Ok.recovering) (moves-whole c.args.moving shown.0 shown.2 c.requires.whole)
       (quiet-on (installs shown.0) (λ given one met shows. shows) shown.1.answer done.0 _ _
@@ -39,7 +40,8 @@ returns-in-Ok g c = record {
         ap (λ (one : Recoverer). one.keeper.token) is ∙ c.requires.stands.0,
         goes-on before now c.args.runner.now Before (HasStagedNext c.args.moving)
             c.requires.stands.2
-            c.args.moving.keeper.token c.requires.stands.0 (installs shown.0) tt _ (λ result stood. refl)
+            c.args.moving.keeper.token c.requires.stands.0 (installs shown.0) tt _
+            (λ result stood. refl)
             shown.1
             (Recovers c.in-Ok.recovering) c.in-Ok.ensures.next,
       )
@@ -59,7 +61,8 @@ returns-in-Err g c = record {
       let shown = some-next c.args.moving.left c.requires.stands.1 c.in-Err.ensures.call in
       let fault = c.in-Err.fault in
       faults before now c.args.runner.now Before (HasStagedNext c.args.moving) c.requires.stands.2
-      c.args.moving.keeper.token c.requires.stands.0 (installs shown.0) tt _ (λ result stood. refl) shown.1
+      c.args.moving.keeper.token c.requires.stands.0 (installs shown.0) tt _
+      (λ result stood. refl) shown.1
       c.move_next.ensures.lawful c.move_next.ensures.faults.never_falls (Moving c.args.moving)
       c.stopped.result (moves-whole c.args.moving shown.0 shown.2 c.requires.whole)
       (λ met none. absurd none) fault.stage fault.fault

@@ -26,9 +26,12 @@ returns-in-Ok g c = record {
   turns =
       let before = g.F.Folder.moment c.args.folder.now in
       let now = g.F.Folder.moment c.stage_next.new.folder in
-      let shown = some-next c.args.recovering.left (some-left _ _ c.left.ensures c.if-left-eq0.false) c.in-Ok.ensures.call in
-      let is = leads-on (mover_of 1 c.args.recovering) before_commit _ c.in-Ok.moving shown.1.shown in
-      let done = leads-done (mover_of 1 c.args.recovering) before_commit _ c.in-Ok.moving shown.1.shown in
+      let shown = some-next c.args.recovering.left
+      (some-left _ _ c.left.ensures c.if-left-eq0.false) c.in-Ok.ensures.call in
+      let is = leads-on (mover_of 1 c.args.recovering) before_commit _
+      c.in-Ok.moving shown.1.shown in
+      let done = leads-done (mover_of 1 c.args.recovering) before_commit _
+      c.in-Ok.moving shown.1.shown in
       turns before now c.args.runner.now Before (Recovers c.args.recovering)
       c.requires.1
       c.args.recovering.keeper.token c.requires.0 (stages shown.0) tt _ (λ result stood. refl)
@@ -40,7 +43,8 @@ returns-in-Ok g c = record {
       done.1)
       (λ met none. absurd none) (
         ap (λ (one : Mover). one.keeper.token) is ∙ c.requires.0,
-        subst (λ (one : Mover). 0 < length one.left) (sym is) (some-left _ _ c.left.ensures c.if-left-eq0.false),
+        subst (λ (one : Mover). 0 < length one.left) (sym is)
+            (some-left _ _ c.left.ensures c.if-left-eq0.false),
         goes-on before now c.args.runner.now Before (Recovers c.args.recovering)
             c.requires.1
             c.args.recovering.keeper.token c.requires.0 (stages shown.0) tt _ (λ result stood. refl)
@@ -49,7 +53,8 @@ returns-in-Ok g c = record {
       )
       (λ fault. fault);
   counts =
-      let shown = some-next c.args.recovering.left (some-left _ _ c.left.ensures c.if-left-eq0.false) c.in-Ok.ensures.call in
+      let shown = some-next c.args.recovering.left
+      (some-left _ _ c.left.ensures c.if-left-eq0.false) c.in-Ok.ensures.call in
       staged-calls c.args.recovering c.in-Ok.moving
       (leads-on (mover_of 1 c.args.recovering) before_commit _ c.in-Ok.moving shown.1.shown);
 }
@@ -59,7 +64,8 @@ returns-in-Err g c = record {
   turns =
       let before = g.F.Folder.moment c.args.folder.now in
       let now = g.F.Folder.moment c.stage_next.new.folder in
-      let shown = some-next c.args.recovering.left (some-left _ _ c.left.ensures c.if-left-eq0.false) c.in-Err.ensures.call in
+      let shown = some-next c.args.recovering.left
+      (some-left _ _ c.left.ensures c.if-left-eq0.false) c.in-Err.ensures.call in
       let fault = c.in-Err.fault in
       faults before now c.args.runner.now Before (Recovers c.args.recovering)
       c.requires.1

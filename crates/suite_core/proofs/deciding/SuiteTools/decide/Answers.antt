@@ -34,6 +34,7 @@ returns-in-Err c =
     let problem = loaded-problem files c.requires.passwd c.requires.group c.requires.small defs
     ∙ (settings-sound defs c.requires.small_defs
     ∙ ap (λ (line : Option ℕ). option_map BadSettingAt line) bad) in
-    if-ok (λ decided is. subst (λ (one : Decided). DecidesOn c.args.asked.now files defs one) (sym is)
+    if-ok (λ decided is.
+    subst (λ (one : Decided). DecidesOn c.args.asked.now files defs one) (sym is)
     (decides-setting c.args.asked.now files defs (bad_line c.in-Err.fault) problem))
     c.bad_setting.result c.bad_setting.ensures

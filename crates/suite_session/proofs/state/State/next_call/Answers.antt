@@ -10,7 +10,8 @@ returns-in-Reading c = of-state c.args.self.now (Reading c.in-Reading.seen) c.in
     c.next_call-in-Reading.ensures
 
 pub returns-in-Asking : goal.returns-in-Asking
-returns-in-Asking c = of-state-ok c.args.self.now (Asking c.in-Asking.asking) c.next_call-in-Asking.result
+returns-in-Asking c =
+    of-state-ok c.args.self.now (Asking c.in-Asking.asking) c.next_call-in-Asking.result
     c.in-Asking.is c.next_call-in-Asking.ensures
 
 pub returns-in-Claiming : goal.returns-in-Claiming
@@ -18,7 +19,8 @@ returns-in-Claiming c = of-state c.args.self.now (Claiming c.in-Claiming.judged)
     c.next_call-in-Claiming.ensures
 
 pub returns-in-Withdrawing : goal.returns-in-Withdrawing
-returns-in-Withdrawing c = of-state c.args.self.now (Withdrawing c.in-Withdrawing.loser) c.in-Withdrawing.is
+returns-in-Withdrawing c =
+    of-state c.args.self.now (Withdrawing c.in-Withdrawing.loser) c.in-Withdrawing.is
     c.next_call-in-Withdrawing.ensures
 
 pub returns-in-ReadingIntent : goal.returns-in-ReadingIntent
@@ -30,7 +32,9 @@ returns-in-ReadingIntent c = of-state c.args.self.now (ReadingIntent c.in-Readin
     })
 
 pub returns-in-Recovering : goal.returns-in-Recovering
-returns-in-Recovering c = of-state-ok c.args.self.now (Recovering c.in-Recovering.recovering) c.next_call-in-Recovering.result
+returns-in-Recovering c =
+    of-state-ok c.args.self.now (Recovering c.in-Recovering.recovering)
+    c.next_call-in-Recovering.result
     c.in-Recovering.is c.next_call-in-Recovering.ensures
 
 pub returns-in-Moving : goal.returns-in-Moving
@@ -42,7 +46,8 @@ returns-in-Loading c = of-state c.args.self.now (Loading c.in-Loading.loader) c.
     c.next_call-in-Loading.ensures
 
 pub returns-in-BackingUp : goal.returns-in-BackingUp
-returns-in-BackingUp c = of-state-ok c.args.self.now (BackingUp c.in-BackingUp.backing _) c.next_call-in-BackingUp.result
+returns-in-BackingUp c =
+    of-state-ok c.args.self.now (BackingUp c.in-BackingUp.backing _) c.next_call-in-BackingUp.result
     c.in-BackingUp.is c.next_call-in-BackingUp.ensures
 
 pub returns-in-Committing : goal.returns-in-Committing
@@ -50,11 +55,14 @@ returns-in-Committing c = of-state-ok c.args.self.now (Committing c.in-Committin
     c.next_call-in-Committing.result c.in-Committing.is c.next_call-in-Committing.ensures
 
 pub returns-in-Installing : goal.returns-in-Installing
-returns-in-Installing c = of-state-ok c.args.self.now (Installing c.in-Installing.installing _) c.next_call-in-Installing.result
+returns-in-Installing c =
+    of-state-ok c.args.self.now (Installing c.in-Installing.installing _)
+    c.next_call-in-Installing.result
     c.in-Installing.is c.next_call-in-Installing.ensures
 
 pub returns-in-Unlocking : goal.returns-in-Unlocking
-returns-in-Unlocking c = of-state-ok c.args.self.now (Unlocking c.in-Unlocking.keeper _) c.unlocking_call.result
+returns-in-Unlocking c =
+    of-state-ok c.args.self.now (Unlocking c.in-Unlocking.keeper _) c.unlocking_call.result
     c.in-Unlocking.is c.unlocking_call.ensures
 
 pub returns-in-Freeing : goal.returns-in-Freeing
