@@ -2,7 +2,7 @@
 -- Way: such files have no problem but a bad setting (`loaded-problem`); then the tool's outcome is the
 -- decision: the tables that differ are what makes its files new (`none-differs`, `all-same`), and the
 -- first of them that passes the limit is what the model finds (`new-among`).
-use Rattle.std.proofs.Common.{◌≡◌, true≢false, refl, sym, ap, subst, ◌∙◌, [], ◌∷◌, ◌≤◌, ℕ, Bool, true, false, length, List, Option, Some, None, IsSome, IfSome, Result, Ok, Err, arith, rules}
+use Rattle.std.proofs.Common.{◌≡◌, refl, sym, ap, subst, ◌∙◌, [], ◌∷◌, ◌≤◌, ℕ, Bool, true, false, length, List, Option, Some, None, IsSome, IfSome, Result, Ok, Err, arith, rules}
 use Rattle.std.specs.Prelude.{map, find, is_some, option_map, if◌then◌else◌, ◌&&◌}
 use Rattle.std.specs.List.{list_all}
 use Rattle.acct_text.specs.declared.Tab.{Tab}
@@ -18,7 +18,6 @@ use Rattle.acct_text.specs.Limits.{table_limit}
 use Rattle.acct_text.specs.Tables.{all_tables}
 use Rattle.account_model.specs.declared.refusal.Refusal.{Refusal}
 use Rattle.account_words.specs.declared.tool.Tool.{Tool}
-use Rattle.account_words.specs.declared.tool.Tool.TheVariants.{Batch}
 use Rattle.account_formats.specs.Text.{first_some}
 use Rattle.account_formats.specs.Tables.{files_after}
 use Rattle.account_model.specs.Action.{Action, Made, outcome_of}
@@ -47,6 +46,7 @@ use Rattle.suite_answers.specs.declared.answer.Answer.{Answer}
 use Rattle.suite_session.specs.declared.tools.Decided.{Decided}
 use Rattle.suite_session.specs.declared.tools.Decided.TheVariants.{Change as Changes, Stay}
 use Rattle.suite_session.specs.Runner.{Question}
+use Rattle.suite_session.proofs.AnswerLemmas.{batch-tool}
 use Rattle.suite_session.specs.Answers.{answer_on, cause_of_answer, given_for, IsAnswerOn}
 use Rattle.suite_session.specs.Deeds.{is_change}
 use Rattle.suite_session.specs.Loading.{DecidesOn}
@@ -185,11 +185,6 @@ module _ (old new : Contents)
           else with_new_table table (new table) (changed_among tables old new)) ≡ []
       by-test rest true same = rest same
       by-test rest false same = absurd (cc same)
-
--- one tool carries out lines
-batch-tool : (tool : Tool) → is_batch tool ≡ true → tool ≡ Batch
-batch-tool Batch is = refl
-batch-tool _ is = absurd (true≢false (sym is))
 
 -- what a tool made has each table where it stood
 made-stands : (action : Action) (files : Files) (made : Made) → outcome_of action files ≡ Ok made →

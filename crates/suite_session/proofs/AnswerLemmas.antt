@@ -93,7 +93,7 @@ lines-whole files (Ok written) problem is = written-whole Batch files written pr
 lines-whole files (Err refused) problem is = absurd (cc is)
 
 -- one tool carries out lines
-batch-tool : (tool : Tool) → is_batch tool ≡ true → tool ≡ Batch
+pub batch-tool : (tool : Tool) → is_batch tool ≡ true → tool ≡ Batch
 batch-tool Batch is = refl
 batch-tool _ is = absurd (true≢false (sym is))
 
