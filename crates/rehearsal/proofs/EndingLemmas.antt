@@ -50,7 +50,8 @@ module _ (words : List Word) (asked : Rehearsal) (asks : AsksFor words asked)
     (out_was out_holds err_was : SinkMoment) where
   -- it came whole
   pub summed-ends :
-      WhereBytesTold out_was.holds out_holds.holds (λ before now. now ≡ before ++ summary_of asked) →
+      WhereBytesTold out_was.holds out_holds.holds
+      (λ before now. now ≡ before ++ summary_of asked) →
       Ends words (streams out_was err_was) (streams out_holds err_was) 0
   summed-ends holds = record {
     ending = sums_up asked;
@@ -104,7 +105,8 @@ module _ (words : List Word) (asked : Rehearsal) (asks : AsksFor words asked)
 
 -- ---- The use
 
-module _ (words : List Word) (none : AsksForNone words) (out_was err_was err_holds : SinkMoment) where
+module _ (words : List Word) (none : AsksForNone words)
+    (out_was err_was err_holds : SinkMoment) where
   -- the line that tells it was put
   pub use-ends : (status : ℕ) → Tells usage_line 2 err_was err_holds status →
       Ends words (streams out_was err_was) (streams out_was err_holds) status

@@ -25,7 +25,8 @@ module _ (before : Scene) (deeds : SuiteDeeds) (are : AreOfTools deeds) where
       admitted.0 deeds are (stays-lawful old new came lawful)
 
 -- so does a scene that advances
-pub lawful-on : (deeds : SuiteDeeds) → AreOfTools deeds → (before now : Scene) → Advances before now →
+pub lawful-on : (deeds : SuiteDeeds) → AreOfTools deeds → (before now : Scene) →
+    Advances before now →
     IsLawfulFor deeds before.told.past → IsLawfulFor deeds now.told.past
 lawful-on deeds are before now advances was =
     subst (λ (first : Folder). Lawful deeds first now.told.past.history) (sym advances.first)

@@ -147,7 +147,8 @@ module _ (before now : Telling) where
       (let same : runner.token ≡ other = cc has in same))
   turn-does (Waiting asked) (Unbegun tool answer) turns =
       does-by (Waiting asked) (Unbegun tool answer) [] turns.1.grew.0 turns.1.grew.1 turns.1.lawful
-      turns.1.never_falls (λ other begun apart same. begun.named (sym same)) (λ other begun apart has. apart has)
+      turns.1.never_falls (λ other begun apart same. begun.named (sym same))
+      (λ other begun apart has. apart has)
   turn-does (Begun runner state) (Begun same next) turns =
       does-by (Begun runner state) (Begun same next) runner.token turns.1.turns.grew.0
       turns.1.turns.grew.1 turns.1.turns.lawful turns.1.turns.never_falls
@@ -252,7 +253,8 @@ module _ (before now : Telling) where
       new ≡ session → TakesPart before session → TakesPart now new
   same-takes session new past faults is part =
       subst (TakesPart now) (sym is)
-      (subst (λ (told : Telling). TakesPart told session) (telling-same before now past faults) part)
+      (subst (λ (told : Telling). TakesPart told session)
+      (telling-same before now past faults) part)
 
   -- what died runs no more, and else the session is as it was
   pub death-takes-part : (effect : CallEffect) (old new : Phase) → has_ended before old ≡ false →

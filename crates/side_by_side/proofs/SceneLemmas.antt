@@ -85,7 +85,8 @@ begun-step _ (failed effect) faulted is = refl
 begun-step _ (died effect) faulted is = refl
 
 -- so does a session after an event
-pub begun-event : (token : Token) (event : Event) (history : History) → has_begun token history ≡ true →
+pub begun-event : (token : Token) (event : Event) (history : History) →
+    has_begun token history ≡ true →
     has_begun token (event ∷ history) ≡ true
 begun-event token event history begun = elim (cases_Bool (is_of token event)) [
   | inl own ↦ ap was_begun (cond-true {A = Life} (is_of token event)
@@ -96,7 +97,8 @@ begun-event token event history begun = elim (cases_Bool (is_of token event)) [
 ]
 
 -- and after events of others
-pub begun-others : (admits : Admission) (token : Token) (old new : History) → ByOthers admits old new →
+pub begun-others : (admits : Admission) (token : Token) (old new : History) →
+    ByOthers admits old new →
     has_begun token old ≡ true → has_begun token new ≡ true
 begun-others admits token old _ none_came begun = begun
 begun-others admits token old _ (one_came event new came admitted) begun =
@@ -111,9 +113,11 @@ module _ (before now : Scene) (place : ℕ) (old new : Phase) (low : place < len
   -- no event or one came
   acted-came : ByOthers (by_sessions before) before.told.past.history now.told.past.history
   acted-came = elim does.came [
-    | inl same ↦ subst (λ (history : History). ByOthers (by_sessions before) before.told.past.history history)
+    | inl same ↦ subst (λ (history : History). ByOthers (by_sessions before)
+        before.told.past.history history)
         (sym same) none_came
-    | inr one ↦ subst (λ (history : History). ByOthers (by_sessions before) before.told.past.history history)
+    | inr one ↦ subst (λ (history : History). ByOthers (by_sessions before)
+        before.told.past.history history)
         (sym one.1) (one_came one.0 before.told.past.history none_came (
           one.2,
           λ outsider. one.3 one.0.token outsider.begun
@@ -181,7 +185,8 @@ came-then admits fewer start old _ came narrows (one_came event new others admit
     (narrows new event admitted)
 
 -- a scene that advances admits no more
-pub advances-narrow : (before now : Scene) → Advances before now → (history : History) (event : Event) →
+pub advances-narrow : (before now : Scene) → Advances before now →
+    (history : History) (event : Event) →
     by_sessions now history event → by_sessions before history event
 advances-narrow before now advances history event admitted = (
   subst (λ (first : Folder). KeepsLawful first history event) advances.first admitted.0,
@@ -206,5 +211,6 @@ advances-then before between now first second = record {
       between.told.past.history now.told.past.history first.came
       (advances-narrow before between first) second.came;
   outsiders = λ token outsider. second.outsiders token (first.outsiders token outsider);
-  never_falls = let once = first.never_falls in let again = second.never_falls in omega (arith, once, again);
+  never_falls =
+      let once = first.never_falls in let again = second.never_falls in omega (arith, once, again);
 }

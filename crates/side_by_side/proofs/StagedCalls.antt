@@ -39,7 +39,8 @@ gives_call token call first between result =
     GivesResult (after first between) between token call result
 
 -- what it gives to a read up to a limit
-abbrev pub gives_read : ℕ → (name : Name) → Folder → History → CallResult (Answer (reads name)) → Type 0
+abbrev pub gives_read : ℕ → (name : Name) → Folder → History →
+    CallResult (Answer (reads name)) → Type 0
 gives_read limit name first between result = GivesRead limit (after first between) name result
 
 module _ (start between : Stage) (folder : MemoryFolder)

@@ -137,9 +137,11 @@ module _ (before now : Telling) (token : Token) (one : OneCame before now token)
     came = (
       one.first,
       elim one.came [
-        | inl same ↦ subst (λ (history : History). ByOthers (of_others other) before.past.history history)
+        | inl same ↦ subst (λ (history : History). ByOthers (of_others other)
+            before.past.history history)
             (sym same) none_came
-        | inr event ↦ subst (λ (history : History). ByOthers (of_others other) before.past.history history)
+        | inr event ↦ subst (λ (history : History). ByOthers (of_others other)
+            before.past.history history)
             (sym event.1)
             (one_came event.0 before.past.history none_came (λ is. differs (sym is ∙ event.2)))
       ],
@@ -170,7 +172,8 @@ module _ (before now : Telling) (token : Token) (one : OneCame before now token)
       by-phase (Unbegun tool answer) apart has = absurd has
 
   -- so all take part still, where none has the token
-  pub part-after : (sessions : List Phase) → All (λ session. token_of session ≢ Some token) sessions →
+  pub part-after : (sessions : List Phase) →
+      All (λ session. token_of session ≢ Some token) sessions →
       TakePart (record { told = before; sessions = sessions }) →
       TakePart (record { told = now; sessions = sessions })
   part-after sessions strangers part = record {
@@ -417,7 +420,8 @@ module _ (before now : Telling) (command : Command) (token : Token)
     }
 
 -- none of the sessions has the token that a begin gave, or the empty one
-pub begin-strangers : (before now : Telling) (command : Command) (result : Result Token FolderFault) →
+pub begin-strangers : (before now : Telling) (command : Command)
+    (result : Result Token FolderFault) →
     WhereTold (Some before.past) (Some now.past) (TellsBegin no_others command result) →
     (sessions : List Phase) → All (TakesPart before) sessions →
     All (λ session. token_of session ≢ Some (begun_token result)) sessions

@@ -47,8 +47,8 @@ impl<T: Tools> Folder for StagedFolder<T> {
     fn read(&mut self, by: &Token, name: Name, limit: u64) -> Result<Found, FolderFault>
         requires acts { MayAct (staged_moment self.old) by.now }
         requires name { IsName name }
-        ensures call { ReadsFolder (staged_moment self.old) (staged_moment self.new) by.now name limit
-            result }
+        ensures call { ReadsFolder (staged_moment self.old) (staged_moment self.new) by.now
+            name limit result }
         ensures limit { IfOk result (IsWithinLimit limit) }
         ensures next { CallsNext self.old self.new (λ before now. ReadsFolder before now by.now name
             limit result) result }

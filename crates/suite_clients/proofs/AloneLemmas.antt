@@ -13,7 +13,7 @@ use Rattle.acct_text.specs.declared.files.Files.{Files}
 use Rattle.acct_text.specs.Bytes.{Bytes}
 use Rattle.acct_text.specs.Contents.{Contents}
 use Rattle.acct_text.specs.Files.{table_of}
-use Rattle.acct_outside.specs.declared.Name.TheVariants.{Table, Defs, Intent}
+use Rattle.acct_outside.specs.declared.Name.TheVariants.{Table, Defs}
 use Rattle.acct_outside.specs.declared.CommitStage.TheVariants.{Before}
 use Rattle.acct_outside.specs.declared.FolderFault.{FolderFault}
 use Rattle.acct_outside.specs.declared.FolderFault.TheVariants.{Failed as FolderFailed, Memory as NoFolderMemory}
@@ -134,7 +134,8 @@ not-run-undecided asked given first old new idle decided = by-fault idle.fault i
     no-answer answer none is =
         none (subst (λ (one : Answer). IsDecided one.outcome.cause) is decided)
 
-    by-fault : (fault : FolderFault) → IsTold asked.request.tool (cause_of_fault Before fault) given →
+    by-fault : (fault : FolderFault) →
+        IsTold asked.request.tool (cause_of_fault Before fault) given →
         ⊥
     by-fault FolderFailed (inl is) =
         no-answer (given_for asked.request.tool (DiskFault Before)) (λ none. none) is
@@ -329,7 +330,8 @@ module _ (asked : Question) (old new : Past) (one other : ℕ) (was holds : Stre
       by-session (inr idle) = absurd (not-run-undecided asked ran.given old.first old.history
           new.history idle decided)
       by-session (inl run) =
-          let own = grows-own run.0 old.history new.history run.1.bounded.made run.1.bounded.grows in
+          let own = grows-own run.0 old.history new.history run.1.bounded.made
+          run.1.bounded.grows in
           record {
             token = run.0;
             run = run.1;

@@ -11,7 +11,8 @@ use Rattle.rehearsal.proofs.asked.asked_by.Goals as goal
 at-none : (words : List Word) (found : Option Rehearsal) → found ≡ None → AsksForNone words →
     MatchOption found (AsksForNone words) (AsksFor words)
 at-none words found is none =
-    subst (λ (one : Option Rehearsal). MatchOption one (AsksForNone words) (AsksFor words)) (sym is) none
+    subst (λ (one : Option Rehearsal). MatchOption one (AsksForNone words) (AsksFor words)) (sym is)
+    none
 
 pub returns-in_err-seed : goal.returns-in_err-seed
 returns-in_err-seed c =

@@ -10,7 +10,8 @@ use Rattle.side_by_side.proofs.schedule.Schedule.play_next.Goals as goal
 pub returns-clause-left : goal.returns-clause-left
 returns-clause-left g c = subst
     (λ (lists : List (Vec Step)). drop c.place_behind-self.result lists
-    ≡ lists_behind (drop c.args.self.now.taken lists)) c.deref.ensures.value c.place_behind-self.ensures
+    ≡ lists_behind (drop c.args.self.now.taken lists)) c.deref.ensures.value
+    c.place_behind-self.ensures
 
 pub returns-clause-front : goal.returns-clause-front
 returns-clause-front g c = subst

@@ -21,7 +21,8 @@ invariant_of-self-2 g c = calls-part
     (lists_left c.self.inside.schedule)) c.args.self.now
     (stage_of c.play_next.new.folder c.play_next.new.sessions.items
     (lists_left c.play_next.new.self)) c.append.new.self c.self.view_is
-    c.play_next.ensures.advances c.args.by.now (appends c.args.name c.args.piece.now) c.append.result
+    c.play_next.ensures.advances c.args.by.now
+    (appends c.args.name c.args.piece.now) c.append.result
     c.append.ensures.told c.requires.acts c.play_next.ensures.take_part
 
 pub returns-clause-call : goal.returns-clause-call
@@ -30,7 +31,8 @@ returns-clause-call g c = calls-told
     (lists_left c.self.inside.schedule)) c.args.self.now
     (stage_of c.play_next.new.folder c.play_next.new.sessions.items
     (lists_left c.play_next.new.self)) c.append.new.self c.self.view_is
-    c.play_next.ensures.advances c.args.by.now (appends c.args.name c.args.piece.now) c.append.result
+    c.play_next.ensures.advances c.args.by.now
+    (appends c.args.name c.args.piece.now) c.append.result
     c.append.ensures.told c.append.ensures.faults
 
 pub returns-in_err-play_next-clause-next : goal.returns-in_err-play_next-clause-next
