@@ -19,7 +19,6 @@ use Rattle.acct_text.specs.Tables.{all_tables}
 use Rattle.account_model.specs.declared.refusal.Refusal.{Refusal}
 use Rattle.account_words.specs.declared.tool.Tool.{Tool}
 use Rattle.account_formats.specs.Text.{first_some}
-use Rattle.account_formats.specs.Tables.{files_after}
 use Rattle.account_model.specs.Action.{Action, Made, outcome_of}
 use Rattle.account_model.specs.Batch.{LineRefusal, Written, batch, written_by}
 use Rattle.account_model.proofs.BatchLaws.{outcome-made}
@@ -28,7 +27,7 @@ use Rattle.account_model.specs.Change.{action_of}
 use Rattle.account_words.specs.BatchLines.{line_requests}
 use Rattle.account_words.specs.Settings.{Setting, bad_line, settings_of}
 use Rattle.account_words.specs.Words.{is_batch}
-use Rattle.account_model.specs.Answer.{FileProblem, TableTooLarge, BadSettingAt, Same, Changed, Answer as ToolAnswer, answer_lines, answer_outcome, answer_under, answer_written, refused, refused_line, succeeding, unusable, passes_limit, must_stand, table_problem, settings_problem, files_problem, new_table_problem, new_problem, files_eq, cause_of, new_files}
+use Rattle.account_model.specs.Answer.{FileProblem, TableTooLarge, BadSettingAt, Same, Changed, Answer as ToolAnswer, answer_lines, answer_outcome, answer_under, answer_written, refused, refused_line, succeeding, unusable, passes_limit, must_stand, table_problem, settings_problem, files_problem, new_table_problem, files_eq, cause_of, new_files}
 use Rattle.std.specs.Prelude.{IfOk}
 use Rattle.std.specs.Result.{result_err}
 use Rattle.login_defs.specs.declared.defs.Defs.{Defs}
@@ -39,7 +38,6 @@ use Rattle.tool_answers.specs.declared.decision.Decision.{Decision}
 use Rattle.tool_answers.specs.declared.decision.Decision.TheVariants.{Change as DecidesChange, Same as DecidesSame, Refuse, RefuseLine}
 use Rattle.tool_answers.specs.Decisions.{decision_by, decision_of, decision_of_lines, line_refusal_output, refusal_output, written_output}
 use Rattle.batch_commands.specs.Deciding.{command_decision}
-use Rattle.commit_steps.specs.States.{MakesChange, with_tables}
 use Rattle.commit_steps.proofs.WithTables.{makes-change, with-changed}
 use Rattle.suite_answers.specs.declared.cause.Cause.TheVariants.{BadSetting}
 use Rattle.suite_answers.specs.declared.answer.Answer.{Answer}

@@ -1,5 +1,5 @@
 -- Claim: an intent that reads has at most as many bytes as a read of it gives (`readable-within`).
-use Rattle.std.proofs.Common.{◌≡◌, ap, ◌≤◌, length, arith}
+use Rattle.std.proofs.Common.{ap, ◌≤◌, length, arith}
 use Rattle.acct_text.specs.Bytes.{Bytes}
 use Rattle.acct_outside.specs.Names.{intent_limit}
 use Rattle.intent_file.specs.Intent.{Intended, ReadsIntent}

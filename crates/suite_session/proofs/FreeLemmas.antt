@@ -13,7 +13,7 @@ use Rattle.acct_outside.specs.Moment.{Past, Moment}
 use Rattle.acct_outside.specs.Others.{ByOthers}
 use Rattle.account_words.specs.Request.{is_report}
 use Rattle.suite_rules.specs.Knowledge.{Knowledge}
-use Rattle.suite_rules.specs.OwnLock.{OwnLock, lock_uncalled, lock_made, own_step}
+use Rattle.suite_rules.specs.OwnLock.{lock_uncalled, lock_made, own_step}
 use Rattle.suite_rules.specs.Standing.{Standing, standing, standing_step}
 use Rattle.suite_rules.proofs.Own.{own-standing}
 use Rattle.lock_steps.specs.NextCall.{next_or}

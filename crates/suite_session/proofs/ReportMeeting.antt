@@ -3,7 +3,7 @@
 -- (`outrun-ends`). That is also what the report met (`damaged-shown`, `large-shown`, `outrun-met`).
 -- Way: a session has one last listing (`one-listing`), so what was watched at the intent is what is told of
 -- it.
-use Rattle.std.proofs.Common.{◌≡◌, ◌≢◌, refl, sym, ap, subst, ◌∙◌, true, ℕ, List, inl, inr, Option, Some, None, IfSome, Result, Ok, Err}
+use Rattle.std.proofs.Common.{◌≡◌, ◌≢◌, refl, sym, ap, subst, ◌∙◌, true, ℕ, List, inl, inr, Option, Some, Result, Ok, Err}
 use Rattle.acct_text.specs.Bytes.{Bytes}
 use Rattle.acct_outside.specs.declared.CommitStage.TheVariants.{Before}
 use Rattle.acct_outside.specs.declared.FolderFault.{FolderFault}
@@ -15,11 +15,9 @@ use Rattle.acct_outside.specs.Moment.{Past}
 use Rattle.acct_outside.specs.Tokens.{Token}
 use Rattle.account_words.specs.declared.tool.Tool.{Tool}
 use Rattle.account_words.specs.Request.{is_report}
-use Rattle.intent_file.specs.Intent.{Intended, ReadsIntent}
 use Rattle.intent_file.specs.Parts.{FirstFault}
 use Rattle.intent_file.proofs.FirstFaultIsOne.{first_fault_is_one_holds}
 use Rattle.suite_rules.specs.Listing.{Listing}
-use Rattle.suite_rules.specs.OwnLock.{lock_uncalled}
 use Rattle.suite_rules.specs.Standing.{Standing}
 use Rattle.lock_steps.specs.declared.LockRefusal.TheVariants.{Outrun as LockOutrun}
 use Rattle.lock_steps.specs.declared.LockEnd.{LockEnd}
@@ -27,7 +25,7 @@ use Rattle.lock_steps.specs.declared.LockEnd.TheVariants.{Refused, Folder}
 use Rattle.lock_steps.specs.declared.gathered.IntentFound.{IntentFound}
 use Rattle.lock_steps.specs.declared.gathered.IntentFound.TheVariants.{Absent, Listed, TooLarge, Damaged}
 use Rattle.lock_steps.specs.Gathered.{TellsIntent}
-use Rattle.lock_steps.specs.Stands.{HasJudged, HasListed}
+use Rattle.lock_steps.specs.Stands.{HasJudged}
 use Rattle.lock_steps.specs.Watching.{ConfirmsFound, Gatherer, HasGathered, Report}
 use Rattle.suite_answers.specs.declared.cause.Which.TheVariants.{File}
 use Rattle.suite_answers.specs.declared.cause.Cause.{Cause}
@@ -42,7 +40,7 @@ use Rattle.suite_session.specs.Stands.{AnswersWith}
 use Rattle.suite_session.specs.Telling.{IsToTell}
 use Rattle.suite_session.proofs.MeetingLemmas.{MeetsBy, answers-tell, fault-ends, none-made}
 use Rattle.suite_session.proofs.MetLemmas.{Ended, Got, Meets, fault-meets, told-as, met-weaker}
-use Rattle.suite_session.proofs.TellingLemmas.{HasJudgedAt, Shows}
+use Rattle.suite_session.proofs.TellingLemmas.{Shows}
 
 -- ---- The last listing
 

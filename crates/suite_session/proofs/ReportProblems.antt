@@ -4,7 +4,7 @@
 -- Way: what was found at a table is kept or too large (`as-found`), so each table has the problem that the
 -- report finds (`table-by`); the first of a list of problems is that of the first table that has one
 -- (`first-of`).
-use Rattle.std.proofs.Common.{◌≡◌, refl, sym, ap, subst, ◌∙◌, ◌<◌, ◌≤◌, ◌&&◌, ◌||◌, ℕ, Bool, true, false, cond, nat_lt, if◌then◌else◌, List, [], ◌∷◌, ◌++◌, length, map, inl, inr, Option, Some, None, true≢false, arith}
+use Rattle.std.proofs.Common.{◌≡◌, refl, sym, ap, subst, ◌∙◌, ◌≤◌, ◌&&◌, ◌||◌, Bool, true, false, cond, nat_lt, if◌then◌else◌, List, [], ◌∷◌, ◌++◌, length, map, Option, Some, None, true≢false}
 use Rattle.std.specs.Prelude.{find, is_none, is_some, IsSome, unwrap_or}
 use Rattle.std.specs.List.{AllByRecursion}
 use Rattle.std.specs.Option.{option_and_then}
@@ -17,7 +17,7 @@ use Rattle.acct_text.specs.Files.{table_of}
 use Rattle.acct_text.specs.Limits.{table_limit}
 use Rattle.acct_text.specs.Tables.{all_tables}
 use Rattle.acct_outside.specs.declared.Name.{Name}
-use Rattle.acct_outside.specs.declared.Name.TheVariants.{Table, Intent, Defs}
+use Rattle.acct_outside.specs.declared.Name.TheVariants.{Table, Defs}
 use Rattle.acct_outside.specs.Calls.{Command, Found, found_absent, found_bytes, found_too_large, found_within}
 use Rattle.account_formats.specs.Text.{first_some}
 use Rattle.account_model.specs.Answer.{FileProblem, SettingsTooLarge, TableAbsent, TableTooLarge, files_problem, must_stand, settings_problem, table_problem}

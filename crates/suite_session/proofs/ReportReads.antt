@@ -2,13 +2,13 @@
 -- (`watch-on`, `gather-on`) or to the answer of a fault (`read-faults`).
 -- Way: a report keeps no lock, and what it finds at the intent is met only where a listing confirms it; the
 -- names that it reads behind the intent are tables and login.defs.
-use Rattle.std.proofs.Common.{◌≡◌, ◌⊎◌, refl, sym, ap, subst, ◌∙◌, ◌<◌, ◌≤◌, ◌+◌, ◌∷◌, [], ℕ, Bool, true, false, cond, filter, drop, length, length-drop, List, inl, inr, Option, Some, None, Result, Ok, Err, true≢false, arith}
+use Rattle.std.proofs.Common.{◌≡◌, ◌⊎◌, refl, sym, ap, subst, ◌∙◌, ◌<◌, ◌≤◌, ◌∷◌, [], Bool, true, false, cond, filter, length, length-drop, List, inl, inr, Result, Ok, Err, true≢false, arith}
 use Rattle.std.specs.Prelude.{get_or, slice_get}
 use Rattle.acct_outside.specs.declared.CommitStage.TheVariants.{Before}
 use Rattle.acct_outside.specs.declared.FolderFault.{FolderFault}
 use Rattle.acct_outside.specs.declared.FolderFault.TheVariants.{Failed, Memory as NoMemory}
 use Rattle.acct_outside.specs.declared.Name.{Name}
-use Rattle.acct_outside.specs.declared.Name.TheVariants.{Intent, Lock, Table, Defs}
+use Rattle.acct_outside.specs.declared.Name.TheVariants.{Intent, Table, Defs}
 use Rattle.acct_outside.specs.Faults.{HasRisen}
 use Rattle.acct_outside.specs.Calls.{Answer, Call, CallResult, Found, found_too_large, lists, reads}
 use Rattle.acct_outside.specs.Moment.{Moment}
@@ -16,7 +16,7 @@ use Rattle.acct_outside.specs.Tokens.{Token}
 use Rattle.suite_rules.specs.Knowledge.{is_input}
 use Rattle.suite_rules.specs.OwnLock.{lock_uncalled, kept_number}
 use Rattle.suite_rules.specs.Standing.{Standing, standing_step}
-use Rattle.suite_rules.specs.Steps.{AlwaysStaysLawful, MakesCall, StandsIn, own_command}
+use Rattle.suite_rules.specs.Steps.{AlwaysStaysLawful, MakesCall, own_command}
 use Rattle.lock_steps.specs.Gathered.{AreUnread, Gathered, awaits, first_gathered, inputs, listed_at}
 use Rattle.lock_steps.specs.NextCall.{next_or}
 use Rattle.lock_steps.specs.States.{Lister}

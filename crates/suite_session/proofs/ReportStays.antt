@@ -2,10 +2,9 @@
 -- Way: a report has no edits (`report-unedited`), so its tables stay (`unedited-stays`). Of a tool that can do
 -- both, the words ask for the report alone: by their rules pwck and grpck have `-r` or `-s` (`not-sorting`).
 -- A batch is no report, also where each of its lines asks for one (`report-single`).
-use Rattle.std.proofs.Common.{◌≡◌, refl, sym, ap, ◌∙◌, ◌==◌, ◌||◌, ◌&&◌, not, ℕ, ◌+◌, Bool, true, false, List, [], ◌∷◌, Option, Some, None, Result, Ok, Err, true≢false}
+use Rattle.std.proofs.Common.{◌≡◌, refl, sym, ap, ◌∙◌, ◌==◌, ◌||◌, ◌&&◌, not, ℕ, ◌+◌, Bool, true, false, List, [], ◌∷◌, Option, Some, None, Ok, Err, true≢false}
 use Rattle.std.specs.Str.{byte}
 use Rattle.std.specs.Prelude.{codes, cond, find, is_some, if◌then◌else◌, option_map, position, unwrap_or}
-use Rattle.std.specs.List.{list_any}
 use Rattle.acct_text.specs.Bytes.{Bytes}
 use Rattle.acct_text.specs.Contents.{same_content}
 use Rattle.acct_text.specs.declared.files.Files.{Files}
@@ -21,13 +20,12 @@ use Rattle.account_words.specs.Settings.{Setting, settings_of}
 use Rattle.account_words.specs.Words.{Asks, broken_rule, is_batch}
 use Rattle.account_model.specs.declared.refusal.Refusal.{Refusal}
 use Rattle.account_formats.specs.Text.{first_some}
-use Rattle.account_model.specs.Action.{Action, Made, made_by, multiple_entries, outcome_of, changes, reports}
+use Rattle.account_model.specs.Action.{Action, Made, made_by, multiple_entries, outcome_of, changes}
 use Rattle.account_model.specs.Batch.{batch, written_by}
-use Rattle.account_model.specs.Chage.{chage}
 use Rattle.account_model.specs.Change.{action_by, action_of}
 use Rattle.account_model.specs.Grpck.{grpck_report, grpck_sort}
 use Rattle.account_model.specs.Pwck.{pwck_report, pwck_sort}
-use Rattle.account_model.specs.Answer.{AnswerCause, FileProblem, Answer, Same, Changed, answer, answer_lines, answer_outcome, answer_under, answer_written, files_eq, files_problem, new_problem, succeeding, unusable}
+use Rattle.account_model.specs.Answer.{FileProblem, Answer, Same, Changed, answer, answer_lines, answer_outcome, answer_under, answer_written, files_eq, files_problem, new_problem, succeeding, unusable}
 use Rattle.suite_rules.proofs.Changed.{content-differs}
 use Rattle.suite_session.specs.Answers.{answer_on}
 use Rattle.suite_session.specs.Deeds.{is_change}

@@ -3,7 +3,7 @@
 -- Way: a problem of what was shown is the first problem of all files that are as was shown, and without one
 -- those are the files that it has kept (proofs/ReportProblems). So its answer is that on all of them
 -- (`problem-shown`, `stays-shown`), and a report has no lock to leave (`reported-gives`).
-use Rattle.std.proofs.Common.{◌≡◌, refl, sym, ap, subst, ◌∙◌, ◌==◌, ◌≤◌, ℕ, Bool, true, false, List, inl, inr, Option, Some, None, IfSome, Result, Ok, Err, true≢false, arith}
+use Rattle.std.proofs.Common.{◌≡◌, refl, sym, ap, subst, ◌∙◌, ◌==◌, ℕ, true, false, List, inl, inr, Option, Some, None, IfSome, Result, Ok, Err, true≢false, arith}
 use Rattle.acct_text.specs.Bytes.{Bytes}
 use Rattle.acct_text.specs.declared.files.Files.{Files}
 use Rattle.acct_outside.specs.declared.CommitStage.TheVariants.{Before}
@@ -13,13 +13,12 @@ use Rattle.acct_outside.specs.Calls.{lists}
 use Rattle.acct_outside.specs.Contract.{MayAnswer}
 use Rattle.acct_outside.specs.Folder.{greatest}
 use Rattle.acct_outside.specs.History.{History}
-use Rattle.acct_outside.specs.Moment.{Moment, Past}
+use Rattle.acct_outside.specs.Moment.{Moment}
 use Rattle.account_words.specs.declared.tool.Tool.{Tool}
 use Rattle.account_words.specs.Request.{is_report}
 use Rattle.account_model.specs.Answer.{AnswerCause, FileProblem, TableTooLarge, SettingsTooLarge, TableAbsent, BadSettingAt, Unusable, Refused, RefusedLine, Same, Changed}
-use Rattle.account_model.specs.Statuses.{file_status}
 use Rattle.suite_rules.specs.OwnLock.{kept_number}
-use Rattle.suite_rules.specs.Standing.{Standing, standing}
+use Rattle.suite_rules.specs.Standing.{Standing}
 use Rattle.suite_rules.specs.Steps.{MakesCall, StandsIn}
 use Rattle.suite_rules.proofs.StepLemmas.{stands-weaker}
 use Rattle.lock_steps.specs.declared.gathered.IntentFound.{IntentFound}
