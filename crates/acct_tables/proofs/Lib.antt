@@ -7,6 +7,7 @@ pub mod ListLines
 pub mod RenamingLemmas
 pub mod OrderLemmas
 pub mod RefusalLemmas
+pub mod IndexedLines
 pub mod LinesAhead
 pub mod EditedFiles
 pub mod LinesCounted

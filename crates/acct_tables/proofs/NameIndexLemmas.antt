@@ -1,6 +1,6 @@
 -- Claim: an index that tells of lines tells of one line more once its record is noted
--- (`told-record`), and at other text as before (`told-other`); it tells of no more records than
--- there are lines (`told-within`). Way: behind the others a line is the first of its name only where
+-- (`told-record`), and at other text as before (`told-other`), so once the line is noted
+-- (`told-line`); it tells of no more records than there are lines (`told-within`). Way: behind the others a line is the first of its name only where
 -- none was, and counts one more (`lines-end`).
 use Rattle.std.proofs.Common.{◌≡◌, ℕ, zero, suc, ◌+◌, ◌<◌, ◌≤◌, Bool, true, false, List, [], ◌∷◌, ◌++◌, append-nil, length, take, drop, refl, sym, ◌∙◌, ap, ap₂, subst, arith, inl, inr, cond, add-one, zero-add, if◌then◌else◌}
 use Rattle.std.specs.Prelude.{Option, Some, None, IfSome, bytes_eq, count_by}
@@ -12,7 +12,7 @@ use Rattle.std.proofs.lemmas.Slice.Eq.{bytes_eq-Decides}
 use Rattle.acct_text.specs.Lines.{Line}
 use Rattle.account_formats.specs.Format.{Format}
 use Rattle.acct_tables.specs.declared.name_index.NamedLines.{NamedLines}
-use Rattle.acct_tables.specs.NameIndex.{IsNoted, Tells, TellsAtMost, Told, has_name, line_name, line_names, lines_named, records_at, with_last}
+use Rattle.acct_tables.specs.NameIndex.{IsLineNoted, IsNoted, Tells, TellsAtMost, Told, has_name, line_name, line_names, lines_named, records_at, with_last}
 
 -- ---- One line more
 
@@ -138,6 +138,14 @@ module _ (names : List (Option (List ℕ))) (old : Told) (tells : Tells names ol
   -- other text stands behind all lines
   pub told-other : Tells (names ++ None ∷ []) old
   told-other = λ name. tells name ∙ sym (lines-end name names None)
+
+  -- a line is noted behind all, a record or other text
+  pub told-line :
+      (name : Option (List ℕ)) (new : Told)
+      → IsLineNoted name (length names) old new
+      → Tells (names ++ name ∷ []) new
+  told-line None new same = subst (λ told. Tells (names ++ None ∷ []) told) (sym same) told-other
+  told-line (Some name) new noted = told-record name new noted
 
   -- by whether some line has the name
   within-by :

@@ -4,6 +4,7 @@ pub mod Refusals
 pub mod Lists
 pub mod Order
 pub mod Renaming
+pub mod EditedLines
 pub mod EditedTexts
 pub mod SeenLines
 pub mod NameIndex

@@ -2,7 +2,7 @@
 -- gshadow(5)).
 use Rattle.std.specs.Prelude.{bytes_eq}
 use Rattle.std.specs.HashMap.{get_by}
-use Rattle.acct_tables.specs.declared.table.names.TableNames.{TableNames}
+use Rattle.acct_tables.specs.declared.table_names.TableNames.{TableNames}
 use Rattle.acct_tables.specs.NameIndex.{Told}
 
 -- what it tells

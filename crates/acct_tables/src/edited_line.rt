@@ -1,5 +1,6 @@
 // A line of a table's file while edits change it.
 ghost use Rattle.std.specs.Prelude.{◌≡◌, ◌++◌, Bool, IfOk, IfSome, OnOk, OnErr};
+ghost use Rattle.std.specs.Option.{option_copied};
 ghost use Rattle.acct_text.specs.Bytes.{newline};
 ghost use Rattle.acct_text.specs.Lines.{line_bytes};
 ghost use Rattle.acct_text.specs.Pieces.{Lacks};
@@ -7,9 +8,10 @@ ghost use Rattle.account_formats.specs.Edits.{as_ended, printed_line};
 ghost use Rattle.account_formats.specs.Written.{IsWritten};
 ghost use Rattle.acct_tables.specs.EditedTexts.{text_of};
 ghost use Rattle.acct_tables.specs.Kept.{is_printed_as};
+ghost use Rattle.acct_tables.specs.NameIndex.{line_name};
 ghost use Rattle.acct_tables.specs.TableLines.{with_record};
 
-use crate::line::read_record;
+use crate::line::{name_of, read_record};
 use acct_lines::TableRecord;
 use acct_text::Bytes;
 use std::alloc::{AllocError, Global};
@@ -66,6 +68,17 @@ impl<'a> EditedLine<'a> {
         }
     }
 
+    /// The line of this text, in bytes of its own, with a newline behind it or none.
+    pub(crate) fn copied(alloc: Global, text: &[u8], ended: bool) -> Result<Self, AllocError>
+        requires { Lacks newline text.now }
+        ensures { IfOk result (λ line. line ≡ record { text = text.now; ended = ended }) }
+    {
+        Ok(EditedLine {
+            text: LineText::New(Bytes::of(alloc, text)?),
+            ended,
+        })
+    }
+
     /// The line of a record, with a newline behind it.
     pub(crate) fn printed<R: TableRecord>(alloc: Global, item: &R) -> Result<Self, AllocError>
         requires { IsWritten R.format item.now }
@@ -86,6 +99,20 @@ impl<'a> EditedLine<'a> {
         ensures written { IfOk result (λ found. IfSome found (IsWritten R.format)) }
     {
         read_record(alloc, self.text.as_slice())
+    }
+
+    /// The name of the record that the line is; none where it is other text.
+    pub(crate) fn name<R: TableRecord>(&self) -> Option<&[u8]>
+        ensures { option_copied result ≡ line_name R.format self.now }
+    {
+        name_of::<R>(self.text())
+    }
+
+    /// Whether a newline stands behind the line.
+    pub(crate) fn is_ended(&self) -> bool
+        ensures { result ≡ self.now.ended }
+    {
+        self.ended
     }
 
     /// The bytes of the line, without its newline.

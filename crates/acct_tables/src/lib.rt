@@ -2,7 +2,8 @@
 //! list of lines (passwd(5), shadow(5), group(5), gshadow(5), subuid(5), subgid(5)).
 //!
 //! A `Table` holds its records; `Lines` takes the lines of a large file one after another where they
-//! stand in its bytes, and `EditedLines` keeps them there until edits change them.
+//! stand in its bytes, and `EditedLines` keeps them there until edits change them, with an index of
+//! their names.
 //!
 //! A line keeps its bytes until an edit puts another record into it. After a refusal and after want
 //! of memory a table is as before the call.
@@ -19,6 +20,7 @@ mod name_index;
 mod owner;
 mod renaming;
 mod table;
+mod table_names;
 
 pub use acct_lines::TableRecord;
 pub use edited_lines::EditedLines;

@@ -6,9 +6,9 @@ ghost use Rattle.account_formats.specs.Format.{records_of, find_named, count_nam
 ghost use Rattle.account_formats.specs.Written.{IsWritten};
 ghost use Rattle.acct_tables.specs.TableLines.{record_at};
 
-use self::names::TableNames;
 use crate::Lines;
 use crate::line::TableLine;
+use crate::table_names::TableNames;
 use acct_lines::TableRecord;
 use acct_text::Bytes;
 use std::alloc::{AllocError, Global};
@@ -16,7 +16,6 @@ use std::marker::Model;
 
 mod edits;
 mod lists;
-mod names;
 mod order;
 
 /// The lines of a table's file, each a record of the table or other text. The records of a name are

@@ -5,16 +5,16 @@ use Rattle.acct_tables.proofs.LoadedLines.{all-taken, next-taken}
 use Rattle.acct_tables.proofs.edited_lines.EditedLines.of.Goals as goal
 
 pub lines-preserved : goal.lines-preserved
-lines-preserved c =
-    let done = c.lines.kept.items in
-    next-taken done c.lines.left (lines_of c.args.text.now) c.lines.invariant c.push.new.self.items
+lines-preserved g c =
+    let done = c.lines.kept in
+    next-taken done c.lines.left (lines_of c.args.text.now) c.lines.invariant c.push.new.self
     c.take.new.self (seen_line c.in-Some.line) c.in-Some.ensures.taken
-    (c.in_ok-push.ensures.items ∙ ap (λ (l : Line). done ++ l ∷ []) c.of-edited.ensures)
+    (c.in_ok-push.ensures.pushed ∙ ap (λ (l : Line). done ++ l ∷ []) c.of-edited.ensures)
 
 pub lines-smaller : goal.lines-smaller
-lines-smaller c = omega (arith, ap length c.in-Some.ensures.taken)
+lines-smaller g c = omega (arith, ap length c.in-Some.ensures.taken)
 
 pub returns : goal.returns
-returns c =
-    all-taken c.lines.kept.items c.lines.left (lines_of c.args.text.now) c.lines.invariant
+returns g c =
+    all-taken c.lines.kept c.lines.left (lines_of c.args.text.now) c.lines.invariant
     c.in_default.ensures.taken

@@ -4,7 +4,7 @@ use Rattle.acct_tables.proofs.edited_lines.EditedLines.of.Given as goal
 
 -- the lines so far and those left are all
 abbrev pub invariant-lines : goal.invariant-lines
-invariant-lines l = l.kept.items ++ l.left ≡ lines_of l.text
+invariant-lines g l = l.kept ++ l.left ≡ lines_of l.text
 
 abbrev pub decreases-lines : goal.decreases-lines
-decreases-lines l = length l.left
+decreases-lines g l = length l.left

@@ -4,4 +4,4 @@ use Rattle.acct_tables.proofs.edited_lines.EditedLines.text.Given as goal
 
 -- the text so far is that of the lines so far
 abbrev pub invariant-loop-line : goal.invariant-loop-line
-invariant-loop-line l = l.text ≡ file_bytes (take l.line-index l.line-items)
+invariant-loop-line g l = l.text ≡ file_bytes (take l.line-index l.line-items)

@@ -3,7 +3,7 @@ use Rattle.std.specs.Prelude.{Some, IfSome, bytes_eq, ◌≤◌}
 use Rattle.acct_tables.specs.NameIndex.{with_last}
 use Rattle.acct_tables.specs.TableNames.{told_names}
 use Rattle.acct_tables.proofs.EditedNames.{updates-bytes}
-use Rattle.acct_tables.proofs.table.names.TableNames.add.Goals as goal
+use Rattle.acct_tables.proofs.table_names.TableNames.add.Goals as goal
 
 pub with_last-noted-requires-clause-behind : goal.with_last-noted-requires-clause-behind
 with_last-noted-requires-clause-behind c =

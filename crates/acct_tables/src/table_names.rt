@@ -1,7 +1,8 @@
 // Where the records of each name stand among the lines of a table (passwd(5), shadow(5), group(5),
 // gshadow(5)). As its lines change, a table owns the names that it is asked for.
-ghost use Rattle.std.specs.Prelude.{◌≡◌, ◌+◌, ◌^◌, ◌<◌, IfOk, OnOk, OnErr};
-ghost use Rattle.acct_tables.specs.NameIndex.{IsNoted, Tells, TellsAtMost, line_names};
+ghost use Rattle.std.specs.Prelude.{◌≡◌, ◌+◌, ◌^◌, ◌<◌, [], IfOk, OnOk, OnErr};
+ghost use Rattle.std.specs.Option.{option_copied};
+ghost use Rattle.acct_tables.specs.NameIndex.{IsLineNoted, IsNoted, Tells, TellsAtMost, line_names};
 ghost use Rattle.acct_tables.specs.TableNames.{told_names};
 
 use crate::TableRecord;
@@ -18,6 +19,15 @@ pub(crate) struct TableNames {
 }
 
 impl TableNames {
+    /// The index of no lines. It allocates nothing before the first name.
+    pub(crate) fn new(alloc: Global) -> Self
+        ensures { Tells [] (told_names result) }
+    {
+        TableNames {
+            names: IndexMap::new(alloc),
+        }
+    }
+
     /// The index of these lines.
     pub(crate) fn of<R: TableRecord + Drop>(
         alloc: Global,
@@ -25,15 +35,33 @@ impl TableNames {
     ) -> Result<Self, AllocError>
         ensures { IfOk result (λ index. Tells (line_names R.format lines.now) (told_names index)) }
     {
-        let mut index = TableNames {
-            names: IndexMap::new(alloc),
-        };
+        let mut index = TableNames::new(alloc);
         'places: for place in 0..lines.len() {
             if let Some(name) = lines[place].name() {
                 index.add(Vec::from_slice(alloc, name)?, place)?;
             }
         }
         Ok(index)
+    }
+
+    /// Notes the line that stands at this place, behind all that are noted: its name where it is a
+    /// record. At `AllocError` the index is as before.
+    pub(crate) fn note(
+        &mut self,
+        alloc: Global,
+        name: Option<&[u8]>,
+        place: usize,
+    ) -> Result<(), AllocError>
+        requires behind { TellsAtMost place (told_names self.old) }
+        requires room { place + 1 < 2 ^ 64 }
+        ensures noted { OnOk result
+            (IsLineNoted (option_copied name.entry) place (told_names self.old) (told_names self.new)) }
+        ensures unchanged { OnErr result (told_names self.new ≡ told_names self.old) }
+    {
+        match name {
+            Some(name) => self.add(Vec::from_slice(alloc, name)?, place),
+            None => Ok(()),
+        }
     }
 
     /// Notes one more record of the name, which stands at this place, behind all that are noted. At

@@ -1,7 +1,7 @@
 use Rattle.std.proofs.Common.{take}
 use Rattle.acct_tables.specs.NameIndex.{Tells, line_names}
 use Rattle.acct_tables.specs.TableNames.{told_names}
-use Rattle.acct_tables.proofs.table.names.TableNames.of.Given as goal
+use Rattle.acct_tables.proofs.table_names.TableNames.of.Given as goal
 
 -- the index tells of the lines so far
 abbrev pub invariant-places : goal.invariant-places

@@ -4,8 +4,8 @@ use Rattle.std.proofs.lemmas.List.{length-map, length-take-le, map_more}
 use Rattle.acct_tables.specs.NameIndex.{IsNoted, Tells, line_name, line_names}
 use Rattle.acct_tables.specs.TableNames.{told_names}
 use Rattle.acct_tables.proofs.NameIndexLemmas.{told-other, told-record}
-use Rattle.acct_tables.proofs.table.names.TableNames.of.Goals as goal
-use Rattle.acct_tables.proofs.table.names.TableNames.of.Goals.{in-Some+in_ok-from_slice+in_ok-add, in_default}
+use Rattle.acct_tables.proofs.table_names.TableNames.of.Goals as goal
+use Rattle.acct_tables.proofs.table_names.TableNames.of.Goals.{in-Some+in_ok-from_slice+in_ok-add, in_default}
 
 pub places-preserved : goal.places-preserved
 places-preserved g c =
