@@ -36,7 +36,7 @@ module _ {R : Type 0} (format : Format R) where
   stays line r false is = absurd cc
 
   -- one line is put, or stays where it is the same record
-  sets :
+  pub sets :
       (line : Line) (s : R) (same : Bool)
       → (if same then line ∷ [] else record line { text = format.print s } ∷ [])
       ≡ (if same then line else record line { text = format.print s }) ∷ []
@@ -44,7 +44,7 @@ module _ {R : Type 0} (format : Format R) where
   sets line s false = refl
 
   -- the line with the record, by the record that it has
-  with-record :
+  pub with-record :
       (line : Line) (kept : Option R) (r s : R)
       → kept ≡ Some r
       → (elim kept [

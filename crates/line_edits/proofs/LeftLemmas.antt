@@ -19,6 +19,11 @@ pub isn't : (test : Bool) → not test ≡ true → test ≡ false
 isn't true other = absurd cc
 isn't false other = refl
 
+-- what isn't otherwise is so
+pub so : (test : Bool) → not test ≡ false → test ≡ true
+so true is = refl
+so false is = absurd cc
+
 -- a line that begins with another name isn't a record of the name
 pub other-name :
     {R : Type 0} (format : Format R) (text name : List ℕ) (r : R)

@@ -6,9 +6,9 @@ pub mod EditLists
 pub mod TouchedRecords
 pub mod LeftLemmas
 pub mod NamedLemmas
-pub mod AddedNames
+pub mod NamesDone
 pub mod NamingLemmas
-pub mod KnownLemmas
+pub mod PlacedRecords
 pub mod WrittenLines
 pub mod NameSets
 pub mod MarkLemmas

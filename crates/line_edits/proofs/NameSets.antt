@@ -1,12 +1,17 @@
 -- Claim: a set with one more text has it, and of the others those that it had (`set-takes`); so it
--- has the names of a list once each was added (`texts-more`). Way: by whether a text is the new one.
-use Rattle.std.proofs.Common.{◌≡◌, ◌∙◌, ℕ, Bool, true, false, List, [], ◌∷◌, ◌++◌, refl, sym, ap, ap₂}
+-- has the names of a list once each was added (`listed-more`, `added-more`). Its keys are these names,
+-- of which no two are the same (`keys-listed`, `keys-apart`), so none stands in front of itself
+-- (`distinct-before`). Way: by whether a text is the new one.
+use Rattle.std.proofs.Common.{◌≡◌, ◌∙◌, ℕ, ◌+◌, ◌<◌, Bool, true, false, List, [], ◌∷◌, ◌++◌, length, map, take, get_or, zero, suc, refl, sym, ap, ap₂, arith}
 use Rattle.std.specs.Prelude.{◌||◌, bytes_eq}
 use Rattle.std.specs.Cmp.Lexicographic.{bytes_decides, nat_list_eq_equiv}
 use Rattle.std.specs.HashSet.{HashSet}
 use Rattle.std.specs.HashSet as bag
+use Rattle.std.specs.List.{AllByRecursion, IsDistinct, list_any}
 use Rattle.std.specs.Set.{KeepsOthers}
+use Rattle.std.proofs.lemmas.List.{take_more}
 use Rattle.std.proofs.lemmas.List.Folds.{list_any-append}
+use Rattle.std.proofs.lemmas.Map.Keys.{IsDistinct-cons, IsDistinct-head, IsDistinct-tail}
 use Rattle.account_formats.specs.Text.{is_listed}
 use Rattle.line_edits.specs.NameSets.{has_text}
 
@@ -60,3 +65,89 @@ listed-more name new names before is =
     ap₂ (λ last before. last || before) (nat_list_eq_equiv.symm new name) is
     ∙ last-or (bytes_eq name new) (is_listed name names)
     ∙ sym (list_any-append (bytes_eq name) names (new ∷ []))
+
+-- three tests, of which the first two come together
+or-three : (last before old : Bool) → (last || (before || old)) ≡ ((last || before) || old)
+or-three true before old = refl
+or-three false before old = refl
+
+-- so many names of a list were added, and one more
+pub added-more :
+    (name new : List ℕ) (names : List (List ℕ)) (place : ℕ) (old : Bool)
+    → place < length names
+    → new ≡ get_or names place []
+    → (bytes_eq new name || (is_listed name (take place names) || old))
+    ≡ (is_listed name (take (place + 1) names) || old)
+added-more name new names place old inside is =
+    or-three (bytes_eq new name) (is_listed name (take place names)) old
+    ∙ ap (λ listed. listed || old)
+    (listed-more name new (take place names) (is_listed name (take place names)) refl
+    ∙ ap (λ (last : List ℕ). is_listed name (take place names ++ last ∷ [])) is
+    ∙ ap (is_listed name) (sym (take_more names place [] inside)))
+
+-- ---- The keys
+
+module _ {K : Type 0} (text : K → List ℕ) where
+  -- a key has a text where one of the texts of all is that
+  pub keys-listed :
+      (name : List ℕ) (keys : List K)
+      → is_listed name (map text keys) ≡ list_any (λ key. bytes_eq name (text key)) keys
+  keys-listed name [] = refl
+  keys-listed name (key ∷ keys) =
+      ap (λ others. bytes_eq name (text key) || others) (keys-listed name keys)
+
+  -- what is so of the texts of all keys
+  all-texts :
+      (P : List ℕ → Type 0) (keys : List K)
+      → AllByRecursion (λ key. P (text key)) keys
+      → AllByRecursion P (map text keys)
+  all-texts P [] all = tt
+  all-texts P (key ∷ keys) all = (all.0, all-texts P keys all.1)
+
+  -- no two of the texts are the same
+  pub keys-apart :
+      (keys : List K)
+      → IsDistinct (λ x y. bytes_eq (text x) (text y)) keys
+      → IsDistinct bytes_eq (map text keys)
+  unfolding IsDistinct
+  keys-apart [] apart = tt
+  keys-apart (key ∷ keys) apart =
+      IsDistinct-cons bytes_eq (text key) (map text keys)
+      (all-texts (λ other. bytes_eq (text key) other ≡ false) keys
+      (IsDistinct-head (λ x y. bytes_eq (text x) (text y)) key keys apart))
+      (keys-apart keys (IsDistinct-tail (λ x y. bytes_eq (text x) (text y)) key keys apart))
+
+-- no names, and one name
+pub none-apart : IsDistinct bytes_eq []
+unfolding IsDistinct
+none-apart = tt
+
+pub one-apart : (name : List ℕ) → IsDistinct bytes_eq (name ∷ [])
+one-apart name = IsDistinct-cons bytes_eq name [] tt none-apart
+
+-- a name that differs from all differs from that at a place
+differs-at :
+    (name : List ℕ) (names : List (List ℕ)) (place : ℕ)
+    → AllByRecursion (λ other. bytes_eq name other ≡ false) names
+    → place < length names
+    → bytes_eq name (get_or names place []) ≡ false
+differs-at name [] place all inside = absurd (omega arith)
+differs-at name (other ∷ names) zero all inside = all.0
+differs-at name (other ∷ names) (suc place) all inside =
+    differs-at name names place all.1 (omega arith)
+
+-- of names that differ none stands in front of its place
+pub distinct-before :
+    (names : List (List ℕ)) (place : ℕ)
+    → IsDistinct bytes_eq names
+    → place < length names
+    → is_listed (get_or names place []) (take place names) ≡ false
+distinct-before [] place apart inside = absurd (omega arith)
+distinct-before (name ∷ names) zero apart inside = refl
+distinct-before (name ∷ names) (suc place) apart inside =
+    let here = get_or names place [] in
+    let first : bytes_eq here name ≡ false =
+    nat_list_eq_equiv.symm here name
+    ∙ differs-at name names place (IsDistinct-head bytes_eq name names apart) (omega arith) in
+    ap (λ same. same || is_listed here (take place names)) first
+    ∙ distinct-before names place (IsDistinct-tail bytes_eq name names apart) (omega arith)

@@ -1,30 +1,46 @@
 -- Claim: an act that leaves the name of a user or a group touches only the records of the name it is
--- done with (`only-user`, `only-shadow`, `only-group`, `only-gshadow`). Way: act by act.
-use Rattle.std.proofs.Common.{◌≡◌, ℕ, Bool, true, false, List, [], ◌∷◌, map, refl, ap, if◌then◌else◌}
-use Rattle.std.specs.Prelude.{Option, Some, None, is_none, unwrap_or}
+-- done with (`only-user`, `only-shadow`, `only-group`, `only-gshadow`), and a membership only those of
+-- the groups that the user joins where it leaves none and keeps its name (`joined-group`,
+-- `joined-gshadow`). Way: act by act.
+use Rattle.std.proofs.Common.{◌≡◌, ◌∙◌, ℕ, Bool, true, false, List, [], ◌∷◌, map, refl, sym, ap, if◌then◌else◌}
+use Rattle.std.specs.List.{IsDistinct}
+use Rattle.std.specs.Prelude.{◌&&◌, not, bytes_eq, IfSome, Option, Some, None, is_none, unwrap_or}
+use Rattle.std.proofs.lemmas.Slice.Eq.{bytes_eq-Decides}
 use Rattle.account_formats.specs.declared.records.GroupRecord.{GroupRecord}
 use Rattle.account_formats.specs.declared.records.GshadowRecord.{GshadowRecord}
 use Rattle.account_formats.specs.declared.records.PasswdRecord.{PasswdRecord}
 use Rattle.account_formats.specs.declared.records.ShadowRecord.{ShadowRecord}
+use Rattle.account_formats.specs.Edits.Edit.{Become}
 use Rattle.account_formats.specs.Format.{Format, is_named}
 use Rattle.account_formats.specs.Records.{group_format, gshadow_format, passwd_format, shadow_format}
+use Rattle.account_formats.specs.RecordEdits.{TellsSame}
+use Rattle.account_formats.specs.Text.{is_listed}
+use Rattle.account_model.specs.Members.{in_place_of, name_once, renamed_in, with_name}
 use Rattle.line_edits.specs.GroupChanges.{group_after, group_becomes, keeps_group_name}
 use Rattle.line_edits.specs.GshadowChanges.{gshadow_after, gshadow_becomes, keeps_gshadow_name}
-use Rattle.line_edits.specs.Naming.{ChangesOnly}
+use Rattle.line_edits.specs.Memberships.{ChangesOnlyIn, members_by, members_with}
+use Rattle.line_edits.specs.Naming.{ChangesOnly, names_in}
 use Rattle.line_edits.specs.PasswdChanges.{keeps_user_name, passwd_after, passwd_becomes}
 use Rattle.line_edits.specs.ShadowChanges.{keeps_shadow_name, shadow_after, shadow_becomes}
 use Rattle.line_edits.specs.declared.group_changes.GroupAct.{GroupAct}
 use Rattle.line_edits.specs.declared.group_changes.GroupAct.TheVariants.{SetGid as GroupSetGid, Rename as GroupRename, SetPassword as GroupSetPassword, AddMember as GroupAddMember, RemoveMember as GroupRemoveMember, SetMembers as GroupSetMembers, SetMembership as GroupSetMembership}
-use Rattle.line_edits.specs.declared.group_changes.GroupChange.TheVariants.{Named as NamedGroup}
+use Rattle.line_edits.specs.declared.group_changes.GroupChange.TheVariants.{All as AllGroups, Named as NamedGroup}
 use Rattle.line_edits.specs.declared.gshadow_changes.GshadowAct.{GshadowAct}
 use Rattle.line_edits.specs.declared.gshadow_changes.GshadowAct.TheVariants.{Rename as GshadowRename, SetPassword as GshadowSetPassword, SetAdministrators as GshadowSetAdministrators, AddMember as GshadowAddMember, RemoveMember as GshadowRemoveMember, SetMembers as GshadowSetMembers, RemoveUser as GshadowRemoveUser, SetMembership as GshadowSetMembership}
-use Rattle.line_edits.specs.declared.gshadow_changes.GshadowChange.TheVariants.{Named as NamedGshadow}
+use Rattle.line_edits.specs.declared.gshadow_changes.GshadowChange.TheVariants.{All as AllGshadows, Named as NamedGshadow}
+use Rattle.line_edits.specs.declared.memberships.Membership.{Membership}
+use Rattle.line_edits.specs.declared.memberships.UserGroups.TheVariants.{Also, Kept}
 use Rattle.line_edits.specs.declared.passwd_changes.PasswdAct.{PasswdAct}
 use Rattle.line_edits.specs.declared.passwd_changes.PasswdAct.TheVariants.{SetPassword, SetGid, ChangePassword, SetFields as SetUserFields}
 use Rattle.line_edits.specs.declared.passwd_changes.PasswdChange.TheVariants.{Named as NamedUser}
 use Rattle.line_edits.specs.declared.shadow_changes.ShadowAct.{ShadowAct}
 use Rattle.line_edits.specs.declared.shadow_changes.ShadowAct.TheVariants.{SetHash, SetLastChange, ChangeHash, SetFields as SetShadowFields}
 use Rattle.line_edits.specs.declared.shadow_changes.ShadowChange.TheVariants.{Named as NamedShadow}
+use Rattle.line_edits.specs.Touching.{LeavesOthers}
+use Rattle.line_edits.specs.declared.changed_names.ChangedNames.{ChangedNames}
+use Rattle.line_edits.proofs.LeftLemmas.{neither}
+use Rattle.line_edits.proofs.NameSets.{none-apart, one-apart}
+use Rattle.line_edits.proofs.ReachLemmas.{left-to}
 
 -- a field that isn't given stays
 unset :
@@ -87,46 +103,173 @@ gshadow-name (GshadowSetMembers members) r keeps = refl
 gshadow-name (GshadowRemoveUser user) r keeps = refl
 gshadow-name (GshadowSetMembership membership) r keeps = refl
 
+-- a record of another name than one
+pub unnamed :
+    (name other : List ℕ) → is_listed name (other ∷ []) ≡ false → bytes_eq name other ≡ false
+unnamed name other unlisted = (neither (bytes_eq name other) false unlisted).0
+
 -- in passwd
 pub only-user :
     (name : List ℕ) (act : PasswdAct)
     → keeps_user_name act ≡ true
-    → ChangesOnly passwd_format (passwd_becomes (NamedUser name act)) name
+    → ChangesOnly passwd_format (passwd_becomes (NamedUser name act)) (name ∷ [])
 only-user name act keeps = record {
-  others = λ r other. ap (λ named. (if named then passwd_after act r else r) ∷ []) other;
-  names = λ r. one-name passwd_format (is_named passwd_format name r) (passwd_after act r) r
+  others = λ r other. ap (λ named. (if named then passwd_after act r else r) ∷ [])
+      (unnamed r.name name other);
+  kept = λ r. one-name passwd_format (is_named passwd_format name r) (passwd_after act r) r
       (user-name act r keeps);
+  apart = one-apart name;
 }
 
 -- in shadow
 pub only-shadow :
     (name : List ℕ) (act : ShadowAct)
     → keeps_shadow_name act ≡ true
-    → ChangesOnly shadow_format (shadow_becomes (NamedShadow name act)) name
+    → ChangesOnly shadow_format (shadow_becomes (NamedShadow name act)) (name ∷ [])
 only-shadow name act keeps = record {
-  others = λ r other. ap (λ named. (if named then shadow_after act r else r) ∷ []) other;
-  names = λ r. one-name shadow_format (is_named shadow_format name r) (shadow_after act r) r
+  others = λ r other. ap (λ named. (if named then shadow_after act r else r) ∷ [])
+      (unnamed r.name name other);
+  kept = λ r. one-name shadow_format (is_named shadow_format name r) (shadow_after act r) r
       (shadow-name act r keeps);
+  apart = one-apart name;
 }
 
 -- in group
 pub only-group :
     (name : List ℕ) (act : GroupAct)
     → keeps_group_name act ≡ true
-    → ChangesOnly group_format (group_becomes (NamedGroup name act)) name
+    → ChangesOnly group_format (group_becomes (NamedGroup name act)) (name ∷ [])
 only-group name act keeps = record {
-  others = λ r other. ap (λ named. (if named then group_after act r else r) ∷ []) other;
-  names = λ r. one-name group_format (is_named group_format name r) (group_after act r) r
+  others = λ r other. ap (λ named. (if named then group_after act r else r) ∷ [])
+      (unnamed r.name name other);
+  kept = λ r. one-name group_format (is_named group_format name r) (group_after act r) r
       (group-name act r keeps);
+  apart = one-apart name;
 }
 
 -- in gshadow
 pub only-gshadow :
     (name : List ℕ) (act : GshadowAct)
     → keeps_gshadow_name act ≡ true
-    → ChangesOnly gshadow_format (gshadow_becomes (NamedGshadow name act)) name
+    → ChangesOnly gshadow_format (gshadow_becomes (NamedGshadow name act)) (name ∷ [])
 only-gshadow name act keeps = record {
-  others = λ r other. ap (λ named. (if named then gshadow_after act r else r) ∷ []) other;
-  names = λ r. one-name gshadow_format (is_named gshadow_format name r) (gshadow_after act r) r
+  others = λ r other. ap (λ named. (if named then gshadow_after act r else r) ∷ [])
+      (unnamed r.name name other);
+  kept = λ r. one-name gshadow_format (is_named gshadow_format name r) (gshadow_after act r) r
       (gshadow-name act r keeps);
+  apart = one-apart name;
 }
+
+-- ---- Memberships
+
+-- a user who keeps its name and its groups changes in none
+pub kept-only :
+    (membership : Membership)
+    → membership.user ≡ membership.new_name
+    → membership.groups ≡ Kept
+    → ChangesOnlyIn membership []
+kept-only membership name is = record {
+  name = name;
+  others = λ group members other.
+      ap (λ groups. members_with groups membership.user group members) is;
+  apart = none-apart;
+}
+
+-- one who keeps its name and joins groups changes in these
+pub also-only :
+    (membership : Membership) (groups names : List (List ℕ))
+    → membership.user ≡ membership.new_name
+    → membership.groups ≡ Also groups
+    → ((name : List ℕ) → is_listed name names ≡ is_listed name groups)
+    → IsDistinct bytes_eq names
+    → ChangesOnlyIn membership names
+also-only membership groups names name is listed apart = record {
+  name = name;
+  others = λ group members other.
+      ap (λ groups. members_with groups membership.user group members) is
+      ∙ ap (λ joins. if joins then with_name membership.user members else members)
+      (sym (listed group) ∙ other);
+  apart = apart;
+}
+
+-- a name isn't renamed to itself, by whether it is listed
+same-by :
+    (listed same : Bool) (new names : List (List ℕ))
+    → same ≡ true
+    → (if listed && not same then new else names) ≡ names
+same-by true true new names is = refl
+same-by true false new names is = absurd cc
+same-by false same new names is = refl
+
+-- a list in which a name gets the same name stays
+same-renamed :
+    (old new : List ℕ) (names : List (List ℕ)) → old ≡ new → renamed_in old new names ≡ names
+same-renamed old new names is =
+    same-by (is_listed old names) (bytes_eq old new)
+    (name_once new (in_place_of old new names)) names ((bytes_eq-Decides old new).1 is)
+
+module _ (membership : Membership) (groups : List (List ℕ))
+    (only : ChangesOnlyIn membership groups) where
+  -- the members of another group stay
+  members-stay :
+      (group : List ℕ) (members : List (List ℕ))
+      → is_listed group groups ≡ false
+      → members_by membership group members ≡ members
+  members-stay group members other =
+      ap (renamed_in membership.user membership.new_name) (only.others group members other)
+      ∙ same-renamed membership.user membership.new_name members only.name
+
+  -- in group
+  only-groups :
+      ChangesOnly group_format (group_becomes (AllGroups (GroupSetMembership membership))) groups
+  only-groups = record {
+    others = λ r other. ap (λ members. record r { members = members } ∷ [])
+        (members-stay r.name r.members other);
+    kept = λ r. refl;
+    apart = only.apart;
+  }
+
+  -- in gshadow
+  only-gshadows :
+      ChangesOnly gshadow_format (gshadow_becomes (AllGshadows (GshadowSetMembership membership)))
+      groups
+  only-gshadows = record {
+    others = λ r other.
+        ap (λ names. record r {
+          administrators = names;
+          members = members_by membership r.name r.members;
+        } ∷ []) (same-renamed membership.user membership.new_name r.administrators only.name)
+        ∙ ap (λ members. record r { members = members } ∷ []) (members-stay r.name r.members other);
+    kept = λ r. refl;
+    apart = only.apart;
+  }
+
+-- where the groups are told, in group
+pub joined-group :
+    (membership : Membership) (names : Option ChangedNames)
+    → IfSome names (λ names. ChangesOnlyIn membership (names_in names))
+    → IfSome names (λ names. ChangesOnly group_format
+    (group_becomes (AllGroups (GroupSetMembership membership))) (names_in names))
+joined-group membership None only = tt
+joined-group membership (Some names) only = only-groups membership (names_in names) only
+
+-- and in gshadow
+pub joined-gshadow :
+    (membership : Membership) (names : Option ChangedNames)
+    → IfSome names (λ names. ChangesOnlyIn membership (names_in names))
+    → IfSome names (λ names. ChangesOnly gshadow_format
+    (gshadow_becomes (AllGshadows (GshadowSetMembership membership))) (names_in names))
+joined-gshadow membership None only = tt
+joined-gshadow membership (Some names) only = only-gshadows membership (names_in names) only
+
+-- ---- Edits of names
+
+-- a change of some names leaves each record of another to the edits behind it
+pub only-leaves :
+    {R : Type 0} (format : Format R) (f : R → List R) (names : Option ChangedNames)
+    → TellsSame format
+    → IfSome names (λ names. ChangesOnly format f (names_in names))
+    → IfSome names (λ names. LeavesOthers format (Become f) (names_in names))
+only-leaves format f None tells only = tt
+only-leaves format f (Some names) tells only = λ r other.
+    left-to format f r tells (only.others r other)

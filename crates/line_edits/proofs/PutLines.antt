@@ -1,7 +1,7 @@
 -- Claim: a text that was made of lines up to the first record of a name, with the new record in its
 -- place and the lines behind it, is that of the lines after the put (`put-named`); before it each
 -- line is one more (`put-other`).
-use Rattle.std.proofs.Common.{◌≡◌, ◌∙◌, ℕ, Bool, true, false, List, [], ◌∷◌, ◌++◌, refl, sym, ap, append_assoc, append-nil}
+use Rattle.std.proofs.Common.{◌≡◌, ◌∙◌, ℕ, true, false, List, [], ◌∷◌, ◌++◌, refl, sym, ap, append_assoc, append-nil}
 use Rattle.std.specs.Prelude.{Option, Some, None, if◌then◌else◌}
 use Rattle.std.proofs.lemmas.Grind.{flat_map-append}
 use Rattle.acct_text.specs.Lines.{Line, file_bytes, line_bytes}

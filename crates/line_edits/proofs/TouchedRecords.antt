@@ -1,16 +1,21 @@
 -- Claim: the first record that is met among those of lines is that of the first line, or else the first
 -- behind it (`met-here`, `passed-here`); one whose name has no other isn't met (`met-single`), nor one
--- that isn't touched (`met-untouched`); without edits none is (`none-met`); and a name is that of a
--- record (`record-named`). Way: by what the line reads as.
-use Rattle.std.proofs.Common.{◌≡◌, ℕ, Bool, true, false, List, [], ◌∷◌, refl, ◌∙◌, ap}
-use Rattle.std.specs.Prelude.{◌&&◌, IfSome, Option, Some, None, option_map, find, if◌then◌else◌}
-use Rattle.std.specs.List.{cons_option}
+-- that isn't touched (`met-untouched`); without edits none is (`none-met`), nor where they touch no
+-- name that has several (`none-touched`); and a name is that of a record (`record-named`). Way: by what
+-- the line reads as.
+use Rattle.std.proofs.Common.{◌≡◌, ℕ, Bool, true, false, inl, inr, List, [], ◌∷◌, refl, sym, ◌∙◌, ap}
+use Rattle.std.specs.Prelude.{◌&&◌, ◌||◌, bytes_eq, IfSome, Option, Some, None, option_map, find, if◌then◌else◌}
+use Rattle.std.specs.List.{cons_option, list_any}
+use Rattle.std.proofs.lemmas.Bool.{cases_Bool}
+use Rattle.std.proofs.lemmas.Slice.Eq.{bytes_eq-Decides}
 use Rattle.acct_text.specs.Lines.{Line}
 use Rattle.account_formats.specs.Format.{Format, records_of}
 use Rattle.account_formats.specs.Edits.{Edit, first_multiple, is_multiple, touches}
+use Rattle.account_formats.specs.Text.{is_listed}
 use Rattle.std.specs.HashSet.{HashSet}
 use denote.Ref.{Bor}
 use Rattle.line_edits.specs.Touching.{LacksName, TouchOnly, is_met, first_touched, met_in}
+use Rattle.line_edits.proofs.LeftLemmas.{neither}
 
 -- what was found is a record of this name
 pub record IsRecordOf {R : Type 0} (format : Format R) (found : Option R) (name : List ℕ)
@@ -120,6 +125,54 @@ pub untouched :
     → touches format edits r ≡ false
 untouched format edits r None only lacks = absurd lacks
 untouched format edits r (Some names) only lacks = only r lacks
+
+-- ---- Names without several records
+
+-- a name that passes a test isn't among those of which none does
+pub passes-unlisted :
+    (passes : List ℕ → Bool) (name : List ℕ) (names : List (List ℕ))
+    → list_any passes names ≡ false
+    → passes name ≡ true
+    → is_listed name names ≡ false
+passes-unlisted passes name [] none is = refl
+passes-unlisted passes name (other ∷ names) none is =
+    let both = neither (passes other) (list_any passes names) none in
+    elim (cases_Bool (bytes_eq name other)) [
+      | inl same ↦
+          let equal : name ≡ other = (bytes_eq-Decides name other).0 same in
+          let both_ways : true ≡ false = sym is ∙ ap passes equal ∙ both.0 in absurd cc
+      | inr differs ↦
+          ap (λ same. same || is_listed name names) differs
+          ∙ passes-unlisted passes name names both.1 is
+    ]
+
+-- a record that isn't touched where its name has several isn't met
+unmet-if :
+    (touched several : Bool)
+    → (several ≡ true → touched ≡ false)
+    → (touched && several) ≡ false
+unmet-if true true untouched = untouched refl
+unmet-if true false untouched = refl
+unmet-if false several untouched = refl
+
+-- where no element passes, none is found
+none-found :
+    {X : Type 0} (test : X → Bool) (xs : List X)
+    → ((x : X) → test x ≡ false)
+    → find test xs ≡ None
+none-found test [] none = refl
+none-found test (x ∷ xs) none =
+    ap (λ passes. if passes then Some x else find test xs) (none x) ∙ none-found test xs none
+
+-- where the edits touch no record whose name has several, none is met
+pub none-touched :
+    {R : Type 0} (format : Format R) (edits : List (Edit R)) (records : List R)
+    → ((r : R) → is_multiple format records r ≡ true → touches format edits r ≡ false)
+    → first_multiple format edits records ≡ None
+none-touched format edits records untouched =
+    ap (option_map format.name)
+    (none-found (is_met format edits records) records
+    (λ r. unmet-if (touches format edits r) (is_multiple format records r) (untouched r)))
 
 -- no edit touches a record
 pub none-met :

@@ -10,7 +10,7 @@ use Rattle.acct_text.proofs.LinesLaws.{lines_of-are}
 use Rattle.account_formats.specs.declared.fault.LineFault.{LineFault}
 use Rattle.account_formats.specs.Format.{Format}
 use Rattle.account_formats.specs.LineFormat.{IsLineFormat}
-use Rattle.line_edits.specs.NamedLines.{AreWritten, IsWrittenRead}
+use Rattle.line_edits.specs.WrittenLines.{AreWritten, IsWrittenRead}
 
 module _ {R : Type 0} (format : Format R) (fault : List ℕ → Option LineFault)
     (is : IsLineFormat format fault) where

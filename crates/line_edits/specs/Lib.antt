@@ -10,6 +10,6 @@ pub mod SubidChanges
 pub mod HashChanges
 pub mod Memberships
 pub mod Naming
-pub mod NamedLines
+pub mod WrittenLines
 pub mod NameSets
 pub mod Reach

@@ -1,5 +1,6 @@
 -- What becomes of a user in the lists of all groups (usermod(8), `-G`, `-a` and `-l`).
-use Rattle.std.specs.Prelude.{ℕ, Bool, false, List, if◌then◌else◌}
+use Rattle.std.specs.Prelude.{◌≡◌, ℕ, Bool, false, List, bytes_eq, if◌then◌else◌}
+use Rattle.std.specs.List.{IsDistinct}
 use Rattle.account_formats.specs.declared.records.GroupRecord.{GroupRecord}
 use Rattle.account_formats.specs.declared.records.GshadowRecord.{GshadowRecord}
 use Rattle.account_model.specs.Members.{with_name, without_name, renamed_in}
@@ -37,3 +38,10 @@ gshadow_by membership r = record r {
   administrators = renamed_in membership.user membership.new_name r.administrators;
   members = members_by membership r.name r.members;
 }
+
+-- the user keeps its name, and joins or leaves none but these groups, of which no two are the same
+pub record ChangesOnlyIn (membership : Membership) (groups : List (List ℕ)) : Type 0 where
+  pub name : membership.user ≡ membership.new_name
+  pub others : (group : List ℕ) (members : List (List ℕ)) → is_listed group groups ≡ false
+      → members_with membership.groups membership.user group members ≡ members
+  pub apart : IsDistinct bytes_eq groups

@@ -1,10 +1,13 @@
--- Edits that each may touch the records of one name only, and leave their names (passwd(5),
--- shadow(5)).
-use Rattle.std.specs.Prelude.{◌≡◌, ℕ, false, List, [], ◌∷◌, map, Some}
-use Rattle.account_formats.specs.Format.{Format, is_named}
-use Rattle.account_formats.specs.Edits.{Edit}
-use Rattle.account_formats.specs.Edits.Edit.{Become, Add, AddMissing}
+-- Changes that may touch the records of a few names only, and leave their names (passwd(5), shadow(5),
+-- group(5), gshadow(5)).
+use Rattle.std.specs.Prelude.{◌≡◌, ℕ, false, List, [], ◌∷◌, map, Some, bytes_eq, if◌then◌else◌}
+use Rattle.std.specs.List.{IsDistinct}
+use Rattle.std.specs.Vec.{vec_items}
+use Rattle.account_formats.specs.Format.{Format}
+use Rattle.account_formats.specs.Text.{is_listed}
 use Rattle.acct_tables.specs.Marks.{IsWithout}
+use Rattle.line_edits.specs.declared.changed_names.ChangedNames.{ChangedNames}
+use Rattle.line_edits.specs.declared.changed_names.ChangedNames.TheVariants.{One, Each}
 
 -- f leaves the record that the text is, if it is one
 abbrev pub Leaves : {R : Type 0} → Format R → (R → List R) → List ℕ → Type 0
@@ -18,16 +21,18 @@ IsMarkOf format f mark = (line : List ℕ) → IsWithout mark line → Leaves fo
 abbrev pub KeepsNames : {R : Type 0} → Format R → (R → List R) → Type 0
 KeepsNames {R = R} format f = (r : R) → map format.name (f r) ≡ format.name r ∷ []
 
--- f touches only records of the name, and leaves the names of all
-pub record ChangesOnly {R : Type 0} (format : Format R) (f : R → List R) (name : List ℕ)
-    : Type 0 where
-  pub others : (r : R) → is_named format name r ≡ false → f r ≡ r ∷ []
-  pub names : KeepsNames format f
+-- the names
+abbrev pub names_in : ChangedNames → List (List ℕ)
+names_in (One name) = name.now ∷ []
+names_in (Each names) = map vec_items names.now
 
--- the edit touches only records of the name, and leaves the names of all, or it adds one of the
--- name
-abbrev pub IsOfName : {R : Type 0} → Format R → Edit R → List ℕ → Type 0
-IsOfName format (Become f) name = ChangesOnly format f name
-IsOfName format (Add r) name = format.name r ≡ name
-IsOfName format (AddMissing r) name = format.name r ≡ name
-IsOfName format _ name = ⊥
+-- f touches only records of these names, and leaves the names of all; no two of the names are the same
+pub record ChangesOnly {R : Type 0} (format : Format R) (f : R → List R) (names : List (List ℕ))
+    : Type 0 where
+  pub others : (r : R) → is_listed (format.name r) names ≡ false → f r ≡ r ∷ []
+  pub kept : KeepsNames format f
+  pub apart : IsDistinct bytes_eq names
+
+-- a record of these names becomes what f gives, and each other one stays
+abbrev pub on_named : {R : Type 0} → Format R → List (List ℕ) → (R → List R) → R → List R
+on_named format names f r = if is_listed (format.name r) names then f r else r ∷ []

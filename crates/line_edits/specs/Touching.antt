@@ -1,8 +1,10 @@
 -- Which edit touches a record, and the first record that is touched among several of its name (passwd(5), shadow(5),
 -- group(5), gshadow(5)).
-use Rattle.std.specs.Prelude.{◌≡◌, ℕ, Bool, false, ◌&&◌, List, [], ◌∷◌, Option, Some, None, option_map, find, if◌then◌else◌}
-use Rattle.account_formats.specs.Format.{Format}
-use Rattle.account_formats.specs.Edits.{Edit, touches, is_multiple}
+use Rattle.std.specs.Prelude.{◌≡◌, ℕ, Bool, false, ◌&&◌, List, [], ◌∷◌, Option, Some, None, nat_le, option_map, find, if◌then◌else◌}
+use Rattle.acct_text.specs.Lines.{Line}
+use Rattle.account_formats.specs.Format.{Format, count_named, records_of}
+use Rattle.account_formats.specs.Edits.{Edit, edited, touches, is_multiple}
+use Rattle.account_formats.specs.Text.{is_listed}
 use Rattle.std.specs.HashSet.{HashSet}
 use Rattle.line_edits.specs.NameSets.{has_text}
 use denote.Ref.{Bor}
@@ -15,6 +17,11 @@ touches_alone format edit r = touches format (edit ∷ []) r
 abbrev pub LeavesTo : {R : Type 0} → Format R → Edit R → R → Type 0
 LeavesTo {R = R} format edit r =
     (edits : List (Edit R)) → touches format (edit ∷ edits) r ≡ touches format edits r
+
+-- the edit leaves each record of another name than these to those behind it
+abbrev pub LeavesOthers : {R : Type 0} → Format R → Edit R → List (List ℕ) → Type 0
+LeavesOthers {R = R} format edit names =
+    (r : R) → is_listed (format.name r) names ≡ false → LeavesTo format edit r
 
 -- the edits touch no record of a name that the set lacks
 abbrev pub TouchOnly : {R S : Type 0} → Format R → List (Edit R) → HashSet (Bor (List ℕ)) S → Type 0
@@ -41,3 +48,11 @@ met_in format edits whole text = elim (format.read text) [
   | None ↦ None
   | Some r ↦ if is_met format edits whole r then Some (format.name r) else None
 ]
+
+-- whether several records of the lines have the name
+abbrev pub has_several : {R : Type 0} → Format R → List Line → List ℕ → Bool
+has_several format lines name = nat_le 2 (count_named format name (records_of format lines))
+
+-- the lines after the edit where it is made, and as they are where it isn't
+abbrev pub edited_where : {R : Type 0} → Format R → Bool → List Line → Edit R → List Line
+edited_where format is_made lines edit = if is_made then edited format lines edit else lines

@@ -1,9 +1,10 @@
 // The edits of a table as data, and what a record has so that edits can be made of it.
 ghost use Rattle.std.specs.Prelude.{◌≡◌, true, List, [], None, IfOk, IfSome};
 ghost use Rattle.account_formats.specs.Written.{IsWritten};
-ghost use Rattle.line_edits.specs.Naming.{ChangesOnly, IsMarkOf, Leaves};
+ghost use Rattle.line_edits.specs.Naming.{ChangesOnly, IsMarkOf, Leaves, names_in};
 ghost use Rattle.line_edits.specs.SeenEdits.{records_in};
 
+use crate::ChangedNames;
 use acct_lines::TableRecord;
 use std::alloc::{AllocError, Global};
 
@@ -61,11 +62,11 @@ pub trait EditedRecord: TableRecord {
     fn mark(change: &Self::Change) -> Option<&[u8]>
         ensures { IfSome result (λ mark. IsMarkOf Self.format (becomes change.now) mark.now) };
 
-    /// The name of all records that the change may touch, where it leaves their names; none where
+    /// The names of all records that the change may touch, where it leaves their names; none where
     /// it may touch others.
-    fn only_name(change: &Self::Change) -> Option<&[u8]>
-        ensures { IfSome result (λ name.
-            ChangesOnly Self.format (becomes change.now) name.now) };
+    fn only_names(change: &Self::Change) -> Option<ChangedNames<'_>>
+        ensures { IfSome result (λ names.
+            ChangesOnly Self.format (becomes change.now) (names_in names)) };
 
     // an empty line is no record
     ghost no_blank: { Self.TableRecord.format.read [] ≡ None };

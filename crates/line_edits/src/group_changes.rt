@@ -4,12 +4,14 @@ ghost use Rattle.account_formats.specs.Records.{group_format};
 ghost use Rattle.account_formats.specs.Text.{is_listed};
 ghost use Rattle.account_formats.specs.declared.records.GroupRecord.{GroupRecord};
 ghost use Rattle.acct_tables.specs.Marks.{IsWithout};
-ghost use Rattle.line_edits.specs.GroupChanges.{group_after, keeps_group_name};
+ghost use Rattle.line_edits.specs.GroupChanges.{group_after, group_becomes, keeps_group_name};
 ghost use Rattle.line_edits.specs.Memberships.{group_by};
+ghost use Rattle.line_edits.specs.Naming.{ChangesOnly, names_in};
+ghost use Rattle.line_edits.specs.declared.group_changes.GroupChange.TheVariants.{All};
 
 use crate::fields::has_other_name;
 use crate::lists::{with_name, without_name};
-use crate::{Becoming, EditedRecord, Membership};
+use crate::{Becoming, ChangedNames, EditedRecord, Membership};
 use acct_lines::{GroupLine, GroupRecord, TableRecord, first_field, lists};
 use acct_text::{Bytes, Names};
 use std::alloc::{AllocError, Global};
@@ -88,9 +90,12 @@ impl EditedRecord for GroupRecord {
         }
     }
 
-    fn only_name(change: &GroupChange) -> Option<&[u8]> {
+    fn only_names(change: &GroupChange) -> Option<ChangedNames<'_>> {
         match change {
-            GroupChange::Named(name, act) if keeps_name(act) => Some(name.as_slice()),
+            GroupChange::Named(name, act) if keeps_name(act) => {
+                Some(ChangedNames::One(name.as_slice()))
+            }
+            GroupChange::All(act) => act_names(act),
             _ => None,
         }
     }
@@ -105,6 +110,18 @@ fn keeps_name(act: &GroupAct) -> bool
     match act {
         GroupAct::Rename(_) => false,
         _ => true,
+    }
+}
+
+// The names of all groups that the act may touch, where it leaves their names; none where it may
+// touch others.
+fn act_names(act: &GroupAct) -> Option<ChangedNames<'_>>
+    ensures { IfSome result (λ names.
+        ChangesOnly group_format (group_becomes (All act.now)) (names_in names)) }
+{
+    match act {
+        GroupAct::SetMembership(membership) => membership.only_groups(),
+        _ => None,
     }
 }
 

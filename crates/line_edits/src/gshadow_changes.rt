@@ -4,12 +4,14 @@ ghost use Rattle.account_formats.specs.declared.records.GshadowRecord.{GshadowRe
 ghost use Rattle.account_formats.specs.Records.{gshadow_format};
 ghost use Rattle.account_formats.specs.Text.{is_listed};
 ghost use Rattle.acct_tables.specs.Marks.{IsWithout};
-ghost use Rattle.line_edits.specs.GshadowChanges.{gshadow_after, keeps_gshadow_name, without_user};
+ghost use Rattle.line_edits.specs.GshadowChanges.{gshadow_after, gshadow_becomes, keeps_gshadow_name, without_user};
 ghost use Rattle.line_edits.specs.Memberships.{gshadow_by};
+ghost use Rattle.line_edits.specs.Naming.{ChangesOnly, names_in};
+ghost use Rattle.line_edits.specs.declared.gshadow_changes.GshadowChange.TheVariants.{All};
 
 use crate::fields::has_other_name;
 use crate::lists::{with_name, without_name};
-use crate::{Becoming, EditedRecord, Membership};
+use crate::{Becoming, ChangedNames, EditedRecord, Membership};
 use acct_lines::{GshadowLine, GshadowRecord, TableRecord, first_field, lists};
 use acct_text::{Bytes, Names};
 use std::alloc::{AllocError, Global};
@@ -94,9 +96,12 @@ impl EditedRecord for GshadowRecord {
         }
     }
 
-    fn only_name(change: &GshadowChange) -> Option<&[u8]> {
+    fn only_names(change: &GshadowChange) -> Option<ChangedNames<'_>> {
         match change {
-            GshadowChange::Named(name, act) if keeps_name(act) => Some(name.as_slice()),
+            GshadowChange::Named(name, act) if keeps_name(act) => {
+                Some(ChangedNames::One(name.as_slice()))
+            }
+            GshadowChange::All(act) => act_names(act),
             _ => None,
         }
     }
@@ -111,6 +116,18 @@ fn keeps_name(act: &GshadowAct) -> bool
     match act {
         GshadowAct::Rename(_) => false,
         _ => true,
+    }
+}
+
+// The names of all groups that the act may touch, where it leaves their names; none where it may
+// touch others.
+fn act_names(act: &GshadowAct) -> Option<ChangedNames<'_>>
+    ensures { IfSome result (λ names.
+        ChangesOnly gshadow_format (gshadow_becomes (All act.now)) (names_in names)) }
+{
+    match act {
+        GshadowAct::SetMembership(membership) => membership.only_groups(),
+        _ => None,
     }
 }
 

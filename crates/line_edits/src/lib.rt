@@ -2,13 +2,15 @@
 //! subuid(5), subgid(5)).
 //!
 //! `edit` has the edits of a table as data, and what a record has so that they can be made of it;
-//! `group_changes` and its like what becomes of a record. `apply` carries edits out in the text of a
-//! file: few of them one after another (`line_changes`), many by the names of the records that they
-//! touch (`named_edits`), at the places of these (`placed_edits`). `multiple` finds the first record
-//! that they touch and whose name has several.
+//! `group_changes` and its like what becomes of a record. `applied` carries edits out in lines that are
+//! kept, by the names of the records that they touch (`named_edits`), at the places of these
+//! (`placed_edits`), and in the text of a file: few of them one after another (`line_changes`), many
+//! by names. `multiple` and `multiple_in` find the first record that they touch and whose name has
+//! several.
 #![tactic(auto)]
 
-mod apply;
+mod applied;
+mod changed_names;
 mod edit;
 mod fields;
 mod group_changes;
@@ -18,6 +20,7 @@ mod line_changes;
 mod lists;
 mod memberships;
 mod multiple;
+mod multiple_in;
 mod name_set;
 mod named_edits;
 mod passwd_changes;
@@ -27,7 +30,8 @@ mod shadow_changes;
 mod subid_changes;
 mod touched;
 
-pub use apply::edited_text;
+pub use applied::{apply, edited_text};
+pub use changed_names::ChangedNames;
 pub use edit::{Becoming, Edit, EditedRecord};
 pub use group_changes::{GroupAct, GroupChange};
 pub use gshadow_changes::{GshadowAct, GshadowChange};
@@ -35,6 +39,7 @@ pub use hash_change::HashChange;
 pub use line_changes::changed_text;
 pub use memberships::{Membership, UserGroups};
 pub use multiple::first_multiple;
+pub use multiple_in::first_multiple_in;
 pub use name_set::NameSet;
 pub use passwd_changes::{PasswdAct, PasswdChange, UserFields};
 pub use shadow_changes::{DaysChange, ShadowAct, ShadowChange, ShadowFields};

@@ -1,10 +1,11 @@
 // What becomes of a user in the lists of all groups (usermod(8), `-G`, `-a` and `-l`).
 ghost use Rattle.std.specs.Prelude.{◌≡◌, IfOk, IfSome};
-ghost use Rattle.line_edits.specs.Memberships.{joins, members_with};
+ghost use Rattle.line_edits.specs.Memberships.{ChangesOnlyIn, joins, members_with};
+ghost use Rattle.line_edits.specs.Naming.{names_in};
 ghost use Rattle.line_edits.specs.declared.memberships.UserGroups.TheVariants.{Kept as KeptGroups};
 
-use crate::NameSet;
 use crate::lists::{with_name, without_name};
+use crate::{ChangedNames, NameSet};
 use acct_tables::ListRecord;
 use acct_text::{Bytes, Names};
 use std::alloc::{AllocError, Global};
@@ -50,6 +51,20 @@ impl Membership {
         match &self.groups {
             UserGroups::Kept => Some(self.user.as_slice()),
             UserGroups::Also(_) | UserGroups::Only(_) => None,
+        }
+    }
+
+    /// The groups that the user joins, where it keeps its name and leaves none; none else.
+    pub(crate) fn only_groups(&self) -> Option<ChangedNames<'_>>
+        ensures { IfSome result (λ groups. ChangesOnlyIn self.now (names_in groups)) }
+    {
+        if self.user.as_slice() != self.new_name.as_slice() {
+            return None;
+        }
+        match &self.groups {
+            UserGroups::Kept => Some(ChangedNames::Each(&[])),
+            UserGroups::Also(groups) => Some(ChangedNames::Each(groups.each())),
+            UserGroups::Only(_) => None,
         }
     }
 

@@ -1,5 +1,6 @@
 // A list of names, of which each is found without a pass over all.
-ghost use Rattle.std.specs.Prelude.{◌≡◌, ℕ, List, IfOk};
+ghost use Rattle.std.specs.Prelude.{◌≡◌, ℕ, List, bytes_eq, map, IfOk};
+ghost use Rattle.std.specs.List.{IsDistinct};
 ghost use Rattle.std.specs.Vec.{vec_items};
 ghost use Rattle.account_formats.specs.Text.{is_listed};
 ghost use Rattle.line_edits.specs.NameSets.{has_text};
@@ -44,6 +45,15 @@ impl NameSet {
         ensures { result ≡ is_listed name.now self.now }
     {
         self.texts.contains(name)
+    }
+
+    /// The names, each once.
+    pub(crate) fn each(&self) -> &[Vec<u8>]
+        ensures listed { (name : List ℕ) →
+            is_listed name (map vec_items result.now) ≡ is_listed name self.now }
+        ensures apart { IsDistinct bytes_eq (map vec_items result.now) }
+    {
+        self.texts.as_slice()
     }
 }
 

@@ -5,7 +5,7 @@ ghost use Rattle.account_formats.specs.declared.records.PasswdRecord.{PasswdReco
 ghost use Rattle.line_edits.specs.PasswdChanges.{keeps_user_name, passwd_after, with_user_fields};
 
 use crate::fields::{copy_or, has_other_name};
-use crate::{Becoming, EditedRecord, HashChange};
+use crate::{Becoming, ChangedNames, EditedRecord, HashChange};
 use acct_lines::{PasswdLine, PasswdRecord, TableRecord};
 use acct_text::Bytes;
 use std::alloc::{AllocError, Global};
@@ -100,9 +100,11 @@ impl EditedRecord for PasswdRecord {
         }
     }
 
-    fn only_name(change: &PasswdChange) -> Option<&[u8]> {
+    fn only_names(change: &PasswdChange) -> Option<ChangedNames<'_>> {
         match change {
-            PasswdChange::Named(name, act) if keeps_name(act) => Some(name.as_slice()),
+            PasswdChange::Named(name, act) if keeps_name(act) => {
+                Some(ChangedNames::One(name.as_slice()))
+            }
             _ => None,
         }
     }

@@ -1,39 +1,61 @@
 // A change that leaves the names of records, carried out in lines at their places.
-ghost use Rattle.std.specs.Prelude.{◌≡◌, ◌<◌, length, OnOk};
+ghost use Rattle.std.specs.Prelude.{◌≡◌, ◌<◌, [], ◌∷◌, length, OnOk};
 ghost use Rattle.account_formats.specs.Edits.{becomes, edited};
 ghost use Rattle.account_formats.specs.Edits as model;
 ghost use Rattle.account_formats.specs.RecordEdits.{IsWrittenEdit};
-ghost use Rattle.line_edits.specs.Naming.{KeepsNames};
+ghost use Rattle.line_edits.specs.Naming.{KeepsNames, on_named};
 ghost use Rattle.line_edits.specs.Places.{spliced_at};
 
 use crate::{Becoming, EditedRecord};
-use acct_tables::EditedLines;
+use acct_tables::{EditedLines, is_named};
 use std::alloc::{AllocError, Global};
 
-/// Puts in place of each record what becomes of it.
-pub(crate) fn change_each<R: EditedRecord + Drop>(
+/// Puts in place of each record of the name what becomes of it.
+pub(crate) fn change_all<R: EditedRecord + Drop>(
     alloc: Global,
-    lines: &mut EditedLines<'_>,
+    lines: &mut EditedLines<'_, R>,
     change: &R::Change,
+    name: &[u8],
 ) -> Result<(), AllocError>
-    requires written { IsWrittenEdit R.format (model.Become (R.becomes change.now)) }
     requires named { KeepsNames R.format (R.becomes change.now) }
-    ensures { OnOk result (lines.new ≡
-        edited R.format lines.old (model.Become (R.becomes change.now))) }
+    requires written { IsWrittenEdit R.format (model.Become (R.becomes change.now)) }
+    ensures { OnOk result (lines.new ≡ edited R.format lines.old
+        (model.Become (on_named R.format (name.now ∷ []) (R.becomes change.now)))) }
 {
     let mut place = lines.len();
     'places: while place > 0 {
         place -= 1;
-        change_at::<R>(alloc, lines, place, change)?;
+        change_named_at(alloc, lines, place, change, name)?;
     }
     Ok(())
+}
+
+// Puts in place of the record at a place what becomes of it, where it has the name.
+fn change_named_at<R: EditedRecord + Drop>(
+    alloc: Global,
+    lines: &mut EditedLines<'_, R>,
+    place: usize,
+    change: &R::Change,
+    name: &[u8],
+) -> Result<(), AllocError>
+    requires inside { place < length lines.old }
+    requires named { KeepsNames R.format (R.becomes change.now) }
+    requires written { IsWrittenEdit R.format (model.Become (R.becomes change.now)) }
+    ensures { OnOk result (lines.new ≡ spliced_at
+        (becomes R.format (on_named R.format (name.now ∷ []) (R.becomes change.now)))
+        place lines.old) }
+{
+    if !is_named::<R>(lines.text_at(place), name) {
+        return Ok(());
+    }
+    change_at(alloc, lines, place, change)
 }
 
 /// Puts in place of the record at a place what becomes of it. A line that the change leaves isn't
 /// read.
 pub(crate) fn change_at<R: EditedRecord + Drop>(
     alloc: Global,
-    lines: &mut EditedLines<'_>,
+    lines: &mut EditedLines<'_, R>,
     place: usize,
     change: &R::Change,
 ) -> Result<(), AllocError>
@@ -46,7 +68,7 @@ pub(crate) fn change_at<R: EditedRecord + Drop>(
     if R::leaves(change, lines.text_at(place)) {
         return Ok(());
     }
-    let Some(item) = lines.record_at::<R>(place)? else {
+    let Some(item) = lines.record_at(alloc, place)? else {
         return Ok(());
     };
     match item.becoming(alloc, change)? {

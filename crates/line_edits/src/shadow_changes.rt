@@ -3,7 +3,7 @@ ghost use Rattle.std.specs.Prelude.{◌≡◌, None, IfOk, unwrap_or};
 ghost use Rattle.line_edits.specs.ShadowChanges.{given_days, keeps_shadow_name, shadow_after, with_shadow_fields};
 
 use crate::fields::{copy_or, has_other_name};
-use crate::{Becoming, EditedRecord, HashChange};
+use crate::{Becoming, ChangedNames, EditedRecord, HashChange};
 use acct_lines::{ShadowRecord, TableRecord};
 use acct_text::Bytes;
 use std::alloc::{AllocError, Global};
@@ -155,9 +155,11 @@ impl EditedRecord for ShadowRecord {
         }
     }
 
-    fn only_name(change: &ShadowChange) -> Option<&[u8]> {
+    fn only_names(change: &ShadowChange) -> Option<ChangedNames<'_>> {
         match change {
-            ShadowChange::Named(name, act) if keeps_name(act) => Some(name.as_slice()),
+            ShadowChange::Named(name, act) if keeps_name(act) => {
+                Some(ChangedNames::One(name.as_slice()))
+            }
             _ => None,
         }
     }

@@ -7,7 +7,7 @@ ghost use Rattle.account_formats.specs.Written.{IsWritten};
 ghost use Rattle.line_edits.specs.SeenEdits.{records_in};
 
 use crate::fields::has_other_name;
-use crate::{Becoming, EditedRecord};
+use crate::{Becoming, ChangedNames, EditedRecord};
 use acct_lines::{SubidRecord, TableRecord, first_field};
 use acct_tables::{is_owned, is_owner, last_id};
 use acct_text::Bytes;
@@ -89,7 +89,7 @@ impl EditedRecord for SubidRecord {
         }
     }
 
-    fn only_name(_change: &SubidChange) -> Option<&[u8]> {
+    fn only_names(_change: &SubidChange) -> Option<ChangedNames<'_>> {
         None
     }
 

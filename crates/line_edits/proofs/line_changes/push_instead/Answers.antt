@@ -1,15 +1,10 @@
-use Rattle.std.proofs.Common.{◌≡◌, ◌∙◌, Bool, true, false, List, ℕ, [], ◌∷◌, ◌++◌, ap, sym, refl, append-nil}
-use Rattle.std.specs.Prelude.{not, if◌then◌else◌}
+use Rattle.std.proofs.Common.{◌≡◌, ◌∙◌, true, false, List, ℕ, [], ◌∷◌, ◌++◌, ap, sym, append-nil}
+use Rattle.std.specs.Prelude.{if◌then◌else◌}
 use Rattle.std.proofs.lemmas.Result.{on_ok_weaker}
 use Rattle.acct_text.specs.Lines.{Line, file_bytes, line_bytes}
 use Rattle.acct_tables.specs.SeenLines.{seen_line}
-use Rattle.line_edits.proofs.LeftLemmas.{isn't}
+use Rattle.line_edits.proofs.LeftLemmas.{isn't, so}
 use Rattle.line_edits.proofs.line_changes.push_instead.Goals as goal
-
--- what doesn't differ is the same
-is-same : (same : Bool) → not same ≡ false → same ≡ true
-is-same true differs = refl
-is-same false differs = absurd cc
 
 pub returns-then-not-differs : goal.returns-then-not-differs
 returns-then-not-differs g c =
@@ -17,7 +12,7 @@ returns-then-not-differs g c =
     let line = seen_line c.args.line.now in
     let other : Line = record line { text = format.print c.args.new.now } in
     let same : format.same c.args.old.now c.args.new.now ≡ true =
-    is-same (format.same c.args.old.now c.args.new.now)
+    so (format.same c.args.old.now c.args.new.now)
     (sym c.in_ok-differs.ensures ∙ c.if-not-differs.true) in
     on_ok_weaker c.push_to.result
     (λ pushed. pushed

@@ -1,11 +1,9 @@
 use Rattle.std.proofs.Common.{◌≡◌, ◌∙◌, ◌+◌, [], drop, ap, sym, arith}
-use Rattle.std.specs.Cmp.Lexicographic.{nat_list_eq_equiv}
 use Rattle.std.proofs.Math.ListN.{drop_of_length-le}
 use Rattle.account_formats.specs.Edits.{touches}
 use Rattle.line_edits.specs.SeenEdits.{seen_edits}
 use Rattle.line_edits.proofs.EditLists.{seen-from}
 use Rattle.line_edits.proofs.LeftLemmas.{neither}
-use Rattle.line_edits.proofs.NameSets.{set-takes}
 use Rattle.line_edits.proofs.touched.touched_names.Goals as goal
 
 pub edits-preserved : goal.edits-preserved
@@ -13,14 +11,10 @@ edits-preserved g c = λ r lacks.
     let format = g.R.TableRecord.format in
     let becomes = g.R.EditedRecord.becomes in
     let place = c.edits.edit-index in
-    let name = c.in-Some.name.now in
-    let apart = neither _ _
-    (sym (set-takes (λ key. key.now) name c.edits.names c.insert.new.self
-    c.in_ok-insert.ensures.updates (format.name r)) ∙ lacks) in
+    let apart = neither _ _ (sym (c.in_ok-add_names.ensures (format.name r)) ∙ lacks) in
     sym (ap (λ edits. touches format edits r)
     (seen-from becomes c.args.edits.now place c.edit-item.result (omega arith) c.edit-item.is)
-    ∙ c.in-Some.ensures r (nat_list_eq_equiv.symm (format.name r) name ∙ apart.0)
-    (seen_edits becomes (drop (place + 1) c.args.edits.now)))
+    ∙ c.in-Some.ensures r apart.0 (seen_edits becomes (drop (place + 1) c.args.edits.now)))
     ∙ c.edits.invariant r apart.1
 
 pub returns : goal.returns

@@ -1,0 +1,81 @@
+// The first record that the edits of a table touch and whose name has several, where its lines are
+// kept with an index of their names.
+ghost use Rattle.std.specs.Prelude.{◌≡◌, true, false, IfOk};
+ghost use Rattle.std.specs.List.{AllByRecursion, list_any};
+ghost use Rattle.account_formats.specs.Edits.{first_multiple, is_multiple, touches};
+ghost use Rattle.account_formats.specs.Format.{records_of};
+ghost use Rattle.account_formats.specs.RecordEdits.{IsWrittenEdit};
+ghost use Rattle.acct_tables.specs.SeenLines.{AreOfFile};
+ghost use Rattle.line_edits.specs.Naming.{names_in};
+ghost use Rattle.line_edits.specs.SeenEdits.{seen_edit, seen_edits};
+ghost use Rattle.line_edits.specs.Touching.{LeavesTo, has_several};
+
+use crate::touched::touched_by;
+use crate::{ChangedNames, Edit, EditedRecord, first_multiple};
+use acct_tables::EditedLines;
+use acct_text::Bytes;
+use std::alloc::{AllocError, Global};
+
+/// The name of the first record of the lines that the edits touch and whose name has two or more
+/// records; none where there is no such record. Where no edit may touch records of any name, or of a
+/// name that has several, it takes no pass over the lines.
+pub fn first_multiple_in<R: EditedRecord + Drop>(
+    alloc: Global,
+    lines: &EditedLines<'_, R>,
+    edits: &[Edit<R, R::Change>],
+) -> Result<Option<Bytes>, AllocError>
+    requires of_file { AreOfFile lines.now }
+    requires written { AllByRecursion (IsWrittenEdit R.format) (seen_edits R.becomes edits.now) }
+    ensures { IfOk result (λ name. name ≡ first_multiple R.format (seen_edits R.becomes edits.now)
+        (records_of R.format lines.now)) }
+{
+    if touch_single(lines, edits) {
+        return Ok(None);
+    }
+    let text = lines.text()?;
+    first_multiple(alloc, text.as_slice(), edits)
+}
+
+// Whether the edits surely touch no record whose name has several.
+fn touch_single<R: EditedRecord + Drop>(
+    lines: &EditedLines<'_, R>,
+    edits: &[Edit<R, R::Change>],
+) -> bool
+    ensures { result ≡ true → (r : R)
+        → is_multiple R.format (records_of R.format lines.now) r ≡ true
+        → touches R.format (seen_edits R.becomes edits.now) r ≡ false }
+{
+    'edits: for edit in edits {
+        if !touches_single(lines, edit) {
+            return false;
+        }
+    }
+    true
+}
+
+// Whether the edit surely touches no record whose name has several.
+fn touches_single<R: EditedRecord + Drop>(
+    lines: &EditedLines<'_, R>,
+    edit: &Edit<R, R::Change>,
+) -> bool
+    ensures { result ≡ true → (r : R)
+        → is_multiple R.format (records_of R.format lines.now) r ≡ true
+        → LeavesTo R.format (seen_edit R.becomes edit.now) r }
+{
+    match touched_by(edit) {
+        Some(names) => !have_several(lines, names),
+        None => false,
+    }
+}
+
+// Whether several records have one of the names.
+fn have_several<R: EditedRecord + Drop>(lines: &EditedLines<'_, R>, names: ChangedNames<'_>) -> bool
+    ensures { result ≡ list_any (has_several R.format lines.now) (names_in names.entry) }
+{
+    'names: for index in 0..names.len() {
+        if lines.has_several(names.at(index)) {
+            return true;
+        }
+    }
+    false
+}
