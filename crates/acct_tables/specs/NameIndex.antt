@@ -73,7 +73,7 @@ abbrev pub IsNoted : List ℕ → ℕ → Told → Told → Type 0
 IsNoted name place old new = (other : List ℕ) → new other
     ≡ (if bytes_eq name other then Some (with_last place (old name)) else old other)
 
--- the line of this name at this place is told, and one of none, which is other text, changes nothing
+-- the line at this place is told by its name, and one of none, which is other text, changes nothing
 abbrev pub IsLineNoted : Option (List ℕ) → ℕ → Told → Told → Type 0
 IsLineNoted None place old new = new ≡ old
 IsLineNoted (Some name) place old new = IsNoted name place old new

@@ -2,7 +2,7 @@
 // gshadow(5)). As its lines change, a table owns the names that it is asked for.
 ghost use Rattle.std.specs.Prelude.{◌≡◌, ◌+◌, ◌^◌, ◌<◌, [], IfOk, OnOk, OnErr};
 ghost use Rattle.std.specs.Option.{option_copied};
-ghost use Rattle.acct_tables.specs.NameIndex.{IsLineNoted, IsNoted, Tells, TellsAtMost, line_names};
+ghost use Rattle.acct_tables.specs.NameIndex.{IsLineNoted, Tells, TellsAtMost, line_names};
 ghost use Rattle.acct_tables.specs.TableNames.{told_names};
 
 use crate::TableRecord;
@@ -37,9 +37,7 @@ impl TableNames {
     {
         let mut index = TableNames::new(alloc);
         'places: for place in 0..lines.len() {
-            if let Some(name) = lines[place].name() {
-                index.add(Vec::from_slice(alloc, name)?, place)?;
-            }
+            index.note(alloc, lines[place].name(), place)?;
         }
         Ok(index)
     }
@@ -55,26 +53,16 @@ impl TableNames {
         requires behind { TellsAtMost place (told_names self.old) }
         requires room { place + 1 < 2 ^ 64 }
         ensures noted { OnOk result
-            (IsLineNoted (option_copied name.entry) place (told_names self.old) (told_names self.new)) }
+            (IsLineNoted (option_copied name.entry) place (told_names self.old)
+            (told_names self.new)) }
         ensures unchanged { OnErr result (told_names self.new ≡ told_names self.old) }
     {
-        match name {
-            Some(name) => self.add(Vec::from_slice(alloc, name)?, place),
-            None => Ok(()),
-        }
-    }
-
-    /// Notes one more record of the name, which stands at this place, behind all that are noted. At
-    /// `AllocError` the index is as before.
-    pub(crate) fn add(&mut self, name: Vec<u8>, place: usize) -> Result<(), AllocError>
-        requires behind { TellsAtMost place (told_names self.old) }
-        requires room { place + 1 < 2 ^ 64 }
-        ensures noted { OnOk result
-            (IsNoted name.items place (told_names self.old) (told_names self.new)) }
-        ensures unchanged { OnErr result (told_names self.new ≡ told_names self.old) }
-    {
-        let noted = with_last(place, self.get(name.as_slice()));
-        self.names.insert(name, noted)?;
+        let Some(name) = name else {
+            return Ok(());
+        };
+        let noted = with_last(place, self.get(name));
+        let own = Vec::from_slice(alloc, name)?;
+        self.names.insert(own, noted)?;
         Ok(())
     }
 

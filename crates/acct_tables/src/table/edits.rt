@@ -40,14 +40,10 @@ impl<R: TableRecord + Drop> Table<R> {
         ensures unchanged { OnErr result (self.new ≡ self.old) }
     {
         let alloc = self.allocator();
-        let name = Vec::from_slice(alloc, item.name())?;
         let line = TableLine::of(alloc, item, true)?;
+        self.lines.reserve(1)?;
+        self.names.note(alloc, line.name(), self.lines.len())?;
         self.lines.push(line)?;
-        let place = self.lines.len() - 1;
-        if let Err(fault) = self.names.add(name, place) {
-            self.lines.pop();
-            return Err(fault);
-        }
         end_all(&mut self.lines);
         Ok(())
     }

@@ -17,7 +17,8 @@ invariant_of-self g c =
     let ended = c.end_all.new.lines in
     let all : ended ≡ map as_ended lines.items =
     c.end_all.ensures ∙ ap (map as_ended) c.deref_mut.ensures.value in
-    let made : take lines.len (ended ++ drop (length ended) lines.items) ≡ map as_ended lines.items =
+    let back = drop (length ended) lines.items in
+    let made : take lines.len (ended ++ back) ≡ map as_ended lines.items =
     written-back ended lines.items lines.len (ap length all ∙ length-map lines.items as_ended)
     lines.ok.0
     ∙ all in

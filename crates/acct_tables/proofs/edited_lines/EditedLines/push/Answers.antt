@@ -32,11 +32,13 @@ invariant_of-self-2 g c =
     ] in
     let made : c.push.new.self.items ≡ lines ++ line ∷ [] =
     c.in_ok-push.ensures.items ∙ ap (λ front. front ++ line ∷ []) c.reserve.ensures.items in
+    let before = told_names old.names in
+    let after = told_names new in
     let noted =
-    subst (λ name. IsLineNoted name c.len.result (told_names old.names) (told_names new))
-    c.name.ensures c.in_ok-note.ensures.noted in
+    subst (λ name. IsLineNoted name c.len.result before after) c.name.ensures
+    c.in_ok-note.ensures.noted in
     let here =
-    subst (λ place. IsLineNoted (line_name format line) place (told_names old.names) (told_names new))
+    subst (λ place. IsLineNoted (line_name format line) place before after)
     (c.len.ensures ∙ c.reserve.ensures.len ∙ old.lines.ok.0) noted in
     subst (λ lines. AreIndexed format lines new c.if-self.ended) (sym made)
     (subst (AreIndexed format (lines ++ line ∷ []) new) (sym ended)
