@@ -15,7 +15,7 @@ use Rattle.account_formats.specs.Edits.{as_ended}
 use Rattle.account_formats.specs.Format.{Format}
 use Rattle.account_formats.specs.Written.{IsWritten}
 use Rattle.acct_tables.specs.declared.table_names.TableNames.{TableNames}
-use Rattle.acct_tables.specs.EditedLines.{AreEnded, AreIndexed}
+use Rattle.acct_tables.specs.EditedLines.{AllEnded, AreIndexed}
 use Rattle.acct_tables.specs.NameIndex.{IsLineNoted, Tells, line_name, line_names}
 use Rattle.acct_tables.specs.TableLines.{record_at, with_record}
 use Rattle.acct_tables.specs.TableNames.{told_names}
@@ -34,7 +34,7 @@ same-by (line ∷ rest) ends = λ i.
     record { text = line.text; ended = sym ends.0 i } ∷ same-by rest ends.1 i
 
 -- lines of which each has an end are as they were with one
-pub ended-same : (lines : List Line) → AreEnded lines → map as_ended lines ≡ lines
+pub ended-same : (lines : List Line) → AllEnded lines → map as_ended lines ≡ lines
 ended-same lines ends = same-by lines (recursion_from_All IsEnded lines ends)
 
 module _ {R : Type 0} (format : Format R) where

@@ -9,11 +9,11 @@ use Rattle.acct_tables.specs.NameIndex.{Tells, line_names}
 use Rattle.acct_tables.specs.TableNames.{told_names}
 
 -- each line has an end, the last one too
-abbrev pub AreEnded : List Line → Type 0
-AreEnded lines = AllPass (λ line. line.ended) lines
+abbrev pub AllEnded : List Line → Type 0
+AllEnded lines = AllPass (λ line. line.ended) lines
 
 -- the index tells of these lines, and each of them has an end where that is noted
 pub record AreIndexed {R : Type 0} (format : Format R) (lines : List Line) (names : TableNames)
     (ended : Bool) : Type 0 where
   pub told : Tells (line_names format lines) (told_names names)
-  pub ends : ended ≡ true → AreEnded lines
+  pub ends : ended ≡ true → AllEnded lines
