@@ -1,12 +1,13 @@
 //! The tools behind one call: what a command decides on the tables, by its request, the settings of
 //! login.defs(5) and the day. A batch, whose lines are commands of their own, is decided above.
 //!
-//! `ToolRequest` is what was asked for, and `decide` answers it: its match over `Tool` is the one place
-//! where a tool is picked. A tool is a function of a crate below, from request, tables, settings and
-//! day to the script of its edits, with a report where it has one; or to a decision, where it looks
-//! through whole tables.
+//! `ToolRequest` is what was asked for, and `decide` answers it. A tool is a function of a crate below,
+//! from request, tables, settings and day to the script of its edits, with a report where it has one:
+//! `answer` picks it, by the one match over `Tool`. One that looks through whole tables decides by
+//! itself.
 #![tactic(auto)]
 
+mod answer;
 mod dispatch;
 mod request;
 

@@ -1,4 +1,3 @@
-pub mod DecidingLemmas
 pub mod ActingLemmas
 pub mod ListedFile
 pub mod RemovalLemmas

@@ -1,28 +1,12 @@
--- What a tool answers, and what it does once none of its refusals is there ("EXIT VALUES" of each page).
-use Rattle.std.specs.Prelude.{◌≡◌, ◌≤◌, ⊤, ℕ, List, [], Some, None, Result, Ok, Err}
-use Rattle.acct_text.specs.declared.files.Files.{Files}
+-- What a tool answers, and what it reports ("EXIT VALUES" of each page).
+use Rattle.std.specs.Prelude.{◌≡◌, ⊤, Some, None, Result, Ok, Err}
 use Rattle.account_model.specs.Action.{Action}
-use Rattle.account_model.specs.Change.{action_of}
-use Rattle.account_formats.specs.Records.{greatest_days}
-use Rattle.account_words.specs.Request.{Request}
-use Rattle.account_words.specs.Settings.{Setting}
-use Rattle.account_formats.specs.Tables as model
 use Rattle.account_formats.specs.Text.{first_some}
 use Rattle.tool_answers.specs.declared.tool_fault.ToolFault.{ToolFault}
 use Rattle.tool_answers.specs.declared.tool_fault.ToolFault.TheVariants.{Refused, Memory}
 use Rattle.table_edits.specs.declared.report.Report.{Report}
 use Rattle.table_edits.specs.declared.script.Script.{Script}
 use Rattle.table_edits.specs.SeenScript.{seen_script}
-
--- the action with this script and this report, of which nothing but a multiple entry refuses
-abbrev pub acting : model.Script → Report → Action
-acting script report = record {
-  refusals = [];
-  script = script;
-  status = report.status;
-  output = report.out;
-  notices = report.notices;
-}
 
 -- none of the action's refusals is there, and the script has its edits
 pub record IsScriptOf (action : Action) (script : Script) : Type 0 where
@@ -40,13 +24,3 @@ pub record IsReportOf (action : Action) (report : Report) : Type 0 where
   pub status : report.status ≡ action.status
   pub output : report.out ≡ action.output
   pub notices : report.notices ≡ action.notices
-
--- some tool answers so, on a day that shadow(5) holds
-pub record IsOfTool (answer : Result Script ToolFault) : Type 0 where
-  pub request : Request
-  pub input : List ℕ
-  pub day : ℕ
-  pub files : Files
-  pub settings : List Setting
-  pub in_time : day ≤ greatest_days
-  pub acts : ActsBy (action_of request input day files settings) answer

@@ -2,3 +2,4 @@ pub mod RangeRemovals
 pub mod SeenScript
 pub mod Acting
 pub mod Additions
+pub mod Deciding

@@ -2,16 +2,16 @@
 //! edits (passwd(5), shadow(5), group(5), gshadow(5), subuid(5), subgid(5)).
 //!
 //! A tool looks up users and groups in the `Tables` for its refusals, and builds a `Script`:
-//! `group_edits`, `user_edits` and `new_groups` have the edits that several tools make. `decide_as`
-//! takes its answer: a refusal, or the script, which is refused where an edit touches one of several
-//! records of a name. `changed_tables` carries it out table by table, and `range_edits` the edits of
-//! subuid and subgid.
+//! `group_edits`, `user_edits` and `new_groups` have the edits that several tools make. `decide_by`
+//! decides by it: it refuses where an edit touches one of several records of a name (`multiple`), and
+//! else carries it out table by table (`changed_tables`; `range_edits` has the edits of subuid and
+//! subgid).
 #![tactic(auto)]
 
 mod changed_tables;
 mod decide;
-mod deciding;
 mod group_edits;
+mod multiple;
 mod new_groups;
 mod range_edits;
 mod report;
@@ -24,7 +24,6 @@ pub use acct_lines::{
     GroupRecord, GshadowRecord, PasswdRecord, ShadowRecord, SubidRecord, TableRecord,
 };
 pub use decide::decide_by;
-pub use deciding::decide_as;
 pub use range_edits::edited_ranges;
 pub use report::Report;
 pub use script::Script;

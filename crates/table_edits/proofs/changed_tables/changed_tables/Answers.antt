@@ -1,4 +1,4 @@
-use Rattle.std.proofs.Common.{◌≡◌, [], ◌∷◌, List, sym, subst}
+use Rattle.std.proofs.Common.{[], ◌∷◌, List, sym, subst}
 use Rattle.acct_text.specs.declared.Tab.TheVariants.{Passwd, Shadow, Group, Gshadow, Subuid, Subgid}
 use Rattle.acct_text.specs.declared.new_tables.NewTable.{NewTable}
 use Rattle.acct_text.specs.Files.{table_of}

@@ -7,7 +7,7 @@ use Rattle.line_edits.specs.SeenEdits.{seen_edits}
 use Rattle.line_edits.proofs.EditLists.{no-edits}
 use Rattle.line_edits.proofs.TouchedRecords.{none-met}
 use Rattle.table_lookups.proofs.FileLemmas.{records-in}
-use Rattle.table_edits.proofs.decide.multiple_in.Goals as goal
+use Rattle.table_edits.proofs.multiple.multiple_in.Goals as goal
 
 pub returns-then-is_empty : goal.returns-then-is_empty
 returns-then-is_empty g c =
