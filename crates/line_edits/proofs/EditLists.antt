@@ -13,7 +13,7 @@ use Rattle.account_formats.specs.Format.{Format}
 use Rattle.account_formats.specs.RecordEdits.{IsWrittenEdit}
 use Rattle.account_formats.proofs.EditLines.{edited-lines}
 use Rattle.acct_tables.specs.SeenLines.{AreOfFile}
-use Rattle.acct_tables.proofs.EditedFiles.{edit-of_file}
+use Rattle.acct_tables.proofs.EditedFiles.{edit-found, edit-of_file}
 use Rattle.line_edits.specs.declared.edit.Edit.{Edit}
 use Rattle.line_edits.specs.SeenEdits.{seen_edit, seen_edits}
 
@@ -111,27 +111,15 @@ module _ {R C : Type 0} (becomes : C → R → List R) where
 -- ---- Lines of a file
 
 module _ {R : Type 0} (format : Format R) (no_blank : format.read [] ≡ None) where
-  -- lines of a file are such after edits that print only what reads back
-  edits-of_file :
-      (edits : List (model.Edit R)) (lines : List Line)
-      → AllByRecursion (IsWrittenEdit format) edits
+  -- what an edit makes of their text has the lines that it makes of them
+  pub once-made :
+      (edit : model.Edit R) (lines : List Line)
       → AreOfFile lines
-      → AreOfFile (edited_by format edits lines)
-  edits-of_file [] lines written of_file = of_file
-  edits-of_file (edit ∷ edits) lines written of_file =
-      edits-of_file edits (edited format lines edit) written.1
-      (edit-of_file format no_blank edit written.0 lines of_file)
-
-  -- so what the edits make of their text has the lines that they make
-  pub further-made :
-      (edits : List (model.Edit R)) (lines : List Line)
-      → AreOfFile lines
-      → AllByRecursion (IsWrittenEdit format) edits
+      → IsWrittenEdit format edit
       → (text made : List ℕ)
       → text ≡ file_bytes lines
-      → made ≡ file_bytes (edited_by format edits (lines_of text))
-      → lines_of made ≡ edited_by format edits lines
-  further-made edits lines of_file written text made is made_is =
-      ap lines_of made_is
-      ∙ ap (λ found. lines_of (file_bytes (edited_by format edits found))) (ap lines_of is ∙ of_file)
-      ∙ edits-of_file edits lines written of_file
+      → made ≡ file_bytes (edited format (lines_of text) edit)
+      → lines_of made ≡ edited format lines edit
+  once-made edit lines of_file written text made is made_is =
+      edit-found format no_blank edit written text made made_is
+      ∙ ap (λ found. edited format found edit) (ap lines_of is ∙ of_file)

@@ -1,5 +1,5 @@
 // The edits of a table, carried out in its lines or in the text of its file, one after another.
-ghost use Rattle.std.specs.Prelude.{◌≡◌, ◌≤◌, drop, length, IfOk, OnOk};
+ghost use Rattle.std.specs.Prelude.{◌≡◌, IfOk, OnOk};
 ghost use Rattle.std.specs.List.{AllByRecursion};
 ghost use Rattle.acct_text.specs.Lines.{file_bytes, lines_of};
 ghost use Rattle.account_formats.specs.Edits.{edited, edited_by, put_first, with_line};
@@ -19,8 +19,8 @@ use std::mem::replace;
 
 /// Carries out the edits in their order. At `AllocError` the first of them may be made.
 ///
-/// Each edit that tells the names of the records that it may touch, of which none has several, takes
-/// a look-up of each name. From the first other one on each edit takes a pass over the lines.
+/// An edit that tells the names of the records that it may touch, of which none has several, takes a
+/// look-up of each name. Each other one takes a pass over the lines.
 pub fn apply<R: EditedRecord + Drop>(
     alloc: Global,
     lines: &mut EditedLines<'_, R>,
@@ -32,9 +32,8 @@ pub fn apply<R: EditedRecord + Drop>(
         edited_by R.format (seen_edits R.becomes edits.now) lines.old) }
     ensures of_file { OnOk result (AreOfFile lines.new) }
 {
-    let done = apply_by_name(alloc, lines, edits)?;
-    if done < edits.len() {
-        return apply_by_text(alloc, lines, &edits[done..]);
+    'edits: for edit in edits {
+        apply_one(alloc, lines, edit)?;
     }
     Ok(())
 }
@@ -61,44 +60,38 @@ pub fn edited_text<R: EditedRecord + Drop>(
     lines.text()
 }
 
-// Carries out the edits where the records of their names stand, up to the first that may touch
-// others, and gives how many these are.
-fn apply_by_name<R: EditedRecord + Drop>(
+// Carries out an edit, where the records of its names stand if it can.
+fn apply_one<R: EditedRecord + Drop>(
     alloc: Global,
     lines: &mut EditedLines<'_, R>,
-    edits: &[Edit<R, R::Change>],
-) -> Result<usize, AllocError>
+    edit: &Edit<R, R::Change>,
+) -> Result<(), AllocError>
     requires of_file { AreOfFile lines.old }
-    requires written { AllByRecursion (IsWrittenEdit R.format) (seen_edits R.becomes edits.now) }
-    ensures inside { IfOk result (λ done. done ≤ length edits.now) }
-    ensures made { IfOk result (λ done.
-        edited_by R.format (seen_edits R.becomes (drop done edits.now)) lines.new
-        ≡ edited_by R.format (seen_edits R.becomes edits.now) lines.old) }
-    ensures of_file { OnOk result (AreOfFile lines.new) }
+    requires written { IsWrittenEdit R.format (seen_edit R.becomes edit.now) }
+    ensures { OnOk result
+        (lines.new ≡ edited R.format lines.old (seen_edit R.becomes edit.now)) }
 {
-    'edits: for index in 0..edits.len() {
-        let is_made = apply_there(alloc, lines, &edits[index])?;
-        if !is_made {
-            return Ok(index);
-        }
+    let is_made = apply_there(alloc, lines, edit)?;
+    if is_made {
+        return Ok(());
     }
-    Ok(edits.len())
+    apply_by_text(alloc, lines, edit)
 }
 
-// Carries out the edits in the text of the lines, of which copies stand for them from then on.
+// Carries out an edit in the text of the lines, of which copies stand for them from then on.
 fn apply_by_text<R: EditedRecord + Drop>(
     alloc: Global,
     lines: &mut EditedLines<'_, R>,
-    edits: &[Edit<R, R::Change>],
+    edit: &Edit<R, R::Change>,
 ) -> Result<(), AllocError>
     requires of_file { AreOfFile lines.old }
-    requires written { AllByRecursion (IsWrittenEdit R.format) (seen_edits R.becomes edits.now) }
-    ensures edited { OnOk result (lines.new ≡
-        edited_by R.format (seen_edits R.becomes edits.now) lines.old) }
-    ensures of_file { OnOk result (AreOfFile lines.new) }
+    requires written { IsWrittenEdit R.format (seen_edit R.becomes edit.now) }
+    ensures { OnOk result
+        (lines.new ≡ edited R.format lines.old (seen_edit R.becomes edit.now)) }
 {
-    let text = edited_further(alloc, lines.text()?, edits)?;
-    let made = EditedLines::copied(alloc, text.as_slice())?;
+    let text = lines.text()?;
+    let new = edited_once(alloc, text.as_slice(), edit)?;
+    let made = EditedLines::copied(alloc, new.as_slice())?;
     let _old = replace(lines, made);
     Ok(())
 }
