@@ -21,7 +21,7 @@ IsMarkOf format f mark = (line : List ℕ) → IsWithout mark line → Leaves fo
 abbrev pub KeepsNames : {R : Type 0} → Format R → (R → List R) → Type 0
 KeepsNames {R = R} format f = (r : R) → map format.name (f r) ≡ format.name r ∷ []
 
--- the names
+-- the names as a list, in their order
 abbrev pub names_in : ChangedNames → List (List ℕ)
 names_in (One name) = name.now ∷ []
 names_in (Each names) = map vec_items names.now

@@ -1,5 +1,5 @@
-// Edits that each tell which names have the records that they may touch: they are carried out where
-// these stand, so that a list of them takes no pass over the table for each.
+// Edits that each tell the names of the records that they may touch: they are carried out where these
+// stand, so that a list of them takes no pass over the table for each.
 ghost use Rattle.std.specs.Prelude.{◌≡◌, [], ◌∷◌, IfOk, OnOk};
 ghost use Rattle.account_formats.specs.Edits.{edited};
 ghost use Rattle.account_formats.specs.Edits as model;
