@@ -42,7 +42,7 @@ appends-more event events = cases (is_append event.call)
     cases true = omega arith
     cases false = omega arith
 
--- a further event adds the calls of others that it counts for
+-- and another call more where it is none
 others-more : (event : Event) (events : History) →
     others_in (event ∷ events) ≡ others_in events + others_by event.call
 others-more event events = cases (is_append event.call)

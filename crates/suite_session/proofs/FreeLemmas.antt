@@ -233,7 +233,7 @@ on-fewer old new one same counts =
     let most = left-most new in
     omega (arith, one, same, fewer, most)
 
--- a call that gathers files counts once among the calls of others
+-- a call that gathers files is no append, and counts once
 gathering-other : (reading : Gatherer) → others_by (gathering_call reading) ≡ 1
 gathering-other reading = cases (slice_get reading.left 0)
   where

@@ -51,7 +51,7 @@ done-keeper reader inputs (Ok (found_bytes bytes)) shown = ap (λ (one : Inputs)
 done-keeper reader inputs (Ok found_too_large) shown = absurd shown
 done-keeper reader inputs (Err fault) shown = absurd shown
 
--- and the tables that it read are those of before its last read
+-- and its tables are those that it had read before
 pub done-files : (reader : Reader) (inputs : Inputs) (answer : Result Found FolderFault) →
     Loads reader answer (Ok (Done inputs)) → inputs.files ≡ reader.files
 done-files reader inputs (Ok found_absent) shown = ap (λ (one : Inputs). one.files)

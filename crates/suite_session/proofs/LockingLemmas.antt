@@ -8,7 +8,7 @@ use Rattle.acct_outside.specs.declared.Created.{Created}
 use Rattle.acct_outside.specs.declared.Created.TheVariants.{Done, Exists}
 use Rattle.acct_outside.specs.Names.{greatest_lock}
 use Rattle.acct_outside.specs.Tokens.{Token}
-use Rattle.acct_outside.specs.Calls.{Found, found_absent, found_bytes, found_too_large}
+use Rattle.acct_outside.specs.Calls.{Found, found_bytes}
 use Rattle.lock_steps.specs.States.{Lister, Asker, Maker, Overtaken, Kept}
 use Rattle.lock_steps.specs.declared.judging.Told.TheVariants.{Judged, Ask}
 use Rattle.lock_steps.specs.declared.claiming.Confirmed.TheVariants.{Keeper, Loser}
@@ -76,27 +76,21 @@ pub reads-judged : (seen : Lister) (answer : Result Found FolderFault) (judged :
     Reads seen answer (Ok (Judged judged)) → judged.token ≡ seen.token
 reads-judged seen (Ok (found_bytes text)) judged shown =
     ap (λ (lister : Lister). lister.token) shown.1
-reads-judged seen (Ok found_absent) judged shown = absurd shown
-reads-judged seen (Ok found_too_large) judged shown = absurd shown
-reads-judged seen (Err fault) judged shown = absurd shown
+reads-judged seen answer judged shown = absurd shown
 
 -- a read of a lock that is held
 pub reads-asking : (seen : Lister) (answer : Result Found FolderFault) (asking : Asker) →
     Reads seen answer (Ok (Ask asking)) → asking.token ≡ seen.token
 reads-asking seen (Ok (found_bytes text)) asking shown =
     ap (λ (asker : Asker). asker.token) shown.1
-reads-asking seen (Ok found_absent) asking shown = absurd shown
-reads-asking seen (Ok found_too_large) asking shown = absurd shown
-reads-asking seen (Err fault) asking shown = absurd shown
+reads-asking seen answer asking shown = absurd shown
 
 -- it keeps the number too
 pub reads-number : (seen : Lister) (answer : Result Found FolderFault) (asking : Asker) →
     Reads seen answer (Ok (Ask asking)) → asking.greatest ≡ seen.greatest
 reads-number seen (Ok (found_bytes text)) asking shown =
     ap (λ (asker : Asker). asker.greatest) shown.1
-reads-number seen (Ok found_absent) asking shown = absurd shown
-reads-number seen (Ok found_too_large) asking shown = absurd shown
-reads-number seen (Err fault) asking shown = absurd shown
+reads-number seen answer asking shown = absurd shown
 
 -- a verdict
 pub asks-token : (asking : Asker) (answer : Result Verdict FolderFault) (judged : Lister) →

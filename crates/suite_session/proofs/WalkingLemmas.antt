@@ -86,7 +86,7 @@ install-calls Stood walker next = cases (has_staged walker)
     cases true = tt
     cases false = tt
 
--- a call that installs a table leaves the command of the intent as it was
+-- a call that installs a table leaves the session's command as it was
 pub install-quiet : (walker : Walker) (next : NewTable)
     (result : CallResult (Answer (install_call walker next))) (stood : Standing) →
     own_command (standing_step (install_call walker next) result stood) ≡ own_command stood
