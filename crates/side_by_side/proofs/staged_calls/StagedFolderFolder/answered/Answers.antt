@@ -1,25 +1,17 @@
-use Rattle.side_by_side.specs.Lists.{lists_left}
-use Rattle.side_by_side.specs.Staged.{stage_of}
 use Rattle.side_by_side.proofs.StagedCalls.{answered-at-once, answered-part, answered-told}
 use Rattle.side_by_side.proofs.staged_calls.StagedFolderFolder.answered.Goals as goal
 
 pub invariant_of-self : goal.invariant_of-self
-invariant_of-self g c = answered-part
-    (stage_of c.self.inside.folder c.self.inside.others.items
-    (lists_left c.self.inside.schedule)) c.args.self.now
+invariant_of-self g c = answered-part _ _
     c.answered.new.self c.self.view_is c.args.by.now c.args.status c.answered.ensures.told
     c.requires c.self.invariant
 
 pub returns-clause-call : goal.returns-clause-call
-returns-clause-call g c = answered-told
-    (stage_of c.self.inside.folder c.self.inside.others.items
-    (lists_left c.self.inside.schedule)) c.args.self.now
+returns-clause-call g c = answered-told _ _
     c.answered.new.self c.self.view_is c.args.by.now c.args.status c.answered.ensures.told
     c.answered.ensures.faults
 
 pub returns-clause-at_once : goal.returns-clause-at_once
-returns-clause-at_once g c = answered-at-once
-    (stage_of c.self.inside.folder c.self.inside.others.items
-    (lists_left c.self.inside.schedule)) c.args.self.now
+returns-clause-at_once g c = answered-at-once _ _
     c.answered.new.self c.self.view_is c.args.by.now c.args.status c.answered.ensures.told
     c.answered.ensures.faults

@@ -6,10 +6,7 @@ use Rattle.side_by_side.proofs.StagedCalls.{begin-own, begin-part, begins-told, 
 use Rattle.side_by_side.proofs.staged_calls.StagedFolderFolder.begin.Goals as goal
 
 pub returns-in_err-play_next-clause-call : goal.returns-in_err-play_next-clause-call
-returns-in_err-play_next-clause-call g c = want-begun
-    (stage_of c.self.inside.folder c.self.inside.others.items
-    (lists_left c.self.inside.schedule))
-    c.args.self.now
+returns-in_err-play_next-clause-call g c = want-begun _ _
     (stage_of c.play_next.new.folder c.play_next.new.sessions.items
     (lists_left c.play_next.new.self))
     c.self.view_is c.play_next.ensures.advances _
@@ -30,9 +27,7 @@ invariant_of-self-2 g c =
     c.begin.ensures.told
 
 pub returns-clause-call : goal.returns-clause-call
-returns-clause-call g c = begins-told
-    (stage_of c.self.inside.folder c.self.inside.others.items
-    (lists_left c.self.inside.schedule)) c.args.self.now
+returns-clause-call g c = begins-told _ _
     (stage_of c.play_next.new.folder c.play_next.new.sessions.items
     (lists_left c.play_next.new.self)) c.begin.new.self c.self.view_is
     c.play_next.ensures.advances _ c.begin.result c.begin.ensures.told c.begin.ensures.faults
@@ -49,9 +44,7 @@ returns-in_err-play_next-clause-next g c =
       words = c.args.words.now;
       input = c.args.input.now;
       day = c.args.day;
-    } in breaks-off
-    (stage_of c.self.inside.folder c.self.inside.others.items
-    (lists_left c.self.inside.schedule)) c.args.self.now
+    } in breaks-off _ _
     (stage_of c.play_next.new.folder c.play_next.new.sessions.items
     (lists_left c.play_next.new.self)) c.self.view_is
     c.play_next.ensures.left c.play_next.ensures.front
@@ -64,9 +57,7 @@ returns-clause-next g c =
       words = c.args.words.now;
       input = c.args.input.now;
       day = c.args.day;
-    } in calls-next
-    (stage_of c.self.inside.folder c.self.inside.others.items
-    (lists_left c.self.inside.schedule)) c.args.self.now
+    } in calls-next _ _
     (stage_of c.play_next.new.folder c.play_next.new.sessions.items
     (lists_left c.play_next.new.self)) c.self.view_is
     c.play_next.ensures.left c.begin.new.self c.in_ok-play_next.ensures.whole
