@@ -13,3 +13,4 @@ pub mod WrittenLines
 pub mod NameSets
 pub mod MarkLemmas
 pub mod ReachLemmas
+pub mod FieldLemmas

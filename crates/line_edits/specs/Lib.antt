@@ -13,3 +13,4 @@ pub mod Naming
 pub mod WrittenLines
 pub mod NameSets
 pub mod Reach
+pub mod LineFields

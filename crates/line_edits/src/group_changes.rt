@@ -9,10 +9,10 @@ ghost use Rattle.line_edits.specs.Memberships.{group_by};
 ghost use Rattle.line_edits.specs.Naming.{ChangesOnly, names_in};
 ghost use Rattle.line_edits.specs.declared.group_changes.GroupChange.TheVariants.{All};
 
-use crate::fields::has_other_name;
+use crate::fields::{fourth_field, has_other_name};
 use crate::lists::{with_name, without_name};
 use crate::{Becoming, ChangedNames, EditedRecord, Membership};
-use acct_lines::{GroupLine, GroupRecord, TableRecord, first_field, lists};
+use acct_lines::{GroupRecord, TableRecord, first_field, lists};
 use acct_text::{Bytes, Names};
 use std::alloc::{AllocError, Global};
 
@@ -157,10 +157,7 @@ fn has_member(line: &[u8], user: &[u8]) -> bool
     ensures { (group : GroupRecord) → group_format.read line.now ≡ Some group
         → result ≡ is_listed user.now group.members }
 {
-    match GroupLine::read(line) {
-        Ok(group) => lists(group.members, user),
-        Err(_) => false,
-    }
+    lists(fourth_field(line), user)
 }
 
 // The record after the act.

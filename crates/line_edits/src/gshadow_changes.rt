@@ -9,10 +9,10 @@ ghost use Rattle.line_edits.specs.Memberships.{gshadow_by};
 ghost use Rattle.line_edits.specs.Naming.{ChangesOnly, names_in};
 ghost use Rattle.line_edits.specs.declared.gshadow_changes.GshadowChange.TheVariants.{All};
 
-use crate::fields::has_other_name;
+use crate::fields::{fourth_field, has_other_name, third_field};
 use crate::lists::{with_name, without_name};
 use crate::{Becoming, ChangedNames, EditedRecord, Membership};
-use acct_lines::{GshadowLine, GshadowRecord, TableRecord, first_field, lists};
+use acct_lines::{GshadowRecord, TableRecord, first_field, lists};
 use acct_text::{Bytes, Names};
 use std::alloc::{AllocError, Global};
 
@@ -163,10 +163,7 @@ fn has_user(line: &[u8], user: &[u8]) -> bool
     ensures { (group : GshadowRecord) → gshadow_format.read line.now ≡ Some group
         → result ≡ (is_listed user.now group.administrators || is_listed user.now group.members) }
 {
-    match GshadowLine::read(line) {
-        Ok(group) => lists(group.administrators, user) || lists(group.members, user),
-        Err(_) => false,
-    }
+    lists(third_field(line), user) || lists(fourth_field(line), user)
 }
 
 // The record after the act.

@@ -10,6 +10,9 @@ use indexmap::IndexSet;
 use std::alloc::{AllocError, Global};
 use std::marker::Model;
 
+// From so many names on, one is found sooner by its hash than by comparing it with each.
+const MANY_NAMES: usize = 8;
+
 /// A list of names, of which each is found without a pass over all. Contracts see the list.
 #[derive(Drop)]
 pub struct NameSet {
@@ -44,6 +47,9 @@ impl NameSet {
     pub fn has(&self, name: &[u8]) -> bool
         ensures { result ≡ is_listed name.now self.now }
     {
+        if self.names.len() < MANY_NAMES {
+            return self.names.contains(name);
+        }
         self.texts.contains(name)
     }
 

@@ -4,10 +4,11 @@ ghost use Rattle.account_formats.specs.Records.{passwd_format};
 ghost use Rattle.account_formats.specs.declared.records.PasswdRecord.{PasswdRecord};
 ghost use Rattle.line_edits.specs.PasswdChanges.{keeps_user_name, passwd_after, with_user_fields};
 
-use crate::fields::{copy_or, has_other_name};
+use crate::fields::{copy_or, fourth_field, has_other_name};
 use crate::{Becoming, ChangedNames, EditedRecord, HashChange};
-use acct_lines::{PasswdLine, PasswdRecord, TableRecord};
-use acct_text::Bytes;
+use account_formats::GREATEST_ID;
+use acct_lines::{PasswdRecord, TableRecord};
+use acct_text::{Bytes, read_decimal};
 use std::alloc::{AllocError, Global};
 
 /// What is done with a record of passwd.
@@ -117,8 +118,8 @@ fn has_gid(line: &[u8], gid: u32) -> bool
     ensures { (user : PasswdRecord) → passwd_format.read line.now ≡ Some user
         → result ≡ (user.gid == gid) }
 {
-    match PasswdLine::read(line) {
-        Ok(user) => user.gid == gid,
+    match read_decimal(fourth_field(line), u64::from(GREATEST_ID)) {
+        Ok(found) => found == u64::from(gid),
         Err(_) => false,
     }
 }
