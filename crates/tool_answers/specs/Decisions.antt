@@ -9,8 +9,8 @@ use Rattle.account_words.specs.declared.tool.Tool.{Tool}
 use Rattle.account_words.specs.declared.tool.Tool.TheVariants.{Batch}
 use Rattle.account_model.specs.declared.refusal.Refusal.{Refusal}
 use Rattle.account_model.specs.Action.{Made}
-use Rattle.account_model.specs.Batch.{LineRefusal, Written}
-use Rattle.account_model.specs.Messages.{line_refusal_text, message, messages, refusal_text}
+use Rattle.account_model.specs.Batch.{LineRefusal, Written, written_by}
+use Rattle.account_model.specs.Messages.{line_refusal_text, message, refusal_text}
 use Rattle.account_model.specs.Statuses.{refusal_status}
 use Rattle.tool_answers.specs.declared.decision.Output.{Output}
 use Rattle.tool_answers.specs.declared.decision.Decision.{Decision}
@@ -24,23 +24,31 @@ refusal_output tool refusal = record {
   err = message tool (refusal_text refusal);
 }
 
+-- what commands print that aren't refused
+abbrev pub written_output : Written → Output
+written_output written = record {
+  status = written.status;
+  out = written.output;
+  err = written.error;
+}
+
 -- what a tool that doesn't refuse prints: its report, and its notices on the error stream
 abbrev pub made_output : Tool → Made → Output
-made_output tool made = record {
-  status = made.status;
-  out = made.output;
-  err = messages tool made.notices;
-}
+made_output tool made = written_output (written_by tool made)
 
 -- the decision by the tables that differ: all stay where none does
 abbrev pub decision_by : List NewTable → Output → Decision
 decision_by [] output = Same output
 decision_by (first ∷ rest) output = Change (first ∷ rest) output
 
--- what it decides by what it made
+-- the decision by what commands that aren't refused have written
+abbrev pub written_decision : Files → Written → Decision
+written_decision files written =
+    decision_by (changed_tables (table_of files) (table_of written.files)) (written_output written)
+
+-- what a tool decides by what it made
 abbrev pub made_decision : Tool → Files → Made → Decision
-made_decision tool files made =
-    decision_by (changed_tables (table_of files) (table_of made.files)) (made_output tool made)
+made_decision tool files made = written_decision files (written_by tool made)
 
 -- the decision by the outcome of the tool on the files
 abbrev pub decision_of : Tool → Files → Result Made Refusal → Decision
@@ -62,20 +70,11 @@ line_refusal_output line = record {
   err = message Batch (line_refusal_text line.number line.tool line.refusal);
 }
 
--- what a batch prints whose lines are all carried out
-abbrev pub written_output : Written → Output
-written_output written = record {
-  status = written.status;
-  out = written.output;
-  err = written.error;
-}
-
 -- the decision of a batch by what becomes of its lines: one refuses, or all are carried out
 abbrev pub decision_of_lines : Files → Result Written LineRefusal → Decision
 decision_of_lines files (Err line) =
     RefuseLine line.number line.refusal (line_refusal_output line)
-decision_of_lines files (Ok written) =
-    decision_by (changed_tables (table_of files) (table_of written.files)) (written_output written)
+decision_of_lines files (Ok written) = written_decision files written
 
 -- the batch decides as its lines say
 abbrev pub LinesDecide : Files → Result Written LineRefusal → Decision → Type 0
