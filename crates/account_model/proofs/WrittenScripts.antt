@@ -27,16 +27,32 @@ use Rattle.account_model.proofs.RefusalFacts.{user-held, group-held}
 
 -- ---- Scripts together
 
--- no edits
-pub none-written : IsWrittenScript no_edits
-none-written = record {
-  passwd = tt;
-  shadow = tt;
-  group = tt;
-  gshadow = tt;
+-- edits of users and of groups alone
+accounts-written :
+    (passwd : List (Edit PasswdRecord)) (shadow : List (Edit ShadowRecord))
+    (group : List (Edit GroupRecord)) (gshadow : List (Edit GshadowRecord))
+    → AllByRecursion (IsWrittenEdit passwd_format) passwd
+    → AllByRecursion (IsWrittenEdit shadow_format) shadow
+    → AllByRecursion (IsWrittenEdit group_format) group
+    → AllByRecursion (IsWrittenEdit gshadow_format) gshadow
+    → IsWrittenScript (record no_edits {
+      passwd = passwd;
+      shadow = shadow;
+      group = group;
+      gshadow = gshadow;
+    })
+accounts-written passwd shadow group gshadow is_passwd is_shadow is_group is_gshadow = record {
+  passwd = is_passwd;
+  shadow = is_shadow;
+  group = is_group;
+  gshadow = is_gshadow;
   subuid = tt;
   subgid = tt;
 }
+
+-- no edits
+pub none-written : IsWrittenScript no_edits
+none-written = accounts-written [] [] [] [] tt tt tt tt
 
 -- edits of group and gshadow alone
 pub groups-written :
@@ -44,15 +60,7 @@ pub groups-written :
     → AllByRecursion (IsWrittenEdit group_format) group
     → AllByRecursion (IsWrittenEdit gshadow_format) gshadow
     → IsWrittenScript (record no_edits { group = group; gshadow = gshadow })
-groups-written group gshadow is_group is_gshadow =
-    record {
-      passwd = tt;
-      shadow = tt;
-      group = is_group;
-      gshadow = is_gshadow;
-      subuid = tt;
-      subgid = tt;
-    }
+groups-written group gshadow = accounts-written [] [] group gshadow tt tt
 
 -- edits of passwd and shadow alone
 pub users-written :
@@ -61,14 +69,7 @@ pub users-written :
     → AllByRecursion (IsWrittenEdit shadow_format) shadow
     → IsWrittenScript (record no_edits { passwd = passwd; shadow = shadow })
 users-written passwd shadow is_passwd is_shadow =
-    record {
-      passwd = is_passwd;
-      shadow = is_shadow;
-      group = tt;
-      gshadow = tt;
-      subuid = tt;
-      subgid = tt;
-    }
+    accounts-written passwd shadow [] [] is_passwd is_shadow tt tt
 
 -- two scripts
 pub followed-written :

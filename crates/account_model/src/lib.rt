@@ -1,8 +1,8 @@
-//! What the twelve commands of the account suite mean. `specs/` has one file for each tool beside its
-//! manual page, then the answer of a command on given files (`specs/Answer`); lines and edits stand in
-//! `account_formats`, words and settings in `account_words`. `src/` has the refusals and the plan of a
-//! new user, as code and definitions share them. Each law is a function that does nothing, and whose
-//! contract is the law.
+//! What the twelve tools of the account suite mean, and a batch of their commands. `specs/` has one
+//! file for each tool beside its manual page and one for batches (`specs/Batch`), then the answer of a
+//! command on given files (`specs/Answer`); lines and edits stand in `account_formats`, words and
+//! settings in `account_words`. `src/` has the refusals and the plan of a new user, as code and
+//! definitions share them. Each law is a function that does nothing, and whose contract is the law.
 #![tactic(auto)]
 
 mod laws;
