@@ -8,6 +8,7 @@ pub mod DeedLaws
 pub mod RefusalFacts
 pub mod WrittenScripts
 pub mod MemberLaws
+pub mod RenamedRecords
 pub mod SettingBounds
 pub mod GroupToolScripts
 pub mod AgingToolScripts

@@ -1,5 +1,7 @@
 -- The members and administrators of groups (group(5), gshadow(5)).
 use Rattle.std.specs.Prelude.{ℕ, ◌&&◌, not, List, [], ◌∷◌, ◌++◌, filter, map, bytes_eq, if◌then◌else◌}
+use Rattle.account_formats.specs.declared.records.GroupRecord.{GroupRecord}
+use Rattle.account_formats.specs.declared.records.GshadowRecord.{GshadowRecord}
 use Rattle.account_formats.specs.Text.{is_listed}
 use Rattle.account_formats.specs.Format.{is_named}
 use Rattle.account_formats.specs.Edits.{each_where}
@@ -30,6 +32,17 @@ in_place_of old new names = map (λ name. if bytes_eq name old then new else nam
 abbrev pub renamed_in : List ℕ → List ℕ → List (List ℕ) → List (List ℕ)
 renamed_in old new names = if is_listed old names && not (bytes_eq old new)
     then name_once new (in_place_of old new names) else names
+
+-- the group with the member renamed
+abbrev pub group_renamed : List ℕ → List ℕ → GroupRecord → GroupRecord
+group_renamed old new r = record r { members = renamed_in old new r.members }
+
+-- the group with the administrator and the member renamed
+abbrev pub gshadow_renamed : List ℕ → List ℕ → GshadowRecord → GshadowRecord
+gshadow_renamed old new r = record r {
+  administrators = renamed_in old new r.administrators;
+  members = renamed_in old new r.members;
+}
 
 -- ---- Members of a group
 

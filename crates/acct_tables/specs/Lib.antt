@@ -9,5 +9,4 @@ pub mod EditedTexts
 pub mod SeenLines
 pub mod NameIndex
 pub mod TableNames
-pub mod RenamedRecords
 pub mod Marks

@@ -6,7 +6,6 @@ use Rattle.account_formats.specs.declared.records.GroupRecord.{GroupRecord}
 use Rattle.account_formats.specs.declared.records.GshadowRecord.{GshadowRecord}
 use Rattle.account_formats.specs.Edits.{is_multiple}
 use Rattle.account_formats.specs.Format.{Format, count_named, is_named, records_of}
-use Rattle.account_model.specs.Members.{renamed_in}
 use Rattle.account_formats.specs.Text.{first_some, is_listed}
 use Rattle.acct_tables.specs.declared.fault.TableFault.{TableFault}
 use Rattle.acct_tables.specs.declared.fault.TableFault.TheVariants.{Multiple}
@@ -18,20 +17,9 @@ use Rattle.acct_tables.specs.TableLines.{with_record}
 abbrev pub group_holds : List ℕ → GroupRecord → Bool
 group_holds name r = is_listed name r.members
 
--- the group with the member renamed
-abbrev pub group_renamed : List ℕ → List ℕ → GroupRecord → GroupRecord
-group_renamed old new r = record r { members = renamed_in old new r.members }
-
 -- the group has the administrator or the member
 abbrev pub gshadow_holds : List ℕ → GshadowRecord → Bool
 gshadow_holds name r = is_listed name r.administrators || is_listed name r.members
-
--- the group with the administrator and the member renamed
-abbrev pub gshadow_renamed : List ℕ → List ℕ → GshadowRecord → GshadowRecord
-gshadow_renamed old new r = record r {
-  administrators = renamed_in old new r.administrators;
-  members = renamed_in old new r.members;
-}
 
 -- ---- The lines
 

@@ -33,8 +33,9 @@ pub trait ListRecord: TableRecord {
 }
 
 impl ListRecord for GroupRecord {
-    ghost use Rattle.acct_tables.specs.Lists.{group_holds, group_renamed};
-    ghost use Rattle.acct_tables.specs.RenamedRecords.{group-written};
+    ghost use Rattle.account_model.specs.Members.{group_renamed};
+    ghost use Rattle.acct_tables.specs.Lists.{group_holds};
+    ghost use Rattle.account_model.proofs.RenamedRecords.{group-written};
 
     ghost holds = { group_holds };
 
@@ -57,8 +58,9 @@ impl ListRecord for GroupRecord {
 }
 
 impl ListRecord for GshadowRecord {
-    ghost use Rattle.acct_tables.specs.Lists.{gshadow_holds, gshadow_renamed};
-    ghost use Rattle.acct_tables.specs.RenamedRecords.{gshadow-written};
+    ghost use Rattle.account_model.specs.Members.{gshadow_renamed};
+    ghost use Rattle.acct_tables.specs.Lists.{gshadow_holds};
+    ghost use Rattle.account_model.proofs.RenamedRecords.{gshadow-written};
 
     ghost holds = { gshadow_holds };
 
