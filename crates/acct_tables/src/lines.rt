@@ -1,5 +1,5 @@
 // The lines of a table's file, one after another, each where it stands in the file's bytes.
-ghost use Rattle.std.specs.Prelude.{◌≡◌, ◌++◌, [], ◌∷◌, Some, nat_le, IfOk, IfSome, MatchOption, OnErr, OnOk};
+ghost use Rattle.std.specs.Prelude.{◌≡◌, ◌++◌, [], ◌∷◌, Some, true, is_some, nat_le, option_and_then, IfOk, IfSome, MatchOption, OnErr, OnOk};
 ghost use Rattle.acct_text.specs.Bytes.{newline};
 ghost use Rattle.acct_text.specs.Lines.{file_bytes, line_bytes, lines_of};
 ghost use Rattle.acct_text.specs.Pieces.{Lacks};
@@ -108,26 +108,33 @@ pub fn find_record<R: TableRecord + Drop>(
         found ≡ find_named R.format name.now (records_of R.format (lines_of text.now))) }
     ensures written { IfOk result (λ found. IfSome found (IsWritten R.format)) }
 {
-    let mut left = Lines::of(from_mark(text, name));
-    'lines: while let Some(line) = left.take() {
-        if is_named::<R>(line.text, name) {
-            return read_record(alloc, line.text);
-        }
+    match line_of_name::<R>(text, name) {
+        Some(line) => read_record(alloc, line),
+        None => Ok(None),
     }
-    Ok(None)
 }
 
 /// Whether a record of a file with these bytes has the name. It takes no memory.
 pub fn has_record<R: TableRecord>(text: &[u8], name: &[u8]) -> bool
     ensures { result ≡ has_named R.format name.now (records_of R.format (lines_of text.now)) }
 {
+    line_of_name::<R>(text, name).is_some()
+}
+
+// The first line that reads as a record of the name; none where no record has it.
+fn line_of_name<'a, R: TableRecord>(text: &'a [u8], name: &[u8]) -> Option<&'a [u8]>
+    ensures found { option_and_then (λ line. R.format.read line.now) result
+        ≡ find_named R.format name.now (records_of R.format (lines_of text.now)) }
+    ensures reads { IfSome result (λ line. is_some (R.format.read line.now) ≡ true) }
+    ensures one_line { IfSome result (λ line. Lacks newline line.now) }
+{
     let mut left = Lines::of(from_mark(text, name));
     'lines: while let Some(line) = left.take() {
         if is_named::<R>(line.text, name) {
-            return true;
+            return Some(line.text);
         }
     }
-    false
+    None
 }
 
 /// Whether several records of a file with these bytes have the name. It takes no memory.

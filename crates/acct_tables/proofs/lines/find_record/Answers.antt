@@ -1,53 +1,10 @@
-use Rattle.std.proofs.Common.{◌∙◌, length, ap, sym, arith}
+use Rattle.std.proofs.Common.{◌∙◌}
 use Rattle.std.proofs.lemmas.Result.{IfOk-weaker}
-use Rattle.account_formats.specs.Format.{find_named, records_of}
-use Rattle.acct_tables.proofs.MarkedRecords.{marked-found}
-use Rattle.acct_tables.proofs.RecordLines.{met-by, passed-by}
 use Rattle.acct_tables.proofs.lines.find_record.Goals as goal
 
-pub returns-then-is_named-clause-found : goal.returns-then-is_named-clause-found
-returns-then-is_named-clause-found g c =
-    let format = g.R.TableRecord.format in
-    let name = c.args.name.now in
-    let kept = format.read c.in-Some.line.text.now in
-    let rest = records_of format c.take.new.self in
-    IfOk-weaker c.read_record.result _ _ (λ found is.
-    is
-    ∙ sym (met-by format name kept rest (sym c.is_named.ensures ∙ c.if-is_named.true))
-    ∙ ap (λ lines. find_named format name (records_of format lines)) (sym c.in-Some.ensures.taken)
-    ∙ c.lines.invariant)
-    c.read_record.ensures.found
+pub returns-in-Some-clause-found : goal.returns-in-Some-clause-found
+returns-in-Some-clause-found g c = IfOk-weaker c.read_record.result _ _
+    (λ found is. is ∙ c.in-Some.ensures.found) c.read_record.ensures.found
 
-pub returns-then-is_named-clause-written : goal.returns-then-is_named-clause-written
-returns-then-is_named-clause-written g c = c.read_record.ensures.written c.in-Some.ensures.one_line
-
-pub lines-preserved : goal.lines-preserved
-lines-preserved g c =
-    let format = g.R.TableRecord.format in
-    let name = c.args.name.now in
-    let kept = format.read c.in-Some.line.text.now in
-    let rest = records_of format c.take.new.self in
-    sym (passed-by format name kept rest (sym c.is_named.ensures ∙ c.if-is_named.false))
-    ∙ ap (λ lines. find_named format name (records_of format lines)) (sym c.in-Some.ensures.taken)
-    ∙ c.lines.invariant
-
-pub lines-init : goal.lines-init
-lines-init g c =
-    let format = g.R.TableRecord.format in
-    let name = c.args.name.now in
-    ap (λ lines. find_named format name (records_of format lines)) c.of-left.ensures
-    ∙ marked-found format g.met.R.TableRecord.names_first name c.args.text.now
-    c.from_mark.result.now c.from_mark.ensures
-
-pub lines-smaller : goal.lines-smaller
-lines-smaller g c = omega (arith, ap length c.in-Some.ensures.taken)
-
-pub returns : goal.returns
-returns g c =
-    let format = g.R.TableRecord.format in
-    record {
-      found = ap (λ lines. find_named format c.args.name.now (records_of format lines))
-          (sym c.in_default.ensures.taken)
-          ∙ c.lines.invariant;
-      written = tt;
-    }
+pub returns-in-Some-clause-written : goal.returns-in-Some-clause-written
+returns-in-Some-clause-written g c = c.read_record.ensures.written c.in-Some.ensures.one_line

@@ -1,7 +1,7 @@
 use Rattle.std.proofs.Common.{◌≡◌, length}
 use Rattle.acct_text.specs.Lines.{lines_of}
 use Rattle.account_formats.specs.Format.{find_named, records_of}
-use Rattle.acct_tables.proofs.lines.has_record.Given as goal
+use Rattle.acct_tables.proofs.lines.line_of_name.Given as goal
 
 -- what is found among the lines left is what is found among all
 abbrev pub invariant-lines : goal.invariant-lines
