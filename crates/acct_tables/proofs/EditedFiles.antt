@@ -27,7 +27,8 @@ module _ {R : Type 0} (format : Format R) (no_blank : format.read [] ≡ None)
   -- and so are those of any file
   pub edit-of_file : (lines : List Line) → AreOfFile lines → AreOfFile (edited format lines edit)
   edit-of_file lines of_file =
-      subst (λ found. AreOfFile (edited format found edit)) of_file (edited-of_file (file_bytes lines))
+      subst (λ found. AreOfFile (edited format found edit)) of_file
+      (edited-of_file (file_bytes lines))
 
   -- they are found in the text that they make
   pub edit-found :

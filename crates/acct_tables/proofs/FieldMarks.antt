@@ -22,7 +22,8 @@ use Rattle.acct_tables.proofs.MarkLemmas.{holds-back, holds-front}
 module _ (mark : List ℕ) (separator : ℕ) (piece : List ℕ) where
   -- pieces that are joined have what the first has
   pub joined-first :
-      (rest : List (List ℕ)) → Holds mark piece → Holds mark (join_with_byte separator (piece ∷ rest))
+      (rest : List (List ℕ)) → Holds mark piece →
+      Holds mark (join_with_byte separator (piece ∷ rest))
   joined-first [] holds = holds
   joined-first (next ∷ rest) holds =
       holds-front mark piece (separator ∷ join_with_byte separator (next ∷ rest)) holds
@@ -56,7 +57,8 @@ holds-written :
     → digits_value 10 digits < 2 ^ 64
     → Holds (decimal (digits_value 10 digits)) digits
 holds-written digits all some alone small =
-    subst (λ written. Holds written digits) (sym (decimal-digits_value own digits all some alone small))
+    subst (λ written. Holds written digits)
+    (sym (decimal-digits_value own digits all some alone small))
     (holds-self digits)
 
 -- digits have the decimal text of their value

@@ -92,7 +92,8 @@ module _ {R : Type 0} (format : Format R) (test : R → Bool) where
       → IsFirst lines start place
   first-from [] start place first = absurd cc
   first-from (line ∷ rest) start place first =
-      first-by line rest start place (passes line) (position_from passes (start + 1) rest) refl first
+      first-by line rest start place (passes line)
+      (position_from passes (start + 1) rest) refl first
       (first-from rest (start + 1) place)
 
   -- by whether the first line passes

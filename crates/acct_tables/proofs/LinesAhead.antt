@@ -21,7 +21,8 @@ use Rattle.acct_tables.specs.SeenLines.{end_for, missing_end}
 pieces-cons :
     (text : List ℕ) (pieces : List (List ℕ))
     → 0 < length pieces
-    → lines_of_pieces (text ∷ pieces) ≡ record { text = text; ended = true } ∷ lines_of_pieces pieces
+    → lines_of_pieces (text ∷ pieces)
+    ≡ record { text = text; ended = true } ∷ lines_of_pieces pieces
 pieces-cons text [] some = absurd (lt_irrefl 0 some)
 pieces-cons text (piece ∷ pieces) some = refl
 

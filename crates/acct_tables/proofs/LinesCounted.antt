@@ -19,7 +19,8 @@ last-counted line false is some =
     rw is (omega (arith, some is, length-append (line.text ++ []) [], length-append line.text []))
 
 -- lines that are ended have a byte each
-ended-lines-counted : (lines : List Line) → AreEnded lines → length lines ≤ length (file_bytes lines)
+ended-lines-counted : (lines : List Line) → AreEnded lines →
+    length lines ≤ length (file_bytes lines)
 ended-lines-counted [] ended = omega arith
 ended-lines-counted (last ∷ []) ended =
     last-counted last last.ended refl ended

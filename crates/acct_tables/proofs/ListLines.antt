@@ -108,14 +108,19 @@ module _ {R : Type 0} (format : Format R) where
     -- a record that stays leaves its line, by whether it has the name
     left-by :
         (line : Line) (r : R) (named : Bool)
-        → line_becomes format line r (if named then [] else r ∷ []) ≡ (if named then [] else line ∷ [])
+        → line_becomes format line r (if named then [] else r ∷ [])
+        ≡ (if named then [] else line ∷ [])
     left-by line r true = refl
     left-by line r false = rw ((tells r r).1 refl) refl
 
     -- what is left of a line, by what it reads as
     pub left-of :
         (line : Line) (kept : Option R)
-        → (elim kept [ None ↦ line ∷ [] | Some r ↦ line_becomes format line r (unless_named name r) ])
+        → (elim kept [
+          | None ↦ line ∷ []
+          | Some r ↦ line_becomes format line r
+              (unless_named name r)
+        ])
         ≡ (if named_by kept then [] else line ∷ [])
     left-of line None = refl
     left-of line (Some r) = left-by line r (is_named format name r)
@@ -176,5 +181,6 @@ module _ {R : Type 0} (format : Format R) (holds : R → Bool) (records : List R
       → fault ≢ Memory
   list-no_memory [] fault is = absurd cc
   list-no_memory (line ∷ rest) fault is =
-      first-no_memory (line_refusal format holds records line) (map (line_refusal format holds records) rest) fault
+      first-no_memory (line_refusal format holds records line)
+      (map (line_refusal format holds records) rest) fault
       (line-no_memory (format.read line.text) fault) (list-no_memory rest fault) is

@@ -64,7 +64,8 @@ module _ (mark : List ℕ) where
       → AllByRecursion (λ line. IsWithout mark line.text) lines
   lines-without [] without = tt
   lines-without (line ∷ rest) without = (
-    λ holds. without (holds-front (line_bytes line) (file_bytes rest) (holds-front line.text _ holds)),
+    λ holds. without (holds-front (line_bytes line) (file_bytes rest)
+        (holds-front line.text _ holds)),
     lines-without rest (λ holds. without (holds-back (line_bytes line) (file_bytes rest) holds)),
   )
 
@@ -154,7 +155,8 @@ module _ (mark : List ℕ) where
       let low : end < length text = omega arith in
       let size : length (take end text) ≡ end = length-take-le end text (omega arith) in
       let at : slice_index text end ≡ newline =
-      let seen : slice_index (take place text) end ≡ slice_index text end = grind (arith, common_steps) in
+      let seen : slice_index (take place text) end
+      ≡ slice_index text end = grind (arith, common_steps) in
       sym seen ∙ eqb-true (slice_index (take place text) end) newline last.1 in
       let whole : text ≡ take end text ++ newline ∷ rest =
       sym (take-append-drop end text)

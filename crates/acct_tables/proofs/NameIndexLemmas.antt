@@ -205,7 +205,8 @@ module _ {R : Type 0} (format : Format R) (all left rest : List Line) (place : �
   pub names-many : length (line_names format (take place all)) ≡ place
   names-many =
       let inside = next-inside in
-      length-map (take place all) (line_name format) ∙ length-take-le place all (omega (arith, inside))
+      length-map (take place all) (line_name format)
+      ∙ length-take-le place all (omega (arith, inside))
 
   -- the names up to it
   pub names-more :

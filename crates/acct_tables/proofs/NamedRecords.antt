@@ -27,7 +27,8 @@ module _ {R : Type 0} (format : Format R) (name : List ℕ) where
   named-by (Some r) = refl
 
   -- a line is a record of the name where its own name is that
-  named-line : (line : Line) → has_name name (line_name format line) ≡ line_is_named format name line
+  named-line : (line : Line) →
+      has_name name (line_name format line) ≡ line_is_named format name line
   named-line line = named-by (format.read line.text)
 
   -- as many lines have the name as records
@@ -76,7 +77,8 @@ module _ {R : Type 0} (format : Format R) (name : List ℕ) where
   has-from [] start = refl
   has-from (line ∷ rest) start =
       has-line (format.read line.text) (records_of format rest) start
-      (position_from (has_name name) (start + 1) (line_names format rest)) (has-from rest (start + 1))
+      (position_from (has_name name) (start + 1) (line_names format rest))
+      (has-from rest (start + 1))
 
   module _ (lines : List Line) where
     -- the names of the lines
@@ -150,7 +152,8 @@ module _ {R : Type 0} (format : Format R) (name : List ℕ) where
     some-told (Some first) count = refl
 
     -- something is told where a record has the name
-    pub told-has : is_some (lines_named name names) ≡ has_named format name (records_of format lines)
+    pub told-has : is_some (lines_named name names)
+        ≡ has_named format name (records_of format lines)
     told-has =
         some-told (position_from (has_name name) 0 names) (count_by (has_name name) names)
         ∙ has-from lines 0
@@ -168,7 +171,8 @@ module _ {X : Type 0} (test : X → Bool) (x : X) (rest : List X) (passes : test
       (now : Bool) (start place : ℕ) (behind found : Option ℕ)
       → start < place
       → is_before place behind ≡ is_some found
-      → is_before place (if now then Some start else behind) ≡ is_some (if now then Some start else found)
+      → is_before place (if now then Some start else behind)
+      ≡ is_some (if now then Some start else found)
   front-by true start place behind found inside later = lt-ltb start place inside
   front-by false start place behind found inside later = later
 
@@ -205,7 +209,8 @@ told-before format front line rest r reads =
     let here : has_name name (line_name format line) ≡ true =
     ap (λ found. has_name name (option_map format.name found)) reads
     ∙ (bytes_eq-Decides name name).1 refl in
-    before-by (length front) (position_from (has_name name) 0 (line_names format (front ++ line ∷ rest)))
+    before-by (length front) (position_from (has_name name) 0
+    (line_names format (front ++ line ∷ rest)))
     (count_by (has_name name) (line_names format (front ++ line ∷ rest)))
     ∙ ap (λ all. is_before (length front) (position_from (has_name name) 0 all))
     (map-append (line_name format) front (line ∷ rest))

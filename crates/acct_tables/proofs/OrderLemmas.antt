@@ -18,7 +18,8 @@ pub text-is :
     → text_at lines place ≡ line.text
 text-is [] place line inside is = absurd (omega (arith, inside))
 text-is (first ∷ rest) zero line inside is = ap (λ l. l.text) (sym is)
-text-is (first ∷ rest) (suc place) line inside is = text-is rest place line (omega (arith, inside)) is
+text-is (first ∷ rest) (suc place) line inside is =
+    text-is rest place line (omega (arith, inside)) is
 
 -- nothing comes behind the end
 end-none : {X : Type 0} (xs : List X) (place : ℕ) → length xs ≤ place → drop place xs ≡ []
@@ -105,15 +106,18 @@ module _ {R : Type 0} (format : Format R) where
     next-record done now total source from so_far some few from_is from_inside source_is pushed =
         let back = with_texts format (texts_left (next + 1)) (drop (place + 1) lines) in
         let texts : texts_left next ≡ text_at lines from ∷ texts_left (next + 1) =
-        ap (map (text_at lines)) (drop_more places next from few ∙ ap (λ p. p ∷ drop (next + 1) places) (sym from_is)) in
+        ap (map (text_at lines)) (drop_more places next from few
+        ∙ ap (λ p. p ∷ drop (next + 1) places) (sym from_is)) in
         ap (λ front. front ++ back) pushed
         ∙ append_assoc done (record { text = source.text; ended = line.ended } ∷ []) back
         ∙ ap (λ text. done ++ (record { text = text; ended = line.ended } ∷ back))
         (sym (text-is lines from source from_inside source_is))
         ∙ ap (λ rest. done ++ rest)
-        (sym (record-takes (text_at lines from) (texts_left (next + 1)) line (drop (place + 1) lines) some))
+        (sym (record-takes (text_at lines from) (texts_left (next + 1)) line
+        (drop (place + 1) lines) some))
         ∙ ap (λ rest. done ++ with_texts format rest (line ∷ drop (place + 1) lines)) (sym texts)
-        ∙ ap (λ rest. done ++ with_texts format (texts_left next) rest) (sym (lines-from lines place line inside is))
+        ∙ ap (λ rest. done ++ with_texts format (texts_left next) rest)
+        (sym (lines-from lines place line inside is))
         ∙ so_far
 
     -- other text stays
@@ -127,8 +131,10 @@ module _ {R : Type 0} (format : Format R) where
         let back = with_texts format (texts_left next) (drop (place + 1) lines) in
         ap (λ front. front ++ back) pushed
         ∙ append_assoc done (line ∷ []) back
-        ∙ ap (λ rest. done ++ rest) (sym (other-stays (texts_left next) line (drop (place + 1) lines) other))
-        ∙ ap (λ rest. done ++ with_texts format (texts_left next) rest) (sym (lines-from lines place line inside is))
+        ∙ ap (λ rest. done ++ rest)
+        (sym (other-stays (texts_left next) line (drop (place + 1) lines) other))
+        ∙ ap (λ rest. done ++ with_texts format (texts_left next) rest)
+        (sym (lines-from lines place line inside is))
         ∙ so_far
 
   -- behind the last line the lines are whole

@@ -73,4 +73,5 @@ module _ {R : Type 0} (format : Format R) (name : List ℕ) where
   counted-next line left rest named is named_is =
       ap (λ lines. count_named format name (records_of format lines)) is
       ∙ counted-by (format.read line.text) (records_of format rest)
-      ∙ ap (λ test. (if test then 1 else 0) + count_named format name (records_of format rest)) named_is
+      ∙ ap (λ test. (if test then 1 else 0) + count_named format name (records_of format rest))
+      named_is

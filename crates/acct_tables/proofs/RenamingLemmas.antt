@@ -60,7 +60,8 @@ module _
   -- the names from the place on, renamed
   names-from : in_place_of old new (drop place names) ≡ renamed_name old new name ∷ left
   names-from =
-      ap (in_place_of old new) (drop_more names place name inside ∙ ap (λ first. first ∷ drop (place + 1) names) (sym is))
+      ap (in_place_of old new) (drop_more names place name inside
+      ∙ ap (λ first. first ∷ drop (place + 1) names) (sym is))
 
   -- it goes behind the names so far
   next-goes :
@@ -104,7 +105,8 @@ module _
       let named = (bytes_eq-Decides (renamed_name old new name) new).0 is_new in
       ap (λ test. now ++ once_more test new left) one
       ∙ next-goes renamed now total false true new
-      (ap (λ test. renamed ++ once_more test new (in_place_of old new (drop place names))) (sym none) ∙ so_far)
+      (ap (λ test. renamed ++ once_more test new (in_place_of old new (drop place names)))
+      (sym none) ∙ so_far)
       (once-first new (renamed_name old new name) left is_new
       ∙ ap (λ first. first ∷ once_more true new left) named) pushed
 
@@ -122,5 +124,6 @@ module _
       ∙ ap (λ front. front ++ once_more true new left) kept
       ∙ ap (λ rest. renamed ++ rest) (sym (once-again new (renamed_name old new name) left is_new))
       ∙ ap (λ rest. renamed ++ once_more true new rest) (sym names-from)
-      ∙ ap (λ test. renamed ++ once_more test new (in_place_of old new (drop place names))) (sym one)
+      ∙ ap (λ test. renamed ++ once_more test new (in_place_of old new (drop place names)))
+      (sym one)
       ∙ so_far

@@ -35,7 +35,8 @@ module _ {R : Type 0} (format : Format R) (name : List ℕ) where
     -- the number that is told
     pub told-counts : (found : NamedLines) → told ≡ Some found → found.count ≡ count_of lines
     told-counts found is =
-        counts-by (position_from (has_name name) 0 names) (count_by (has_name name) names) found.count
+        counts-by (position_from (has_name name) 0 names)
+        (count_by (has_name name) names) found.count
         (ap (option_map (λ found. found.count)) is)
         ∙ told-count format name lines
 

@@ -5,5 +5,7 @@ use Rattle.acct_tables.proofs.edited_lines.end_all.Goals as goal
 
 pub loop-line-preserved : goal.loop-line-preserved
 loop-line-preserved c =
-    end-next c.args.lines.now c.loop-line.lines c.loop-line.line-index c.line-item.result c.end.new.self
-    c.loop-line.invariant (omega arith) c.line-item.is (c.end.ensures ∙ ap as_ended (sym c.line-item.is))
+    end-next c.args.lines.now c.loop-line.lines c.loop-line.line-index
+    c.line-item.result c.end.new.self
+    c.loop-line.invariant (omega arith) c.line-item.is
+    (c.end.ensures ∙ ap as_ended (sym c.line-item.is))

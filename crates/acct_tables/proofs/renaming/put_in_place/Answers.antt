@@ -16,19 +16,27 @@ loop-name-preserved c =
     let total = name_once new (in_place_of old new names) in
     let inside : place < length names = omega arith in
     let tells : bytes_eq (renamed_name old new name) new ≡ c.becomes_new.result =
-    ap (λ (n : List ℕ). bytes_eq (renamed_name old new n) new) (sym c.as_slice.ensures) ∙ sym c.becomes_new.ensures in
+    ap (λ (n : List ℕ). bytes_eq (renamed_name old new n) new) (sym c.as_slice.ensures)
+    ∙ sym c.becomes_new.ensures in
     elim c.if-not-becomes_new.branch [
       | then-not-becomes_new+in_ok-push w ↦
-          next-kept old new name names place inside c.name-item.is c.loop-name.renamed c.if-not-becomes_new.renamed total
-          c.loop-name.stands c.if-not-becomes_new.stands c.loop-name.invariant (tells ∙ w.if-not-becomes_new.true) w.stands-is
+          next-kept old new name names place inside c.name-item.is c.loop-name.renamed
+          c.if-not-becomes_new.renamed total
+          c.loop-name.stands c.if-not-becomes_new.stands c.loop-name.invariant
+          (tells ∙ w.if-not-becomes_new.true) w.stands-is
           (w.renamed-is ∙ w.in_ok-push.ensures.ok
-          ∙ ap (λ (n : List ℕ). c.loop-name.renamed ++ n ∷ []) w.as_slice-then-not-becomes_new.ensures)
+          ∙ ap (λ (n : List ℕ). c.loop-name.renamed ++ n ∷ [])
+          w.as_slice-then-not-becomes_new.ensures)
       | else-not-becomes_new+then-not-stands+in_ok-push-2 w ↦
-          next-first old new name names place inside c.name-item.is c.loop-name.renamed c.if-not-becomes_new.renamed total
-          c.loop-name.stands c.if-not-becomes_new.stands c.loop-name.invariant (tells ∙ w.if-not-becomes_new.false)
+          next-first old new name names place inside c.name-item.is c.loop-name.renamed
+          c.if-not-becomes_new.renamed total
+          c.loop-name.stands c.if-not-becomes_new.stands c.loop-name.invariant
+          (tells ∙ w.if-not-becomes_new.false)
           w.if-not-stands.true w.stands-is (w.renamed-is ∙ w.in_ok-push-2.ensures.ok)
       | else-not-becomes_new+else-not-stands w ↦
-          next-again old new name names place inside c.name-item.is c.loop-name.renamed c.if-not-becomes_new.renamed total
-          c.loop-name.stands c.if-not-becomes_new.stands c.loop-name.invariant (tells ∙ w.if-not-becomes_new.false)
+          next-again old new name names place inside c.name-item.is c.loop-name.renamed
+          c.if-not-becomes_new.renamed total
+          c.loop-name.stands c.if-not-becomes_new.stands c.loop-name.invariant
+          (tells ∙ w.if-not-becomes_new.false)
           w.if-not-stands.false w.stands-is w.renamed-is
     ]

@@ -7,6 +7,8 @@ use Rattle.acct_tables.proofs.table.Table.arranged_lines.Given as goal
 abbrev pub invariant-loop-line : goal.invariant-loop-line
 invariant-loop-line g l =
     let format = g.R.TableRecord.format in
-    (l.lines.items ++ with_texts format (map (text_at l.line-items) (drop l.next l.places)) (drop l.line-index l.line-items)
+    (l.lines.items
+    ++ with_texts format (map (text_at l.line-items) (drop l.next l.places))
+    (drop l.line-index l.line-items)
     ≡ arranged format l.places l.line-items)
     × (l.next + length (records_of format (drop l.line-index l.line-items)) ≡ length l.places)

@@ -8,4 +8,5 @@ use Rattle.acct_tables.proofs.table.Table.lines_without.Given as goal
 abbrev pub invariant-loop-line : goal.invariant-loop-line
 invariant-loop-line g l =
     let format = g.R.TableRecord.format in
-    l.lines.items ≡ flat_map (becomes format (unless_named format l.name)) (take l.line-index l.line-items)
+    l.lines.items
+    ≡ flat_map (becomes format (unless_named format l.name)) (take l.line-index l.line-items)

@@ -12,5 +12,6 @@ returns-in-Some-clause-refused g c =
     let holds = g.R.ListRecord.holds c.args.old.now in
     let lines = c.args.self.now in
     let is = sym c.list_fault.ensures ∙ c.in-Some.is in
-    refusal-answers {X = Unit {0}} (Err c.in-Some.fault) c.in-Some.fault (list_refusal format holds lines) refl is
+    refusal-answers {X = Unit {0}} (Err c.in-Some.fault) c.in-Some.fault
+    (list_refusal format holds lines) refl is
     (list-no_memory format holds (records_of format lines) lines c.in-Some.fault is)
