@@ -82,7 +82,8 @@ module _ {R : Type 0} (format : Format R) where
     left-by (Some r) is tells left =
         let line = line_here lines place in
         sym (spliced-same (becomes format f) lines place line from-here
-        (becomes-read f line (format.read line.text) r (sym (record-here format lines place inside) ∙ is)
+        (becomes-read f line (format.read line.text) r
+        (sym (record-here format lines place inside) ∙ is)
         ∙ ap (line_becomes format line r) (left r refl)
         ∙ stays line r (format.same r r) ((tells r r).1 refl)))
 
@@ -97,7 +98,8 @@ module _ {R : Type 0} (format : Format R) where
     module _ (r : R) (found : record_at format lines place ≡ Some r) where
       -- the line becomes what its record becomes
       becomes-here :
-          becomes format f (line_here lines place) ≡ line_becomes format (line_here lines place) r (f r)
+          becomes format f (line_here lines place)
+          ≡ line_becomes format (line_here lines place) r (f r)
       becomes-here =
           becomes-read f (line_here lines place) (format.read (line_here lines place).text) r
           (sym (record-here format lines place inside) ∙ found)
@@ -115,7 +117,8 @@ module _ {R : Type 0} (format : Format R) where
       pub change-sets :
           (s : R)
           → f r ≡ s ∷ []
-          → changed_at (with_record format s) place lines ≡ spliced_at (becomes format f) place lines
+          → changed_at (with_record format s) place lines
+          ≡ spliced_at (becomes format f) place lines
       change-sets s one =
           let line = line_here lines place in
           spliced-one (becomes format f) lines place line from-here (with_record format s)
@@ -177,10 +180,13 @@ module _ {R : Type 0} (format : Format R) (f : R → List R) (line : Line) where
 
   -- the line of a record becomes what the record does
   pub record-line :
-      (r : R) → format.read line.text ≡ Some r → becomes format f line ≡ line_becomes format line r (f r)
+      (r : R) → format.read line.text ≡ Some r →
+      becomes format f line ≡ line_becomes format line r (f r)
   record-line r is = becomes-read format f line (format.read line.text) r is
 
   -- a record that stays leaves its line
-  pub same-line : (r : R) → TellsSame format → f r ≡ r ∷ [] → line_becomes format line r (f r) ≡ line ∷ []
+  pub same-line : (r : R) → TellsSame format → f r ≡ r ∷ [] →
+      line_becomes format line r (f r) ≡ line ∷ []
   same-line r tells same =
-      ap (line_becomes format line r) same ∙ stays format line r (format.same r r) ((tells r r).1 refl)
+      ap (line_becomes format line r) same
+      ∙ stays format line r (format.same r r) ((tells r r).1 refl)

@@ -100,7 +100,8 @@ module _ {R C : Type 0} (becomes : C → R → List R) where
       (format : Format R) (edits : List (Edit R C)) (place : ℕ) (text between : List ℕ)
       → format.read [] ≡ None
       → AllByRecursion (IsWrittenEdit format) (seen_edits becomes edits)
-      → between ≡ file_bytes (edited_by format (seen_edits becomes (take place edits)) (lines_of text))
+      → between
+      ≡ file_bytes (edited_by format (seen_edits becomes (take place edits)) (lines_of text))
       → edited_by format (seen_edits becomes (drop place edits)) (lines_of between)
       ≡ edited_by format (seen_edits becomes edits) (lines_of text)
   edited-apart format edits place text between none written is =

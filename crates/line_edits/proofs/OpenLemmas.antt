@@ -23,7 +23,8 @@ front-taken :
     → text ≡ front ++ behind
     → take (length text - length behind) text ≡ front
 front-taken front behind text is =
-    let size : length text ≡ length front + length behind = ap length is ∙ length-append front behind in
+    let size : length text ≡ length front + length behind = ap length is
+    ∙ length-append front behind in
     let place : length text - length behind ≡ length front = omega (arith, size) in
     ap (λ n. take n text) place ∙ ap (take (length front)) is ∙ take-append_seam front behind
 

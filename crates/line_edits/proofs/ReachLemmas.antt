@@ -88,7 +88,8 @@ module _ {R : Type 0} (format : Format R) where
       all-out (line ∷ lines) out = (left line.text out.0, all-out lines out.1)
 
       -- where nothing is in reach, no line is
-      none-in : reach ≡ Nothing → (lines : List Line) → AllByRecursion (λ line. IsOutOf reach line.text) lines
+      none-in : reach ≡ Nothing → (lines : List Line) →
+          AllByRecursion (λ line. IsOutOf reach line.text) lines
       none-in is [] = tt
       none-in is (line ∷ lines) =
           (subst (λ r. IsOutOf r line.text) (sym is) tt, none-in is lines)

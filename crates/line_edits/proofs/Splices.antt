@@ -53,7 +53,8 @@ splices-down f (x ∷ xs) made (suc place) inside =
 pub flat_map-from :
     {X : Type 0} (f : X → List X) (xs : List X) (place : ℕ)
     → place < length xs
-    → flat_map f (drop place xs) ≡ flat_map f (take 1 (drop place xs)) ++ flat_map f (drop (suc place) xs)
+    → flat_map f (drop place xs) ≡ flat_map f (take 1 (drop place xs))
+    ++ flat_map f (drop (suc place) xs)
 flat_map-from f [] place inside = absurd (omega arith)
 flat_map-from f (x ∷ xs) zero inside =
     ap (λ front. front ++ flat_map f xs) (sym (append-nil (f x)))
@@ -70,5 +71,6 @@ steps-down f xs place below is inside =
     let room : below < length xs = omega arith in
     ap (λ n. spliced_at f below (take n xs ++ flat_map f (drop n xs))) is
     ∙ splices-down f xs (flat_map f (drop (suc below) xs)) below room
-    ∙ append_assoc (take below xs) (flat_map f (take 1 (drop below xs))) (flat_map f (drop (suc below) xs))
+    ∙ append_assoc (take below xs) (flat_map f (take 1 (drop below xs)))
+    (flat_map f (drop (suc below) xs))
     ∙ ap (λ made. take below xs ++ made) (sym (flat_map-from f xs below room))

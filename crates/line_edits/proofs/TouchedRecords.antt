@@ -50,7 +50,11 @@ module _ {R : Type 0} (format : Format R) (edits : List (Edit R)) where
       (whole rest : List R) (kept : Option R)
       → first_touched format edits whole (cons_option kept rest)
       ≡ or_first
-      (elim kept [ None ↦ None | Some r ↦ if is_met format edits whole r then Some (format.name r) else None ])
+      (elim kept [
+        | None ↦ None
+        | Some r ↦ if is_met format edits whole r then Some
+            (format.name r) else None
+      ])
       (first_touched format edits whole rest)
   step-by whole rest None = refl
   step-by whole rest (Some r) =
@@ -74,7 +78,8 @@ module _ {R : Type 0} (format : Format R) (edits : List (Edit R)) where
         → first_touched format edits whole (records_of format left) ≡ Some name
     met-here name met =
         step-here
-        ∙ ap (λ first. or_first first (first_touched format edits whole (records_of format rest))) met
+        ∙ ap (λ first. or_first first (first_touched format edits whole (records_of format rest)))
+        met
 
     -- it is one behind
     pub passed-here :
@@ -113,7 +118,8 @@ module _ {R : Type 0} (format : Format R) (edits : List (Edit R)) where
     pub met-untouched : touches format edits r ≡ false → met_in format edits whole text ≡ None
     met-untouched untouched =
         met-of
-        ∙ ap (λ touched. if touched && is_multiple format whole r then Some (format.name r) else None)
+        ∙ ap (λ touched. if touched && is_multiple format whole r
+        then Some (format.name r) else None)
         untouched
 
 -- where the names that the edits touch are told and lack that of a record, it isn't touched

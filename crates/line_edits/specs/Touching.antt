@@ -40,7 +40,8 @@ is_met format edits whole r = touches format edits r && is_multiple format whole
 -- the name of the first of these records that is met so
 abbrev pub first_touched :
     {R : Type 0} → Format R → List (Edit R) → List R → List R → Option (List ℕ)
-first_touched format edits whole records = option_map format.name (find (is_met format edits whole) records)
+first_touched format edits whole records =
+    option_map format.name (find (is_met format edits whole) records)
 
 -- the name of the record that a text is, where it is met so
 abbrev pub met_in : {R : Type 0} → Format R → List (Edit R) → List R → List ℕ → Option (List ℕ)

@@ -23,7 +23,8 @@ edits-preserved g c =
     let edit = c.edit-item.result in
     let rest = seen_edits becomes (drop (index + 1) edits) in
     let written : IsWrittenEdit format (seen_edit becomes edit) =
-    edit-at becomes (IsWrittenEdit format) edits index edit c.requires (omega arith) c.edit-item.is in
+    edit-at becomes (IsWrittenEdit format) edits index edit c.requires (omega arith)
+    c.edit-item.is in
     ap (λ lines. file_bytes (edited_by format rest lines))
     (edit-found format g.met.R.EditedRecord.no_blank (seen_edit becomes edit) written
     c.edits.text c.in_ok-text.text (c.in_ok-text.ensures

@@ -13,7 +13,8 @@ returns-in-RemoveMember c = λ no group read.
     let other : is_listed user group.members ≡ false =
     sym (c.has_member.ensures group read) ∙ isn't c.has_member.result no in
     ap (λ act. group_after act group) c.in-RemoveMember.is
-    ∙ ap (λ name. record group { members = without_name name group.members }) (sym c.as_slice.ensures)
+    ∙ ap (λ name. record group { members = without_name name group.members })
+    (sym c.as_slice.ensures)
     ∙ ap (λ members. record group { members = members }) (without-unlisted user group.members other)
 
 pub returns-then-not-joins : goal.returns-then-not-joins

@@ -18,6 +18,7 @@ returns-in-RemoveUser c = λ line without group read.
 pub returns-in-SetMembership : goal.returns-in-SetMembership
 returns-in-SetMembership c =
     subst (λ act. IfSome c.mark.result (λ m. (line : List ℕ) → IsWithout m.now line
-    → (group : GshadowRecord) → gshadow_format.read line ≡ Some group → gshadow_after act group ≡ group))
+    → (group : GshadowRecord) → gshadow_format.read line ≡ Some group →
+    gshadow_after act group ≡ group))
     (sym c.in-SetMembership.is)
     (kept-gshadow c.mark.result c.in-SetMembership.membership c.mark.ensures)

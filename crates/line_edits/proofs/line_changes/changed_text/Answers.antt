@@ -10,7 +10,8 @@ pub lines-preserved : goal.lines-preserved
 lines-preserved g c =
     let change = becomes g.R.TableRecord.format (g.R.EditedRecord.becomes c.args.change.now) in
     c.in_ok-left-2.ensures.added
-    ∙ ap (λ lines. c.push_changed.new.made ++ file_bytes (flat_map change lines)) c.bytes.ensures.lines
+    ∙ ap (λ lines. c.push_changed.new.made ++ file_bytes (flat_map change lines))
+    c.bytes.ensures.lines
     ∙ walked change (seen_line c.in-Some.line) c.lines.left c.take.new.self c.lines.made
     c.push_changed.new.made _
     c.in-Some.ensures.taken c.in_ok-push_changed.ensures c.lines.invariant

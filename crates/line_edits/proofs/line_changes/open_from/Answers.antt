@@ -11,7 +11,8 @@ lines-preserved g c =
     let line = seen_line c.in-Some.line in
     record {
       here = sym c.bytes-behind.ensures.lines;
-      from = open-next format g.met.R.TableRecord.is_line_format.same change c.args.text.now c.lines.behind.now c.lines.invariant.from
+      from = open-next format g.met.R.TableRecord.is_line_format.same change c.args.text.now
+          c.lines.behind.now c.lines.invariant.from
           c.bytes-behind.result.now line c.take.new.self
           (sym c.lines.invariant.here ∙ c.in-Some.ensures.taken)
           (left-line format change line g.met.R.TableRecord.is_line_format.same

@@ -17,7 +17,8 @@ returns-then-not-differs g c =
     on_ok_weaker c.push_to.result
     (λ pushed. pushed
     ∙ ap (λ bytes. c.args.made.now ++ bytes) (sym (append-nil (line_bytes line)))
-    ∙ ap (λ same. c.args.made.now ++ file_bytes (if same then line ∷ [] else other ∷ [])) (sym same))
+    ∙ ap (λ same. c.args.made.now ++ file_bytes (if same then line ∷ [] else other ∷ []))
+    (sym same))
     c.push_to.ensures
 
 pub returns : goal.returns
@@ -33,5 +34,6 @@ returns g c =
     ∙ ap (λ (text : List ℕ). c.args.made.now ++ line_bytes (record line { text = text }))
     (c.as_slice.ensures ∙ c.in_ok-text.ensures)
     ∙ ap (λ bytes. c.args.made.now ++ bytes) (sym (append-nil (line_bytes other)))
-    ∙ ap (λ same. c.args.made.now ++ file_bytes (if same then line ∷ [] else other ∷ [])) (sym differs))
+    ∙ ap (λ same. c.args.made.now ++ file_bytes (if same then line ∷ [] else other ∷ []))
+    (sym differs))
     c.push_to-2.ensures

@@ -31,7 +31,8 @@ lines-init g c =
     let edits = seen_edits g.R.EditedRecord.becomes c.args.edits.now in
     let whole = records_of format (lines_of c.args.text.now) in
     ap (λ lines. first_touched format edits whole (records_of format lines)) c.of-left.ensures
-    ∙ open-met format edits whole c.args.text.now c.open_to-behind.result.now c.open_to-behind.ensures
+    ∙ open-met format edits whole c.args.text.now c.open_to-behind.result.now
+    c.open_to-behind.ensures
 
 pub lines-smaller : goal.lines-smaller
 lines-smaller g c = omega (arith, ap length c.in-Some.ensures.taken)

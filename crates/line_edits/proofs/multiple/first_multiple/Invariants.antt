@@ -11,7 +11,8 @@ invariant-lines g l =
     let format = g.R.TableRecord.format in
     let edits = seen_edits g.R.EditedRecord.becomes l.edits in
     let whole = records_of format (lines_of l.text) in
-    first_touched format edits whole (records_of format l.left) ≡ first_touched format edits whole whole
+    first_touched format edits whole (records_of format l.left)
+    ≡ first_touched format edits whole whole
 
 abbrev pub decreases-lines : goal.decreases-lines
 decreases-lines g l = length l.left

@@ -10,6 +10,7 @@ returns-in-Some g c =
     let format = g.R.TableRecord.format in
     let lines = lines_of c.args.text.now in
     let name = c.args.name.now in
-    let tells = subst (λ names. IfSome names (λ names. Tells (line_names format lines) (told names)))
+    let tells = subst (λ names. IfSome names
+    (λ names. Tells (line_names format lines) (told names)))
     c.in-Some.is c.requires in
     c.has_several.ensures ∙ ap are_several (tells name) ∙ told-several format name lines

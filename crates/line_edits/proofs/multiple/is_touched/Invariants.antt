@@ -6,5 +6,6 @@ use Rattle.line_edits.proofs.multiple.is_touched.Given as goal
 -- the edits left touch the record where one of all does
 abbrev pub invariant-edits : goal.invariant-edits
 invariant-edits g l =
-    touches g.R.TableRecord.format (seen_edits g.R.EditedRecord.becomes (drop l.edit-index l.edits)) l.item
+    touches g.R.TableRecord.format
+    (seen_edits g.R.EditedRecord.becomes (drop l.edit-index l.edits)) l.item
     ≡ touches g.R.TableRecord.format (seen_edits g.R.EditedRecord.becomes l.edits) l.item

@@ -9,5 +9,6 @@ abbrev pub invariant-edits : goal.invariant-edits
 invariant-edits g l =
     (r : _)
     → g.R.TableRecord.format.read l.line ≡ Some r
-    → touches g.R.TableRecord.format (seen_edits g.R.EditedRecord.becomes (drop l.edit-index l.edits)) r
+    → touches g.R.TableRecord.format
+    (seen_edits g.R.EditedRecord.becomes (drop l.edit-index l.edits)) r
     ≡ touches g.R.TableRecord.format (seen_edits g.R.EditedRecord.becomes l.edits) r

@@ -13,10 +13,12 @@ returns-then-not-may_touch-clause-passed g c = λ no.
     let edits = seen_edits g.R.EditedRecord.becomes c.args.edits.now in
     let here = record-named format (format.read c.args.line.now) c.in-Some.name.now
     c.in-Some.ensures in
-    met-untouched format edits (records_of format (lines_of c.args.text.now)) c.args.line.now here.item
+    met-untouched format edits (records_of format (lines_of c.args.text.now))
+    c.args.line.now here.item
     here.is
     (untouched format edits here.item c.args.touched.now c.requires.only
-    (subst (LacksName c.args.touched.now) (sym here.named) (c.may_touch.ensures c.if-not-may_touch.true)))
+    (subst (LacksName c.args.touched.now) (sym here.named)
+    (c.may_touch.ensures c.if-not-may_touch.true)))
 
 pub returns-clause-passed : goal.returns-clause-passed
 returns-clause-passed g c = λ no.

@@ -12,5 +12,6 @@ invariant-edits g l =
     → IsOutOf l.reach line
     → (r : _)
     → g.R.TableRecord.format.read line ≡ Some r
-    → touches g.R.TableRecord.format (seen_edits g.R.EditedRecord.becomes (drop l.edit-index l.edits)) r
+    → touches g.R.TableRecord.format
+    (seen_edits g.R.EditedRecord.becomes (drop l.edit-index l.edits)) r
     ≡ touches g.R.TableRecord.format (seen_edits g.R.EditedRecord.becomes l.edits) r

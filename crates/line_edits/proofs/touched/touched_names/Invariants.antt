@@ -9,5 +9,6 @@ abbrev pub invariant-edits : goal.invariant-edits
 invariant-edits g l =
     (r : _)
     → has_text l.names (λ key. key.now) (g.R.TableRecord.format.name r) ≡ false
-    → touches g.R.TableRecord.format (seen_edits g.R.EditedRecord.becomes (drop l.edit-index l.edits)) r
+    → touches g.R.TableRecord.format
+    (seen_edits g.R.EditedRecord.becomes (drop l.edit-index l.edits)) r
     ≡ touches g.R.TableRecord.format (seen_edits g.R.EditedRecord.becomes l.edits) r

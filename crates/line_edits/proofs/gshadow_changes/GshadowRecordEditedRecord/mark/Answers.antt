@@ -11,20 +11,23 @@ use Rattle.line_edits.proofs.gshadow_changes.GshadowRecordEditedRecord.mark.Goal
 pub returns-in-Named : goal.returns-in-Named
 returns-in-Named c = λ line without r read.
     let act = c.in-Named.field-1 in
-    let other = other-record gshadow_format gshadow-names_first c.as_slice.result.now line r read without in
+    let other = other-record gshadow_format gshadow-names_first c.as_slice.result.now line
+    r read without in
     ap (λ change. gshadow_becomes change r) c.in-Named.is
     ∙ ap (λ name. gshadow_becomes (Named name act) r) (sym c.as_slice.ensures)
     ∙ ap (λ named. (if named then gshadow_after act r else r) ∷ []) other
 
 pub returns-in-Remove : goal.returns-in-Remove
 returns-in-Remove c = λ line without r read.
-    let other = other-record gshadow_format gshadow-names_first c.as_slice-in-Remove.result.now line r read without in
+    let other = other-record gshadow_format gshadow-names_first c.as_slice-in-Remove.result.now line
+    r read without in
     ap (λ change. gshadow_becomes change r) c.in-Remove.is
     ∙ ap (λ name. gshadow_becomes (Remove name) r) (sym c.as_slice-in-Remove.ensures)
     ∙ ap (λ named. if named then [] else r ∷ []) other
 
 pub returns-in-All : goal.returns-in-All
 returns-in-All c =
-    subst (λ change. IfSome c.act_mark.result (λ mark. IsMarkOf gshadow_format (gshadow_becomes change) mark.now))
+    subst (λ change. IfSome c.act_mark.result
+    (λ mark. IsMarkOf gshadow_format (gshadow_becomes change) mark.now))
     (sym c.in-All.is)
     (alone gshadow_format (gshadow_after c.in-All.act) c.act_mark.result c.act_mark.ensures)

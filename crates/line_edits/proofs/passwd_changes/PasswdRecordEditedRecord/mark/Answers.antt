@@ -9,14 +9,16 @@ use Rattle.line_edits.proofs.passwd_changes.PasswdRecordEditedRecord.mark.Goals 
 pub returns-in-Named : goal.returns-in-Named
 returns-in-Named c = λ line without r read.
     let act = c.in-Named.field-1 in
-    let other = other-record passwd_format passwd-names_first c.as_slice.result.now line r read without in
+    let other = other-record passwd_format passwd-names_first c.as_slice.result.now line
+    r read without in
     ap (λ change. passwd_becomes change r) c.in-Named.is
     ∙ ap (λ name. passwd_becomes (Named name act) r) (sym c.as_slice.ensures)
     ∙ ap (λ named. (if named then passwd_after act r else r) ∷ []) other
 
 pub returns-in-Remove : goal.returns-in-Remove
 returns-in-Remove c = λ line without r read.
-    let other = other-record passwd_format passwd-names_first c.as_slice-in-Remove.result.now line r read without in
+    let other = other-record passwd_format passwd-names_first c.as_slice-in-Remove.result.now line
+    r read without in
     ap (λ change. passwd_becomes change r) c.in-Remove.is
     ∙ ap (λ name. passwd_becomes (Remove name) r) (sym c.as_slice-in-Remove.ensures)
     ∙ ap (λ named. if named then [] else r ∷ []) other

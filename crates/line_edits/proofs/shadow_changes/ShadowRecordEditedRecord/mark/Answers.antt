@@ -9,14 +9,16 @@ use Rattle.line_edits.proofs.shadow_changes.ShadowRecordEditedRecord.mark.Goals 
 pub returns-in-Named : goal.returns-in-Named
 returns-in-Named c = λ line without r read.
     let act = c.in-Named.field-1 in
-    let other = other-record shadow_format shadow-names_first c.as_slice.result.now line r read without in
+    let other = other-record shadow_format shadow-names_first c.as_slice.result.now line
+    r read without in
     ap (λ change. shadow_becomes change r) c.in-Named.is
     ∙ ap (λ name. shadow_becomes (Named name act) r) (sym c.as_slice.ensures)
     ∙ ap (λ named. (if named then shadow_after act r else r) ∷ []) other
 
 pub returns-in-Remove : goal.returns-in-Remove
 returns-in-Remove c = λ line without r read.
-    let other = other-record shadow_format shadow-names_first c.as_slice-in-Remove.result.now line r read without in
+    let other = other-record shadow_format shadow-names_first c.as_slice-in-Remove.result.now line
+    r read without in
     ap (λ change. shadow_becomes change r) c.in-Remove.is
     ∙ ap (λ name. shadow_becomes (Remove name) r) (sym c.as_slice-in-Remove.ensures)
     ∙ ap (λ named. if named then [] else r ∷ []) other

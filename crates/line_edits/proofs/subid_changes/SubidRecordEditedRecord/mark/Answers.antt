@@ -9,7 +9,8 @@ use Rattle.line_edits.proofs.subid_changes.SubidRecordEditedRecord.mark.Goals as
 pub returns-in-Rename : goal.returns-in-Rename
 returns-in-Rename c = λ line without r read.
     let new = c.in-Rename.field-1 in
-    let other = other-record subid_format subid-names_first c.as_slice.result.now line r read without in
+    let other = other-record subid_format subid-names_first c.as_slice.result.now line
+    r read without in
     ap (λ change. subid_becomes change r) c.in-Rename.is
     ∙ ap (λ old. subid_becomes (Rename old new) r) (sym c.as_slice.ensures)
     ∙ ap (λ named. (if named then record r { owner = new } else r) ∷ []) other
