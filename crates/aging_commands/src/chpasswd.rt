@@ -9,22 +9,23 @@ ghost use Rattle.table_edits.specs.SeenScript.{seen_script};
 ghost use Rattle.aging_commands.specs.HashLines.{hash_script, seen_line};
 
 use crate::hash_lines::{NewHash, read_hashes};
-use acct_text::Bytes;
+use acct_text::{Bytes, lines};
 use command_values::ToolFault;
 use line_edits::{HashChange, ShadowAct};
 use std::alloc::{AllocError, Global};
 use table_edits::Script;
 use table_lookups::{Tables, UserIndex};
 
-/// The script that sets the hashes of the users, and with shadow their last change to the day. Each
-/// table is passed over once, however many lines there are.
+/// The script that sets the hashes of the users, and with shadow their last change to the day. Of
+/// many lines each table is passed over once.
 ///
 /// `BadLine` refuses the whole input where one of its lines is bad: the first, counted from 1.
 pub fn chpasswd(alloc: Global, input: &[u8], tables: &Tables, day: u32) -> Result<Script, ToolFault>
     requires { length input.now ≤ table_limit }
     ensures { ActsBy (chpasswd input.now tables.now day) result }
 {
-    let users = UserIndex::of(alloc, tables)?;
+    let asked = lines(alloc, input)?.len();
+    let users = UserIndex::of(alloc, tables, asked)?;
     let hashes = read_hashes(alloc, input, &users)?;
     Ok(new_hashes(alloc, &hashes, &users, day)?)
 }

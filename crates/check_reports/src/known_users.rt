@@ -9,10 +9,9 @@ use crate::known::names_of;
 use account_formats::{PasswdRecord, ShadowRecord};
 use acct_tables::NameIndex;
 use acct_text::Files;
-use id_choice::UsedIds;
 use std::alloc::{AllocError, Global};
 use std::marker::Model;
-use table_lookups::Tables;
+use table_lookups::{IdsInUse, Tables};
 
 /// The files of the tables and the day, with the names of passwd and shadow and the GIDs of group.
 /// Contracts see the files and the day.
@@ -21,7 +20,7 @@ pub(crate) struct KnownUsers<'a> {
     files: &'a Files,
     users: NameIndex<'a>,
     hashes: NameIndex<'a>,
-    gids: UsedIds,
+    gids: IdsInUse<'a>,
     today: u32,
 }
 
@@ -102,6 +101,6 @@ impl<'a> KnownUsers<'a> {
     pub(crate) fn has_gid(&self, gid: u32) -> bool
         ensures { result ≡ has_gid (group_records self.now.files) gid }
     {
-        self.gids.holds(gid)
+        self.gids.ids().holds(gid)
     }
 }

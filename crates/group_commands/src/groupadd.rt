@@ -83,8 +83,8 @@ fn gid_without_conflict(
         return Err(ToolFault::Refused(Refusal::GroupExists(Bytes::of(alloc, name)?)));
     }
     let used = tables.used_gids(alloc)?;
-    check_given_gid(asked, tables, &used)?;
-    new_gid(asked, tables, settings, &used).ok_or(ToolFault::Refused(Refusal::NoFreeGid))
+    check_given_gid(asked, tables, used.ids())?;
+    new_gid(asked, tables, settings, used.ids()).ok_or(ToolFault::Refused(Refusal::NoFreeGid))
 }
 
 /// Refuses the GID of `-g` where it is taken: `GidInUse`. With `-f` another one is chosen.

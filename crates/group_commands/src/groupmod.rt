@@ -116,7 +116,7 @@ fn check_gid_free(
 ) -> Result<(), ToolFault>
     ensures { StopsBy (taken_gid tables.now gid old.now) result }
 {
-    if gid == old.gid || !tables.used_gids(alloc)?.holds(gid) {
+    if gid == old.gid || !tables.used_gids(alloc)?.ids().holds(gid) {
         return Ok(());
     }
     Err(ToolFault::Refused(Refusal::GidInUse(gid)))

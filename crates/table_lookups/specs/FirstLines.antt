@@ -3,10 +3,13 @@
 use Rattle.std.specs.Prelude.{◌≡◌, ℕ, ◌==◌, nat_eq, Bool, List, [], Option, None, Some, find, bytes_eq, option_map}
 use Rattle.std.specs.HashMap.{HashMap, get, get_by}
 use Rattle.account_formats.specs.declared.records.GroupRecord.{GroupRecord}
+use Rattle.acct_text.specs.declared.files.Files.{Files}
 use Rattle.account_formats.specs.Format.{Format, is_named}
-use Rattle.account_formats.specs.Records.{group_format}
+use Rattle.account_formats.specs.Records.{group_format, passwd_format, shadow_format}
+use Rattle.account_formats.specs.Tables.{passwd_records, shadow_records}
 use Rattle.table_lookups.specs.declared.first_lines.FirstOfNames.{FirstOfNames}
 use Rattle.table_lookups.specs.declared.group_index.GroupLines.{GroupLines}
+use Rattle.table_lookups.specs.declared.user_index.UserLines.{UserLines}
 use denote.Ref.{Bor}
 
 -- the record of the line that is told, or else another
@@ -34,6 +37,11 @@ told_names first name =
 -- the first of the records of each name is told
 abbrev pub TellsNames : {R : Type 0} → Format R → List R → FirstOfNames → Type 0
 TellsNames format records first = Tells format (has_name format) (told_names first) [] records
+
+-- of each name the first user is told, and the first line of shadow
+pub record AreUsers (files : Files) (lines : UserLines) : Type 0 where
+  pub users : TellsNames passwd_format (passwd_records files) lines.users
+  pub shadow : TellsNames shadow_format (shadow_records files) lines.shadow
 
 -- ---- GIDs
 

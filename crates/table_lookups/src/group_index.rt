@@ -16,7 +16,7 @@ use crate::ids::IdRecord;
 use crate::{Tables, text_of};
 use acct_lines::GroupRecord;
 use acct_tables::{Lines, MANY, read_record};
-use acct_text::{Bytes, Files};
+use acct_text::Bytes;
 use indexmap::IndexMap;
 use std::alloc::{AllocError, Global};
 use std::marker::Model;
@@ -33,7 +33,7 @@ pub(crate) struct GroupLines<'a> {
 /// The groups, of which each is found by its name and by its GID. Contracts see them as the files.
 #[derive(Drop)]
 pub struct GroupIndex<'a> {
-    files: &'a Files,
+    tables: Tables<'a>,
     // none where few groups are asked for
     groups: Option<GroupLines<'a>>,
 }
@@ -46,10 +46,10 @@ impl<'a> Model for GroupIndex<'a> {
 
     ghost Value = { Files };
 
-    ghost view = { λ index. index.files.now };
+    ghost view = { λ index. index.tables };
 
     ghost invariant = { λ index.
-        IfSome index.groups (AreGroups (group_records index.files.now)) };
+        IfSome index.groups (AreGroups (group_records index.tables)) };
 }
 
 impl<'a> GroupIndex<'a> {
@@ -57,16 +57,15 @@ impl<'a> GroupIndex<'a> {
     pub fn of(alloc: Global, tables: &Tables<'a>, asked: usize) -> Result<Self, AllocError>
         ensures { IfOk result (λ index. index ≡ tables.now) }
     {
-        let files = tables.files();
         if asked < MANY {
             return Ok(GroupIndex {
-                files,
+                tables: tables.again(),
                 groups: None,
             });
         }
-        let groups = group_lines(alloc, &files.group)?;
+        let groups = group_lines(alloc, &tables.files().group)?;
         Ok(GroupIndex {
-            files,
+            tables: tables.again(),
             groups: Some(groups),
         })
     }
@@ -77,7 +76,7 @@ impl<'a> GroupIndex<'a> {
     {
         match &self.groups {
             Some(groups) => groups.names.find(alloc, name),
-            None => Tables::of(self.files).group_named(alloc, name),
+            None => self.tables.group_named(alloc, name),
         }
     }
 
@@ -87,7 +86,7 @@ impl<'a> GroupIndex<'a> {
     {
         match &self.groups {
             Some(groups) => find_told(alloc, &groups.gids, gid),
-            None => Tables::of(self.files).group_of_gid(alloc, gid),
+            None => self.tables.group_of_gid(alloc, gid),
         }
     }
 }

@@ -6,13 +6,12 @@ ghost use Rattle.account_formats.specs.Tables.{group_records};
 ghost use Rattle.id_choice.specs.Used.{AreThoseOf};
 
 use crate::ids::used_ids;
-use crate::search::OfGid;
-use crate::{Tables, first_passing};
+use crate::search::{OfGid, first_passing};
+use crate::{IdsInUse, Tables};
 use acct_lines::GroupRecord;
-use id_choice::UsedIds;
 use std::alloc::{AllocError, Global};
 
-impl Tables<'_> {
+impl<'a> Tables<'a> {
     /// The first group with the GID.
     pub fn group_of_gid(&self, alloc: Global, gid: u32) -> Result<Option<GroupRecord>, AllocError>
         ensures { IfOk result (λ found. found ≡ first_of_gid gid (group_records self.now)) }
@@ -21,9 +20,10 @@ impl Tables<'_> {
     }
 
     /// The GIDs of all groups.
-    pub fn used_gids(&self, alloc: Global) -> Result<UsedIds, AllocError>
+    pub fn used_gids(&self, alloc: Global) -> Result<IdsInUse<'a>, AllocError>
         ensures { IfOk result (λ used. AreThoseOf used (gids_of self.now)) }
     {
-        used_ids::<GroupRecord>(alloc, &self.files().group)
+        let ids = used_ids::<GroupRecord>(alloc, &self.files().group)?;
+        Ok(IdsInUse::gathered(ids))
     }
 }

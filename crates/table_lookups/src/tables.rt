@@ -1,7 +1,7 @@
 // The six tables of a command.
 ghost use Rattle.std.specs.Prelude.{◌≡◌, is_some};
 
-use acct_text::Files;
+use acct_text::{Bytes, Files};
 use std::marker::Model;
 
 /// The tables of a folder, of which each call reads what it needs from the files. Contracts see
@@ -27,6 +27,13 @@ impl<'a> Tables<'a> {
         Tables { files }
     }
 
+    /// The same tables once more.
+    pub(crate) fn again(&self) -> Tables<'a>
+        ensures { result ≡ self.now }
+    {
+        Tables { files: self.files }
+    }
+
     /// The files.
     pub fn files(&self) -> &'a Files
         ensures { result.now ≡ self.now }
@@ -46,5 +53,19 @@ impl<'a> Tables<'a> {
         ensures { result ≡ is_some self.now.gshadow }
     {
         self.files.gshadow.is_some()
+    }
+
+    /// The bytes of subuid(5); none where there is no file.
+    pub fn subuid_file(&self) -> &'a Option<Bytes>
+        ensures { result.now ≡ self.now.subuid }
+    {
+        &self.files.subuid
+    }
+
+    /// The bytes of subgid(5); none where there is no file.
+    pub fn subgid_file(&self) -> &'a Option<Bytes>
+        ensures { result.now ≡ self.now.subgid }
+    {
+        &self.files.subgid
     }
 }

@@ -1,48 +1,62 @@
-// The users of passwd and shadow, looked up by name without a pass over the table for each.
+// The users of passwd and shadow, looked up by name: where many are asked for, without a pass over
+// the table for each.
 ghost use Rattle.std.specs.Prelude.{◌≡◌, IfOk};
 ghost use Rattle.account_model.specs.Users.{find_shadow, find_user};
+ghost use Rattle.table_lookups.specs.FirstLines.{AreUsers};
 
 use crate::Tables;
 use crate::first_lines::FirstOfNames;
 use acct_lines::{PasswdRecord, ShadowRecord};
+use acct_tables::MANY;
 use acct_text::Files;
 use std::alloc::{AllocError, Global};
 use std::marker::Model;
 
-/// The lines of passwd(5) and shadow(5), of which each is found by its name. Contracts see the index
-/// as the files.
+/// The lines of passwd(5) and shadow(5) that are the first of their name.
+#[derive(Drop)]
+pub(crate) struct UserLines<'a> {
+    /// Those of passwd.
+    pub users: FirstOfNames<'a>,
+    /// Those of shadow.
+    pub shadow: FirstOfNames<'a>,
+}
+
+/// The users, of which each is found by its name in passwd(5) and in shadow(5). Contracts see them as
+/// the files.
 #[derive(Drop)]
 pub struct UserIndex<'a> {
-    files: &'a Files,
-    users: FirstOfNames<'a>,
-    shadow: FirstOfNames<'a>,
+    tables: Tables<'a>,
+    // none where few users are asked for
+    lines: Option<UserLines<'a>>,
 }
 
 impl<'a> Model for UserIndex<'a> {
+    ghost use Rattle.std.specs.Prelude.{IfSome};
     ghost use Rattle.acct_text.specs.declared.files.Files.{Files};
-    ghost use Rattle.account_formats.specs.Records.{passwd_format, shadow_format};
-    ghost use Rattle.account_formats.specs.Tables.{passwd_records, shadow_records};
-    ghost use Rattle.table_lookups.specs.FirstLines.{TellsNames};
+    ghost use Rattle.table_lookups.specs.FirstLines.{AreUsers};
 
     ghost Value = { Files };
 
-    ghost view = { λ index. index.files.now };
+    ghost view = { λ index. index.tables };
 
-    ghost invariant = { λ index.
-        TellsNames passwd_format (passwd_records index.files.now) index.users
-        × TellsNames shadow_format (shadow_records index.files.now) index.shadow };
+    ghost invariant = { λ index. IfSome index.lines (AreUsers index.tables) };
 }
 
 impl<'a> UserIndex<'a> {
-    /// The index of the tables, in one pass over each.
-    pub fn of(alloc: Global, tables: &Tables<'a>) -> Result<Self, AllocError>
+    /// The users of the tables, of which so many are asked for.
+    pub fn of(alloc: Global, tables: &Tables<'a>, asked: usize) -> Result<Self, AllocError>
         ensures { IfOk result (λ index. index ≡ tables.now) }
     {
-        let files = tables.files();
+        if asked < MANY {
+            return Ok(UserIndex {
+                tables: tables.again(),
+                lines: None,
+            });
+        }
+        let lines = user_lines(alloc, tables.files())?;
         Ok(UserIndex {
-            files,
-            users: FirstOfNames::of::<PasswdRecord>(alloc, &files.passwd)?,
-            shadow: FirstOfNames::of::<ShadowRecord>(alloc, &files.shadow)?,
+            tables: tables.again(),
+            lines: Some(lines),
         })
     }
 
@@ -50,14 +64,17 @@ impl<'a> UserIndex<'a> {
     pub fn tables(&self) -> Tables<'a>
         ensures { result ≡ self.now }
     {
-        Tables::of(self.files)
+        self.tables.again()
     }
 
     /// The first record of passwd that has the name.
     pub fn user_named(&self, alloc: Global, name: &[u8]) -> Result<Option<PasswdRecord>, AllocError>
         ensures { IfOk result (λ found. found ≡ find_user name.now self.now) }
     {
-        self.users.find(alloc, name)
+        match &self.lines {
+            Some(lines) => lines.users.find(alloc, name),
+            None => self.tables.user_named(alloc, name),
+        }
     }
 
     /// The first record of shadow that has the name.
@@ -68,6 +85,19 @@ impl<'a> UserIndex<'a> {
     ) -> Result<Option<ShadowRecord>, AllocError>
         ensures { IfOk result (λ found. found ≡ find_shadow name.now self.now) }
     {
-        self.shadow.find(alloc, name)
+        match &self.lines {
+            Some(lines) => lines.shadow.find(alloc, name),
+            None => self.tables.shadow_named(alloc, name),
+        }
     }
+}
+
+// The first line of each name in passwd and in shadow, in one pass over each.
+fn user_lines(alloc: Global, files: &Files) -> Result<UserLines<'_>, AllocError>
+    ensures { IfOk result (AreUsers files.now) }
+{
+    Ok(UserLines {
+        users: FirstOfNames::of::<PasswdRecord>(alloc, &files.passwd)?,
+        shadow: FirstOfNames::of::<ShadowRecord>(alloc, &files.shadow)?,
+    })
 }

@@ -11,29 +11,41 @@ ghost use Rattle.table_lookups.specs.Stopping.{StopsBy};
 
 use crate::first_lines::FirstOfNames;
 use crate::ids::used_ids;
-use crate::search::OfGid;
-use crate::{Tables, first_passing};
+use crate::search::{OfGid, first_passing};
+use crate::{IdsInUse, RecordTest, Tables};
 use account_model::Refusal;
 use acct_lines::PasswdRecord;
 use acct_text::Bytes;
-use id_choice::UsedIds;
 use std::alloc::{AllocError, Global};
 use tool_answers::ToolFault;
 
-impl Tables<'_> {
+impl<'a> Tables<'a> {
     /// The first user whose primary group has the GID.
     pub fn user_of_gid(&self, alloc: Global, gid: u32) -> Result<Option<PasswdRecord>, AllocError>
         ensures { IfOk result (λ found.
             found ≡ find (λ user. user.gid == gid) (passwd_records self.now)) }
     {
-        first_passing(alloc, &self.files().passwd, &OfGid { gid })
+        self.first_user(alloc, &OfGid { gid })
+    }
+
+    /// The first user that passes the test.
+    pub fn first_user<T: RecordTest<PasswdRecord>>(
+        &self,
+        alloc: Global,
+        test: &T,
+    ) -> Result<Option<PasswdRecord>, AllocError>
+        ensures { IfOk result (λ found.
+            found ≡ find (T.accepts test.now) (passwd_records self.now)) }
+    {
+        first_passing(alloc, &self.files().passwd, test)
     }
 
     /// The UIDs of all users.
-    pub fn used_uids(&self, alloc: Global) -> Result<UsedIds, AllocError>
+    pub fn used_uids(&self, alloc: Global) -> Result<IdsInUse<'a>, AllocError>
         ensures { IfOk result (λ used. AreThoseOf used (uids_of self.now)) }
     {
-        used_ids::<PasswdRecord>(alloc, &self.files().passwd)
+        let ids = used_ids::<PasswdRecord>(alloc, &self.files().passwd)?;
+        Ok(IdsInUse::gathered(ids))
     }
 
     /// Refuses a name that no user has: `NoUser`.

@@ -73,7 +73,7 @@ fn check_new_uid(alloc: Global, asked: &Asked, tables: &Tables) -> Result<(), To
         return Ok(());
     };
     let used = tables.used_uids(alloc)?;
-    if is_uid_taken(alloc, asked, tables, &used, uid)? {
+    if is_uid_taken(alloc, asked, tables, used.ids(), uid)? {
         return Err(ToolFault::Refused(Refusal::UidInUse(uid)));
     }
     Ok(())

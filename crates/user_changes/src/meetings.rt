@@ -30,7 +30,7 @@ pub(crate) fn check_subuids(alloc: Global, asked: &Asked, tables: &Tables) -> Re
         (subuid_change asked.now) tables.now.subuid) result }
 {
     let ranges = subuid_ranges(alloc, asked, tables)?;
-    check_added(alloc, &ranges, Tab::Subuid, &tables.files().subuid)
+    check_added(alloc, &ranges, Tab::Subuid, tables.subuid_file())
 }
 
 /// Refuses the first range of `-w` that meets a line of subgid as it stands then: `Meets`. An
@@ -41,7 +41,7 @@ pub(crate) fn check_subgids(alloc: Global, asked: &Asked, tables: &Tables) -> Re
         (subgid_change asked.now) tables.now.subgid) result }
 {
     let ranges = subgid_ranges(alloc, asked, tables)?;
-    check_added(alloc, &ranges, Tab::Subgid, &tables.files().subgid)
+    check_added(alloc, &ranges, Tab::Subgid, tables.subgid_file())
 }
 
 // Refuses the first new range that meets a line of the file: `Meets`.

@@ -140,7 +140,7 @@ fn check_given_uid(alloc: Global, asked: &Asked, tables: &Tables) -> Result<(), 
         return Ok(());
     };
     let used = tables.used_uids(alloc)?;
-    if used.holds(uid) {
+    if used.ids().holds(uid) {
         return Err(ToolFault::Refused(Refusal::UidInUse(uid)));
     }
     Ok(())

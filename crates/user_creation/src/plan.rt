@@ -35,14 +35,13 @@ pub(crate) fn plan_of(
     requires held { IsHeld settings.now }
     ensures { IfOk result (Gives settings.now (plan_of asked.now tables.now)) }
 {
-    let files = tables.files();
     let uid = new_uid(alloc, asked, tables, settings)?;
     Ok(Plan {
         own_group: makes_group(asked, settings),
         uid,
         gid: primary_gid(alloc, asked, tables, settings, uid)?,
-        subuid: allotment_of(alloc, asked, &files.subuid, uid, uid_bounds(settings))?,
-        subgid: allotment_of(alloc, asked, &files.subgid, uid, gid_bounds(settings))?,
+        subuid: allotment_of(alloc, asked, tables.subuid_file(), uid, uid_bounds(settings))?,
+        subgid: allotment_of(alloc, asked, tables.subgid_file(), uid, gid_bounds(settings))?,
     })
 }
 
@@ -67,7 +66,7 @@ fn new_uid(
         return Ok(Some(uid));
     }
     let used = tables.used_uids(alloc)?;
-    Ok(free_id(IdSort::Uid, asked.kind(), settings, &used))
+    Ok(free_id(IdSort::Uid, asked.kind(), settings, used.ids()))
 }
 
 // The primary GID of a user of the UID: that of the user's own group, else that of `-g`, else the
@@ -107,7 +106,7 @@ fn own_gid(
     }
     let used = tables.used_gids(alloc)?;
     let kind = asked.kind();
-    Ok(used.choose(settings.range(IdSort::Gid, kind), kind, Some(uid)))
+    Ok(used.ids().choose(settings.range(IdSort::Gid, kind), kind, Some(uid)))
 }
 
 // The GID of `-g`, and else the default.

@@ -7,7 +7,7 @@ ghost use Rattle.user_removal.specs.Others.{has_id};
 use account_formats::PasswdRecord;
 use acct_lines::PasswdLine;
 use std::alloc::{AllocError, Global};
-use table_lookups::{RecordTest, Tables, first_passing};
+use table_lookups::{RecordTest, Tables};
 
 /// An ID of a user.
 #[derive(Clone, Copy)]
@@ -28,7 +28,7 @@ pub(crate) fn first_other(
     ensures { IfOk result (λ found.
         found ≡ find (has_id id) (other_users name.now tables.now)) }
 {
-    first_passing(alloc, &tables.files().passwd, &OtherWith { name, id })
+    tables.first_user(alloc, &OtherWith { name, id })
 }
 
 // That a user has another name, and the ID.

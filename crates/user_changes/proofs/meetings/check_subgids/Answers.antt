@@ -9,12 +9,12 @@ use Rattle.user_changes.proofs.meetings.check_subgids.Goals as goal
 pub returns : goal.returns
 returns c =
     let asked = c.args.asked.now in
-    let file = c.files.result.now.subgid in
+    let file = c.subgid_file.result.now in
     let owner = range_owner asked c.args.tables.now in
     let ranges = c.in_ok-ranges.ranges in
     let is = c.in_ok-ranges.ensures {u = tt} in
     subst (λ refusal. StopsBy refusal c.check_added.result)
     (ap (λ o. meeting_in Subgid o (change_of ranges) file) is.owner
     ∙ ap (λ c. meeting_in Subgid owner c file) is.change
-    ∙ ap (λ files. meeting_in Subgid owner (subgid_change asked) files.subgid) c.files.ensures)
+    ∙ ap (meeting_in Subgid owner (subgid_change asked)) c.subgid_file.ensures)
     c.check_added.ensures

@@ -9,12 +9,12 @@ use Rattle.user_changes.proofs.meetings.check_subuids.Goals as goal
 pub returns : goal.returns
 returns c =
     let asked = c.args.asked.now in
-    let file = c.files.result.now.subuid in
+    let file = c.subuid_file.result.now in
     let owner = range_owner asked c.args.tables.now in
     let ranges = c.in_ok-ranges.ranges in
     let is = c.in_ok-ranges.ensures {u = tt} in
     subst (λ refusal. StopsBy refusal c.check_added.result)
     (ap (λ o. meeting_in Subuid o (change_of ranges) file) is.owner
     ∙ ap (λ c. meeting_in Subuid owner c file) is.change
-    ∙ ap (λ files. meeting_in Subuid owner (subuid_change asked) files.subuid) c.files.ensures)
+    ∙ ap (meeting_in Subuid owner (subuid_change asked)) c.subuid_file.ensures)
     c.check_added.ensures

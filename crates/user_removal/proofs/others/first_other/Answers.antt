@@ -1,5 +1,4 @@
-use Rattle.std.proofs.Common.{Bool, ap, ◌∙◌, not}
-use Rattle.std.specs.Prelude.{find, filter}
+use Rattle.std.proofs.Common.{Bool, ◌∙◌, not}
 use Rattle.std.proofs.lemmas.Result.{IfOk-weaker}
 use Rattle.account_formats.specs.declared.records.PasswdRecord.{PasswdRecord}
 use Rattle.account_formats.specs.Format.{is_named}
@@ -13,7 +12,6 @@ pub returns : goal.returns
 returns c =
     let test = has_id c.args.id in
     let is_other : PasswdRecord → Bool = λ user. not (is_named passwd_format c.args.name.now user) in
-    IfOk-weaker c.first_passing.result _ _ (λ found is. is
-    ∙ others-found is_other test (passwd_records c.files.result.now)
-    ∙ ap (λ files. find test (filter is_other (passwd_records files))) c.files.ensures)
-    c.first_passing.ensures
+    IfOk-weaker c.first_user.result _ _ (λ found is.
+    is ∙ others-found is_other test (passwd_records c.args.tables.now))
+    c.first_user.ensures

@@ -8,7 +8,7 @@ use Rattle.table_lookups.proofs.group_index.GroupIndex.group_of_gid.Goals as goa
 
 pub returns-in-Some : goal.returns-in-Some
 returns-in-Some c =
-    let records = group_records c.self.inside.files.now in
+    let records = group_records c.self.inside.tables in
     let groups = subst (λ groups. IfSome groups (AreGroups records)) c.in-Some.is c.self.invariant in
     IfOk-weaker c.find_told.result _ _ (λ found is.
     is records groups.gids

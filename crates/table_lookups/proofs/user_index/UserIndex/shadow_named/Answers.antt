@@ -1,13 +1,17 @@
-use Rattle.std.proofs.Common.{◌∙◌, ap}
+use Rattle.std.proofs.Common.{◌∙◌, ap, subst}
+use Rattle.std.specs.Prelude.{IfSome}
 use Rattle.std.proofs.lemmas.Result.{IfOk-weaker}
 use Rattle.account_formats.specs.Format.{find_named}
 use Rattle.account_formats.specs.Records.{shadow_format}
 use Rattle.account_formats.specs.Tables.{shadow_records}
+use Rattle.table_lookups.specs.FirstLines.{AreUsers}
 use Rattle.table_lookups.proofs.user_index.UserIndex.shadow_named.Goals as goal
 
-pub returns : goal.returns
-returns c =
+pub returns-in-Some : goal.returns-in-Some
+returns-in-Some c =
+    let files = c.self.inside.tables in
+    let lines = subst (λ lines. IfSome lines (AreUsers files)) c.in-Some.is c.self.invariant in
     IfOk-weaker c.find.result _ _ (λ found is.
-    is (shadow_records c.self.inside.files.now) c.self.invariant.1
+    is (shadow_records files) lines.shadow
     ∙ ap (λ files. find_named shadow_format c.args.name.now (shadow_records files)) c.self.view_is)
     c.find.ensures

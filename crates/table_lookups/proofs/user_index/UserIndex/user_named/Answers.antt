@@ -1,13 +1,17 @@
-use Rattle.std.proofs.Common.{◌∙◌, ap}
+use Rattle.std.proofs.Common.{◌∙◌, ap, subst}
+use Rattle.std.specs.Prelude.{IfSome}
 use Rattle.std.proofs.lemmas.Result.{IfOk-weaker}
 use Rattle.account_formats.specs.Format.{find_named}
 use Rattle.account_formats.specs.Records.{passwd_format}
 use Rattle.account_formats.specs.Tables.{passwd_records}
+use Rattle.table_lookups.specs.FirstLines.{AreUsers}
 use Rattle.table_lookups.proofs.user_index.UserIndex.user_named.Goals as goal
 
-pub returns : goal.returns
-returns c =
+pub returns-in-Some : goal.returns-in-Some
+returns-in-Some c =
+    let files = c.self.inside.tables in
+    let lines = subst (λ lines. IfSome lines (AreUsers files)) c.in-Some.is c.self.invariant in
     IfOk-weaker c.find.result _ _ (λ found is.
-    is (passwd_records c.self.inside.files.now) c.self.invariant.0
+    is (passwd_records files) lines.users
     ∙ ap (λ files. find_named passwd_format c.args.name.now (passwd_records files)) c.self.view_is)
     c.find.ensures
