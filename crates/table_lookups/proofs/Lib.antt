@@ -3,3 +3,5 @@ pub mod FileLemmas
 pub mod FirstLemmas
 pub mod StoppingLemmas
 pub mod NumberLemmas
+pub mod KeptIdLemmas
+pub mod CarriedLemmas

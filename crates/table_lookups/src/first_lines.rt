@@ -1,5 +1,5 @@
 // The first record of each name in a file, found without a pass over all.
-ghost use Rattle.std.specs.Prelude.{◌≡◌, ℕ, List, None, IfOk, IfSome, OnOk};
+ghost use Rattle.std.specs.Prelude.{◌≡◌, ℕ, List, None, IfOk, OnOk};
 ghost use Rattle.std.specs.List.{cons_option};
 ghost use Rattle.account_formats.specs.Format.{find_named, has_named};
 ghost use Rattle.account_formats.specs.Tables.{table_records};
@@ -7,7 +7,7 @@ ghost use Rattle.table_lookups.specs.FirstLines.{Tells, TellsNames, has_name, to
 
 use crate::text_of;
 use acct_lines::TableRecord;
-use acct_tables::{Lines, MANY, is_record, name_of, read_record};
+use acct_tables::{Lines, is_record, name_of, read_record};
 use acct_text::Bytes;
 use indexmap::IndexMap;
 use std::alloc::{AllocError, Global};
@@ -42,21 +42,6 @@ impl<'a> FirstOfNames<'a> {
             first.note::<R>(line.text)?;
         }
         Ok(first)
-    }
-
-    /// The same where so many names are asked for that it saves time; none else.
-    pub(crate) fn for_many<R: TableRecord>(
-        alloc: Global,
-        file: &'a Option<Bytes>,
-        asked: usize,
-    ) -> Result<Option<Self>, AllocError>
-        ensures { IfOk result (λ first.
-            IfSome first (TellsNames R.format (table_records R.format file.now))) }
-    {
-        if asked < MANY {
-            return Ok(None);
-        }
-        Ok(Some(FirstOfNames::of::<R>(alloc, file)?))
     }
 
     // Notes the name of the record that the line is, where no line in front of it has it.

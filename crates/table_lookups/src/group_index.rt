@@ -15,7 +15,7 @@ use crate::first_lines::FirstOfNames;
 use crate::ids::IdRecord;
 use crate::{Tables, text_of};
 use acct_lines::GroupRecord;
-use acct_tables::{Lines, MANY, read_record};
+use acct_tables::{Lines, read_record};
 use acct_text::Bytes;
 use indexmap::IndexMap;
 use std::alloc::{AllocError, Global};
@@ -34,7 +34,7 @@ pub(crate) struct GroupLines<'a> {
 #[derive(Drop)]
 pub struct GroupIndex<'a> {
     tables: Tables<'a>,
-    // none where few groups are asked for
+    // none where few groups are asked for, and of carried tables
     groups: Option<GroupLines<'a>>,
 }
 
@@ -57,16 +57,13 @@ impl<'a> GroupIndex<'a> {
     pub fn of(alloc: Global, tables: &Tables<'a>, asked: usize) -> Result<Self, AllocError>
         ensures { IfOk result (λ index. index ≡ tables.now) }
     {
-        if asked < MANY {
-            return Ok(GroupIndex {
-                tables: tables.again(),
-                groups: None,
-            });
-        }
-        let groups = group_lines(alloc, &tables.files().group)?;
+        let groups = match tables.files_for_many(asked) {
+            Some(files) => Some(group_lines(alloc, &files.group)?),
+            None => None,
+        };
         Ok(GroupIndex {
             tables: tables.again(),
-            groups: Some(groups),
+            groups,
         })
     }
 

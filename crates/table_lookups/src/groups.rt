@@ -7,6 +7,7 @@ ghost use Rattle.id_choice.specs.Used.{AreThoseOf};
 
 use crate::ids::used_ids;
 use crate::search::{OfGid, first_passing};
+use crate::tables::Source;
 use crate::{IdsInUse, Tables};
 use acct_lines::GroupRecord;
 use std::alloc::{AllocError, Global};
@@ -16,14 +17,22 @@ impl<'a> Tables<'a> {
     pub fn group_of_gid(&self, alloc: Global, gid: u32) -> Result<Option<GroupRecord>, AllocError>
         ensures { IfOk result (λ found. found ≡ first_of_gid gid (group_records self.now)) }
     {
-        first_passing(alloc, &self.files().group, &OfGid { gid })
+        match self.source() {
+            Source::Files(files) => first_passing(alloc, &files.group, &OfGid { gid }),
+            Source::Carried(tables) => tables.group_of_gid(alloc, gid),
+        }
     }
 
     /// The GIDs of all groups.
     pub fn used_gids(&self, alloc: Global) -> Result<IdsInUse<'a>, AllocError>
         ensures { IfOk result (λ used. AreThoseOf used (gids_of self.now)) }
     {
-        let ids = used_ids::<GroupRecord>(alloc, &self.files().group)?;
-        Ok(IdsInUse::gathered(ids))
+        match self.source() {
+            Source::Files(files) => {
+                let ids = used_ids::<GroupRecord>(alloc, &files.group)?;
+                Ok(IdsInUse::gathered(ids))
+            }
+            Source::Carried(tables) => tables.used_gids(alloc),
+        }
     }
 }

@@ -38,6 +38,15 @@ impl<'a> IdsInUse<'a> {
         }
     }
 
+    /// The IDs that are kept.
+    pub(crate) fn kept(ids: &'a UsedIds) -> Self
+        ensures { result ≡ ids.now }
+    {
+        IdsInUse {
+            source: IdSource::Kept(ids),
+        }
+    }
+
     /// The IDs.
     pub fn ids(&self) -> &UsedIds
         ensures { result.now ≡ self.now }

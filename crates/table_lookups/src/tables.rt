@@ -1,22 +1,35 @@
 // The six tables of a command.
-ghost use Rattle.std.specs.Prelude.{◌≡◌, is_some};
+ghost use Rattle.std.specs.Prelude.{◌≡◌, is_some, IfSome};
+ghost use Rattle.table_lookups.specs.Sources.{files_in};
 
+use crate::CarriedTables;
+use acct_tables::MANY;
 use acct_text::{Bytes, Files};
 use std::marker::Model;
 
-/// The tables of a folder, of which each call reads what it needs from the files. Contracts see
-/// them as the files.
+/// Where the tables stand.
+#[derive(Clone, Copy)]
+pub(crate) enum Source<'a> {
+    /// In the files of a folder.
+    Files(&'a Files),
+    /// In tables that are carried from command to command.
+    Carried(&'a CarriedTables),
+}
+
+/// The tables of a command: those of a folder, of which each call reads what it needs from the files,
+/// or those that the commands before it left. Contracts see them as the files.
 #[derive(Drop)]
 pub struct Tables<'a> {
-    files: &'a Files,
+    source: Source<'a>,
 }
 
 impl<'a> Model for Tables<'a> {
     ghost use Rattle.acct_text.specs.declared.files.Files.{Files};
+    ghost use Rattle.table_lookups.specs.Sources.{files_in};
 
     ghost Value = { Files };
 
-    ghost view = { λ t. t.files.now };
+    ghost view = { λ t. files_in t.source };
 }
 
 impl<'a> Tables<'a> {
@@ -24,48 +37,84 @@ impl<'a> Tables<'a> {
     pub fn of(files: &'a Files) -> Self
         ensures { result ≡ files.now }
     {
-        Tables { files }
+        Tables {
+            source: Source::Files(files),
+        }
+    }
+
+    /// The tables that are carried from command to command.
+    pub fn carried(tables: &'a CarriedTables) -> Self
+        ensures { result ≡ tables.now }
+    {
+        Tables {
+            source: Source::Carried(tables),
+        }
     }
 
     /// The same tables once more.
     pub(crate) fn again(&self) -> Tables<'a>
         ensures { result ≡ self.now }
     {
-        Tables { files: self.files }
+        Tables {
+            source: self.source,
+        }
     }
 
-    /// The files.
-    pub fn files(&self) -> &'a Files
-        ensures { result.now ≡ self.now }
+    /// Where they stand.
+    pub(crate) fn source(&self) -> Source<'a>
+        ensures { files_in result ≡ self.now }
     {
-        self.files
+        self.source
+    }
+
+    /// The files, where they are asked so much that an index of their lines saves time. Carried tables
+    /// have one.
+    pub(crate) fn files_for_many(&self, asked: usize) -> Option<&'a Files>
+        ensures { IfSome result (λ files. files.now ≡ self.now) }
+    {
+        match self.source() {
+            Source::Files(files) if asked >= MANY => Some(files),
+            _ => None,
+        }
     }
 
     /// Whether there is a shadow(5) file.
     pub fn has_shadow_file(&self) -> bool
         ensures { result ≡ is_some self.now.shadow }
     {
-        self.files.shadow.is_some()
+        match self.source() {
+            Source::Files(files) => files.shadow.is_some(),
+            Source::Carried(tables) => tables.has_shadow_file(),
+        }
     }
 
     /// Whether there is a gshadow(5) file.
     pub fn has_gshadow_file(&self) -> bool
         ensures { result ≡ is_some self.now.gshadow }
     {
-        self.files.gshadow.is_some()
+        match self.source() {
+            Source::Files(files) => files.gshadow.is_some(),
+            Source::Carried(tables) => tables.has_gshadow_file(),
+        }
     }
 
     /// The bytes of subuid(5); none where there is no file.
     pub fn subuid_file(&self) -> &'a Option<Bytes>
         ensures { result.now ≡ self.now.subuid }
     {
-        &self.files.subuid
+        match self.source() {
+            Source::Files(files) => &files.subuid,
+            Source::Carried(tables) => tables.subuid_file(),
+        }
     }
 
     /// The bytes of subgid(5); none where there is no file.
     pub fn subgid_file(&self) -> &'a Option<Bytes>
         ensures { result.now ≡ self.now.subgid }
     {
-        &self.files.subgid
+        match self.source() {
+            Source::Files(files) => &files.subgid,
+            Source::Carried(tables) => tables.subgid_file(),
+        }
     }
 }

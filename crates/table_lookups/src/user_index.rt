@@ -7,7 +7,6 @@ ghost use Rattle.table_lookups.specs.FirstLines.{AreUsers};
 use crate::Tables;
 use crate::first_lines::FirstOfNames;
 use acct_lines::{PasswdRecord, ShadowRecord};
-use acct_tables::MANY;
 use acct_text::Files;
 use std::alloc::{AllocError, Global};
 use std::marker::Model;
@@ -26,7 +25,7 @@ pub(crate) struct UserLines<'a> {
 #[derive(Drop)]
 pub struct UserIndex<'a> {
     tables: Tables<'a>,
-    // none where few users are asked for
+    // none where few users are asked for, and of carried tables
     lines: Option<UserLines<'a>>,
 }
 
@@ -47,16 +46,13 @@ impl<'a> UserIndex<'a> {
     pub fn of(alloc: Global, tables: &Tables<'a>, asked: usize) -> Result<Self, AllocError>
         ensures { IfOk result (λ index. index ≡ tables.now) }
     {
-        if asked < MANY {
-            return Ok(UserIndex {
-                tables: tables.again(),
-                lines: None,
-            });
-        }
-        let lines = user_lines(alloc, tables.files())?;
+        let lines = match tables.files_for_many(asked) {
+            Some(files) => Some(user_lines(alloc, files)?),
+            None => None,
+        };
         Ok(UserIndex {
             tables: tables.again(),
-            lines: Some(lines),
+            lines,
         })
     }
 

@@ -12,6 +12,7 @@ ghost use Rattle.table_lookups.specs.Stopping.{StopsBy};
 use crate::first_lines::FirstOfNames;
 use crate::ids::used_ids;
 use crate::search::{OfGid, first_passing};
+use crate::tables::Source;
 use crate::{IdsInUse, RecordTest, Tables};
 use account_model::Refusal;
 use acct_lines::PasswdRecord;
@@ -37,15 +38,23 @@ impl<'a> Tables<'a> {
         ensures { IfOk result (λ found.
             found ≡ find (T.accepts test.now) (passwd_records self.now)) }
     {
-        first_passing(alloc, &self.files().passwd, test)
+        match self.source() {
+            Source::Files(files) => first_passing(alloc, &files.passwd, test),
+            Source::Carried(tables) => tables.first_user(alloc, test),
+        }
     }
 
     /// The UIDs of all users.
     pub fn used_uids(&self, alloc: Global) -> Result<IdsInUse<'a>, AllocError>
         ensures { IfOk result (λ used. AreThoseOf used (uids_of self.now)) }
     {
-        let ids = used_ids::<PasswdRecord>(alloc, &self.files().passwd)?;
-        Ok(IdsInUse::gathered(ids))
+        match self.source() {
+            Source::Files(files) => {
+                let ids = used_ids::<PasswdRecord>(alloc, &files.passwd)?;
+                Ok(IdsInUse::gathered(ids))
+            }
+            Source::Carried(tables) => tables.used_uids(alloc),
+        }
     }
 
     /// Refuses a name that no user has: `NoUser`.
@@ -59,12 +68,26 @@ impl<'a> Tables<'a> {
     pub fn check_users(&self, alloc: Global, names: &[Bytes]) -> Result<(), ToolFault>
         ensures { StopsBy (missing_users names.now self.now) result }
     {
-        let file = &self.files().passwd;
-        let users = &FirstOfNames::for_many::<PasswdRecord>(alloc, file, names.len())?;
+        let users = &indexed_users(alloc, self, names.len())?;
         for name in names {
             check_in(alloc, self, users, name.as_slice())?;
         }
         Ok(())
+    }
+}
+
+// The first of each name of passwd, where so many are asked for that it saves time; none else.
+fn indexed_users<'a>(
+    alloc: Global,
+    tables: &Tables<'a>,
+    asked: usize,
+) -> Result<Option<FirstOfNames<'a>>, AllocError>
+    ensures { IfOk result (λ users.
+        IfSome users (TellsNames passwd_format (passwd_records tables.now))) }
+{
+    match tables.files_for_many(asked) {
+        Some(files) => Ok(Some(FirstOfNames::of::<PasswdRecord>(alloc, &files.passwd)?)),
+        None => Ok(None),
     }
 }
 

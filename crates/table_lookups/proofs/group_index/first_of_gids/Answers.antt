@@ -1,4 +1,4 @@
-use Rattle.std.proofs.Common.{[], length, ap, subst, arith}
+use Rattle.std.proofs.Common.{length, ap, subst, arith}
 use Rattle.acct_text.specs.Lines.{lines_of}
 use Rattle.account_formats.specs.Format.{records_of}
 use Rattle.account_formats.specs.Records.{group_format}

@@ -1,0 +1,15 @@
+use Rattle.std.proofs.Common.{◌∙◌, ap}
+use Rattle.std.proofs.lemmas.Result.{IfOk-weaker}
+use Rattle.account_formats.specs.Format.{find_named}
+use Rattle.table_lookups.proofs.CarriedLemmas.{kept-records}
+use Rattle.table_lookups.proofs.carried_table.CarriedTable.find.Goals as goal
+
+pub returns-in-Some : goal.returns-in-Some
+returns-in-Some g c =
+    let format = g.R.TableRecord.format in
+    IfOk-weaker c.find.result _ _ (λ found is.
+    is
+    ∙ ap (find_named format c.args.name.now)
+    (kept-records c.self.inside.lines c.in-Some.lines c.in-Some.is c.self.invariant format
+    c.args.self.now c.self.view_is))
+    c.find.ensures.found
