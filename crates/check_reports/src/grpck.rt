@@ -87,17 +87,21 @@ impl<'a> Checks<GroupRecord> for KnownGroups<'a> {
         text: &'t [u8],
     ) -> Result<Problems<'t>, AllocError> {
         match GroupLine::read(text) {
-            Ok(group) => group_problems(alloc, self, &group, names.has_before(group.name, place)),
+            Ok(group) => {
+                let is_repeated = names.has_before(group.name, place);
+                group_problems(alloc, self, &group, place, is_repeated)
+            }
             Err(_) => Problems::invalid_entry(alloc),
         }
     }
 }
 
-/// The problems of a group of group, whose name an earlier one has, or none.
+/// The problems of a group of group at a place, whose name an earlier one has, or none.
 fn group_problems<'t>(
     alloc: Global,
     known: &KnownGroups,
     group: &GroupLine<'t>,
+    place: usize,
     is_repeated: bool,
 ) -> Result<Problems<'t>, AllocError>
     ensures { IfOk result (λ found. (earlier : List GroupRecord)
@@ -109,7 +113,7 @@ fn group_problems<'t>(
     problems.note_if(is_repeated, Problem::DuplicateName(name))?;
     problems.note_if(!is_valid_name(name), Problem::InvalidGroupName(name))?;
     note_unknown(&mut problems, known, name, Listing::Member, group.members)?;
-    let lacks_entry = known.has_gshadow_file() && !known.has_gshadow(name);
+    let lacks_entry = known.has_gshadow_file() && !known.has_gshadow(name, place);
     problems.note_if(lacks_entry, Problem::NoGshadowEntry(name))?;
     Ok(problems)
 }
@@ -127,17 +131,21 @@ impl<'a> Checks<GshadowRecord> for KnownGroups<'a> {
         text: &'t [u8],
     ) -> Result<Problems<'t>, AllocError> {
         match GshadowLine::read(text) {
-            Ok(group) => gshadow_problems(alloc, self, &group, names.has_before(group.name, place)),
+            Ok(group) => {
+                let is_repeated = names.has_before(group.name, place);
+                gshadow_problems(alloc, self, &group, place, is_repeated)
+            }
             Err(_) => Problems::invalid_entry(alloc),
         }
     }
 }
 
-/// The problems of a group of gshadow, whose name an earlier one has, or none.
+/// The problems of a group of gshadow at a place, whose name an earlier one has, or none.
 fn gshadow_problems<'t>(
     alloc: Global,
     known: &KnownGroups,
     group: &GshadowLine<'t>,
+    place: usize,
     is_repeated: bool,
 ) -> Result<Problems<'t>, AllocError>
     ensures { IfOk result (λ found. (earlier : List GshadowRecord)
@@ -147,7 +155,7 @@ fn gshadow_problems<'t>(
     let name = group.name;
     let mut problems = Problems::none(alloc);
     problems.note_if(is_repeated, Problem::DuplicateName(name))?;
-    problems.note_if(!known.has_group(name), Problem::NoGroupEntry(name))?;
+    problems.note_if(!known.has_group(name, place), Problem::NoGroupEntry(name))?;
     note_unknown(
         &mut problems,
         known,

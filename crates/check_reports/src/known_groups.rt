@@ -79,17 +79,18 @@ impl<'a> KnownGroups<'a> {
         self.users.has(name)
     }
 
-    /// Whether group has the group.
-    pub(crate) fn has_group(&self, name: &[u8]) -> bool
+    /// Whether group has the group, which is found soonest at the place of the line of gshadow that
+    /// has the name, counted from 0: mostly both have their lines in one order.
+    pub(crate) fn has_group(&self, name: &[u8], place: usize) -> bool
         ensures { result ≡ has_group name.now self.now }
     {
-        self.groups.has(name)
+        self.groups.has_near(name, place)
     }
 
-    /// Whether gshadow has the group.
-    pub(crate) fn has_gshadow(&self, name: &[u8]) -> bool
+    /// Whether gshadow has the group, which is found soonest at the place of the line of group.
+    pub(crate) fn has_gshadow(&self, name: &[u8], place: usize) -> bool
         ensures { result ≡ has_gshadow name.now self.now }
     {
-        self.hashes.has(name)
+        self.hashes.has_near(name, place)
     }
 }

@@ -83,18 +83,19 @@ impl<'a> KnownUsers<'a> {
         self.files.shadow.is_some()
     }
 
-    /// Whether passwd has the user.
-    pub(crate) fn has_user(&self, name: &[u8]) -> bool
+    /// Whether passwd has the user, who is found soonest at the place of the line of shadow that has
+    /// the name, counted from 0: mostly both have their lines in one order.
+    pub(crate) fn has_user(&self, name: &[u8], place: usize) -> bool
         ensures { result ≡ has_user name.now self.now.files }
     {
-        self.users.has(name)
+        self.users.has_near(name, place)
     }
 
-    /// Whether shadow has the user.
-    pub(crate) fn has_shadow(&self, name: &[u8]) -> bool
+    /// Whether shadow has the user, who is found soonest at the place of the line of passwd.
+    pub(crate) fn has_shadow(&self, name: &[u8], place: usize) -> bool
         ensures { result ≡ has_shadow name.now self.now.files }
     {
-        self.hashes.has(name)
+        self.hashes.has_near(name, place)
     }
 
     /// Whether a group has the GID.

@@ -88,17 +88,21 @@ impl<'a> Checks<PasswdRecord> for KnownUsers<'a> {
         text: &'t [u8],
     ) -> Result<Problems<'t>, AllocError> {
         match PasswdLine::read(text) {
-            Ok(user) => user_problems(alloc, self, &user, names.has_before(user.name, place)),
+            Ok(user) => {
+                let is_repeated = names.has_before(user.name, place);
+                user_problems(alloc, self, &user, place, is_repeated)
+            }
             Err(_) => Problems::invalid_entry(alloc),
         }
     }
 }
 
-/// The problems of a user of passwd, whose name an earlier one has, or none.
+/// The problems of a user of passwd at a place, whose name an earlier one has, or none.
 fn user_problems<'t>(
     alloc: Global,
     known: &KnownUsers,
     user: &PasswdLine<'t>,
+    place: usize,
     is_repeated: bool,
 ) -> Result<Problems<'t>, AllocError>
     ensures { IfOk result (λ found. (earlier : List PasswdRecord)
@@ -113,7 +117,7 @@ fn user_problems<'t>(
         !known.has_gid(user.gid),
         Problem::NoPrimaryGroup(name, user.gid),
     )?;
-    let lacks_entry = known.has_shadow_file() && !known.has_shadow(name);
+    let lacks_entry = known.has_shadow_file() && !known.has_shadow(name, place);
     problems.note_if(lacks_entry, Problem::NoShadowEntry(name))?;
     let keeps_password = known.has_shadow_file() && user.password != b"x".as_slice();
     problems.note_if(keeps_password, Problem::PasswordNotInShadow(name))?;
@@ -133,17 +137,21 @@ impl<'a> Checks<ShadowRecord> for KnownUsers<'a> {
         text: &'t [u8],
     ) -> Result<Problems<'t>, AllocError> {
         match ShadowLine::read(text) {
-            Ok(hash) => hash_problems(alloc, self, &hash, names.has_before(hash.name, place)),
+            Ok(hash) => {
+                let is_repeated = names.has_before(hash.name, place);
+                hash_problems(alloc, self, &hash, place, is_repeated)
+            }
             Err(_) => Problems::invalid_entry(alloc),
         }
     }
 }
 
-/// The problems of a line of shadow, whose name an earlier one has, or none.
+/// The problems of a line of shadow at a place, whose name an earlier one has, or none.
 fn hash_problems<'t>(
     alloc: Global,
     known: &KnownUsers,
     hash: &ShadowLine<'t>,
+    place: usize,
     is_repeated: bool,
 ) -> Result<Problems<'t>, AllocError>
     ensures { IfOk result (λ found. (earlier : List ShadowRecord)
@@ -153,7 +161,7 @@ fn hash_problems<'t>(
     let name = hash.name;
     let mut problems = Problems::none(alloc);
     problems.note_if(is_repeated, Problem::DuplicateName(name))?;
-    problems.note_if(!known.has_user(name), Problem::NoPasswdEntry(name))?;
+    problems.note_if(!known.has_user(name, place), Problem::NoPasswdEntry(name))?;
     let is_future = is_after(known.today(), hash.last_change);
     problems.note_if(is_future, Problem::ChangeInFuture(name))?;
     Ok(problems)

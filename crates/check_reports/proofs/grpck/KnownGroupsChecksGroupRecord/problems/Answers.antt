@@ -10,7 +10,7 @@ pub returns-in-Ok : goal.returns-in-Ok
 returns-in-Ok c =
     let group = group_shown c.in-Ok.group in
     IfOk-weaker c.group_problems.result _ _ (λ found is before tells.
-    is before (tells group c.in-Ok.ensures ∙ sym c.has_before.ensures)
+    is before (tells group c.in-Ok.ensures ∙ sym c.has_before-is_repeated.ensures)
     ∙ of-record group_format (group_problems c.args.self.now) before c.args.text.now group
     c.in-Ok.ensures)
     c.group_problems.ensures

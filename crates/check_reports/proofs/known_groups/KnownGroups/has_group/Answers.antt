@@ -6,7 +6,7 @@ use Rattle.check_reports.proofs.known_groups.KnownGroups.has_group.Goals as goal
 
 pub returns : goal.returns
 returns c =
-    c.has.ensures
+    c.has_near.ensures
     ∙ has-told group_format c.self.inside.files.now.group c.self.inside.groups
     c.args.name.now c.self.invariant.of_groups
     ∙ ap (has_group c.args.name.now) c.self.view_is

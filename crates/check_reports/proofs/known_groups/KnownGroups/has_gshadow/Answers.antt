@@ -6,7 +6,7 @@ use Rattle.check_reports.proofs.known_groups.KnownGroups.has_gshadow.Goals as go
 
 pub returns : goal.returns
 returns c =
-    c.has.ensures
+    c.has_near.ensures
     ∙ has-told gshadow_format c.self.inside.files.now.gshadow c.self.inside.hashes
     c.args.name.now c.self.invariant.of_hashes
     ∙ ap (has_gshadow c.args.name.now) c.self.view_is

@@ -7,7 +7,7 @@ use Rattle.check_reports.proofs.known_users.KnownUsers.has_user.Goals as goal
 
 pub returns : goal.returns
 returns c =
-    c.has.ensures
+    c.has_near.ensures
     ∙ has-told passwd_format c.self.inside.files.now.passwd c.self.inside.users
     c.args.name.now c.self.invariant.of_users
     ∙ ap (λ (sight : Sight). has_user c.args.name.now sight.files) c.self.view_is

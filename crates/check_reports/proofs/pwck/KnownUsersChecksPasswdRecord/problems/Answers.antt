@@ -12,7 +12,7 @@ pub returns-in-Ok : goal.returns-in-Ok
 returns-in-Ok c =
     let user = passwd_shown c.in-Ok.user in
     IfOk-weaker c.user_problems.result _ _ (λ found is before tells.
-    is before (tells user c.in-Ok.ensures ∙ sym c.has_before.ensures)
+    is before (tells user c.in-Ok.ensures ∙ sym c.has_before-is_repeated.ensures)
     ∙ of-record passwd_format (user_problems c.args.self.now.files) before c.args.text.now user
     c.in-Ok.ensures)
     c.user_problems.ensures

@@ -12,7 +12,7 @@ pub returns-in-Ok : goal.returns-in-Ok
 returns-in-Ok c =
     let hash = shadow_shown c.in-Ok.hash in
     IfOk-weaker c.hash_problems.result _ _ (λ found is before tells.
-    is before (tells hash c.in-Ok.ensures ∙ sym c.has_before.ensures)
+    is before (tells hash c.in-Ok.ensures ∙ sym c.has_before-is_repeated.ensures)
     ∙ of-record shadow_format (shadow_problems c.args.self.now.files c.args.self.now.today) before c.args.text.now hash
     c.in-Ok.ensures)
     c.hash_problems.ensures
