@@ -2,13 +2,28 @@
 -- `-w` and `-W`).
 use Rattle.std.specs.Prelude.{List, map, Option}
 use Rattle.acct_text.specs.declared.Tab.{Tab}
+use Rattle.acct_text.specs.declared.Tab.TheVariants.{Subuid, Subgid}
 use Rattle.acct_text.specs.Lines.{Line}
 use Rattle.account_model.specs.declared.refusal.Refusal.{Refusal}
 use Rattle.account_formats.specs.Edits.{edited_by}
 use Rattle.account_formats.specs.Records.{subid_format}
+use Rattle.account_words.specs.declared.settings.IdSort.{IdSort}
+use Rattle.account_words.specs.declared.settings.IdSort.TheVariants.{Uid, Gid}
+use Rattle.account_words.specs.Request.{Request}
+use Rattle.account_model.specs.Usermod.{subgid_change, subuid_change}
 use Rattle.account_model.specs.UsermodRanges.{RangeOwner, RangeChange, edits_before_adding, first_meeting}
 use Rattle.command_values.specs.Ranges.{ids_named}
 use Rattle.user_changes.specs.declared.ranges.UserRanges.{UserRanges}
+
+-- the table of the ranges of such IDs
+abbrev pub range_table : IdSort → Tab
+range_table Uid = Subuid
+range_table Gid = Subgid
+
+-- what the options remove and add of such IDs
+abbrev pub range_change : IdSort → Request → RangeChange
+range_change Uid request = subuid_change request
+range_change Gid request = subgid_change request
 
 -- whose the ranges are
 abbrev pub owner_of : UserRanges → RangeOwner

@@ -12,9 +12,10 @@ ghost use Rattle.table_lookups.specs.Stopping.{StopsBy};
 
 use crate::changes::new_name;
 use crate::hash::{hash_of, sets_aging};
-use crate::meetings::{check_subgids, check_subuids};
+use crate::meetings::check_meetings;
 use crate::memberships::group_names;
 use account_model::Refusal;
+use account_words::IdSort;
 use acct_text::Bytes;
 use command_values::{Asked, ToolFault, check_list_name};
 use given_groups::{check_given_group, check_given_groups};
@@ -37,8 +38,8 @@ pub(crate) fn check_conflicts(
     check_given_group(alloc, asked, tables)?;
     check_given_groups(alloc, asked, tables)?;
     check_hash(alloc, asked, tables)?;
-    check_subuids(alloc, asked, tables)?;
-    check_subgids(alloc, asked, tables)?;
+    check_meetings(alloc, asked, tables, IdSort::Uid)?;
+    check_meetings(alloc, asked, tables, IdSort::Gid)?;
     check_shadow(asked, tables)?;
     check_listed(alloc, asked, tables)
 }

@@ -2,19 +2,20 @@
 // `-w`; subuid(5), subgid(5)).
 ghost use Rattle.std.specs.Prelude.{◌≡◌, ◌+◌, ◌-◌, IfOk, OnOk, option_map};
 ghost use Rattle.acct_text.specs.Lines.{lines_of};
-ghost use Rattle.acct_text.specs.declared.Tab.TheVariants.{Subuid, Subgid};
+ghost use Rattle.acct_text.specs.Files.{table_of};
 ghost use Rattle.account_model.specs.declared.refusal.Refusal.TheVariants.{Meets};
 ghost use Rattle.account_formats.specs.Edits.{edited_by};
 ghost use Rattle.account_formats.specs.Records.{subid_format};
-ghost use Rattle.account_model.specs.Usermod.{new_name, range_owner, subgid_change, subuid_change};
+ghost use Rattle.account_model.specs.Usermod.{new_name, range_owner};
 ghost use Rattle.account_model.specs.UsermodRanges.{edits_before_adding, meeting_in};
 ghost use Rattle.account_formats.specs.Written.{IsNameField};
 ghost use Rattle.subid_ranges.specs.RangeLines.{meeting_line, with_range};
 ghost use Rattle.table_lookups.specs.Stopping.{StopsBy};
-ghost use Rattle.user_changes.specs.Ranges.{change_of, first_meeting_in, owner_of};
+ghost use Rattle.user_changes.specs.Ranges.{change_of, first_meeting_in, owner_of, range_change, range_table};
 
-use crate::ranges::{UserRanges, subgid_ranges, subuid_ranges};
+use crate::ranges::{UserRanges, user_ranges};
 use account_model::Refusal;
+use account_words::IdSort;
 use acct_text::{Bytes, Tab};
 use command_values::{Asked, IdRange, ToolFault};
 use std::alloc::{AllocError, Global};
@@ -22,26 +23,40 @@ use subid_ranges::{RangeFault, Ranges};
 use table_edits::edited_ranges;
 use table_lookups::Tables;
 
-/// Refuses the first range of `-v` that meets a line of subuid as it stands then: `Meets`. An
-/// absent subuid is met by none.
-pub(crate) fn check_subuids(alloc: Global, asked: &Asked, tables: &Tables) -> Result<(), ToolFault>
+/// Refuses the first new range of `-v`, or of `-w`, that meets a line of subuid, or of subgid, as it
+/// stands then: `Meets`. An absent table is met by none.
+pub(crate) fn check_meetings(
+    alloc: Global,
+    asked: &Asked,
+    tables: &Tables,
+    sort: IdSort,
+) -> Result<(), ToolFault>
     requires { IsNameField (new_name asked.now) }
-    ensures { StopsBy (meeting_in Subuid (range_owner asked.now tables.now)
-        (subuid_change asked.now) tables.now.subuid) result }
+    ensures { StopsBy (meeting_in (range_table sort) (range_owner asked.now tables.now)
+        (range_change sort asked.now) (table_of tables.now (range_table sort))) result }
 {
-    let ranges = subuid_ranges(alloc, asked, tables)?;
-    check_added(alloc, &ranges, Tab::Subuid, tables.subuid_file())
+    let ranges = user_ranges(alloc, asked, tables, sort)?;
+    check_added(alloc, &ranges, range_table(sort), range_file(tables, sort))
 }
 
-/// Refuses the first range of `-w` that meets a line of subgid as it stands then: `Meets`. An
-/// absent subgid is met by none.
-pub(crate) fn check_subgids(alloc: Global, asked: &Asked, tables: &Tables) -> Result<(), ToolFault>
-    requires { IsNameField (new_name asked.now) }
-    ensures { StopsBy (meeting_in Subgid (range_owner asked.now tables.now)
-        (subgid_change asked.now) tables.now.subgid) result }
+// The table of the ranges of such IDs.
+fn range_table(sort: IdSort) -> Tab
+    ensures { result ≡ range_table sort }
 {
-    let ranges = subgid_ranges(alloc, asked, tables)?;
-    check_added(alloc, &ranges, Tab::Subgid, tables.subgid_file())
+    match sort {
+        IdSort::Uid => Tab::Subuid,
+        IdSort::Gid => Tab::Subgid,
+    }
+}
+
+// The bytes of that table; none where there is no file.
+fn range_file<'a>(tables: &Tables<'a>, sort: IdSort) -> &'a Option<Bytes>
+    ensures { result.now ≡ table_of tables.now (range_table sort) }
+{
+    match sort {
+        IdSort::Uid => tables.subuid_file(),
+        IdSort::Gid => tables.subgid_file(),
+    }
 }
 
 // Refuses the first new range that meets a line of the file: `Meets`.

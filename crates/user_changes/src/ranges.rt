@@ -10,9 +10,10 @@ ghost use Rattle.command_values.specs.Ranges.{ids_named};
 ghost use Rattle.table_edits.specs.Additions.{HasAlso};
 ghost use Rattle.line_edits.specs.SeenEdits.{seen_edits};
 ghost use Rattle.line_edits.specs.SubidChanges.{subid_becomes};
-ghost use Rattle.user_changes.specs.Ranges.{change_of, owner_of};
+ghost use Rattle.user_changes.specs.Ranges.{change_of, owner_of, range_change};
 
 use crate::changes::new_name;
+use account_words::IdSort;
 use acct_lines::SubidRecord;
 use acct_text::Bytes;
 use command_values::{Asked, IdRange};
@@ -50,32 +51,24 @@ pub(crate) fn write_ranges(
         })
         script.old script.new) }
 {
-    subuid_ranges(alloc, asked, tables)?.push_edits(alloc, &mut script.subuid)?;
-    subgid_ranges(alloc, asked, tables)?.push_edits(alloc, &mut script.subgid)
+    user_ranges(alloc, asked, tables, IdSort::Uid)?.push_edits(alloc, &mut script.subuid)?;
+    user_ranges(alloc, asked, tables, IdSort::Gid)?.push_edits(alloc, &mut script.subgid)
 }
 
-/// The IDs of `-V` and `-v`.
-pub(crate) fn subuid_ranges(
+/// The UIDs of `-V` and `-v`, or the GIDs of `-W` and `-w`.
+pub(crate) fn user_ranges(
     alloc: Global,
     asked: &Asked,
     tables: &Tables,
+    sort: IdSort,
 ) -> Result<UserRanges, AllocError>
     ensures owner { IfOk result (λ ranges. owner_of ranges ≡ range_owner asked.now tables.now) }
-    ensures change { IfOk result (λ ranges. change_of ranges ≡ subuid_change asked.now) }
+    ensures change { IfOk result (λ ranges. change_of ranges ≡ range_change sort asked.now) }
 {
-    UserRanges::of(alloc, asked, tables, b'V', b'v')
-}
-
-/// The IDs of `-W` and `-w`.
-pub(crate) fn subgid_ranges(
-    alloc: Global,
-    asked: &Asked,
-    tables: &Tables,
-) -> Result<UserRanges, AllocError>
-    ensures owner { IfOk result (λ ranges. owner_of ranges ≡ range_owner asked.now tables.now) }
-    ensures change { IfOk result (λ ranges. change_of ranges ≡ subgid_change asked.now) }
-{
-    UserRanges::of(alloc, asked, tables, b'W', b'w')
+    match sort {
+        IdSort::Uid => UserRanges::of(alloc, asked, tables, b'V', b'v'),
+        IdSort::Gid => UserRanges::of(alloc, asked, tables, b'W', b'w'),
+    }
 }
 
 impl UserRanges {
