@@ -108,57 +108,49 @@ pub unnamed :
     (name other : List ℕ) → is_listed name (other ∷ []) ≡ false → bytes_eq name other ≡ false
 unnamed name other unlisted = (neither (bytes_eq name other) false unlisted).0
 
+-- what is done with the records of a name, and leaves that name, touches these alone
+only-named :
+    {R : Type 0} (format : Format R) (name : List ℕ) (after : R → R)
+    → ((r : R) → format.name (after r) ≡ format.name r)
+    → ChangesOnly format (λ r. (if is_named format name r then after r else r) ∷ []) (name ∷ [])
+only-named format name after keeps = record {
+  others = λ r other. ap (λ named. (if named then after r else r) ∷ [])
+      (unnamed (format.name r) name other);
+  kept = λ r. one-name format (is_named format name r) (after r) r (keeps r);
+  apart = one-apart name;
+}
+
 -- in passwd
 pub only-user :
     (name : List ℕ) (act : PasswdAct)
     → keeps_user_name act ≡ true
     → ChangesOnly passwd_format (passwd_becomes (NamedUser name act)) (name ∷ [])
-only-user name act keeps = record {
-  others = λ r other. ap (λ named. (if named then passwd_after act r else r) ∷ [])
-      (unnamed r.name name other);
-  kept = λ r. one-name passwd_format (is_named passwd_format name r) (passwd_after act r) r
-      (user-name act r keeps);
-  apart = one-apart name;
-}
+only-user name act keeps =
+    only-named passwd_format name (passwd_after act) (λ r. user-name act r keeps)
 
 -- in shadow
 pub only-shadow :
     (name : List ℕ) (act : ShadowAct)
     → keeps_shadow_name act ≡ true
     → ChangesOnly shadow_format (shadow_becomes (NamedShadow name act)) (name ∷ [])
-only-shadow name act keeps = record {
-  others = λ r other. ap (λ named. (if named then shadow_after act r else r) ∷ [])
-      (unnamed r.name name other);
-  kept = λ r. one-name shadow_format (is_named shadow_format name r) (shadow_after act r) r
-      (shadow-name act r keeps);
-  apart = one-apart name;
-}
+only-shadow name act keeps =
+    only-named shadow_format name (shadow_after act) (λ r. shadow-name act r keeps)
 
 -- in group
 pub only-group :
     (name : List ℕ) (act : GroupAct)
     → keeps_group_name act ≡ true
     → ChangesOnly group_format (group_becomes (NamedGroup name act)) (name ∷ [])
-only-group name act keeps = record {
-  others = λ r other. ap (λ named. (if named then group_after act r else r) ∷ [])
-      (unnamed r.name name other);
-  kept = λ r. one-name group_format (is_named group_format name r) (group_after act r) r
-      (group-name act r keeps);
-  apart = one-apart name;
-}
+only-group name act keeps =
+    only-named group_format name (group_after act) (λ r. group-name act r keeps)
 
 -- in gshadow
 pub only-gshadow :
     (name : List ℕ) (act : GshadowAct)
     → keeps_gshadow_name act ≡ true
     → ChangesOnly gshadow_format (gshadow_becomes (NamedGshadow name act)) (name ∷ [])
-only-gshadow name act keeps = record {
-  others = λ r other. ap (λ named. (if named then gshadow_after act r else r) ∷ [])
-      (unnamed r.name name other);
-  kept = λ r. one-name gshadow_format (is_named gshadow_format name r) (gshadow_after act r) r
-      (gshadow-name act r keeps);
-  apart = one-apart name;
-}
+only-gshadow name act keeps =
+    only-named gshadow_format name (gshadow_after act) (λ r. gshadow-name act r keeps)
 
 -- ---- Memberships
 
