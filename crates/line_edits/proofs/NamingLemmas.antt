@@ -4,7 +4,7 @@
 -- `joined-gshadow`). Way: act by act.
 use Rattle.std.proofs.Common.{◌≡◌, ◌∙◌, ℕ, Bool, true, false, List, [], ◌∷◌, map, refl, sym, ap, if◌then◌else◌}
 use Rattle.std.specs.List.{IsDistinct}
-use Rattle.std.specs.Prelude.{◌&&◌, not, bytes_eq, IfSome, Option, Some, None, is_none, unwrap_or}
+use Rattle.std.specs.Prelude.{◌&&◌, not, bytes_eq, IfSome, Option, Some, None, unwrap_or}
 use Rattle.std.proofs.lemmas.Slice.Eq.{bytes_eq-Decides}
 use Rattle.account_formats.specs.declared.records.GroupRecord.{GroupRecord}
 use Rattle.account_formats.specs.declared.records.GshadowRecord.{GshadowRecord}
@@ -19,7 +19,7 @@ use Rattle.account_model.specs.Members.{in_place_of, name_once, renamed_in, with
 use Rattle.line_edits.specs.GroupChanges.{group_after, group_becomes, keeps_group_name}
 use Rattle.line_edits.specs.GshadowChanges.{gshadow_after, gshadow_becomes, keeps_gshadow_name}
 use Rattle.line_edits.specs.Memberships.{ChangesOnlyIn, members_by, members_with}
-use Rattle.line_edits.specs.Naming.{ChangesOnly, names_in}
+use Rattle.line_edits.specs.Naming.{ChangesOnly, leaves_name, names_in}
 use Rattle.line_edits.specs.PasswdChanges.{keeps_user_name, passwd_after, passwd_becomes}
 use Rattle.line_edits.specs.ShadowChanges.{keeps_shadow_name, shadow_after, shadow_becomes}
 use Rattle.line_edits.specs.declared.group_changes.GroupAct.{GroupAct}
@@ -42,39 +42,47 @@ use Rattle.line_edits.proofs.LeftLemmas.{neither}
 use Rattle.line_edits.proofs.NameSets.{none-apart, one-apart}
 use Rattle.line_edits.proofs.ReachLemmas.{left-to}
 
--- a field that isn't given stays
-unset :
-    (field : Option (List ℕ)) (old : List ℕ) → is_none field ≡ true → unwrap_or field old ≡ old
-unset None old is = refl
-unset (Some new) old is = absurd cc
+-- a field that leaves the name leaves that of a record that has it
+name-left :
+    (name : List ℕ) (field : Option (List ℕ)) (old : List ℕ)
+    → leaves_name name field ≡ true
+    → bytes_eq old name ≡ true
+    → unwrap_or field old ≡ old
+name-left name None old leaves named = refl
+name-left name (Some new) old leaves named =
+    (bytes_eq-Decides new name).0 leaves ∙ sym ((bytes_eq-Decides old name).0 named)
 
 -- the name of a record that becomes one of its name, or stays
 one-name :
     {R : Type 0} (format : Format R) (named : Bool) (new r : R)
-    → format.name new ≡ format.name r
+    → (named ≡ true → format.name new ≡ format.name r)
     → map format.name ((if named then new else r) ∷ []) ≡ format.name r ∷ []
-one-name format true new r same = ap (λ name. name ∷ []) same
+one-name format true new r same = ap (λ name. name ∷ []) (same refl)
 one-name format false new r same = refl
 
--- the name of a user after an act that leaves it
+-- the name of a user that has this one, after an act that leaves it
 user-name :
-    (act : PasswdAct) (r : PasswdRecord)
-    → keeps_user_name act ≡ true
+    (name : List ℕ) (act : PasswdAct) (r : PasswdRecord)
+    → keeps_user_name name act ≡ true
+    → is_named passwd_format name r ≡ true
     → (passwd_after act r).name ≡ r.name
-user-name (SetPassword password) r keeps = refl
-user-name (SetGid gid) r keeps = refl
-user-name (ChangePassword change) r keeps = refl
-user-name (SetUserFields fields) r keeps = unset fields.name r.name keeps
+user-name name (SetPassword password) r keeps named = refl
+user-name name (SetGid gid) r keeps named = refl
+user-name name (ChangePassword change) r keeps named = refl
+user-name name (SetUserFields fields) r keeps named =
+    name-left name fields.name r.name keeps named
 
 -- the name of a record of shadow after such an act
 shadow-name :
-    (act : ShadowAct) (r : ShadowRecord)
-    → keeps_shadow_name act ≡ true
+    (name : List ℕ) (act : ShadowAct) (r : ShadowRecord)
+    → keeps_shadow_name name act ≡ true
+    → is_named shadow_format name r ≡ true
     → (shadow_after act r).name ≡ r.name
-shadow-name (SetHash hash) r keeps = refl
-shadow-name (SetLastChange day) r keeps = refl
-shadow-name (ChangeHash change) r keeps = refl
-shadow-name (SetShadowFields fields) r keeps = unset fields.name r.name keeps
+shadow-name name (SetHash hash) r keeps named = refl
+shadow-name name (SetLastChange day) r keeps named = refl
+shadow-name name (ChangeHash change) r keeps named = refl
+shadow-name name (SetShadowFields fields) r keeps named =
+    name-left name fields.name r.name keeps named
 
 -- the name of a group after an act that leaves it
 group-name :
@@ -111,7 +119,7 @@ unnamed name other unlisted = (neither (bytes_eq name other) false unlisted).0
 -- what is done with the records of a name, and leaves that name, touches these alone
 only-named :
     {R : Type 0} (format : Format R) (name : List ℕ) (after : R → R)
-    → ((r : R) → format.name (after r) ≡ format.name r)
+    → ((r : R) → is_named format name r ≡ true → format.name (after r) ≡ format.name r)
     → ChangesOnly format (λ r. (if is_named format name r then after r else r) ∷ []) (name ∷ [])
 only-named format name after keeps = record {
   others = λ r other. ap (λ named. (if named then after r else r) ∷ [])
@@ -123,18 +131,18 @@ only-named format name after keeps = record {
 -- in passwd
 pub only-user :
     (name : List ℕ) (act : PasswdAct)
-    → keeps_user_name act ≡ true
+    → keeps_user_name name act ≡ true
     → ChangesOnly passwd_format (passwd_becomes (NamedUser name act)) (name ∷ [])
 only-user name act keeps =
-    only-named passwd_format name (passwd_after act) (λ r. user-name act r keeps)
+    only-named passwd_format name (passwd_after act) (λ r. user-name name act r keeps)
 
 -- in shadow
 pub only-shadow :
     (name : List ℕ) (act : ShadowAct)
-    → keeps_shadow_name act ≡ true
+    → keeps_shadow_name name act ≡ true
     → ChangesOnly shadow_format (shadow_becomes (NamedShadow name act)) (name ∷ [])
 only-shadow name act keeps =
-    only-named shadow_format name (shadow_after act) (λ r. shadow-name act r keeps)
+    only-named shadow_format name (shadow_after act) (λ r. shadow-name name act r keeps)
 
 -- in group
 pub only-group :
@@ -142,7 +150,7 @@ pub only-group :
     → keeps_group_name act ≡ true
     → ChangesOnly group_format (group_becomes (NamedGroup name act)) (name ∷ [])
 only-group name act keeps =
-    only-named group_format name (group_after act) (λ r. group-name act r keeps)
+    only-named group_format name (group_after act) (λ r named. group-name act r keeps)
 
 -- in gshadow
 pub only-gshadow :
@@ -150,7 +158,7 @@ pub only-gshadow :
     → keeps_gshadow_name act ≡ true
     → ChangesOnly gshadow_format (gshadow_becomes (NamedGshadow name act)) (name ∷ [])
 only-gshadow name act keeps =
-    only-named gshadow_format name (gshadow_after act) (λ r. gshadow-name act r keeps)
+    only-named gshadow_format name (gshadow_after act) (λ r named. gshadow-name act r keeps)
 
 -- ---- Memberships
 

@@ -1,6 +1,6 @@
 -- Changes that may touch the records of a few names only, and leave their names (passwd(5), shadow(5),
 -- group(5), gshadow(5)).
-use Rattle.std.specs.Prelude.{◌≡◌, ℕ, false, List, [], ◌∷◌, map, Some, bytes_eq, if◌then◌else◌}
+use Rattle.std.specs.Prelude.{◌≡◌, ℕ, Bool, true, false, List, [], ◌∷◌, map, Option, None, Some, bytes_eq, if◌then◌else◌}
 use Rattle.std.specs.List.{IsDistinct}
 use Rattle.std.specs.Vec.{vec_items}
 use Rattle.account_formats.specs.Format.{Format}
@@ -16,6 +16,11 @@ Leaves {R = R} format f text = (r : R) → format.read text ≡ Some r → f r �
 -- f leaves each record whose line is without these bytes
 abbrev pub IsMarkOf : {R : Type 0} → Format R → (R → List R) → List ℕ → Type 0
 IsMarkOf format f mark = (line : List ℕ) → IsWithout mark line → Leaves format f line
+
+-- a name field that is given this, if anything, leaves the name
+abbrev pub leaves_name : List ℕ → Option (List ℕ) → Bool
+leaves_name name None = true
+leaves_name name (Some new) = bytes_eq new name
 
 -- f gives one record for each, of its name
 abbrev pub KeepsNames : {R : Type 0} → Format R → (R → List R) → Type 0

@@ -1,9 +1,10 @@
 -- What the changes of users make of a record of shadow (shadow(5)).
-use Rattle.std.specs.Prelude.{ℕ, Bool, true, List, [], ◌∷◌, Option, None, Some, is_none, unwrap_or, if◌then◌else◌}
+use Rattle.std.specs.Prelude.{ℕ, Bool, true, List, [], ◌∷◌, Option, None, Some, unwrap_or, if◌then◌else◌}
 use Rattle.account_formats.specs.declared.records.ShadowRecord.{ShadowRecord}
 use Rattle.account_formats.specs.Format.{is_named}
 use Rattle.account_formats.specs.Records.{shadow_format}
 use Rattle.line_edits.specs.HashChanges.{hash_by}
+use Rattle.line_edits.specs.Naming.{leaves_name}
 use Rattle.line_edits.specs.declared.shadow_changes.DaysChange.{DaysChange}
 use Rattle.line_edits.specs.declared.shadow_changes.DaysChange.TheVariants.{Stays, Empties, Becomes}
 use Rattle.line_edits.specs.declared.shadow_changes.ShadowFields.{ShadowFields}
@@ -37,10 +38,10 @@ shadow_after (SetLastChange day) r = record r { last_change = Some day }
 shadow_after (ChangeHash change) r = record r { hash = hash_by change r.hash }
 shadow_after (SetFields fields) r = with_shadow_fields fields r
 
--- whether the act leaves the name
-abbrev pub keeps_shadow_name : ShadowAct → Bool
-keeps_shadow_name (SetFields fields) = is_none fields.name
-keeps_shadow_name _ = true
+-- whether the act leaves this name of a record
+abbrev pub keeps_shadow_name : List ℕ → ShadowAct → Bool
+keeps_shadow_name name (SetFields fields) = leaves_name name fields.name
+keeps_shadow_name name _ = true
 
 -- the records that a record becomes by a change
 abbrev pub shadow_becomes : ShadowChange → ShadowRecord → List ShadowRecord

@@ -4,6 +4,7 @@ ghost use Rattle.acct_text.specs.Pieces.{fields_of};
 ghost use Rattle.account_formats.specs.Faults.{field_at};
 ghost use Rattle.account_formats.specs.Naming.{first_field as first_of};
 ghost use Rattle.line_edits.specs.LineFields.{AreBehindFirst};
+ghost use Rattle.line_edits.specs.Naming.{leaves_name};
 
 use acct_lines::{first_field, has_first_field};
 use acct_text::{Bytes, cut_once};
@@ -16,6 +17,16 @@ pub(crate) fn copy_or(new: &Option<Bytes>, old: &Bytes) -> Result<Bytes, AllocEr
     match new {
         Some(text) => text.copy(),
         None => old.copy(),
+    }
+}
+
+/// Whether a name field that gets this text, if any is given, leaves the name.
+pub(crate) fn leaves_name(new: &Option<Bytes>, name: &Bytes) -> bool
+    ensures { result ≡ leaves_name name.now new.now }
+{
+    match new {
+        Some(text) => text.as_slice() == name.as_slice(),
+        None => true,
     }
 }
 

@@ -4,7 +4,7 @@ ghost use Rattle.account_formats.specs.Records.{passwd_format};
 ghost use Rattle.account_formats.specs.declared.records.PasswdRecord.{PasswdRecord};
 ghost use Rattle.line_edits.specs.PasswdChanges.{keeps_user_name, passwd_after, with_user_fields};
 
-use crate::fields::{copy_or, fourth_field, has_other_name};
+use crate::fields::{copy_or, fourth_field, has_other_name, leaves_name};
 use crate::{Becoming, ChangedNames, EditedRecord, HashChange};
 use account_formats::GREATEST_ID;
 use acct_lines::{PasswdRecord, TableRecord};
@@ -103,7 +103,7 @@ impl EditedRecord for PasswdRecord {
 
     fn only_names(change: &PasswdChange) -> Option<ChangedNames<'_>> {
         match change {
-            PasswdChange::Named(name, act) if keeps_name(act) => {
+            PasswdChange::Named(name, act) if keeps_name(name, act) => {
                 Some(ChangedNames::One(name.as_slice()))
             }
             _ => None,
@@ -124,12 +124,12 @@ fn has_gid(line: &[u8], gid: u32) -> bool
     }
 }
 
-// Whether the act leaves the name of the user.
-fn keeps_name(act: &PasswdAct) -> bool
-    ensures { result ≡ keeps_user_name act.now }
+// Whether the act leaves this name of a user.
+fn keeps_name(name: &Bytes, act: &PasswdAct) -> bool
+    ensures { result ≡ keeps_user_name name.now act.now }
 {
     match act {
-        PasswdAct::SetFields(fields) => fields.name.is_none(),
+        PasswdAct::SetFields(fields) => leaves_name(&fields.name, name),
         _ => true,
     }
 }

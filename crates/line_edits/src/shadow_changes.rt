@@ -2,7 +2,7 @@
 ghost use Rattle.std.specs.Prelude.{◌≡◌, None, IfOk, unwrap_or};
 ghost use Rattle.line_edits.specs.ShadowChanges.{given_days, keeps_shadow_name, shadow_after, with_shadow_fields};
 
-use crate::fields::{copy_or, has_other_name};
+use crate::fields::{copy_or, has_other_name, leaves_name};
 use crate::{Becoming, ChangedNames, EditedRecord, HashChange};
 use acct_lines::{ShadowRecord, TableRecord};
 use acct_text::Bytes;
@@ -157,7 +157,7 @@ impl EditedRecord for ShadowRecord {
 
     fn only_names(change: &ShadowChange) -> Option<ChangedNames<'_>> {
         match change {
-            ShadowChange::Named(name, act) if keeps_name(act) => {
+            ShadowChange::Named(name, act) if keeps_name(name, act) => {
                 Some(ChangedNames::One(name.as_slice()))
             }
             _ => None,
@@ -167,12 +167,12 @@ impl EditedRecord for ShadowRecord {
     ghost no_blank = { refl };
 }
 
-// Whether the act leaves the name of the user.
-fn keeps_name(act: &ShadowAct) -> bool
-    ensures { result ≡ keeps_shadow_name act.now }
+// Whether the act leaves this name of a user.
+fn keeps_name(name: &Bytes, act: &ShadowAct) -> bool
+    ensures { result ≡ keeps_shadow_name name.now act.now }
 {
     match act {
-        ShadowAct::SetFields(fields) => fields.name.is_none(),
+        ShadowAct::SetFields(fields) => leaves_name(&fields.name, name),
         _ => true,
     }
 }
