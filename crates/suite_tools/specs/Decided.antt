@@ -1,6 +1,6 @@
 -- What a command asks its tool for, and what that has to answer and to decide ("EXIT VALUES" of each
 -- page; the actions are those of account_model/specs/Change).
-use Rattle.std.specs.Prelude.{ℕ, Bool, true, false, List, Result}
+use Rattle.std.specs.Prelude.{ℕ, Bool, true, false, List, [], Result}
 use Rattle.acct_text.specs.declared.files.Files.{Files}
 use Rattle.account_model.specs.Action.{outcome_of}
 use Rattle.account_model.specs.Change.{action_of}
@@ -10,10 +10,12 @@ use Rattle.account_words.specs.Request.{Request}
 use Rattle.account_words.specs.Settings.{Setting}
 use Rattle.tool_answers.specs.Decisions.{Decides}
 use Rattle.tool_answers.specs.declared.decision.Decision.{Decision}
+use Rattle.tool_answers.specs.declared.decision.Output.{Output}
 use Rattle.tool_answers.specs.declared.tool_fault.ToolFault.{ToolFault}
 use Rattle.login_defs.specs.declared.defs.Defs.{Defs}
 use Rattle.login_defs.specs.Held.{HasSettings}
 use Rattle.table_edits.specs.Acting.{ActsBy, IsReportOf}
+use Rattle.table_edits.specs.Deciding.{IsCarriedOut}
 use Rattle.table_edits.specs.declared.report.Report.{Report}
 use Rattle.table_edits.specs.declared.script.Script.{Script}
 
@@ -50,3 +52,10 @@ abbrev pub DecidesUnder : Defs → ℕ → Asking → Files → Decision → Typ
 DecidesUnder defs day asking files decision =
     (settings : List Setting) → HasSettings defs settings → Decides asking.request.tool files
     (outcome_of (action_of asking.request asking.input day files settings) files) decision
+
+-- the tool carries out the request on these files, whichever settings the values are those of
+abbrev pub CarriesUnder :
+    Defs → ℕ → Request → Files → Files → Result Output ToolFault → Type 0
+CarriesUnder defs day request old new result =
+    (settings : List Setting) → HasSettings defs settings → IsCarriedOut request.tool
+    (outcome_of (action_of request [] day old settings) old) old new result

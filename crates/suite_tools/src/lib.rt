@@ -8,9 +8,11 @@
 #![tactic(auto)]
 
 mod answer;
+mod carry;
 mod dispatch;
 mod request;
 
+pub use carry::carry_out;
 pub use dispatch::decide;
 pub use request::ToolRequest;
 pub use tool_answers::{Decision, Output};

@@ -1,5 +1,6 @@
 -- Claims: a file after the edits of a slice is that after the edits of its list (`listed-file`), and one
--- without edits isn't listed (`unedited-unlisted`). Way: its bytes are those of its lines.
+-- without edits stays (`unedited-stays`), so that it isn't listed (`unedited-unlisted`). Way: its bytes
+-- are those of its lines.
 use Rattle.std.proofs.Common.{◌≡◌, ◌∙◌, ◌++◌, append-nil, ℕ, Bool, if◌then◌else◌, List, [], Option, Some, None, ap, refl, sym}
 use Rattle.acct_text.specs.declared.Tab.{Tab}
 use Rattle.acct_text.specs.declared.new_tables.NewTable.{NewTable}
@@ -27,13 +28,17 @@ listed-file format becomes slice items table file before after same is =
     same
 
 -- a table stays without edits
-unedited-same :
+pub unedited-stays :
     {R : Type 0} (format : Format R) (file : Option (List ℕ))
-    → changed_bytes file (table_after format [] file) ≡ None
-unedited-same format None = refl
-unedited-same format (Some text) =
-    ap (λ (new : List ℕ). changed_bytes (Some text) (Some new)) (lines_of-are text).joined
-    ∙ ap (λ (is_same : Bool). if is_same then None else Some text) (bytes-self text)
+    → table_after format [] file ≡ file
+unedited-stays format None = refl
+unedited-stays format (Some text) = ap Some (lines_of-are text).joined
+
+-- what stays isn't other bytes
+stays-unchanged : (file : Option (List ℕ)) → changed_bytes file file ≡ None
+stays-unchanged None = refl
+stays-unchanged (Some text) =
+    ap (λ (is_same : Bool). if is_same then None else Some text) (bytes-self text)
 
 -- so it isn't listed where it was read from a slice that has none
 pub unedited-unlisted :
@@ -44,5 +49,6 @@ pub unedited-unlisted :
 unedited-unlisted format becomes edits table file before none =
     sym (ap (λ edits. before ++ adds table file (table_after format (seen_edits becomes edits) file))
     none
-    ∙ (ap (λ (new : Option (List ℕ)). before ++ with_new_table table new [])
-    (unedited-same format file) ∙ append-nil before))
+    ∙ (ap (λ (new : Option (List ℕ)). before ++ adds table file new) (unedited-stays format file)
+    ∙ (ap (λ (new : Option (List ℕ)). before ++ with_new_table table new []) (stays-unchanged file)
+    ∙ append-nil before)))

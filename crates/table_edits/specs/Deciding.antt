@@ -1,9 +1,16 @@
--- What a command has to decide by the script of its tool ("EXIT VALUES" of each page).
+-- What a command has to decide by the script of its tool, and what it has to do with tables that are
+-- carried from command to command ("EXIT VALUES" of each page).
+use Rattle.std.specs.Prelude.{◌≡◌, ⊤, Result, Ok, Err}
 use Rattle.acct_text.specs.declared.files.Files.{Files}
-use Rattle.account_model.specs.Action.{Action, outcome_of}
+use Rattle.account_model.specs.declared.refusal.Refusal.{Refusal}
+use Rattle.account_model.specs.Action.{Action, Made, outcome_of}
+use Rattle.account_model.specs.Batch.{Written, written_by}
 use Rattle.account_words.specs.declared.tool.Tool.{Tool}
 use Rattle.tool_answers.specs.Decisions.{Decides}
 use Rattle.tool_answers.specs.declared.decision.Decision.{Decision}
+use Rattle.tool_answers.specs.declared.decision.Output.{Output}
+use Rattle.tool_answers.specs.declared.tool_fault.ToolFault.{ToolFault}
+use Rattle.tool_answers.specs.declared.tool_fault.ToolFault.TheVariants.{Refused, Memory}
 use Rattle.table_edits.specs.Acting.{IsReportOf, IsScriptOf}
 use Rattle.table_edits.specs.declared.report.Report.{Report}
 use Rattle.table_edits.specs.declared.script.Script.{Script}
@@ -13,3 +20,36 @@ abbrev pub DecidesAs : Tool → Files → Script → Report → Decision → Typ
 DecidesAs tool files script report decision =
     (action : Action) → IsScriptOf action script → IsReportOf action report
     → Decides tool files (outcome_of action files) decision
+
+-- ---- Carried tables
+
+-- what is left and printed by a tool that isn't refused
+abbrev pub written_of : Tool → Result Made Refusal → Result Written Refusal
+written_of tool (Ok made) = Ok (written_by tool made)
+written_of tool (Err refusal) = Err refusal
+
+-- these files are left, and this is printed
+abbrev pub written_with : Files → Output → Written
+written_with files output = record {
+  files = files;
+  status = output.status;
+  output = output.out;
+  error = output.err;
+}
+
+-- by the outcome of its tool a command is carried out, or refuses and leaves the files as they were;
+-- want of memory may come anywhere
+abbrev pub IsCarriedOut :
+    Tool → Result Made Refusal → Files → Files → Result Output ToolFault → Type 0
+IsCarriedOut tool outcome old new (Ok output) =
+    written_of tool outcome ≡ Ok (written_with new output)
+IsCarriedOut tool outcome old new (Err (Refused refusal)) =
+    (outcome ≡ Err refusal) × (new ≡ old)
+IsCarriedOut tool outcome old new (Err Memory) = ⊤
+
+-- so is any action with this script and this report, of which no refusal is there
+abbrev pub CarriesAs :
+    Tool → Script → Report → Files → Files → Result Output ToolFault → Type 0
+CarriesAs tool script report old new result =
+    (action : Action) → IsScriptOf action script → IsReportOf action report
+    → IsCarriedOut tool (outcome_of action old) old new result

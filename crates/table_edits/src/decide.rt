@@ -35,8 +35,8 @@ pub fn decide_by(
     Ok(decision_by(changed, output))
 }
 
-// What a tool prints that doesn't refuse, with its status.
-fn output_of(alloc: Global, tool: Tool, report: Report) -> Result<Output, AllocError>
+/// What a tool prints that doesn't refuse, with its status.
+pub(crate) fn output_of(alloc: Global, tool: Tool, report: Report) -> Result<Output, AllocError>
     ensures { IfOk result (λ output. output ≡ record {
       status = report.status;
       out = report.out;

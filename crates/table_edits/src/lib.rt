@@ -4,10 +4,11 @@
 //! A tool looks up users and groups in the `Tables` for its refusals, and builds a `Script`:
 //! `group_edits`, `user_edits` and `new_groups` have the edits that several tools make. `decide_by`
 //! decides by it: it refuses where an edit touches one of several records of a name (`multiple`), and
-//! else carries it out table by table (`changed_tables`; `range_edits` has the edits of subuid and
-//! subgid).
+//! else makes the new bytes of each table (`changed_tables`; `range_edits` has the edits of subuid and
+//! subgid). `carry_out` makes the edits in tables that are carried from command to command.
 #![tactic(auto)]
 
+mod carry;
 mod changed_tables;
 mod decide;
 mod group_edits;
@@ -23,6 +24,7 @@ pub use account_words::Tool;
 pub use acct_lines::{
     GroupRecord, GshadowRecord, PasswdRecord, ShadowRecord, SubidRecord, TableRecord,
 };
+pub use carry::carry_out;
 pub use decide::decide_by;
 pub use range_edits::edited_ranges;
 pub use report::Report;

@@ -15,7 +15,7 @@ use account_model::Refusal;
 use acct_text::{Bytes, Files, Tab};
 use line_edits::{Edit, EditedRecord, first_multiple};
 use std::alloc::{AllocError, Global};
-use table_lookups::text_of;
+use table_lookups::{CarriedTables, text_of};
 
 /// The refusal of the first record that the script touches and whose name has several records in its
 /// table.
@@ -38,6 +38,31 @@ pub(crate) fn multiple_entries(
         return Ok(Some(Refusal::Multiple(Tab::Group, name)));
     }
     if let Some(name) = multiple_in(alloc, &files.gshadow, &script.gshadow)? {
+        return Ok(Some(Refusal::Multiple(Tab::Gshadow, name)));
+    }
+    Ok(None)
+}
+
+/// The same among carried tables.
+pub(crate) fn multiple_carried(
+    alloc: Global,
+    tables: &CarriedTables,
+    script: &Script,
+) -> Result<Option<Refusal>, AllocError>
+    requires { IsWrittenScript (seen_script script.now) }
+    ensures { IfOk result (λ refusal. refusal ≡
+        multiple_entries (seen_script script.now) tables.now) }
+{
+    if let Some(name) = tables.multiple_in_passwd(alloc, &script.passwd)? {
+        return Ok(Some(Refusal::Multiple(Tab::Passwd, name)));
+    }
+    if let Some(name) = tables.multiple_in_shadow(alloc, &script.shadow)? {
+        return Ok(Some(Refusal::Multiple(Tab::Shadow, name)));
+    }
+    if let Some(name) = tables.multiple_in_group(alloc, &script.group)? {
+        return Ok(Some(Refusal::Multiple(Tab::Group, name)));
+    }
+    if let Some(name) = tables.multiple_in_gshadow(alloc, &script.gshadow)? {
         return Ok(Some(Refusal::Multiple(Tab::Gshadow, name)));
     }
     Ok(None)
