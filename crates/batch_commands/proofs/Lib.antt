@@ -1,2 +1,1 @@
-pub mod ListedFiles
 pub mod LinesLemmas

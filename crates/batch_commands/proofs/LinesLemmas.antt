@@ -1,146 +1,73 @@
--- Claims: what a tool decides carries a line out, or tells why it refuses (`changed-carries`,
--- `same-carries`, `refused-carries`, and `no-line-refuses`); and a batch is what its lines so far have
--- written, with what the others make of it: at first (`none-written`), line by line (`line-written`), and
--- at the end (`all-written`), or up to a line that refuses (`line-refuses`).
-use Rattle.std.proofs.Common.{◌≡◌, ◌∙◌, ◌++◌, ℕ, List, [], ◌∷◌, ap, refl, subst, sym, append_assoc, append-nil}
-use Rattle.std.specs.Prelude.{Some, None, Result, Ok, Err, is_some, ⊤}
+-- Claims: what a line asks for is for lines (`requests-for-lines`), and is written behind the others where
+-- it is carried out (`carried-behind`); and a batch is what its lines so far have written, with what the others make of it: at first (`none-written`), line by line (`line-written`),
+-- and at the end (`all-done`), or up to a line that refuses (`line-refuses`).
+use Rattle.std.proofs.Common.{◌≡◌, ◌∙◌, ◌++◌, ℕ, List, [], ◌∷◌, true, ap, refl, subst, sym, append_assoc, append-nil}
+use Rattle.std.specs.Prelude.{Some, None, Result, Ok, Err}
+use Rattle.std.specs.List.{cons_option}
 use Rattle.acct_text.specs.declared.files.Files.{Files}
-use Rattle.acct_text.specs.declared.new_tables.NewTable.{NewTable}
-use Rattle.acct_text.specs.ChangedTables.{changed_tables}
-use Rattle.acct_text.specs.Files.{table_of}
 use Rattle.account_words.specs.declared.tool.Tool.{Tool}
-use Rattle.account_words.specs.BatchLines.{LineRequest}
+use Rattle.account_words.specs.declared.word_fault.WordFault.{WordFault}
+use Rattle.account_words.specs.declared.words_of.WordsOf.TheVariants.{Line as OfLine}
+use Rattle.account_words.specs.BatchLines.{BatchLine, LineRequest}
 use Rattle.account_words.specs.Request.{Request}
 use Rattle.account_words.specs.Settings.{Setting}
+use Rattle.account_words.specs.Words.{is_for_lines, request_as}
+use Rattle.account_words.proofs.AsksLaws.{read_is_asked}
 use Rattle.account_model.specs.declared.refusal.Refusal.{Refusal}
-use Rattle.account_model.specs.Action.{Action, Made, outcome_of}
+use Rattle.account_model.specs.Action.{Made, outcome_of}
 use Rattle.account_model.specs.Batch.{LineRefusal, Written, batch, before_others, nothing_on, with_rest, written_by}
 use Rattle.account_model.specs.Change.{action_of}
 use Rattle.account_model.specs.Messages.{messages}
-use Rattle.account_model.proofs.BatchLaws.{outcome-made}
-use Rattle.account_model.proofs.DeedLaws.{files-stand}
-use Rattle.tool_answers.specs.declared.decision.Decision.{Decision}
-use Rattle.tool_answers.specs.declared.decision.Decision.TheVariants.{Change, Same, Refuse, RefuseLine}
+use Rattle.option_words.specs.Batch.{requests_of}
 use Rattle.tool_answers.specs.declared.decision.Output.{Output}
-use Rattle.tool_answers.specs.Decisions.{decision_by, decision_of, made_output}
-use Rattle.batch_commands.specs.Deciding.{tool_decision}
-use Rattle.batch_commands.specs.Writing.{IsCarriedOut, StandWhere, with_files, with_listed, with_made, with_output}
-use Rattle.batch_commands.proofs.ListedFiles.{changed-listed}
+use Rattle.table_edits.specs.Deciding.{IsCarriedOut, written_with}
+use Rattle.batch_commands.specs.Writing.{IsWrittenBehind, with_made, with_output}
 
 -- ---- One line
 
-module _ (tool : Tool) (old : Written) where
-  -- what a tool makes of the files leaves each table where it stands
-  abbrev pub StandsAll : Result Made Refusal → Type 0
-  StandsAll (Err refusal) = ⊤
-  StandsAll (Ok made) = StandWhere old.files made.files
+-- what lines ask for is for lines
+pub requests-for-lines :
+    (lines : List BatchLine) (line : LineRequest) (rest : List LineRequest)
+    → requests_of lines ≡ line ∷ rest
+    → is_for_lines line.request.tool ≡ true
+requests-for-lines [] line rest is = absurd (cc is)
+requests-for-lines (first ∷ lines) line rest is =
+    by (requests-for-lines lines line rest) (request_as OfLine first.words) refl is
+  where
+    by :
+        (requests_of lines ≡ line ∷ rest → is_for_lines line.request.tool ≡ true)
+        → (read : Result Request WordFault)
+        → request_as OfLine first.words ≡ read
+        → cons_option (elim read [
+          | Ok request ↦ Some (record { number = first.number; request = request })
+          | Err fault ↦ None
+        ]) (requests_of lines)
+        ≡ line ∷ rest
+        → is_for_lines line.request.tool ≡ true
+    by others (Err fault) read is = others is
+    by others (Ok request) read is =
+        let asked : request ≡ line.request = cc in
+        subst (λ (one : Request). is_for_lines one.tool ≡ true) asked
+        (read_is_asked OfLine first.words request read).may_name
 
-  -- the tables that differ are put, and the output is printed
-  pub changed-carries :
-      (outcome : Result Made Refusal) (tables : List NewTable) (output : Output) (new : Written)
-      → StandsAll outcome
-      → Change tables output ≡ decision_of tool old.files outcome
-      → new ≡ with_files (with_listed tables old.files) (with_output output old)
-      → IsCarriedOut tool old new None outcome
-  changed-carries (Err refusal) tables output new stand decides is = absurd (cc decides)
-  changed-carries (Ok made) tables output new stand decides is =
-      by (changed_tables (table_of old.files) (table_of made.files)) refl decides
-    where
-      by : (differing : List NewTable)
-          → changed_tables (table_of old.files) (table_of made.files) ≡ differing
-          → Change tables output ≡ decision_by differing (made_output tool made)
-          → IsCarriedOut tool old new None (Ok made)
-      by [] are decides = absurd (cc decides)
-      by (first ∷ rest) are decides =
-          let same : tables ≡ first ∷ rest = cc in
-          let prints : output ≡ made_output tool made = cc in (
-            refl,
-            is
-                ∙ (ap (λ (files : Files). with_files files (with_output output old))
-                (ap (λ (news : List NewTable). with_listed news old.files) (same ∙ sym are)
-                ∙ changed-listed old.files made.files stand)
-                ∙ ap (λ (output : Output). with_files made.files (with_output output old)) prints),
-          )
-
-  -- no table differs, and the output is printed
-  pub same-carries :
-      (outcome : Result Made Refusal) (output : Output) (new : Written)
-      → StandsAll outcome
-      → Same output ≡ decision_of tool old.files outcome
-      → new ≡ with_output output old
-      → IsCarriedOut tool old new None outcome
-  same-carries (Err refusal) output new stand decides is = absurd (cc decides)
-  same-carries (Ok made) output new stand decides is =
-      by (changed_tables (table_of old.files) (table_of made.files)) refl decides
-    where
-      by : (differing : List NewTable)
-          → changed_tables (table_of old.files) (table_of made.files) ≡ differing
-          → Same output ≡ decision_by differing (made_output tool made)
-          → IsCarriedOut tool old new None (Ok made)
-      by (first ∷ rest) are decides = absurd (cc decides)
-      by [] none decides =
-          let prints : output ≡ made_output tool made = cc in
-          let stays : old.files ≡ made.files =
-          sym (ap (λ (news : List NewTable). with_listed news old.files) none)
-          ∙ changed-listed old.files made.files stand in (
-            refl,
-            is
-                ∙ (ap (λ (output : Output). with_output output old) prints
-                ∙ ap (λ (files : Files). with_files files
-                (with_output (made_output tool made) old)) stays),
-          )
-
-  -- the tool refuses
-  pub refused-carries :
-      (outcome : Result Made Refusal) (refusal : Refusal) (output : Output) (new : Written)
-      → Refuse refusal output ≡ decision_of tool old.files outcome
-      → IsCarriedOut tool old new (Some refusal) outcome
-  refused-carries (Err found) refusal output new decides = cc
-  refused-carries (Ok made) refusal output new decides =
-      absurd (by (changed_tables (table_of old.files) (table_of made.files)) decides)
-    where
-      by : (differing : List NewTable)
-          → Refuse refusal output ≡ decision_by differing (made_output tool made) → ⊥
-      by [] decides = absurd (cc decides)
-      by (first ∷ rest) decides = absurd (cc decides)
-
-  -- no tool refuses by a line
-  pub no-line-refuses :
-      (outcome : Result Made Refusal) (number : ℕ) (refusal : Refusal) (output : Output)
-      → RefuseLine number refusal output ≡ decision_of tool old.files outcome
-      → ⊥
-  no-line-refuses (Err found) number refusal output decides = absurd (cc decides)
-  no-line-refuses (Ok made) number refusal output decides =
-      by (changed_tables (table_of old.files) (table_of made.files)) decides
-    where
-      by : (differing : List NewTable)
-          → RefuseLine number refusal output ≡ decision_by differing (made_output tool made) → ⊥
-      by [] decides = absurd (cc decides)
-      by (first ∷ rest) decides = absurd (cc decides)
-
--- what a tool makes leaves each table where it stood
-pub tool-stands :
-    (tool : Tool) (action : Action) (old : Written) (outcome : Result Made Refusal)
-    → outcome_of action old.files ≡ outcome
-    → StandsAll tool old outcome
-tool-stands tool action old (Err refusal) is = tt
-tool-stands tool action old (Ok made) is = λ table.
-    subst (λ (one : Made). is_some (table_of one.files table) ≡ is_some (table_of old.files table))
-    (outcome-made action old.files made is).makes (files-stand action.script old.files table)
-
--- what is decided for a request that is this one, without input, on files that are these
-pub decided-for :
-    (request asked : Request) (input : List ℕ) (day : ℕ) (seen files : Files)
-    (settings : List Setting) (decision : Decision)
-    → request ≡ asked
-    → input ≡ []
-    → seen ≡ files
-    → decision ≡ tool_decision request input day seen settings
-    → decision ≡ tool_decision asked [] day files settings
-decided-for request asked input day seen files settings decision same none at is =
-    subst (λ (one : Request). decision ≡ tool_decision one [] day files settings) same
-    (subst (λ (one : List ℕ). decision ≡ tool_decision request one day files settings) none
-    (subst (λ (one : Files). decision ≡ tool_decision request input day one settings) at is))
+-- what a line leaves and prints that is carried out is written behind the others
+pub carried-behind :
+    (tool : Tool) (outcome : Result Made Refusal) (files : Files) (output : Output)
+    (old new : Written)
+    → IsCarriedOut tool outcome old.files files (Ok output)
+    → new ≡ with_output output (record old { files = files })
+    → IsWrittenBehind tool old new None outcome
+carried-behind tool (Err refusal) files output old new carried is = absurd (cc carried)
+carried-behind tool (Ok made) files output old new carried is =
+    let same : written_with files output ≡ written_by tool made = cc in (
+      refl,
+      is
+          ∙ ap (λ (one : Written). record old {
+            files = one.files;
+            output = old.output ++ one.output;
+            error = old.error ++ one.error;
+          }) same,
+    )
 
 -- ---- The lines of a batch
 
@@ -187,7 +114,7 @@ module _ (day : ℕ) (settings : List Setting) where
     pub line-written :
         (new : Written) (outcome : Result Made Refusal)
         → outcome_on line old.files ≡ outcome
-        → IsCarriedOut line.request.tool old new None outcome
+        → IsWrittenBehind line.request.tool old new None outcome
         → with_left (line ∷ rest) old ≡ with_left rest new
     line-written new (Err refusal) is carried = absurd (cc carried)
     line-written new (Ok made) is carried =
@@ -199,7 +126,7 @@ module _ (day : ℕ) (settings : List Setting) where
     pub line-refuses :
         (new : Written) (refusal : Refusal) (outcome : Result Made Refusal)
         → outcome_on line old.files ≡ outcome
-        → IsCarriedOut line.request.tool old new (Some refusal) outcome
+        → IsWrittenBehind line.request.tool old new (Some refusal) outcome
         → with_left (line ∷ rest) old
         ≡ Err (record { number = line.number; tool = line.request.tool; refusal = refusal })
     line-refuses new refusal (Ok made) is carried = absurd (cc carried.0)

@@ -1,24 +1,14 @@
 -- What one line of a batch adds to what those before it have written.
-use Rattle.std.specs.Prelude.{◌≡◌, List, [], ◌∷◌, ◌++◌, Option, Some, None, Result, Ok, Err, is_some}
+use Rattle.std.specs.Prelude.{◌≡◌, ◌++◌, Option, Some, None, Result, Ok, Err, is_some}
 use Rattle.acct_text.specs.declared.Tab.{Tab}
 use Rattle.acct_text.specs.declared.files.Files.{Files}
-use Rattle.acct_text.specs.declared.new_tables.NewTable.{NewTable}
-use Rattle.acct_text.specs.Files.{table_of, with_table}
+use Rattle.acct_text.specs.Files.{table_of}
 use Rattle.account_words.specs.declared.tool.Tool.{Tool}
 use Rattle.account_model.specs.declared.refusal.Refusal.{Refusal}
 use Rattle.account_model.specs.Action.{Made}
 use Rattle.account_model.specs.Batch.{Written}
 use Rattle.tool_answers.specs.Decisions.{made_output}
 use Rattle.tool_answers.specs.declared.decision.Output.{Output}
-
--- the files with the bytes of the tables that are listed
-abbrev pub with_listed : List NewTable → Files → Files
-with_listed [] files = files
-with_listed (new ∷ news) files = with_table new.table (Some new.bytes) (with_listed news files)
-
--- the same is printed, and the files are these
-abbrev pub with_files : Files → Written → Written
-with_files files written = record written { files = files }
 
 -- this is printed behind it, and the files are the same
 abbrev pub with_output : Output → Written → Written
@@ -30,7 +20,7 @@ with_output output written = record written {
 -- what is written where a tool makes this behind it
 abbrev pub with_made : Tool → Made → Written → Written
 with_made tool made written =
-    with_files made.files (with_output (made_output tool made) written)
+    record (with_output (made_output tool made) written) { files = made.files }
 
 -- each table stands in the new files where it stood in the first
 abbrev pub StandWhere : Files → Files → Type 0
@@ -38,6 +28,6 @@ StandWhere first last =
     (table : Tab) → is_some (table_of last table) ≡ is_some (table_of first table)
 
 -- by the outcome of its tool a line refuses, or is written behind the others
-abbrev pub IsCarriedOut : Tool → Written → Written → Option Refusal → Result Made Refusal → Type 0
-IsCarriedOut tool old new refusal (Err found) = refusal ≡ Some found
-IsCarriedOut tool old new refusal (Ok made) = (refusal ≡ None) × (new ≡ with_made tool made old)
+abbrev pub IsWrittenBehind : Tool → Written → Written → Option Refusal → Result Made Refusal → Type 0
+IsWrittenBehind tool old new refusal (Err found) = refusal ≡ Some found
+IsWrittenBehind tool old new refusal (Ok made) = (refusal ≡ None) × (new ≡ with_made tool made old)

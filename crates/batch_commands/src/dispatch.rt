@@ -38,7 +38,7 @@ pub fn decide(
 }
 
 /// What a command decides that is no batch.
-pub(crate) fn decide_tool(
+fn decide_tool(
     alloc: Global,
     parsed: &Parsed,
     input: &Bytes,

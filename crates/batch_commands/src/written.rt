@@ -1,25 +1,35 @@
 // What the lines of a batch have written so far.
-ghost use Rattle.std.specs.Prelude.{◌≡◌, ◌++◌, [], is_some, IfOk, OnOk};
+ghost use Rattle.std.specs.Prelude.{◌≡◌, ◌≤◌, ◌++◌, [], List, is_some, true, IfOk, OnOk};
 ghost use Rattle.acct_text.specs.ChangedTables.{changed_bytes, changed_tables, with_new_table};
 ghost use Rattle.acct_text.specs.Files.{table_of};
+ghost use Rattle.acct_text.specs.Limits.{last_day};
 ghost use Rattle.acct_text.specs.declared.Tab.{Tab as Table};
+ghost use Rattle.account_model.specs.Action.{outcome_of};
 ghost use Rattle.account_model.specs.Batch.{nothing_on};
+ghost use Rattle.account_model.specs.Change.{action_of};
+ghost use Rattle.account_words.specs.Settings.{Setting};
+ghost use Rattle.account_words.specs.Words.{is_for_lines};
+ghost use Rattle.login_defs.specs.Held.{HasSettings, IsHeld};
+ghost use Rattle.option_words.specs.Parsed.{request_in};
 ghost use Rattle.tool_answers.specs.Decisions.{decision_by};
-ghost use Rattle.batch_commands.specs.Writing.{StandWhere, with_files, with_listed, with_output};
+ghost use Rattle.batch_commands.specs.Writing.{IsWrittenBehind, StandWhere, with_output};
 
+use account_model::Refusal;
 use acct_text::{Bytes, Files, NewTables, Tab};
+use login_defs::Defs;
+use option_words::Parsed;
 use std::alloc::{AllocError, Global};
 use std::marker::Model;
-use tool_answers::{Decision, Output, decision_by};
+use table_lookups::CarriedTables;
+use tool_answers::{Decision, Output, ToolFault, decision_by};
 
 // The status of a batch whose lines are all carried out, whatever theirs are.
 const CARRIED_OUT: u8 = 0;
 
-/// The files that the lines so far leave, and what these lines print. A table is copied once, before
-/// the first line.
+/// The tables that the lines so far leave, carried from line to line, and what these lines print.
 #[derive(Drop)]
 pub(crate) struct Written {
-    files: Files,
+    tables: CarriedTables,
     out: Bytes,
     err: Bytes,
 }
@@ -30,7 +40,7 @@ impl Model for Written {
     ghost Value = { Left };
 
     ghost view = { λ written. record {
-      files = written.files;
+      files = written.tables;
       status = 0;
       output = written.out;
       error = written.err;
@@ -43,31 +53,43 @@ impl Written {
         ensures { IfOk result (λ written. written ≡ nothing_on files.now) }
     {
         Ok(Written {
-            files: files.copy(alloc)?,
+            tables: CarriedTables::of(alloc, files)?,
             out: Bytes::new(alloc),
             err: Bytes::new(alloc),
         })
     }
 
-    /// The files as they are now.
-    pub(crate) fn files(&self) -> &Files
-        ensures { result.now ≡ self.now.files }
+    /// Carries out what a line asks for behind those that have written this, or tells why its tool
+    /// refuses.
+    ///
+    /// Where it refuses all stays as it was written; at `AllocError` a part of the line may be written.
+    pub(crate) fn carry_out(
+        &mut self,
+        alloc: Global,
+        line: &Parsed,
+        defs: &Defs,
+        day: u32,
+    ) -> Result<Option<Refusal>, AllocError>
+        requires held { IsHeld defs.now }
+        requires in_time { day ≤ last_day }
+        requires for_lines { is_for_lines line.now.tool ≡ true }
+        ensures { IfOk result (λ refusal. (settings : List Setting) → HasSettings defs.now settings
+            → IsWrittenBehind line.now.tool self.old self.new refusal
+            (outcome_of (action_of (request_in line.now) [] day self.old.files settings)
+            self.old.files)) }
     {
-        &self.files
-    }
-
-    /// Puts these bytes in the places of the tables', without a copy.
-    pub(crate) fn put(&mut self, tables: NewTables)
-        ensures { self.new ≡ with_files (with_listed tables self.old.files) self.old }
-    {
-        let mut tables = tables.into_vec();
-        'tables: while let Some(new) = tables.pop() {
-            self.files.put(new.table, Some(new.bytes));
+        match suite_tools::carry_out(alloc, line, &mut self.tables, defs, day) {
+            Ok(output) => {
+                self.print(&output)?;
+                Ok(None)
+            }
+            Err(ToolFault::Refused(refusal)) => Ok(Some(refusal)),
+            Err(ToolFault::Memory) => Err(AllocError),
         }
     }
 
     /// Prints what a line prints, behind the others. At `AllocError` a part of it may be there.
-    pub(crate) fn print(&mut self, output: &Output) -> Result<(), AllocError>
+    fn print(&mut self, output: &Output) -> Result<(), AllocError>
         ensures { OnOk result (self.new ≡ with_output output.now self.old) }
     {
         self.out.push(output.out.as_slice())?;
@@ -75,19 +97,20 @@ impl Written {
     }
 
     /// What is decided where no line follows: the tables that differ from the first files get their
-    /// bytes, which are moved.
+    /// bytes.
     pub(crate) fn into_decision(self, alloc: Global, first: &Files) -> Result<Decision, AllocError>
         requires { StandWhere first.now self.files }
         ensures { IfOk result (λ decision. decision ≡ decision_by
             (changed_tables (table_of first.now) (table_of self.files))
             (record { status = 0; out = self.output; err = self.error })) }
     {
+        let tables = differing(alloc, first, self.tables.files()?)?;
         let output = Output {
             status: CARRIED_OUT,
             out: self.out,
             err: self.err,
         };
-        Ok(decision_by(differing(alloc, first, self.files)?, output))
+        Ok(decision_by(tables, output))
     }
 }
 

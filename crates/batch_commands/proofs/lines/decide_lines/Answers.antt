@@ -1,44 +1,54 @@
 -- A line is written before the others, or refuses them; behind the last the batch is what is written.
-use Rattle.std.proofs.Common.{◌∙◌, Err, List, Option, ap, refl, subst, sym}
+use Rattle.std.proofs.Common.{◌≡◌, ◌∙◌, Err, List, Option, true, ap, refl, subst, sym}
 use Rattle.std.proofs.lemmas.Result.{IfOk-weaker}
 use Rattle.account_words.specs.BatchLines.{LineRequest, line_requests}
+use Rattle.account_words.specs.Words.{is_for_lines}
 use Rattle.account_model.specs.declared.refusal.Refusal.{Refusal}
 use Rattle.account_model.specs.Batch.{batch}
 use Rattle.account_model.proofs.DeedLaws.{batch-stands}
 use Rattle.option_words.specs.Batch.{requests_of}
 use Rattle.tool_answers.specs.Decisions.{decision_of_lines}
-use Rattle.batch_commands.specs.Writing.{IsCarriedOut}
-use Rattle.batch_commands.proofs.LinesLemmas.{all-done, line-refuses, line-written, outcome_on, with_left}
+use Rattle.batch_commands.specs.Writing.{IsWrittenBehind}
+use Rattle.batch_commands.proofs.LinesLemmas.{all-done, line-refuses, line-written, outcome_on, requests-for-lines, with_left}
 use Rattle.batch_commands.proofs.lines.decide_lines.Goals as goal
+
+pub carry_out-requires-clause-for_lines : goal.carry_out-requires-clause-for_lines
+carry_out-requires-clause-for_lines c =
+    subst (λ (one : LineRequest). is_for_lines one.request.tool ≡ true) (sym c.line.view_is)
+    (requests-for-lines c.lines.lines c.in-Some.line (requests_of c.next_request.new.self)
+    (rw c.in-Some.is at c.in_ok-line.ensures))
 
 pub lines-preserved : goal.lines-preserved
 lines-preserved c = λ settings holds.
     let day = c.args.day in
     let old = c.lines.written in
-    let new = c.carry_out.new.written in
+    let new = c.carry_out.new.self in
     let rest = requests_of c.next_request.new.self in
     let line = c.in-Some.line in
-    let outcome = outcome_on day settings line old.files in
     let first = rw c.in-Some.is at c.in_ok-line.ensures in
-    let carried = subst (λ (one : Option Refusal).
-    IsCarriedOut line.request.tool old new one outcome) c.in_default-2.is
-    (c.in_ok-refusal.ensures settings holds) in
+    let behind = λ (refusal : Option Refusal) (one : LineRequest).
+    IsWrittenBehind one.request.tool old new refusal (outcome_on day settings one old.files) in
+    let written = subst (λ (refusal : Option Refusal). behind refusal line) c.in_default-2.is
+    (subst (behind c.in_ok-refusal.field-0) c.line.view_is
+    (c.in_ok-refusal.ensures settings holds)) in
     sym (ap (λ (lines : List LineRequest). with_left day settings lines old) first
-    ∙ line-written day settings line rest old new outcome refl carried)
+    ∙ line-written day settings line rest old new (outcome_on day settings line old.files) refl
+    written)
     ∙ c.lines.invariant settings holds
 
 pub returns-in-Some-2 : goal.returns-in-Some-2
 returns-in-Some-2 c = IfOk-weaker c.refuse_line.result _ _ (λ decision is settings holds.
     let day = c.args.day in
     let old = c.lines.written in
-    let new = c.carry_out.new.written in
+    let new = c.carry_out.new.self in
     let rest = requests_of c.next_request.new.self in
     let line = c.in-Some.line in
-    let outcome = outcome_on day settings line old.files in
     let first = rw c.in-Some.is at c.in_ok-line.ensures in
-    let carried = subst (λ (one : Option Refusal).
-    IsCarriedOut line.request.tool old new one outcome) c.in-Some-2.is
-    (c.in_ok-refusal.ensures settings holds) in
+    let behind = λ (refusal : Option Refusal) (one : LineRequest).
+    IsWrittenBehind one.request.tool old new refusal (outcome_on day settings one old.files) in
+    let refused = subst (λ (refusal : Option Refusal). behind refusal line) c.in-Some-2.is
+    (subst (behind c.in_ok-refusal.field-0) c.line.view_is
+    (c.in_ok-refusal.ensures settings holds)) in
     is
     ∙ (ap (λ (one : LineRequest). decision_of_lines c.args.files.now (Err (record {
       number = one.number;
@@ -48,7 +58,8 @@ returns-in-Some-2 c = IfOk-weaker c.refuse_line.result _ _ (λ decision is setti
     ∙ ap (decision_of_lines c.args.files.now)
     (sym (sym (c.lines.invariant settings holds)
     ∙ (ap (λ (lines : List LineRequest). with_left day settings lines old) first
-    ∙ line-refuses day settings line rest old new c.in-Some-2.refusal outcome refl carried)))))
+    ∙ line-refuses day settings line rest old new c.in-Some-2.refusal
+    (outcome_on day settings line old.files) refl refused)))))
     c.refuse_line.ensures
 
 pub into_decision-requires : goal.into_decision-requires
