@@ -1,3 +1,4 @@
 pub mod ActingLemmas
+pub mod LeftLemmas
 pub mod ListedFile
 pub mod RemovalLemmas

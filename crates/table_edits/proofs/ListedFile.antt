@@ -40,15 +40,23 @@ stays-unchanged None = refl
 stays-unchanged (Some text) =
     ap (λ (is_same : Bool). if is_same then None else Some text) (bytes-self text)
 
--- so it isn't listed where it was read from a slice that has none
+-- so it isn't listed
+pub stays-unlisted :
+    (table : Tab) (file new : Option (List ℕ)) (before : List NewTable)
+    → new ≡ file
+    → before ≡ before ++ adds table file new
+stays-unlisted table file new before same =
+    sym (ap (λ (new : Option (List ℕ)). before ++ adds table file new) same
+    ∙ (ap (λ (new : Option (List ℕ)). before ++ with_new_table table new []) (stays-unchanged file)
+    ∙ append-nil before))
+
+-- nor is one without edits, where they were read from a slice that has none
 pub unedited-unlisted :
     {R C : Type 0} (format : Format R) (becomes : C → R → List R) (edits : List (Edit R C))
     (table : Tab) (file : Option (List ℕ)) (before : List NewTable)
     → edits ≡ []
     → before ≡ before ++ adds table file (table_after format (seen_edits becomes edits) file)
 unedited-unlisted format becomes edits table file before none =
-    sym (ap (λ edits. before ++ adds table file (table_after format (seen_edits becomes edits) file))
-    none
-    ∙ (ap (λ (new : Option (List ℕ)). before ++ adds table file new) (unedited-stays format file)
-    ∙ (ap (λ (new : Option (List ℕ)). before ++ with_new_table table new []) (stays-unchanged file)
-    ∙ append-nil before)))
+    stays-unlisted table file (table_after format (seen_edits becomes edits) file) before
+    (ap (λ edits. table_after format (seen_edits becomes edits) file) none
+    ∙ unedited-stays format file)

@@ -1,3 +1,4 @@
+pub mod LeftRanges
 pub mod RangeRemovals
 pub mod SeenScript
 pub mod Acting

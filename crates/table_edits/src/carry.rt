@@ -13,6 +13,7 @@ ghost use Rattle.table_edits.specs.Deciding.{CarriesAs};
 ghost use Rattle.table_edits.specs.SeenScript.{seen_script};
 
 use crate::decide::output_of;
+use crate::left_ranges::leave_all;
 use crate::multiple::multiple_carried;
 use crate::{Report, Script, SubidRecord, edited_ranges};
 use account_words::Tool;
@@ -64,7 +65,7 @@ fn edit_tables(alloc: Global, tables: &mut CarriedTables, script: &Script) -> Re
 }
 
 /// The bytes that edits give to a file of subordinate IDs; none where they leave it as it is: where it
-/// is absent, or there are no edits.
+/// is absent, or they leave all ranges.
 fn edited_file(
     alloc: Global,
     file: &Option<Bytes>,
@@ -75,7 +76,7 @@ fn edited_file(
         ≡ table_after subid_format (seen_edits subid_becomes edits.now) file.now) }
 {
     let Some(text) = file else { return Ok(None) };
-    if edits.is_empty() {
+    if leave_all(edits) {
         return Ok(None);
     }
     Ok(Some(edited_ranges(alloc, text.as_slice(), edits)?))

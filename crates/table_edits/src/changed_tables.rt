@@ -12,6 +12,7 @@ ghost use Rattle.line_edits.specs.SeenEdits.{seen_edits};
 ghost use Rattle.table_edits.specs.SeenScript.{seen_script};
 ghost use Rattle.line_edits.specs.SubidChanges.{subid_becomes};
 
+use crate::left_ranges::leave_all;
 use crate::{Script, SubidRecord, edited_ranges};
 use acct_text::{Bytes, Files, NewTables, Tab};
 use line_edits::{Edit, EditedRecord, SubidChange, edited_text};
@@ -100,7 +101,7 @@ fn push_ranges(
         (table_after subid_format (seen_edits subid_becomes edits.now) file.now)) []) }
 {
     let Some(text) = file else { return Ok(()) };
-    if edits.is_empty() {
+    if leave_all(edits) {
         return Ok(());
     }
     let new = edited_ranges(alloc, text.as_slice(), edits)?;

@@ -12,6 +12,7 @@ mod carry;
 mod changed_tables;
 mod decide;
 mod group_edits;
+mod left_ranges;
 mod multiple;
 mod new_groups;
 mod range_edits;

@@ -1,0 +1,53 @@
+-- Claim: an owner that gets the name which it has leaves all lines (`renamed-same`); so do edits of which
+-- each does (`rest-left`), and a file after them is what it was (`left-file`).
+use Rattle.std.proofs.Common.{◌≡◌, ◌∙◌, ℕ, Bool, true, false, List, [], ◌∷◌, ◌++◌, Option, Some, None, refl, sym, ap, if◌then◌else◌}
+use Rattle.std.specs.Prelude.{bytes_eq, flat_map}
+use Rattle.std.proofs.lemmas.Slice.Eq.{bytes_eq-Decides}
+use Rattle.acct_text.specs.Lines.{Line, file_bytes, lines_of}
+use Rattle.acct_text.proofs.LinesLaws.{lines_of-are}
+use Rattle.account_formats.specs.declared.records.SubidRecord.{SubidRecord}
+use Rattle.account_formats.specs.Edits.{Edit, becomes, edited, edited_by}
+use Rattle.account_formats.specs.Edits.Edit.{Become}
+use Rattle.account_formats.specs.Records.{subid_format}
+use Rattle.account_formats.specs.Tables.{table_after}
+use Rattle.account_formats.proofs.SameLaws.{subid-tells}
+use Rattle.line_edits.specs.SubidChanges.{subid_becomes}
+use Rattle.line_edits.specs.declared.subid_changes.SubidChange.TheVariants.{Rename}
+use Rattle.line_edits.proofs.ChangedLines.{left-line}
+use Rattle.table_edits.specs.LeftRanges.{LeaveLines}
+
+-- a range whose owner gets its own name stays
+same-owner :
+    (old new : List ℕ) (r : SubidRecord) (named : Bool)
+    → bytes_eq r.owner old ≡ named
+    → old ≡ new
+    → (if named then record r { owner = new } else r) ≡ r
+same-owner old new r true is same =
+    ap (λ owner. record r { owner = owner }) (sym ((bytes_eq-Decides r.owner old).0 is ∙ same))
+same-owner old new r false is same = refl
+
+-- so all lines stay
+pub renamed-same :
+    (old new : List ℕ) → old ≡ new → LeaveLines (Become (subid_becomes (Rename old new)) ∷ [])
+renamed-same old new same [] = refl
+renamed-same old new same (line ∷ lines) =
+    ap (λ front. front ++ flat_map (becomes subid_format (subid_becomes (Rename old new))) lines)
+    (left-line subid_format (subid_becomes (Rename old new)) line subid-tells
+    (λ r read. ap (λ now. now ∷ []) (same-owner old new r (bytes_eq r.owner old) refl same)))
+    ∙ ap (λ rest. line ∷ rest) (renamed-same old new same lines)
+
+-- the edits behind one that leaves all lines make of them what all make
+pub rest-left :
+    (edit : Edit SubidRecord) (rest : List (Edit SubidRecord)) (lines : List Line)
+    → LeaveLines (edit ∷ [])
+    → edited_by subid_format rest lines ≡ edited_by subid_format (edit ∷ rest) lines
+rest-left edit rest lines left = ap (edited_by subid_format rest) (sym (left lines))
+
+-- a file after edits that leave all lines
+pub left-file :
+    (edits : List (Edit SubidRecord)) (file : Option (List ℕ))
+    → LeaveLines edits
+    → table_after subid_format edits file ≡ file
+left-file edits None left = refl
+left-file edits (Some text) left =
+    ap (λ lines. Some (file_bytes lines)) (left (lines_of text)) ∙ ap Some (lines_of-are text).joined

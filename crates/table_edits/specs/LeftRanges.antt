@@ -1,0 +1,10 @@
+-- Edits of subuid and subgid that leave all ranges as they are (subuid(5), subgid(5)).
+use Rattle.std.specs.Prelude.{◌≡◌, List}
+use Rattle.acct_text.specs.Lines.{Line}
+use Rattle.account_formats.specs.declared.records.SubidRecord.{SubidRecord}
+use Rattle.account_formats.specs.Edits.{Edit, edited_by}
+use Rattle.account_formats.specs.Records.{subid_format}
+
+-- whatever the lines are, the edits leave them
+abbrev pub LeaveLines : List (Edit SubidRecord) → Type 0
+LeaveLines edits = (lines : List Line) → edited_by subid_format edits lines ≡ lines
