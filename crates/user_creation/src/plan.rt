@@ -40,8 +40,20 @@ pub(crate) fn plan_of(
         own_group: makes_group(asked, settings),
         uid,
         gid: primary_gid(alloc, asked, tables, settings, uid)?,
-        subuid: allotment_of(alloc, asked, tables.subuid_file(), uid, uid_bounds(settings))?,
-        subgid: allotment_of(alloc, asked, tables.subgid_file(), uid, gid_bounds(settings))?,
+        subuid: allotment_of(
+            alloc,
+            asked,
+            tables.subuid_file(),
+            uid,
+            uid_bounds(settings),
+        )?,
+        subgid: allotment_of(
+            alloc,
+            asked,
+            tables.subgid_file(),
+            uid,
+            gid_bounds(settings),
+        )?,
     })
 }
 
@@ -106,7 +118,10 @@ fn own_gid(
     }
     let used = tables.used_gids(alloc)?;
     let kind = asked.kind();
-    Ok(used.ids().choose(settings.range(IdSort::Gid, kind), kind, Some(uid)))
+    Ok(
+        used.ids()
+            .choose(settings.range(IdSort::Gid, kind), kind, Some(uid)),
+    )
 }
 
 // The GID of `-g`, and else the default.
