@@ -8,7 +8,7 @@ use Rattle.acct_outside.specs.declared.Name.TheVariants.{Table, Backup, Staged, 
 use Rattle.acct_outside.specs.declared.Created.TheVariants.{Done}
 use Rattle.acct_outside.specs.Tokens.{free_text}
 use Rattle.acct_outside.specs.Folder.{tables}
-use Rattle.acct_outside.specs.Calls.{Call, Answer, begins, lists, reads, creates, writes, appends, renames, removes, answers, done, found_absent, found_bytes}
+use Rattle.acct_outside.specs.Calls.{Call, Answer, begins, lists, reads, creates, writes, appends, renames, removes, answers, found_absent, found_bytes}
 use Rattle.acct_outside.specs.History.{Event, History, after}
 use Rattle.suite_rules.specs.Knowledge.{Seen}
 use Rattle.suite_rules.specs.Listing.{new_listing}
@@ -17,12 +17,12 @@ use Rattle.suite_rules.specs.Rules.{CommitRule, HasSeen, moves_backup, answers_c
 use Rattle.suite_rules.specs.Lawful.{Lawful, starts, goes_on}
 use Rattle.suite_rules.specs.Settled.{settled}
 use Rattle.suite_rules.specs.Committed.{committed, folded}
-use Rattle.suite_rules.proofs.Staff.{first, is-folder, staff_line, staff_files, staff_deeds, groupadd_staff, m1, is-token-m1, seen_of, install-lawful, clear-lawful}
-use Rattle.suite_rules.proofs.RowSteps.{list-lawful, read-lawful, write-lawful, append-lawful, free-lawful, begin-lawful, create-lawful}
+use Rattle.suite_rules.proofs.Staff.{first, is-folder, staff_line, staff_files, staff_deeds, groupadd_staff, m1, is-token-m1, seen_of, carry-lawful}
+use Rattle.suite_rules.proofs.RowSteps.{by, start-lawful, take-lawful, reads-lawful, write-lawful, append-lawful, free-lawful}
 
 -- a call of the session that was done
 abbrev own : (call : Call) → Answer call → Event
-own call answer = record { token = m1; call = call; result = done answer }
+own = by m1
 
 -- nothing has happened
 abbrev nothing_happened : History
@@ -213,94 +213,34 @@ staff-commit = record {
 
 -- The history is lawful.
 
--- nothing has happened: lawful
-pub nothing_happened-lawful : Lawful staff_deeds first nothing_happened
-nothing_happened-lawful = starts is-folder
-
--- the session begins: lawful
-pub begun-lawful : Lawful staff_deeds first begun
-begun-lawful =
-    begin-lawful staff_deeds first m1 nothing_happened nothing_happened-lawful refl groupadd_staff
-    is-token-m1
-
--- it lists no lock: lawful
-pub listed-lawful : Lawful staff_deeds first listed
+-- the session begins, and lists no lock: lawful
+listed-lawful : Lawful staff_deeds first listed
 listed-lawful =
-    list-lawful staff_deeds first m1 begun begun-lawful refl [] refl
+    start-lawful staff_deeds first m1 nothing_happened (starts is-folder) refl groupadd_staff
+    is-token-m1 [] refl
 
--- it creates lock 1: lawful
-pub created-lawful : Lawful staff_deeds first created
-created-lawful =
-    create-lawful staff_deeds first m1 listed listed-lawful refl 1 (record {
-      listing = new_listing false [];
-      listed = refl;
-      first = refl;
-      one_above = refl;
-      judged = refl;
-      not_exhausted = lit≤ tt;
-    }) refl
-
--- it lists its lock as the greatest, and is keeper: lawful
-pub became_keeper-lawful : Lawful staff_deeds first became_keeper
+-- it creates lock 1, and is keeper: lawful
+became_keeper-lawful : Lawful staff_deeds first became_keeper
 became_keeper-lawful =
-    list-lawful staff_deeds first m1 created created-lawful refl (1 ∷ []) refl
+    take-lawful staff_deeds first m1 listed listed-lawful refl
+    (new_listing false []) refl refl refl (lit≤ tt) refl (1 ∷ []) refl
 
--- it finds no intent: lawful
-pub found_no_intent-lawful : Lawful staff_deeds first found_no_intent
-found_no_intent-lawful =
-    read-lawful staff_deeds first m1 became_keeper became_keeper-lawful refl
-    Intent found_absent refl
-
--- it reads passwd, which is empty: lawful
-pub read_passwd-lawful : Lawful staff_deeds first read_passwd
-read_passwd-lawful =
-    read-lawful staff_deeds first m1 found_no_intent found_no_intent-lawful refl
-    (Table Passwd) (found_bytes []) refl
-
--- it finds no shadow: lawful
-pub read_shadow-lawful : Lawful staff_deeds first read_shadow
-read_shadow-lawful =
-    read-lawful staff_deeds first m1 read_passwd read_passwd-lawful refl
-    (Table Shadow) found_absent refl
-
--- it reads group, which is empty: lawful
-pub read_group-lawful : Lawful staff_deeds first read_group
-read_group-lawful =
-    read-lawful staff_deeds first m1 read_shadow read_shadow-lawful refl
-    (Table Group) (found_bytes []) refl
-
--- it finds no gshadow: lawful
-pub read_gshadow-lawful : Lawful staff_deeds first read_gshadow
-read_gshadow-lawful =
-    read-lawful staff_deeds first m1 read_group read_group-lawful refl
-    (Table Gshadow) found_absent refl
-
--- it finds no subuid: lawful
-pub read_subuid-lawful : Lawful staff_deeds first read_subuid
-read_subuid-lawful =
-    read-lawful staff_deeds first m1 read_gshadow read_gshadow-lawful refl
-    (Table Subuid) found_absent refl
-
--- it finds no subgid: lawful
-pub read_subgid-lawful : Lawful staff_deeds first read_subgid
-read_subgid-lawful =
-    read-lawful staff_deeds first m1 read_subuid read_subuid-lawful refl
-    (Table Subgid) found_absent refl
-
--- it finds no login.defs: lawful
-pub read_settings-lawful : Lawful staff_deeds first read_settings
+-- it reads the intent, the six tables and login.defs: lawful
+read_settings-lawful : Lawful staff_deeds first read_settings
 read_settings-lawful =
-    read-lawful staff_deeds first m1 read_subgid read_subgid-lawful refl Defs found_absent refl
+    reads-lawful staff_deeds first m1
+    (Intent ∷ Table Passwd ∷ Table Shadow ∷ Table Group ∷ Table Gshadow ∷ Table Subuid
+    ∷ Table Subgid ∷ Defs ∷ []) became_keeper became_keeper-lawful refl
 
 -- it writes the old group: lawful
-pub staged_backup-lawful : Lawful staff_deeds first staged_backup
+staged_backup-lawful : Lawful staff_deeds first staged_backup
 staged_backup-lawful =
     write-lawful staff_deeds first m1 read_settings read_settings-lawful refl BackupStage []
     (record { number = 1; keeps = refl })
     (record { staging = refl; small = lit≤ tt })
 
 -- it moves that to the backup: lawful
-pub backed_up-lawful : Lawful staff_deeds first backed_up
+backed_up-lawful : Lawful staff_deeds first backed_up
 backed_up-lawful = goes_on _ _ staged_backup-lawful (record {
   keeps = record {
     life_rule = tt;
@@ -337,7 +277,7 @@ staged_intent-lawful =
     (record { rule = record { staging = refl; small = lit≤ tt }; behind = refl }) refl
 
 -- it commits: lawful
-pub committed_group-lawful : Lawful staff_deeds first committed_group
+committed_group-lawful : Lawful staff_deeds first committed_group
 committed_group-lawful = goes_on _ _ staged_intent-lawful (record {
   keeps = record {
     life_rule = tt;
@@ -346,41 +286,20 @@ committed_group-lawful = goes_on _ _ staged_intent-lawful (record {
   gives = refl;
 })
 
--- it writes the new group: lawful
-pub staged_group-lawful : Lawful staff_deeds first staged_group
-staged_group-lawful =
-    write-lawful staff_deeds first m1 committed_group committed_group-lawful refl
-    (Staged Group) staff_line
-    (record { number = 1; keeps = refl })
-    (record { staging = refl; small = lit≤ tt })
-
--- it moves that to group: lawful
-pub installed_group-lawful : Lawful staff_deeds first installed_group
-installed_group-lawful =
-    install-lawful m1 staged_group staged_group-lawful refl
-    (record { number = 1; keeps = refl }) _ refl refl refl
-
--- it removes the intent: lawful
-pub cleared-lawful : Lawful staff_deeds first cleared
+-- it carries the intent out: lawful
+cleared-lawful : Lawful staff_deeds first cleared
 cleared-lawful =
-    clear-lawful m1 installed_group installed_group-lawful refl
+    carry-lawful m1 committed_group committed_group-lawful refl
     (record { number = 1; keeps = refl }) refl
 
--- it writes the free text: lawful
-pub staged_free-lawful : Lawful staff_deeds first staged_free
-staged_free-lawful =
-    write-lawful staff_deeds first m1 cleared cleared-lawful refl FreeStage free_text
-    (record { number = 1; keeps = refl })
-    (record { staging = refl; small = lit≤ tt })
-
--- it moves that to its lock: lawful
-pub freed-lawful : Lawful staff_deeds first freed
+-- it frees its lock: lawful
+freed-lawful : Lawful staff_deeds first freed
 freed-lawful =
-    free-lawful staff_deeds first m1 staged_free staged_free-lawful refl
-    (record { number = 1; keeps = refl }) refl refl
+    free-lawful staff_deeds first m1 cleared cleared-lawful refl
+    (record { number = 1; keeps = refl })
 
 -- it answers success: lawful
-pub answered-lawful : Lawful staff_deeds first answered
+answered-lawful : Lawful staff_deeds first answered
 answered-lawful = goes_on _ _ freed-lawful (record {
   keeps = record {
     life_rule = tt;

@@ -11,8 +11,8 @@ use Rattle.acct_outside.specs.declared.Verdict.TheVariants.{Dead}
 use Rattle.acct_outside.specs.Names.{greatest_lock}
 use Rattle.acct_outside.specs.Tokens.{Token, IsToken, free_text}
 use Rattle.acct_outside.specs.Folder.{Folder, IsFolder, has_number}
-use Rattle.acct_outside.specs.Calls.{Command, Call, Answer, begins, lists, reads, asks, creates, writes, renames, removes, answers, done, found_bytes}
-use Rattle.acct_outside.specs.History.{Event, History, after}
+use Rattle.acct_outside.specs.Calls.{Command, begins, lists, reads, asks, creates, writes, renames, removes, answers, found_bytes}
+use Rattle.acct_outside.specs.History.{History, after}
 use Rattle.suite_rules.specs.Deeds.{SuiteDeeds}
 use Rattle.suite_rules.specs.OwnLock.{lock_made, lock_kept}
 use Rattle.suite_rules.specs.Listing.{new_listing}
@@ -21,7 +21,7 @@ use Rattle.suite_rules.specs.Rules.{unlocks_own, unlock_rule}
 use Rattle.suite_rules.specs.Lawful.{Lawful, starts, goes_on}
 use Rattle.suite_rules.specs.Committed.{committed}
 use Rattle.suite_rules.proofs.Staff.{two-bytes}
-use Rattle.suite_rules.proofs.RowSteps.{judged_listing, list-lawful, read-lawful, verdict-lawful, write-lawful, free-lawful, refusal-lawful, begin-lawful, create-lawful, unlock-lawful}
+use Rattle.suite_rules.proofs.RowSteps.{by, judged_listing, look-lawful, judge-lawful, take-lawful, unlock-lawful, free-lawful, refusal-lawful}
 
 -- the dead holder
 abbrev z : Token
@@ -94,10 +94,6 @@ command = record {
 -- a refusal has another status than 0
 four : ◌≢◌ {A = ℕ} 4 0
 four is = true≢false (ap (λ (status : ℕ). status == 4) is)
-
--- a call of the session that was done
-abbrev by : Token → (call : Call) → Answer call → Event
-by token call answer = record { token = token; call = call; result = done answer }
 
 -- nothing has happened
 abbrev nothing_happened : History
@@ -217,70 +213,24 @@ none-committed = refl
 
 -- The history is lawful.
 module _ (deeds : SuiteDeeds) where
-  -- nothing has happened: lawful
-  nothing_happened-lawful : Lawful deeds first nothing_happened
-  nothing_happened-lawful = starts is-folder
-
-  -- a begins: lawful
-  a_begun-lawful : Lawful deeds first a_begun
-  a_begun-lawful =
-      begin-lawful deeds first a1 nothing_happened nothing_happened-lawful refl command
-      is-token-a
-
-  -- a lists lock 4: lawful
-  a_listed-lawful : Lawful deeds first a_listed
-  a_listed-lawful =
-      list-lawful deeds first a1 a_begun a_begun-lawful refl (4 ∷ []) refl
-
-  -- a reads that z holds it: lawful
-  a_read-lawful : Lawful deeds first a_read
-  a_read-lawful =
-      read-lawful deeds first a1 a_listed a_listed-lawful refl (Lock 4)
-      (found_bytes (codes "held z\n")) refl
-
-  -- a is told that z is dead: lawful
+  -- a judges z dead: lawful
   a_judged-lawful : Lawful deeds first a_judged
   a_judged-lawful =
-      verdict-lawful deeds first a1 a_read a_read-lawful refl z Dead refl
+      judge-lawful deeds first a1 nothing_happened (starts is-folder) refl command is-token-a
+      (4 ∷ []) refl 4 (found_bytes (codes "held z\n")) refl z refl
 
-  -- b begins: lawful
-  b_begun-lawful : Lawful deeds first b_begun
-  b_begun-lawful =
-      begin-lawful deeds first b1 a_judged a_judged-lawful refl command
-      is-token-b
-
-  -- b lists lock 4: lawful
-  b_listed-lawful : Lawful deeds first b_listed
-  b_listed-lawful =
-      list-lawful deeds first b1 b_begun b_begun-lawful refl (4 ∷ []) refl
-
-  -- b reads that z holds it: lawful
-  b_read-lawful : Lawful deeds first b_read
-  b_read-lawful =
-      read-lawful deeds first b1 b_listed b_listed-lawful refl (Lock 4)
-      (found_bytes (codes "held z\n")) refl
-
-  -- b is told that z is dead: lawful
+  -- b judges so too: lawful
   b_judged-lawful : Lawful deeds first b_judged
   b_judged-lawful =
-      verdict-lawful deeds first b1 b_read b_read-lawful refl z Dead refl
+      judge-lawful deeds first b1 a_judged a_judged-lawful refl command is-token-b
+      (4 ∷ []) refl 4 (found_bytes (codes "held z\n")) refl z refl
 
-  -- a creates lock 5: lawful
-  a_created-lawful : Lawful deeds first a_created
-  a_created-lawful =
-      create-lawful deeds first a1 b_judged b_judged-lawful refl 5 (record {
-        listing = judged_listing (4 ∷ []) (codes "held z\n" ∷ []);
-        listed = refl;
-        first = refl;
-        one_above = refl;
-        judged = refl;
-        not_exhausted = lit≤ tt;
-      }) refl
-
-  -- a lists its lock as the greatest, and is keeper: lawful
+  -- a creates lock 5, and is keeper: lawful
   a_kept-lawful : Lawful deeds first a_kept
   a_kept-lawful =
-      list-lawful deeds first a1 a_created a_created-lawful refl (4 ∷ 5 ∷ []) refl
+      take-lawful deeds first a1 b_judged b_judged-lawful refl
+      (judged_listing (4 ∷ []) (codes "held z\n" ∷ [])) refl refl refl (lit≤ tt) refl
+      (4 ∷ 5 ∷ []) refl
 
   -- a removes the lower lock: lawful
   a_unlocked-lawful : Lawful deeds first a_unlocked
@@ -288,57 +238,28 @@ module _ (deeds : SuiteDeeds) where
       unlock-lawful deeds first a1 a_kept a_kept-lawful refl
       (record { number = 5; keeps = refl }) 4 (lit≤ tt)
 
-  -- a writes the free text: lawful
-  a_staged_free-lawful : Lawful deeds first a_staged_free
-  a_staged_free-lawful =
-      write-lawful deeds first a1 a_unlocked a_unlocked-lawful refl FreeStage free_text
-      (record { number = 5; keeps = refl })
-      (record { staging = refl; small = lit≤ tt })
-
-  -- a moves that to its lock: lawful
+  -- a frees its lock: lawful
   a_freed-lawful : Lawful deeds first a_freed
   a_freed-lawful =
-      free-lawful deeds first a1 a_staged_free a_staged_free-lawful refl
-      (record { number = 5; keeps = refl }) refl refl
+      free-lawful deeds first a1 a_unlocked a_unlocked-lawful refl
+      (record { number = 5; keeps = refl })
 
   -- a answers a refusal: lawful
   a_answered-lawful : Lawful deeds first a_answered
   a_answered-lawful =
       refusal-lawful deeds first a1 a_freed a_freed-lawful refl 4 four
 
-  -- c begins: lawful
-  c_begun-lawful : Lawful deeds first c_begun
-  c_begun-lawful =
-      begin-lawful deeds first c1 a_answered a_answered-lawful refl command
-      is-token-c
-
-  -- c lists lock 5: lawful
-  c_listed-lawful : Lawful deeds first c_listed
-  c_listed-lawful =
-      list-lawful deeds first c1 c_begun c_begun-lawful refl (5 ∷ []) refl
-
-  -- c reads that it is free: lawful
+  -- c finds lock 5 free: lawful
   c_judged-lawful : Lawful deeds first c_judged
   c_judged-lawful =
-      read-lawful deeds first c1 c_listed c_listed-lawful refl (Lock 5)
-      (found_bytes free_text) refl
+      look-lawful deeds first c1 a_answered a_answered-lawful refl command is-token-c
+      (5 ∷ []) refl 5 (found_bytes free_text) refl
 
-  -- c creates lock 6: lawful
-  c_created-lawful : Lawful deeds first c_created
-  c_created-lawful =
-      create-lawful deeds first c1 c_judged c_judged-lawful refl 6 (record {
-        listing = judged_listing (5 ∷ []) (free_text ∷ []);
-        listed = refl;
-        first = refl;
-        one_above = refl;
-        judged = refl;
-        not_exhausted = lit≤ tt;
-      }) refl
-
-  -- c lists its lock as the greatest, and is keeper: lawful
+  -- c creates lock 6, and is keeper: lawful
   c_kept-lawful : Lawful deeds first c_kept
   c_kept-lawful =
-      list-lawful deeds first c1 c_created c_created-lawful refl (5 ∷ 6 ∷ []) refl
+      take-lawful deeds first c1 c_judged c_judged-lawful refl
+      (judged_listing (5 ∷ []) (free_text ∷ [])) refl refl refl (lit≤ tt) refl (5 ∷ 6 ∷ []) refl
 
   -- c removes the lower lock: lawful
   c_unlocked-lawful : Lawful deeds first c_unlocked
@@ -346,22 +267,12 @@ module _ (deeds : SuiteDeeds) where
       unlock-lawful deeds first c1 c_kept c_kept-lawful refl
       (record { number = 6; keeps = refl }) 5 (lit≤ tt)
 
-  -- b creates lock 5 once more: lawful
-  b_created-lawful : Lawful deeds first b_created
-  b_created-lawful =
-      create-lawful deeds first b1 c_unlocked c_unlocked-lawful refl 5 (record {
-        listing = judged_listing (4 ∷ []) (codes "held z\n" ∷ []);
-        listed = refl;
-        first = refl;
-        one_above = refl;
-        judged = refl;
-        not_exhausted = lit≤ tt;
-      }) refl
-
-  -- b lists a greater lock than its own, and is no keeper: lawful
+  -- b creates lock 5 once more, and is no keeper: lawful
   b_outrun-lawful : Lawful deeds first b_outrun
   b_outrun-lawful =
-      list-lawful deeds first b1 b_created b_created-lawful refl (5 ∷ 6 ∷ []) refl
+      take-lawful deeds first b1 c_unlocked c_unlocked-lawful refl
+      (judged_listing (4 ∷ []) (codes "held z\n" ∷ [])) refl refl refl (lit≤ tt) refl
+      (5 ∷ 6 ∷ []) refl
 
   -- b removes its lock: lawful
   b_withdrawn-lawful : Lawful deeds first b_withdrawn

@@ -8,19 +8,19 @@ use Rattle.acct_outside.specs.declared.Name.TheVariants.{Table, Staged, Intent, 
 use Rattle.acct_outside.specs.declared.Created.TheVariants.{Done}
 use Rattle.acct_outside.specs.declared.Verdict.TheVariants.{Dead}
 use Rattle.acct_outside.specs.Tokens.{free_text}
-use Rattle.acct_outside.specs.Calls.{Call, Answer, begins, lists, reads, asks, creates, writes, renames, removes, answers, done, died, happened, found_bytes}
+use Rattle.acct_outside.specs.Calls.{Call, Answer, begins, lists, reads, asks, creates, writes, renames, removes, answers, died, happened, found_bytes}
 use Rattle.acct_outside.specs.History.{Event, History, after}
 use Rattle.suite_rules.specs.Rules.{commit_rule}
 use Rattle.suite_rules.specs.Lawful.{Lawful, goes_on}
 use Rattle.suite_rules.specs.Settled.{settled}
 use Rattle.suite_rules.specs.Committed.{committed}
-use Rattle.suite_rules.proofs.Staff.{first, staff_line, staff_deeds, groupadd_staff, m1, m2, is-token-m2, staff_intent, install-lawful, clear-lawful}
-use Rattle.suite_rules.proofs.RowSteps.{judged_listing, list-lawful, read-lawful, verdict-lawful, write-lawful, free-lawful, refusal-lawful, begin-lawful, create-lawful, unlock-lawful}
+use Rattle.suite_rules.proofs.Staff.{first, staff_line, staff_deeds, groupadd_staff, m1, m2, is-token-m2, staff_intent, carry-lawful}
+use Rattle.suite_rules.proofs.RowSteps.{by, judged_listing, judge-lawful, take-lawful, reads-lawful, unlock-lawful, free-lawful, refusal-lawful}
 use Rattle.suite_rules.proofs.CommitRow.{staged_intent, staff-commit, staged_intent-lawful}
 
 -- a call of the second session that was done
 abbrev second : (call : Call) → Answer call → Event
-second call answer = record { token = m2; call = call; result = done answer }
+second = by m2
 
 -- the first session dies within its commit, which happened
 abbrev pub died_in_commit : History
@@ -107,7 +107,7 @@ committed-once = refl
 -- The history is lawful.
 
 -- the first session dies within its commit, which happened: lawful
-pub died_in_commit-lawful : Lawful staff_deeds first died_in_commit
+died_in_commit-lawful : Lawful staff_deeds first died_in_commit
 died_in_commit-lawful = goes_on _ _ staged_intent-lawful (record {
   keeps = record {
     life_rule = tt;
@@ -116,92 +116,44 @@ died_in_commit-lawful = goes_on _ _ staged_intent-lawful (record {
   gives = refl;
 })
 
--- the second session begins: lawful
-pub second_begun-lawful : Lawful staff_deeds first second_begun
-second_begun-lawful =
-    begin-lawful staff_deeds first m2 died_in_commit died_in_commit-lawful refl groupadd_staff
-    is-token-m2
-
--- it lists lock 1: lawful
-pub listed_dead-lawful : Lawful staff_deeds first listed_dead
-listed_dead-lawful =
-    list-lawful staff_deeds first m2 second_begun second_begun-lawful refl (1 ∷ []) refl
-
--- it reads that the first session holds it: lawful
-pub read_holder-lawful : Lawful staff_deeds first read_holder
-read_holder-lawful =
-    read-lawful staff_deeds first m2 listed_dead listed_dead-lawful refl
-    (Lock 1) (found_bytes (codes "held m1\n")) refl
-
--- it is told that this is dead: lawful
-pub told_dead-lawful : Lawful staff_deeds first told_dead
+-- the second session judges the first dead: lawful
+told_dead-lawful : Lawful staff_deeds first told_dead
 told_dead-lawful =
-    verdict-lawful staff_deeds first m2 read_holder read_holder-lawful refl m1 Dead refl
+    judge-lawful staff_deeds first m2 died_in_commit died_in_commit-lawful refl groupadd_staff
+    is-token-m2 (1 ∷ []) refl 1 (found_bytes (codes "held m1\n")) refl m1 refl
 
--- it creates lock 2: lawful
-pub created_above-lawful : Lawful staff_deeds first created_above
-created_above-lawful =
-    create-lawful staff_deeds first m2 told_dead told_dead-lawful refl 2 (record {
-      listing = judged_listing (1 ∷ []) (codes "held m1\n" ∷ []);
-      listed = refl;
-      first = refl;
-      one_above = refl;
-      judged = refl;
-      not_exhausted = lit≤ tt;
-    }) refl
-
--- it lists its lock as the greatest, and is keeper: lawful
-pub took_over-lawful : Lawful staff_deeds first took_over
+-- it creates lock 2, and is keeper: lawful
+took_over-lawful : Lawful staff_deeds first took_over
 took_over-lawful =
-    list-lawful staff_deeds first m2 created_above created_above-lawful refl (1 ∷ 2 ∷ []) refl
+    take-lawful staff_deeds first m2 told_dead told_dead-lawful refl
+    (judged_listing (1 ∷ []) (codes "held m1\n" ∷ [])) refl refl refl (lit≤ tt) refl
+    (1 ∷ 2 ∷ []) refl
 
 -- it reads the intent: lawful
-pub found_intent-lawful : Lawful staff_deeds first found_intent
+found_intent-lawful : Lawful staff_deeds first found_intent
 found_intent-lawful =
-    read-lawful staff_deeds first m2 took_over took_over-lawful refl
-    Intent (found_bytes staff_intent) refl
+    reads-lawful staff_deeds first m2 (Intent ∷ []) took_over took_over-lawful refl
 
--- it writes what this lists for group: lawful
-pub staged_again-lawful : Lawful staff_deeds first staged_again
-staged_again-lawful =
-    write-lawful staff_deeds first m2 found_intent found_intent-lawful refl
-    (Staged Group) staff_line
-    (record { number = 2; keeps = refl })
-    (record { staging = refl; small = lit≤ tt })
-
--- it moves that to group: lawful
-pub recovered_group-lawful : Lawful staff_deeds first recovered_group
-recovered_group-lawful =
-    install-lawful m2 staged_again staged_again-lawful refl
-    (record { number = 2; keeps = refl }) _ refl refl refl
-
--- it removes the intent: lawful
-pub cleared_intent-lawful : Lawful staff_deeds first cleared_intent
+-- it carries the intent out: lawful
+cleared_intent-lawful : Lawful staff_deeds first cleared_intent
 cleared_intent-lawful =
-    clear-lawful m2 recovered_group recovered_group-lawful refl
+    carry-lawful m2 found_intent found_intent-lawful refl
     (record { number = 2; keeps = refl }) refl
 
 -- it removes the lower lock: lawful
-pub unlocked_below-lawful : Lawful staff_deeds first unlocked_below
+unlocked_below-lawful : Lawful staff_deeds first unlocked_below
 unlocked_below-lawful =
     unlock-lawful staff_deeds first m2 cleared_intent cleared_intent-lawful refl
     (record { number = 2; keeps = refl }) 1 (lit≤ tt)
 
--- it writes the free text: lawful
-pub staged_its_free-lawful : Lawful staff_deeds first staged_its_free
-staged_its_free-lawful =
-    write-lawful staff_deeds first m2 unlocked_below unlocked_below-lawful refl FreeStage free_text
-    (record { number = 2; keeps = refl })
-    (record { staging = refl; small = lit≤ tt })
-
--- it moves that to its lock: lawful
-pub freed_its_lock-lawful : Lawful staff_deeds first freed_its_lock
+-- it frees its lock: lawful
+freed_its_lock-lawful : Lawful staff_deeds first freed_its_lock
 freed_its_lock-lawful =
-    free-lawful staff_deeds first m2 staged_its_free staged_its_free-lawful refl
-    (record { number = 2; keeps = refl }) refl refl
+    free-lawful staff_deeds first m2 unlocked_below unlocked_below-lawful refl
+    (record { number = 2; keeps = refl })
 
 -- it answers a refusal: lawful
-pub refused-lawful : Lawful staff_deeds first refused
+refused-lawful : Lawful staff_deeds first refused
 refused-lawful =
     refusal-lawful staff_deeds first m2 freed_its_lock freed_its_lock-lawful refl 4
     (λ is. true≢false (ap (λ (status : ℕ). status == 4) is))

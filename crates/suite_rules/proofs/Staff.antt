@@ -11,7 +11,7 @@ use Rattle.acct_outside.specs.declared.Name.{Name}
 use Rattle.acct_outside.specs.declared.Name.TheVariants.{Table, Staged, Intent}
 use Rattle.acct_outside.specs.Tokens.{Token, IsToken}
 use Rattle.acct_outside.specs.Folder.{Folder, IsFolder}
-use Rattle.acct_outside.specs.Calls.{Command, renames, removes, done}
+use Rattle.acct_outside.specs.Calls.{Command, writes, renames, removes}
 use Rattle.acct_outside.specs.History.{History, after}
 use Rattle.acct_outside.specs.Life.{running, life}
 use Rattle.intent_file.specs.Intent.{Intended, ReadsIntent, intent_listing, listed_in}
@@ -19,7 +19,9 @@ use Rattle.suite_rules.specs.Deeds.{SuiteDeeds}
 use Rattle.suite_rules.specs.Standing.{standing}
 use Rattle.suite_rules.specs.Rules.{KeeperRule, KnowsIntent, install_rule, clear_rule}
 use Rattle.suite_rules.specs.Lawful.{Lawful, goes_on}
-use Rattle.suite_rules.specs.Knowledge.{Seen, Knowledge, knows_none, knows_bytes, nothing_seen, table_with}
+use Rattle.suite_rules.specs.Knowledge.{Seen, Knowledge, knows_none, knows_bytes, knows_new, nothing_seen, table_with}
+use Rattle.suite_rules.proofs.Sessions.{token-same}
+use Rattle.suite_rules.proofs.RowSteps.{by, write-lawful, runs-on}
 
 -- the line of the new group
 abbrev pub staff_line : Bytes
@@ -233,15 +235,11 @@ module _ (token : Token) (history : History) (lawful : Lawful staff_deeds first 
   }
 
   -- a move of the new group to its table is lawful
-  pub install-lawful : KeeperRule (standing token history) → (placed : Tab → Bool) →
+  install-lawful : KeeperRule (standing token history) → (placed : Tab → Bool) →
       (standing token history).knows ≡ knows_bytes staff_intent placed →
       (standing token history).staged (Staged Group) ≡ Some staff_line →
       IsSome ((after first history).file (Staged Group)) →
-      Lawful staff_deeds first (record {
-        token = token;
-        call = renames (Staged Group) (Table Group);
-        result = done tt;
-      } ∷ history)
+      Lawful staff_deeds first (by token (renames (Staged Group) (Table Group)) tt ∷ history)
   install-lawful keeper placed knows staged stands = goes_on _ _ lawful (record {
     keeps = record {
       life_rule = rw runs tt;
@@ -256,11 +254,10 @@ module _ (token : Token) (history : History) (lawful : Lawful staff_deeds first 
   })
 
   -- a removal of the intent, once group is in place, is lawful
-  pub clear-lawful : KeeperRule (standing token history) →
+  clear-lawful : KeeperRule (standing token history) →
       (standing token history).knows
       ≡ knows_bytes staff_intent (table_with Group (λ table. false)) →
-      Lawful staff_deeds first
-      (record { token = token; call = removes Intent; result = done tt } ∷ history)
+      Lawful staff_deeds first (by token (removes Intent) tt ∷ history)
   clear-lawful keeper knows = goes_on _ _ lawful (record {
     keeps = record {
       life_rule = rw runs tt;
@@ -271,3 +268,32 @@ module _ (token : Token) (history : History) (lawful : Lawful staff_deeds first 
     };
     gives = tt;
   })
+
+module _ (token : Token) (history : History) (lawful : Lawful staff_deeds first history)
+    (runs : life token history ≡ running) where
+  -- the new group is written
+  abbrev wrote : History
+  wrote = by token (writes (Staged Group) staff_line) tt ∷ history
+
+  -- and moved to its table
+  abbrev moved : History
+  moved = by token (renames (Staged Group) (Table Group)) tt ∷ wrote
+
+  -- a keeper that knows the intent carries it out: both, and then removes the intent
+  pub carry-lawful : (keeper : KeeperRule (standing token history)) →
+      (standing token history).knows ≡ knows_new staff_intent →
+      Lawful staff_deeds first (by token (removes Intent) tt ∷ moved)
+  carry-lawful keeper knows =
+      let wrote-runs =
+      runs-on token history runs (writes (Staged Group) staff_line) tt refl in
+      clear-lawful token moved
+      (install-lawful token wrote
+      (write-lawful staff_deeds first token history lawful runs (Staged Group) staff_line keeper
+      (record { staging = refl; small = lit≤ tt }))
+      wrote-runs
+      (record { number = keeper.number; keeps = rw (token-same token) keeper.keeps })
+      (λ table. false) (rw (token-same token, keeper.keeps, knows) refl)
+      (rw (token-same token, keeper.keeps) refl) refl)
+      (runs-on token wrote wrote-runs (renames (Staged Group) (Table Group)) tt refl)
+      (record { number = keeper.number; keeps = rw (token-same token) keeper.keeps })
+      (rw (token-same token, keeper.keeps, knows) refl)
