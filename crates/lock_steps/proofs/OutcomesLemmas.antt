@@ -1,7 +1,7 @@
 -- Claim: where a step leads on, the session stands as its next state says. Way: by the step's
 -- outcome the call was done with the answer that leads there, and StandsLemmas has what that makes
 -- of the standing. The lemmas stand in the order of the calls. Where a step tells that the folder
--- failed, its call told so (`counts`).
+-- failed, its call told so (`counts`); so each call is a step (`takes-call`).
 use Rattle.std.proofs.Common.{ap, ℕ, ◌+◌, ◌≡◌, ◌<◌, List, length, get_or, Result, Ok, Err}
 use Rattle.std.specs.Prelude.{IfOk, IsErrOf}
 use Rattle.acct_outside.specs.declared.FolderFault.{FolderFault}
@@ -13,12 +13,19 @@ use Rattle.acct_outside.specs.declared.Created.{Created}
 use Rattle.acct_outside.specs.declared.Created.TheVariants.{Done, Exists}
 use Rattle.acct_outside.specs.Faults.{CountsFailure}
 use Rattle.acct_outside.specs.Tokens.{Token, free_text}
-use Rattle.acct_outside.specs.Calls.{Found, found_absent, found_bytes, found_too_large, lists, reads, asks, creates, writes, renames, removes}
+use Rattle.acct_outside.specs.Calls.{Answer, Call, CallResult, Found, found_absent, found_bytes, found_too_large, lists, reads, asks, creates, writes, renames, removes}
 use Rattle.acct_outside.specs.Moment.{Narrows, Moment}
-use Rattle.acct_outside.specs.Contract.{Tells}
+use Rattle.acct_outside.specs.Contract.{Passes, ReadsFolder, Tells, found_result}
+use Rattle.acct_outside.specs.declared.Name.{Name}
+use Rattle.acct_outside.specs.declared.Found.{Found as Reading}
+use Rattle.acct_outside.specs.Names.{name_limit}
+use Rattle.acct_outside.specs.Life.{MayCall, running}
+use Rattle.suite_rules.specs.Deeds.{SuiteDeeds}
+use Rattle.suite_rules.specs.Rules.{Permits}
+use Rattle.suite_rules.specs.Standing.{Standing, standing_step}
 use Rattle.suite_rules.specs.Knowledge.{Knowledge}
-use Rattle.suite_rules.specs.Steps.{StandsIn}
-use Rattle.suite_rules.proofs.StepLemmas.{stands-done}
+use Rattle.suite_rules.specs.Steps.{StandsIn, TakesStep}
+use Rattle.suite_rules.proofs.StepLemmas.{IsNoAnswer, read-tells, stands-done, takes-step}
 use Rattle.lock_steps.specs.declared.LockEnd.{LockEnd}
 use Rattle.lock_steps.specs.declared.judging.Told.{Told}
 use Rattle.lock_steps.specs.declared.judging.Told.TheVariants.{Judged, Ask}
@@ -41,6 +48,46 @@ counts failure before now came result only counted = record {
   never_falls = counted.never_falls;
   failed = λ is. counted.failed (only is);
 }
+
+-- a read with the limit of its name passes on as its call
+pub read-passes :
+    {before now : Moment} (token : Token) (name : Name) {found : Result Reading FolderFault}
+    → ReadsFolder before now token name (name_limit name) found
+    → Passes before now (Tells before now token (reads name) (found_result found)) found
+read-passes {before} {now} token name {found} passes = record {
+  told = read-tells before now token name found passes.told;
+  narrows = passes.narrows;
+  faults = passes.faults;
+}
+
+-- a call that the rules permit is a step, if the session stands by what the call leads to, and a
+-- failure is told only where the folder told it
+pub takes-call :
+    {State Fault Part T : Type 0} {before now : Moment}
+    (token : Token) (call : Call) → IsNoAnswer call → MayCall running call
+    → (Held : Standing → Type 0)
+    → ((deeds : SuiteDeeds) (stood : Standing) → Held stood → Permits deeds stood call)
+    → (part : Standing → Part)
+    → ((result : CallResult (Answer call)) (stood : Standing) → Held stood
+    → part (standing_step call result stood) ≡ part stood)
+    → (Shows : Result (Answer call) FolderFault → Result State Fault → Type 0)
+    → (Holds : State → Standing → Type 0)
+    → (failure : Fault) (answer : Result (Answer call) FolderFault) (came : Result T FolderFault)
+    → (result : Result State Fault)
+    → StandsIn before token Held
+    → Passes before now (Tells before now token call answer) came
+    → Shows answer result
+    → ((before now : Moment) → Narrows before.admits now.admits → Shows answer result
+    → StandsIn before token Held → Tells before now token call answer
+    → IfOk result (λ state. StandsIn now token (Holds state)))
+    → (IsErrOf result failure → IsErrOf came Failed)
+    → TakesStep before now token call (λ answer. Shows answer result) Holds part failure result
+takes-call {before = before} {now = now} token call no_answer may Held permits part same Shows Holds
+    failure answer came result stands passes shown leads only =
+    takes-step before now passes.narrows token call no_answer may Held permits part same
+    (λ answer. Shows answer result) Holds failure result answer stands passes.told shown
+    (leads before now passes.narrows shown stands passes.told)
+    (counts failure _ _ came result only passes.faults)
 
 -- What each call leads to, by a folder that admits no more than before.
 module _ (before now : Moment) (narrows : Narrows before.admits now.admits) (token : Token) where
