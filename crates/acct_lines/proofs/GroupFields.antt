@@ -1,18 +1,14 @@
--- Claim: what was read of four fields is the record of group(5) that the line is (`group-read`); a
--- GID that couldn't be read is the fault of the line (`bad-gid`), and else the empty name
--- (`no-name`). Way: the fault is the first of those of the GID and the name.
-use Rattle.std.proofs.Common.{◌≡◌, ℕ, List, [], ◌∷◌, length, refl, sym, ◌∙◌, ap, arith, Ok, Err, Option, Some, None, false}
+-- Claim: what was read of four fields is the record of group(5) that the line is (`group-read`).
+use Rattle.std.proofs.Common.{◌≡◌, ℕ, List, [], ◌∷◌, length, refl, sym, ◌∙◌, ap, arith, Ok, Some, None, false}
 use Rattle.std.specs.Prelude.{option_map, if◌then◌else◌}
 use Rattle.std.specs.Option.{ok_or}
-use Rattle.account_formats.specs.declared.fault.LineFault.{LineFault}
-use Rattle.account_formats.specs.declared.fault.LineFault.TheVariants.{BadNumber, EmptyName}
+use Rattle.account_formats.specs.declared.fault.LineFault.TheVariants.{BadNumber}
 use Rattle.account_formats.specs.declared.records.GroupRecord.{GroupRecord}
 use Rattle.acct_text.specs.Bytes.{is_empty}
-use Rattle.account_formats.specs.Text.{first_some}
 use Rattle.account_formats.specs.Records.{read_id, read_names, group_of_fields, group_format}
-use Rattle.account_formats.specs.Faults.{field_at, group_fault}
-use Rattle.acct_lines.specs.Fields.{AreFields, IsUnnamed}
-use Rattle.acct_lines.proofs.Read.{number_fault, read-some, read-none, read-fault}
+use Rattle.account_formats.specs.Faults.{field_at}
+use Rattle.acct_lines.specs.Fields.{AreFields}
+use Rattle.acct_lines.proofs.Read.{read-some}
 
 -- the record of four fields, by their places
 fields-at :
@@ -41,28 +37,3 @@ pub group-read :
 group-read line fields r are gid name named password members =
     ap group_of_fields (sym are.cut) ∙ fields-at fields are.counted
     ∙ rw (← name, ← password, ← members, read-some _ _ _ gid, named) refl
-
-module _ (line : List ℕ) (fields : List (List ℕ)) (are : AreFields 4 line fields) where
-  -- the fault, by what is read of the GID
-  fault-by :
-      (a : Option ℕ)
-      → read_id (field_at 3 fields) ≡ a
-      → group_fault line ≡ first_some (number_fault 3 a
-      ∷ (if is_empty (field_at 1 fields) then Some EmptyName else None) ∷ None ∷ [])
-  fault-by a is_a = rw (← are.cut, are.counted, is_a) refl
-
-  -- the GID couldn't be read
-  pub bad-gid :
-      (fault : LineFault)
-      → Err fault ≡ ok_or (read_id (field_at 3 fields)) (BadNumber 3)
-      → group_fault line ≡ Some fault
-  bad-gid fault bad = fault-by None (read-none _ _ _ bad) ∙ ap Some (read-fault _ _ _ bad)
-
-  -- it is read, and the name is empty
-  pub no-name :
-      (gid : ℕ) (fault : LineFault)
-      → Ok gid ≡ ok_or (read_id (field_at 3 fields)) (BadNumber 3)
-      → IsUnnamed (field_at 1 fields) fault
-      → group_fault line ≡ Some fault
-  no-name gid fault is_gid unnamed =
-      fault-by (Some gid) (read-some _ _ _ is_gid) ∙ rw (unnamed.empty, unnamed.told) refl

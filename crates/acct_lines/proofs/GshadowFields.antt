@@ -1,13 +1,12 @@
 -- Claim: what was read of four fields is the record of gshadow(5) that the line is
--- (`gshadow-read`), and an empty name is the fault of the line (`no-name`).
+-- (`gshadow-read`).
 use Rattle.std.proofs.Common.{◌≡◌, ℕ, List, [], ◌∷◌, length, refl, sym, ◌∙◌, ap, arith, Some, None, false}
 use Rattle.std.specs.Prelude.{if◌then◌else◌}
-use Rattle.account_formats.specs.declared.fault.LineFault.{LineFault}
 use Rattle.account_formats.specs.declared.records.GshadowRecord.{GshadowRecord}
 use Rattle.acct_text.specs.Bytes.{is_empty}
 use Rattle.account_formats.specs.Records.{read_names, gshadow_of_fields, gshadow_format}
-use Rattle.account_formats.specs.Faults.{field_at, gshadow_fault}
-use Rattle.acct_lines.specs.Fields.{AreFields, IsUnnamed}
+use Rattle.account_formats.specs.Faults.{field_at}
+use Rattle.acct_lines.specs.Fields.{AreFields}
 
 -- the record of four fields, by their places
 fields-at :
@@ -36,12 +35,3 @@ pub gshadow-read :
 gshadow-read line fields r are name named password administrators members =
     ap gshadow_of_fields (sym are.cut) ∙ fields-at fields are.counted
     ∙ rw (← name, ← password, ← administrators, ← members, named) refl
-
--- a line of four fields with an empty name has no other fault
-pub no-name :
-    (line : List ℕ) (fields : List (List ℕ)) (fault : LineFault)
-    → AreFields 4 line fields
-    → IsUnnamed (field_at 1 fields) fault
-    → gshadow_fault line ≡ Some fault
-no-name line fields fault are unnamed =
-    rw (← are.cut, are.counted, unnamed.empty, unnamed.told) refl

@@ -1,4 +1,5 @@
 pub mod Counted
+pub mod FirstFault
 pub mod FirstField
 pub mod NamesCut
 pub mod Read
@@ -8,4 +9,3 @@ pub mod GroupFields
 pub mod GshadowFields
 pub mod ShadowFields
 pub mod SubidFields
-pub mod ShadowFaults

@@ -2,10 +2,9 @@
 -- fault (`told-first`), and what a reading tells of the fault of its text (`fault-told`).
 use Rattle.std.proofs.Common.{◌≡◌, ℕ, true, List, ◌∙◌, ap, Option, Result, Ok, Err, Some, None, refl, sym, subst}
 use Rattle.std.specs.Result.{result_err}
-use Rattle.std.specs.Prelude.{IsErrAnd, MatchResult, is_some, is_none, if◌then◌else◌}
+use Rattle.std.specs.Prelude.{IsErrAnd, MatchResult, is_some, is_none}
 use Rattle.std.specs.Option.{ok_or}
 use Rattle.account_formats.specs.declared.fault.LineFault.{LineFault}
-use Rattle.account_formats.specs.declared.fault.LineFault.TheVariants.{BadNumber}
 use Rattle.account_formats.specs.Format.{Format}
 use Rattle.account_formats.specs.LineFormat.{IsLineFormat}
 
@@ -42,10 +41,6 @@ pub told-first :
     → MatchResult result Good Bad
 told-first (Ok x) first Good Bad told bad = absurd told
 told-first (Err fault) first Good Bad told bad = subst Bad (sym told) bad
-
--- the fault of a number that is there or not
-abbrev pub number_fault : {X : Type 0} → ℕ → Option X → Option LineFault
-number_fault place read = if is_some read then None else Some (BadNumber place)
 
 -- what isn't there is none
 first-none : (found : Option LineFault) → is_none found ≡ true → None ≡ found

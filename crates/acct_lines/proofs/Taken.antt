@@ -1,8 +1,7 @@
 -- Claim: fields that were taken one by one until none is left are all fields of the line, and where
 -- others are left, or more were to be taken, the line has another number of fields (`all` and
--- `other` of `three-taken` and its likes for the tables' numbers of fields). Way: field by field,
--- what is left before follows from what is left then (`none-left`), and the other way round
--- (`all-taken`).
+-- `other` of `are-taken`). Way: field by field, what is left before follows from what is left then
+-- (`none-left`), and the other way round (`all-taken`).
 use Rattle.std.proofs.Common.{◌≡◌, ◌≢◌, ◌==◌, ℕ, false, List, [], ◌∷◌, length, Option, Some, refl, sym, subst, ◌∙◌, arith}
 use Rattle.std.proofs.lemmas.Bool.{ne_eqb}
 use Rattle.acct_text.specs.Bytes.{colon}
@@ -61,123 +60,37 @@ pub record AreTakenOf (count : ℕ) (line : List ℕ) (fields : List (List ℕ))
   -- else it has another number of them
   pub other : left ≢ Some [] → (length (fields_of line) == count) ≡ false
 
--- so they do
-are-taken :
-    (line : List ℕ) (fields : List (List ℕ)) (left : FieldsLeft)
-    → AreTaken (Some (fields_of line)) fields left
+-- fields that were taken, one before the others
+pub record AreInTurn (before : FieldsLeft) (fields : List (List ℕ)) (left : FieldsLeft)
+    : Type 0 where
+  taken : AreTaken before fields left
+
+infixr 5 ◌before◌
+-- one field, and the others
+pub ◌before◌ :
+    {field : List ℕ} {fields : List (List ℕ)} {before between left : FieldsLeft}
+    → IsTaken before field between
+    → AreInTurn between fields left
+    → AreInTurn before (field ∷ fields) left
+◌before◌ is others = record { taken = (_, (is, others.taken)) }
+
+-- no other
+pub no_more : {left : FieldsLeft} → AreInTurn left [] left
+no_more = record { taken = refl }
+
+-- such fields of the line tell that of it
+pub are-taken :
+    (line : List ℕ) {fields : List (List ℕ)} {left : FieldsLeft}
+    → AreInTurn (Some (fields_of line)) fields left
     → AreTakenOf (length fields) line fields left
-are-taken line fields left from = record {
+are-taken line {fields} {left} from = record {
   all = λ none. record {
     cut =
         let same : Some (fields_of line) ≡ Some fields =
-        none-left _ fields (subst (AreTaken (Some (fields_of line)) fields) none from)
+        none-left _ fields (subst (AreTaken (Some (fields_of line)) fields) none from.taken)
         in cc;
     counted = refl;
   };
   other = λ some. ne_eqb _ _
-      (λ counted. some (all-taken _ left (fields_of line) fields refl from counted));
+      (λ counted. some (all-taken _ left (fields_of line) fields refl from.taken counted));
 }
-
--- three fields
-pub three-taken :
-    (line : List ℕ) {a b c : List ℕ} {r1 r2 r3 : FieldsLeft}
-    → IsTaken (Some (fields_of line)) a r1
-    → IsTaken r1 b r2
-    → IsTaken r2 c r3
-    → AreTakenOf 3 line (a ∷ b ∷ c ∷ []) r3
-three-taken line {a = a} {b = b} {c = c} t1 t2 t3 =
-    are-taken line (a ∷ b ∷ c ∷ []) _ (_, (t1, (_, (t2, (_, (t3, refl))))))
-
--- four fields
-pub four-taken :
-    (line : List ℕ) {a b c d : List ℕ} {r1 r2 r3 r4 : FieldsLeft}
-    → IsTaken (Some (fields_of line)) a r1
-    → IsTaken r1 b r2
-    → IsTaken r2 c r3
-    → IsTaken r3 d r4
-    → AreTakenOf 4 line (a ∷ b ∷ c ∷ d ∷ []) r4
-four-taken line {a = a} {b = b} {c = c} {d = d} t1 t2 t3 t4 =
-    are-taken line (a ∷ b ∷ c ∷ d ∷ []) _ (_, (t1, (_, (t2, (_, (t3, (_, (t4, refl))))))))
-
--- seven fields
-pub seven-taken :
-    (line : List ℕ) {a b c d e f g : List ℕ} {r1 r2 r3 r4 r5 r6 r7 : FieldsLeft}
-    → IsTaken (Some (fields_of line)) a r1
-    → IsTaken r1 b r2
-    → IsTaken r2 c r3
-    → IsTaken r3 d r4
-    → IsTaken r4 e r5
-    → IsTaken r5 f r6
-    → IsTaken r6 g r7
-    → AreTakenOf 7 line (a ∷ b ∷ c ∷ d ∷ e ∷ f ∷ g ∷ []) r7
-seven-taken line {a = a} {b = b} {c = c} {d = d} {e = e} {f = f} {g = g} t1 t2 t3 t4 t5 t6 t7 =
-    are-taken line (a ∷ b ∷ c ∷ d ∷ e ∷ f ∷ g ∷ []) _
-    (_, (t1, (_, (t2, (_, (t3, (_, (t4, (_, (t5, (_, (t6, (_, (t7, refl))))))))))))))
-
--- nine fields
-pub nine-taken :
-    (line : List ℕ) {a b c d e f g h i : List ℕ} {r1 r2 r3 r4 r5 r6 r7 r8 r9 : FieldsLeft}
-    → IsTaken (Some (fields_of line)) a r1
-    → IsTaken r1 b r2
-    → IsTaken r2 c r3
-    → IsTaken r3 d r4
-    → IsTaken r4 e r5
-    → IsTaken r5 f r6
-    → IsTaken r6 g r7
-    → IsTaken r7 h r8
-    → IsTaken r8 i r9
-    → AreTakenOf 9 line (a ∷ b ∷ c ∷ d ∷ e ∷ f ∷ g ∷ h ∷ i ∷ []) r9
-nine-taken line {a = a} {b = b} {c = c} {d = d} {e = e} {f = f} {g = g} {h = h} {i = i}
-    t1 t2 t3 t4 t5 t6 t7 t8 t9 =
-    are-taken line (a ∷ b ∷ c ∷ d ∷ e ∷ f ∷ g ∷ h ∷ i ∷ []) _ (
-      _,
-      (
-        t1,
-        (
-          _,
-          (
-            t2,
-            (
-              _,
-              (
-                t3,
-                (
-                  _,
-                  (
-                    t4,
-                    (
-                      _,
-                      (
-                        t5,
-                        (
-                          _,
-                          (
-                            t6,
-                            (
-                              _,
-                              (
-                                t7,
-                                (
-                                  _,
-                                  (
-                                    t8,
-                                    (
-                                      _,
-                                      (t9, refl),
-                                    ),
-                                  ),
-                                ),
-                              ),
-                            ),
-                          ),
-                        ),
-                      ),
-                    ),
-                  ),
-                ),
-              ),
-            ),
-          ),
-        ),
-      ),
-    )

@@ -1,55 +1,54 @@
-use Rattle.std.proofs.Common.{refl}
-use Rattle.acct_lines.proofs.PasswdFields.{passwd-read, bad-uid, bad-gid, no-name}
+use Rattle.std.proofs.Common.{refl, [], ◌∷◌}
+use Rattle.account_formats.specs.Records.{read_id}
+use Rattle.acct_lines.specs.Fields.{AreFields}
+use Rattle.acct_lines.proofs.FirstFault.{passwd-first, unnamed, unread, was-read}
+use Rattle.acct_lines.proofs.PasswdFields.{passwd-read}
 use Rattle.acct_lines.proofs.Read.{told-first}
-use Rattle.acct_lines.proofs.Taken.{seven-taken}
+use Rattle.acct_lines.proofs.Taken.{◌before◌, are-taken, no_more}
 use Rattle.acct_lines.proofs.passwd.PasswdLine.read.Goals as goal
+use Rattle.acct_lines.proofs.passwd.PasswdLine.read.Goals.{In_ok-end}
+
+-- the line has the seven fields that were taken
+fields : (c : In_ok-end) → AreFields 7 c.args.line.now (c.take-name.result.now
+    ∷ c.take-password.result.now ∷ c.take-uid.result.now ∷ c.take-gid.result.now
+    ∷ c.take-comment.result.now ∷ c.take-home.result.now ∷ c.take-shell.result.now ∷ [])
+fields c =
+    (are-taken c.args.line.now (c.take-name.ensures before c.take-password.ensures
+    before c.take-uid.ensures before c.take-gid.ensures before c.take-comment.ensures
+    before c.take-home.ensures before c.take-shell.ensures before no_more)).all c.in_ok-end.ensures
 
 pub returns : goal.returns
 returns c =
-    let taken =
-    seven-taken c.args.line.now c.take-name.ensures c.take-password.ensures c.take-uid.ensures
-    c.take-gid.ensures c.take-comment.ensures c.take-home.ensures c.take-shell.ensures
-    in
-    passwd-read c.args.line.now _ _
-    (taken.all c.in_ok-end.ensures)
+    passwd-read c.args.line.now _ _ (fields (goal.at.returns c).In_ok-end)
     c.in_ok-uid.ensures c.in_ok-gid.ensures c.in_ok-name.ensures.whole c.in_ok-name.ensures.some
     refl refl refl refl
 
 pub returns-in_err-end : goal.returns-in_err-end
 returns-in_err-end c =
     let taken =
-    seven-taken c.args.line.now c.take-name.ensures c.take-password.ensures c.take-uid.ensures
-    c.take-gid.ensures c.take-comment.ensures c.take-home.ensures c.take-shell.ensures
+    are-taken c.args.line.now (c.take-name.ensures before c.take-password.ensures
+    before c.take-uid.ensures before c.take-gid.ensures before c.take-comment.ensures
+    before c.take-home.ensures before c.take-shell.ensures before no_more)
     in
     told-first _ _ _ _ c.from_residual.ensures.1
     (rw (taken.other c.in_err-end.ensures.other, c.in_err-end.ensures.told) refl)
 
 pub returns-in_err-uid : goal.returns-in_err-uid
 returns-in_err-uid c =
-    let taken =
-    seven-taken c.args.line.now c.take-name.ensures c.take-password.ensures c.take-uid.ensures
-    c.take-gid.ensures c.take-comment.ensures c.take-home.ensures c.take-shell.ensures
-    in
-    told-first _ _ _ _ c.from_residual-in_err-uid.ensures.1 (bad-uid c.args.line.now _
-    (taken.all c.in_ok-end.ensures)
-    _ c.in_err-uid.ensures)
+    told-first _ _ _ _ c.from_residual-in_err-uid.ensures.1
+    (passwd-first (fields (goal.at.returns-in_err-uid c).In_ok-end)
+    (unread read_id c.in_err-uid.ensures))
 
 pub returns-in_err-gid : goal.returns-in_err-gid
 returns-in_err-gid c =
-    let taken =
-    seven-taken c.args.line.now c.take-name.ensures c.take-password.ensures c.take-uid.ensures
-    c.take-gid.ensures c.take-comment.ensures c.take-home.ensures c.take-shell.ensures
-    in
-    told-first _ _ _ _ c.from_residual-in_err-gid.ensures.1 (bad-gid c.args.line.now _
-    (taken.all c.in_ok-end.ensures)
-    _ _ c.in_ok-uid.ensures c.in_err-gid.ensures)
+    told-first _ _ _ _ c.from_residual-in_err-gid.ensures.1
+    (passwd-first (fields (goal.at.returns-in_err-gid c).In_ok-end)
+    (was-read read_id c.in_ok-uid.ensures
+    (unread read_id c.in_err-gid.ensures)))
 
 pub returns-in_err-name : goal.returns-in_err-name
 returns-in_err-name c =
-    let taken =
-    seven-taken c.args.line.now c.take-name.ensures c.take-password.ensures c.take-uid.ensures
-    c.take-gid.ensures c.take-comment.ensures c.take-home.ensures c.take-shell.ensures
-    in
-    told-first _ _ _ _ c.from_residual-in_err-name.ensures.1 (no-name c.args.line.now _
-    (taken.all c.in_ok-end.ensures)
-    _ _ _ c.in_ok-uid.ensures c.in_ok-gid.ensures c.in_err-name.ensures)
+    told-first _ _ _ _ c.from_residual-in_err-name.ensures.1
+    (passwd-first (fields (goal.at.returns-in_err-name c).In_ok-end)
+    (was-read read_id c.in_ok-uid.ensures (was-read read_id c.in_ok-gid.ensures
+    (unnamed c.in_err-name.ensures))))

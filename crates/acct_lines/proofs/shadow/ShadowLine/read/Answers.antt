@@ -1,19 +1,27 @@
-use Rattle.std.proofs.Common.{refl}
+use Rattle.std.proofs.Common.{refl, [], ◌∷◌}
+use Rattle.account_formats.specs.Records.{read_days}
+use Rattle.acct_lines.specs.Fields.{AreFields}
+use Rattle.acct_lines.proofs.FirstFault.{shadow-first, unnamed, unread, was-read}
 use Rattle.acct_lines.proofs.ShadowFields.{shadow-read}
-use Rattle.acct_lines.proofs.ShadowFaults.{bad-last_change, bad-minimum, bad-maximum, bad-warning, bad-inactive, bad-expiration, no-name}
 use Rattle.acct_lines.proofs.Read.{told-first}
-use Rattle.acct_lines.proofs.Taken.{nine-taken}
+use Rattle.acct_lines.proofs.Taken.{◌before◌, are-taken, no_more}
 use Rattle.acct_lines.proofs.shadow.ShadowLine.read.Goals as goal
+use Rattle.acct_lines.proofs.shadow.ShadowLine.read.Goals.{In_ok-end}
+
+-- the line has the nine fields that were taken
+fields : (c : In_ok-end) → AreFields 9 c.args.line.now (c.take-name.result.now
+    ∷ c.take-hash.result.now ∷ c.take-last_change.result.now ∷ c.take-minimum.result.now
+    ∷ c.take-maximum.result.now ∷ c.take-warning.result.now ∷ c.take-inactive.result.now
+    ∷ c.take-expiration.result.now ∷ c.take-rest.result.now ∷ [])
+fields c =
+    (are-taken c.args.line.now (c.take-name.ensures before c.take-hash.ensures
+    before c.take-last_change.ensures before c.take-minimum.ensures before c.take-maximum.ensures
+    before c.take-warning.ensures before c.take-inactive.ensures before c.take-expiration.ensures
+    before c.take-rest.ensures before no_more)).all c.in_ok-end.ensures
 
 pub returns : goal.returns
 returns c =
-    let taken =
-    nine-taken c.args.line.now c.take-name.ensures c.take-hash.ensures
-    c.take-last_change.ensures c.take-minimum.ensures c.take-maximum.ensures
-    c.take-warning.ensures c.take-inactive.ensures c.take-expiration.ensures c.take-rest.ensures
-    in
-    shadow-read c.args.line.now _ _
-    (taken.all c.in_ok-end.ensures)
+    shadow-read c.args.line.now _ _ (fields (goal.at.returns c).In_ok-end)
     c.in_ok-last_change.ensures c.in_ok-minimum.ensures c.in_ok-maximum.ensures
     c.in_ok-warning.ensures c.in_ok-inactive.ensures c.in_ok-expiration.ensures
     c.in_ok-name.ensures.whole c.in_ok-name.ensures.some refl refl
@@ -21,92 +29,64 @@ returns c =
 pub returns-in_err-end : goal.returns-in_err-end
 returns-in_err-end c =
     let taken =
-    nine-taken c.args.line.now c.take-name.ensures c.take-hash.ensures
-    c.take-last_change.ensures c.take-minimum.ensures c.take-maximum.ensures
-    c.take-warning.ensures c.take-inactive.ensures c.take-expiration.ensures c.take-rest.ensures
+    are-taken c.args.line.now (c.take-name.ensures before c.take-hash.ensures
+    before c.take-last_change.ensures before c.take-minimum.ensures before c.take-maximum.ensures
+    before c.take-warning.ensures before c.take-inactive.ensures before c.take-expiration.ensures
+    before c.take-rest.ensures before no_more)
     in
     told-first _ _ _ _ c.from_residual.ensures.1
     (rw (taken.other c.in_err-end.ensures.other, c.in_err-end.ensures.told) refl)
 
 pub returns-in_err-last_change : goal.returns-in_err-last_change
 returns-in_err-last_change c =
-    let taken =
-    nine-taken c.args.line.now c.take-name.ensures c.take-hash.ensures
-    c.take-last_change.ensures c.take-minimum.ensures c.take-maximum.ensures
-    c.take-warning.ensures c.take-inactive.ensures c.take-expiration.ensures c.take-rest.ensures
-    in
     told-first _ _ _ _ c.from_residual-in_err-last_change.ensures.1
-    (bad-last_change c.args.line.now _
-    (taken.all c.in_ok-end.ensures)
-    _ c.in_err-last_change.ensures)
+    (shadow-first (fields (goal.at.returns-in_err-last_change c).In_ok-end)
+    (unread read_days c.in_err-last_change.ensures))
 
 pub returns-in_err-minimum : goal.returns-in_err-minimum
 returns-in_err-minimum c =
-    let taken =
-    nine-taken c.args.line.now c.take-name.ensures c.take-hash.ensures
-    c.take-last_change.ensures c.take-minimum.ensures c.take-maximum.ensures
-    c.take-warning.ensures c.take-inactive.ensures c.take-expiration.ensures c.take-rest.ensures
-    in
-    told-first _ _ _ _ c.from_residual-in_err-minimum.ensures.1 (bad-minimum c.args.line.now _
-    (taken.all c.in_ok-end.ensures)
-    _ _ c.in_ok-last_change.ensures c.in_err-minimum.ensures)
+    told-first _ _ _ _ c.from_residual-in_err-minimum.ensures.1
+    (shadow-first (fields (goal.at.returns-in_err-minimum c).In_ok-end)
+    (was-read read_days c.in_ok-last_change.ensures
+    (unread read_days c.in_err-minimum.ensures)))
 
 pub returns-in_err-maximum : goal.returns-in_err-maximum
 returns-in_err-maximum c =
-    let taken =
-    nine-taken c.args.line.now c.take-name.ensures c.take-hash.ensures
-    c.take-last_change.ensures c.take-minimum.ensures c.take-maximum.ensures
-    c.take-warning.ensures c.take-inactive.ensures c.take-expiration.ensures c.take-rest.ensures
-    in
-    told-first _ _ _ _ c.from_residual-in_err-maximum.ensures.1 (bad-maximum c.args.line.now _
-    (taken.all c.in_ok-end.ensures)
-    _ _ _ c.in_ok-last_change.ensures c.in_ok-minimum.ensures c.in_err-maximum.ensures)
+    told-first _ _ _ _ c.from_residual-in_err-maximum.ensures.1
+    (shadow-first (fields (goal.at.returns-in_err-maximum c).In_ok-end)
+    (was-read read_days c.in_ok-last_change.ensures (was-read read_days c.in_ok-minimum.ensures
+    (unread read_days c.in_err-maximum.ensures))))
 
 pub returns-in_err-warning : goal.returns-in_err-warning
 returns-in_err-warning c =
-    let taken =
-    nine-taken c.args.line.now c.take-name.ensures c.take-hash.ensures
-    c.take-last_change.ensures c.take-minimum.ensures c.take-maximum.ensures
-    c.take-warning.ensures c.take-inactive.ensures c.take-expiration.ensures c.take-rest.ensures
-    in
-    told-first _ _ _ _ c.from_residual-in_err-warning.ensures.1 (bad-warning c.args.line.now _
-    (taken.all c.in_ok-end.ensures)
-    _ _ _ _ c.in_ok-last_change.ensures c.in_ok-minimum.ensures c.in_ok-maximum.ensures
-    c.in_err-warning.ensures)
+    told-first _ _ _ _ c.from_residual-in_err-warning.ensures.1
+    (shadow-first (fields (goal.at.returns-in_err-warning c).In_ok-end)
+    (was-read read_days c.in_ok-last_change.ensures (was-read read_days c.in_ok-minimum.ensures
+    (was-read read_days c.in_ok-maximum.ensures
+    (unread read_days c.in_err-warning.ensures)))))
 
 pub returns-in_err-inactive : goal.returns-in_err-inactive
 returns-in_err-inactive c =
-    let taken =
-    nine-taken c.args.line.now c.take-name.ensures c.take-hash.ensures
-    c.take-last_change.ensures c.take-minimum.ensures c.take-maximum.ensures
-    c.take-warning.ensures c.take-inactive.ensures c.take-expiration.ensures c.take-rest.ensures
-    in
-    told-first _ _ _ _ c.from_residual-in_err-inactive.ensures.1 (bad-inactive c.args.line.now _
-    (taken.all c.in_ok-end.ensures)
-    _ _ _ _ _ c.in_ok-last_change.ensures c.in_ok-minimum.ensures c.in_ok-maximum.ensures
-    c.in_ok-warning.ensures c.in_err-inactive.ensures)
+    told-first _ _ _ _ c.from_residual-in_err-inactive.ensures.1
+    (shadow-first (fields (goal.at.returns-in_err-inactive c).In_ok-end)
+    (was-read read_days c.in_ok-last_change.ensures (was-read read_days c.in_ok-minimum.ensures
+    (was-read read_days c.in_ok-maximum.ensures (was-read read_days c.in_ok-warning.ensures
+    (unread read_days c.in_err-inactive.ensures))))))
 
 pub returns-in_err-expiration : goal.returns-in_err-expiration
 returns-in_err-expiration c =
-    let taken =
-    nine-taken c.args.line.now c.take-name.ensures c.take-hash.ensures
-    c.take-last_change.ensures c.take-minimum.ensures c.take-maximum.ensures
-    c.take-warning.ensures c.take-inactive.ensures c.take-expiration.ensures c.take-rest.ensures
-    in
-    told-first _ _ _ _ c.from_residual-in_err-expiration.ensures.1 (bad-expiration c.args.line.now _
-    (taken.all c.in_ok-end.ensures)
-    _ _ _ _ _ _ c.in_ok-last_change.ensures c.in_ok-minimum.ensures c.in_ok-maximum.ensures
-    c.in_ok-warning.ensures c.in_ok-inactive.ensures c.in_err-expiration.ensures)
+    told-first _ _ _ _ c.from_residual-in_err-expiration.ensures.1
+    (shadow-first (fields (goal.at.returns-in_err-expiration c).In_ok-end)
+    (was-read read_days c.in_ok-last_change.ensures (was-read read_days c.in_ok-minimum.ensures
+    (was-read read_days c.in_ok-maximum.ensures (was-read read_days c.in_ok-warning.ensures
+    (was-read read_days c.in_ok-inactive.ensures
+    (unread read_days c.in_err-expiration.ensures)))))))
 
 pub returns-in_err-name : goal.returns-in_err-name
 returns-in_err-name c =
-    let taken =
-    nine-taken c.args.line.now c.take-name.ensures c.take-hash.ensures
-    c.take-last_change.ensures c.take-minimum.ensures c.take-maximum.ensures
-    c.take-warning.ensures c.take-inactive.ensures c.take-expiration.ensures c.take-rest.ensures
-    in
-    told-first _ _ _ _ c.from_residual-in_err-name.ensures.1 (no-name c.args.line.now _
-    (taken.all c.in_ok-end.ensures)
-    _ _ _ _ _ _ c.in_ok-last_change.ensures c.in_ok-minimum.ensures c.in_ok-maximum.ensures
-    c.in_ok-warning.ensures c.in_ok-inactive.ensures c.in_ok-expiration.ensures _
-    c.in_err-name.ensures)
+    told-first _ _ _ _ c.from_residual-in_err-name.ensures.1
+    (shadow-first (fields (goal.at.returns-in_err-name c).In_ok-end)
+    (was-read read_days c.in_ok-last_change.ensures (was-read read_days c.in_ok-minimum.ensures
+    (was-read read_days c.in_ok-maximum.ensures (was-read read_days c.in_ok-warning.ensures
+    (was-read read_days c.in_ok-inactive.ensures (was-read read_days c.in_ok-expiration.ensures
+    (unnamed c.in_err-name.ensures))))))))
