@@ -1,4 +1,7 @@
--- A record whose fields a line can hold prints as one line which reads as the same record.
+-- Claim: a record whose fields a line can hold prints as one line which reads as the same record
+-- (`passwd-is-written` and its likes). Way: each printed field can stand in a line (`number-field`,
+-- `names-field`, `days-field`); such fields make one line (`fields-line`) that is cut into them
+-- (`fields-cut`), and each reads as what was printed.
 use Rattle.std.proofs.Common.{◌≡◌, ◌≢◌, ℕ, ◌+◌, ◌<◌, ◌≤◌, ◌^◌, List, [], ◌∷◌, ◌++◌, refl, sym, ap, subst, arith, inl, lt_irrefl, lit<, lit≤}
 use Rattle.std.specs.Prelude.{Option, Some, None, decimal}
 use Rattle.std.specs.List.{join_with_byte, AllByRecursion}
@@ -11,12 +14,12 @@ use Rattle.account_formats.specs.declared.records.GroupRecord.{GroupRecord}
 use Rattle.account_formats.specs.declared.records.GshadowRecord.{GshadowRecord}
 use Rattle.account_formats.specs.declared.records.SubidRecord.{SubidRecord}
 use Rattle.acct_text.specs.Bytes.{newline, colon}
-use Rattle.acct_text.specs.Pieces.{Lacks}
+use Rattle.acct_text.specs.Pieces.{Lacks, AreCutAt, line_of}
 use Rattle.account_formats.specs.Text.{comma, nonempty}
 use Rattle.account_formats.specs.Records.{greatest_id, greatest_days, print_names, print_days, print_passwd, print_shadow, print_group, print_gshadow, print_subid, passwd_format, shadow_format, group_format, gshadow_format, subid_format}
 use Rattle.acct_text.specs.Numbers.{IsNumber}
-use Rattle.account_formats.specs.Reads.{IsDays, AreNames, ReadsPasswd, ReadsShadow, ReadsGroup, ReadsGshadow, ReadsSubid}
-use Rattle.account_formats.specs.Written.{IsWritten, IsListed, IsDaysNumber, IsPasswd, IsShadow, IsGroup, IsGshadow, IsSubid}
+use Rattle.account_formats.specs.Reads.{IsDays, AreNames}
+use Rattle.account_formats.specs.Written.{IsWritten, IsField, IsListed, IsDaysNumber, IsPasswd, IsShadow, IsGroup, IsGshadow, IsSubid}
 use Rattle.account_formats.proofs.ReadsLaws.{passwd-found, shadow-found, group-found, gshadow-found, subid-found}
 
 -- ---- Bytes that a text lacks
@@ -27,7 +30,7 @@ lacks-append c [] b no_a no_b = no_b
 lacks-append c (x ∷ a) b no_a no_b = (no_a.0, lacks-append c a b no_a.1 no_b)
 
 -- pieces that lack a byte lack it joined, if the separator is another
-pub lacks-join :
+lacks-join :
     (c separator : ℕ)
     → separator ≢ c
     → (pieces : List (List ℕ))
@@ -39,6 +42,16 @@ lacks-join c separator other (piece ∷ next ∷ rest) lack =
     lacks-append c piece (separator ∷ join_with_byte separator (next ∷ rest)) lack.0
     (other, lacks-join c separator other (next ∷ rest) lack.1)
 
+-- texts lack what each text of their kind lacks
+all-lack :
+    (c : ℕ) (IsOne : List ℕ → Type 0)
+    → ((text : List ℕ) → IsOne text → Lacks c text)
+    → (texts : List (List ℕ))
+    → AllByRecursion IsOne texts
+    → AllByRecursion (Lacks c) texts
+all-lack c IsOne each [] are = tt
+all-lack c IsOne each (text ∷ texts) are = (each text are.0, all-lack c IsOne each texts are.1)
+
 -- digits lack a byte that is none
 digits-lack : (c : ℕ) (text : List ℕ) → 10 ≤ digit_value c → AllDigits 10 text → Lacks c text
 digits-lack c [] no_digit all = tt
@@ -47,16 +60,6 @@ digits-lack c (b ∷ text) no_digit all = (
       (omega (arith, small, no_digit))),
   digits-lack c text no_digit all.1,
 )
-
--- and so does a number as it is printed
-pub decimal-lacks :
-    (c n bound : ℕ)
-    → 10 ≤ digit_value c
-    → bound < 2 ^ 64
-    → n ≤ bound
-    → Lacks c (decimal n)
-decimal-lacks c n bound no_digit small within =
-    digits-lack c (decimal n) no_digit (decimal_is_IsNumeral n (omega (arith, small, within))).0.1
 
 -- ---- Fields
 
@@ -68,6 +71,17 @@ decimal-number bound n small within = record {
   bounded = within;
 }
 
+-- a number can stand in a field
+number-field : {bound n : ℕ} {text : List ℕ} → IsNumber bound text n → IsField text
+number-field {text = text} is = record {
+  no_colon = digits-lack colon text (lit≤ tt) is.digits.1;
+  no_newline = digits-lack newline text (lit≤ tt) is.digits.1;
+}
+
+-- a printed ID reads as itself
+id-number : (id : ℕ) → id ≤ greatest_id → IsNumber greatest_id (decimal id) id
+id-number id = decimal-number greatest_id id (lit< tt)
+
 -- names that a list can hold are all kept when it is read
 names-nonempty : (names : List (List ℕ)) → AllByRecursion IsListed names → nonempty names ≡ names
 names-nonempty [] listed = refl
@@ -75,18 +89,8 @@ names-nonempty ([] ∷ names) listed = absurd (lt_irrefl 0 listed.0.name_field.s
 names-nonempty ((b ∷ name) ∷ names) listed =
     ap (λ rest. (b ∷ name) ∷ rest) (names-nonempty names listed.1)
 
--- they lack what each of them lacks
-names-lack :
-    (c : ℕ)
-    → ((name : List ℕ) → IsListed name → Lacks c name)
-    → (names : List (List ℕ))
-    → AllByRecursion IsListed names
-    → AllByRecursion (Lacks c) names
-names-lack c each [] listed = tt
-names-lack c each (name ∷ names) listed = (each name listed.0, names-lack c each names listed.1)
-
 -- a printed list of names lists them
-pub names-written :
+names-written :
     (names : List (List ℕ))
     → AllByRecursion IsListed names
     → AreNames (print_names names) names
@@ -99,313 +103,168 @@ names-written (name ∷ names) listed = record {
   pieces = name ∷ names;
   cut = record {
     joined = refl;
-    apart = names-lack comma (λ name is. is.no_comma) (name ∷ names)
-        listed;
+    apart = all-lack comma IsListed (λ name is. is.no_comma) (name ∷ names) listed;
     some = omega arith;
   };
   dropped = sym (names-nonempty (name ∷ names) listed);
 }
 
--- a printed list of names has no colon
-pub names-no_colon :
+-- and can stand in a field
+names-field :
     (names : List (List ℕ))
     → AllByRecursion IsListed names
-    → Lacks colon (print_names names)
-names-no_colon names listed = lacks-join colon comma (λ e. cc) names
-    (names-lack colon (λ name is. is.name_field.field.no_colon) names listed)
-
--- nor a newline
-pub names-no_newline :
-    (names : List (List ℕ))
-    → AllByRecursion IsListed names
-    → Lacks newline (print_names names)
-names-no_newline names listed = lacks-join newline comma (λ e. cc) names
-    (names-lack newline (λ name is. is.name_field.field.no_newline) names listed)
+    → IsField (print_names names)
+names-field names listed = record {
+  no_colon = lacks-join colon comma (λ e. cc) names
+      (all-lack colon IsListed (λ name is. is.name_field.field.no_colon) names listed);
+  no_newline = lacks-join newline comma (λ e. cc) names
+      (all-lack newline IsListed (λ name is. is.name_field.field.no_newline) names listed);
+}
 
 -- printed days say these
 days-written : (days : Option ℕ) → IsDaysNumber days → IsDays (print_days days) days
 days-written None within = inl refl
 days-written (Some days) within = decimal-number greatest_days days (lit< tt) within
 
--- printed days lack what is no digit
-days-lack :
-    (c : ℕ) (days : Option ℕ)
-    → 10 ≤ digit_value c
-    → IsDaysNumber days
-    → Lacks c (print_days days)
-days-lack c None no_digit within = tt
-days-lack c (Some days) no_digit within =
-    decimal-lacks c days greatest_days no_digit (lit< tt) within
+-- and can stand in a field
+days-field : (days : Option ℕ) → IsDaysNumber days → IsField (print_days days)
+days-field None within = record { no_colon = tt; no_newline = tt }
+days-field (Some days) within = number-field (decimal-number greatest_days days (lit< tt) within)
 
--- ---- passwd
+-- ---- Lines
 
--- a printed record of passwd is that record
-passwd-written : (r : PasswdRecord) → IsPasswd r → ReadsPasswd (print_passwd r) r
-passwd-written r is = record {
-  uid = decimal r.uid;
-  gid = decimal r.gid;
-  cut = record {
+-- texts that can stand in the fields of a line
+record AreFields (texts : List (List ℕ)) : Type 0 where
+  each : AllByRecursion IsField texts
+
+infixr 5 ◌beside◌
+-- one field beside others
+◌beside◌ :
+    {text : List ℕ} {texts : List (List ℕ)}
+    → IsField text
+    → AreFields texts
+    → AreFields (text ∷ texts)
+◌beside◌ is are = record { each = (is, are.each) }
+
+-- no field
+no_more : AreFields []
+no_more = record { each = tt }
+
+module _ (first : List ℕ) (rest : List (List ℕ)) (are : AreFields (first ∷ rest)) where
+  -- fields with a colon between each two are one line
+  fields-line : Lacks newline (line_of (first ∷ rest))
+  fields-line = lacks-join newline colon (λ e. cc) (first ∷ rest)
+      (all-lack newline IsField (λ field is. is.no_newline) (first ∷ rest) are.each)
+
+  -- which is cut into them
+  fields-cut : AreCutAt colon (line_of (first ∷ rest)) (first ∷ rest)
+  fields-cut = record {
     joined = refl;
-    apart = (
-      is.name.field.no_colon,
-      (
-        is.password.no_colon,
-        (
-          decimal-lacks colon r.uid greatest_id (lit≤ tt) (lit< tt) is.uid,
-          (
-            decimal-lacks colon r.gid greatest_id (lit≤ tt) (lit< tt) is.gid,
-            (is.comment.no_colon, (is.home.no_colon, (is.shell.no_colon, tt))),
-          ),
-        ),
-      ),
-    );
+    apart = all-lack colon IsField (λ field is. is.no_colon) (first ∷ rest) are.each;
     some = omega arith;
-  };
-  named = is.name.some;
-  uid_reads = decimal-number greatest_id r.uid (lit< tt) is.uid;
-  gid_reads = decimal-number greatest_id r.gid (lit< tt) is.gid;
-}
+  }
 
--- its text is one line, and reads as it
+-- ---- Records
+
+-- the text of a record of passwd is one line, and reads as the record
 pub passwd-is-written : (r : PasswdRecord) → IsPasswd r → IsWritten passwd_format r
-passwd-is-written r is = record {
-  one_line = lacks-join newline colon (λ e. cc)
-      (r.name ∷ r.password ∷ decimal r.uid ∷ decimal r.gid ∷ r.comment ∷ r.home ∷ r.shell ∷ []) (
-        is.name.field.no_newline,
-        (
-          is.password.no_newline,
-          (
-            decimal-lacks newline r.uid greatest_id (lit≤ tt) (lit< tt) is.uid,
-            (
-              decimal-lacks newline r.gid greatest_id (lit≤ tt) (lit< tt) is.gid,
-              (is.comment.no_newline, (is.home.no_newline, (is.shell.no_newline, tt))),
-            ),
-          ),
-        ),
-      );
-  reads = passwd-found (print_passwd r) r (passwd-written r is);
-}
+passwd-is-written r is =
+    let uid = id-number r.uid is.uid
+    in let gid = id-number r.gid is.gid
+    in let fields = is.name.field beside is.password beside number-field uid
+    beside number-field gid beside is.comment beside is.home beside is.shell beside no_more
+    in record {
+      one_line = fields-line _ _ fields;
+      reads = passwd-found (print_passwd r) r (record {
+        uid = decimal r.uid;
+        gid = decimal r.gid;
+        cut = fields-cut _ _ fields;
+        named = is.name.some;
+        uid_reads = uid;
+        gid_reads = gid;
+      });
+    }
 
--- ---- shadow
-
--- a printed record of shadow is that record
-shadow-written : (r : ShadowRecord) → IsShadow r → ReadsShadow (print_shadow r) r
-shadow-written r is = record {
-  last_change = print_days r.last_change;
-  minimum = print_days r.minimum;
-  maximum = print_days r.maximum;
-  warning = print_days r.warning;
-  inactive = print_days r.inactive;
-  expiration = print_days r.expiration;
-  cut = record {
-    joined = refl;
-    apart = (
-      is.name.field.no_colon,
-      (
-        is.hash.no_colon,
-        (
-          days-lack colon r.last_change (lit≤ tt) is.last_change,
-          (
-            days-lack colon r.minimum (lit≤ tt) is.minimum,
-            (
-              days-lack colon r.maximum (lit≤ tt) is.maximum,
-              (
-                days-lack colon r.warning (lit≤ tt) is.warning,
-                (
-                  days-lack colon r.inactive (lit≤ tt) is.inactive,
-                  (
-                    days-lack colon r.expiration (lit≤ tt) is.expiration,
-                    (is.rest.no_colon, tt),
-                  ),
-                ),
-              ),
-            ),
-          ),
-        ),
-      ),
-    );
-    some = omega arith;
-  };
-  named = is.name.some;
-  last_change_reads = days-written r.last_change is.last_change;
-  minimum_reads = days-written r.minimum is.minimum;
-  maximum_reads = days-written r.maximum is.maximum;
-  warning_reads = days-written r.warning is.warning;
-  inactive_reads = days-written r.inactive is.inactive;
-  expiration_reads = days-written r.expiration is.expiration;
-}
-
--- its text is one line, and reads as it
+-- that of shadow
 pub shadow-is-written : (r : ShadowRecord) → IsShadow r → IsWritten shadow_format r
-shadow-is-written r is = record {
-  one_line = lacks-join newline colon (λ e. cc)
-      (r.name ∷ r.hash ∷ print_days r.last_change ∷ print_days r.minimum ∷ print_days r.maximum
-      ∷ print_days r.warning ∷ print_days r.inactive ∷ print_days r.expiration ∷ r.rest ∷ []) (
-        is.name.field.no_newline,
-        (
-          is.hash.no_newline,
-          (
-            days-lack newline r.last_change (lit≤ tt) is.last_change,
-            (
-              days-lack newline r.minimum (lit≤ tt) is.minimum,
-              (
-                days-lack newline r.maximum (lit≤ tt) is.maximum,
-                (
-                  days-lack newline r.warning (lit≤ tt) is.warning,
-                  (
-                    days-lack newline r.inactive (lit≤ tt) is.inactive,
-                    (
-                      days-lack newline r.expiration (lit≤ tt) is.expiration,
-                      (is.rest.no_newline, tt),
-                    ),
-                  ),
-                ),
-              ),
-            ),
-          ),
-        ),
-      );
-  reads = shadow-found (print_shadow r) r (shadow-written r is);
-}
+shadow-is-written r is =
+    let fields = is.name.field beside is.hash beside days-field r.last_change is.last_change
+    beside days-field r.minimum is.minimum beside days-field r.maximum is.maximum
+    beside days-field r.warning is.warning beside days-field r.inactive is.inactive
+    beside days-field r.expiration is.expiration beside is.rest beside no_more
+    in record {
+      one_line = fields-line _ _ fields;
+      reads = shadow-found (print_shadow r) r (record {
+        last_change = print_days r.last_change;
+        minimum = print_days r.minimum;
+        maximum = print_days r.maximum;
+        warning = print_days r.warning;
+        inactive = print_days r.inactive;
+        expiration = print_days r.expiration;
+        cut = fields-cut _ _ fields;
+        named = is.name.some;
+        last_change_reads = days-written r.last_change is.last_change;
+        minimum_reads = days-written r.minimum is.minimum;
+        maximum_reads = days-written r.maximum is.maximum;
+        warning_reads = days-written r.warning is.warning;
+        inactive_reads = days-written r.inactive is.inactive;
+        expiration_reads = days-written r.expiration is.expiration;
+      });
+    }
 
--- ---- group
-
--- a printed record of group is that record
-group-written : (r : GroupRecord) → IsGroup r → ReadsGroup (print_group r) r
-group-written r is = record {
-  gid = decimal r.gid;
-  members = print_names r.members;
-  cut = record {
-    joined = refl;
-    apart = (
-      is.name.field.no_colon,
-      (
-        is.password.no_colon,
-        (
-          decimal-lacks colon r.gid greatest_id (lit≤ tt) (lit< tt) is.gid,
-          (names-no_colon r.members is.members, tt),
-        ),
-      ),
-    );
-    some = omega arith;
-  };
-  named = is.name.some;
-  gid_reads = decimal-number greatest_id r.gid (lit< tt) is.gid;
-  members_read = names-written r.members is.members;
-}
-
--- its text is one line, and reads as it
+-- that of group
 pub group-is-written : (r : GroupRecord) → IsGroup r → IsWritten group_format r
-group-is-written r is = record {
-  one_line = lacks-join newline colon (λ e. cc)
-      (r.name ∷ r.password ∷ decimal r.gid ∷ print_names r.members ∷ []) (
-        is.name.field.no_newline,
-        (
-          is.password.no_newline,
-          (
-            decimal-lacks newline r.gid greatest_id (lit≤ tt) (lit< tt) is.gid,
-            (names-no_newline r.members is.members, tt),
-          ),
-        ),
-      );
-  reads = group-found (print_group r) r (group-written r is);
-}
+group-is-written r is =
+    let gid = id-number r.gid is.gid
+    in let fields = is.name.field beside is.password beside number-field gid
+    beside names-field r.members is.members beside no_more
+    in record {
+      one_line = fields-line _ _ fields;
+      reads = group-found (print_group r) r (record {
+        gid = decimal r.gid;
+        members = print_names r.members;
+        cut = fields-cut _ _ fields;
+        named = is.name.some;
+        gid_reads = gid;
+        members_read = names-written r.members is.members;
+      });
+    }
 
--- ---- gshadow
-
--- a printed record of gshadow is that record
-gshadow-written : (r : GshadowRecord) → IsGshadow r → ReadsGshadow (print_gshadow r) r
-gshadow-written r is = record {
-  administrators = print_names r.administrators;
-  members = print_names r.members;
-  cut = record {
-    joined = refl;
-    apart = (
-      is.name.field.no_colon,
-      (
-        is.password.no_colon,
-        (
-          names-no_colon r.administrators is.administrators,
-          (names-no_colon r.members is.members, tt),
-        ),
-      ),
-    );
-    some = omega arith;
-  };
-  named = is.name.some;
-  administrators_read = names-written r.administrators is.administrators;
-  members_read = names-written r.members is.members;
-}
-
--- its text is one line, and reads as it
+-- that of gshadow
 pub gshadow-is-written : (r : GshadowRecord) → IsGshadow r → IsWritten gshadow_format r
-gshadow-is-written r is = record {
-  one_line = lacks-join newline colon (λ e. cc)
-      (r.name ∷ r.password ∷ print_names r.administrators ∷ print_names r.members ∷ []) (
-        is.name.field.no_newline,
-        (
-          is.password.no_newline,
-          (
-            names-no_newline r.administrators is.administrators,
-            (names-no_newline r.members is.members, tt),
-          ),
-        ),
-      );
-  reads = gshadow-found (print_gshadow r) r (gshadow-written r is);
-}
+gshadow-is-written r is =
+    let fields = is.name.field beside is.password
+    beside names-field r.administrators is.administrators
+    beside names-field r.members is.members beside no_more
+    in record {
+      one_line = fields-line _ _ fields;
+      reads = gshadow-found (print_gshadow r) r (record {
+        administrators = print_names r.administrators;
+        members = print_names r.members;
+        cut = fields-cut _ _ fields;
+        named = is.name.some;
+        administrators_read = names-written r.administrators is.administrators;
+        members_read = names-written r.members is.members;
+      });
+    }
 
--- the first ID of a range is one
-first-within : (r : SubidRecord) → IsSubid r → r.first ≤ greatest_id
-first-within r is = omega (arith, is.some, is.last)
-
--- and its count is at most that of all IDs
-count-within : (r : SubidRecord) → IsSubid r → r.count ≤ greatest_id + 1
-count-within r is = omega (arith, is.some, is.last)
-
--- ---- subid
-
--- a printed record of subuid or subgid is that record
-subid-written : (r : SubidRecord) → IsSubid r → ReadsSubid (print_subid r) r
-subid-written r is = record {
-  first = decimal r.first;
-  count = decimal r.count;
-  cut = record {
-    joined = refl;
-    apart = (
-      is.owner.field.no_colon,
-      (
-        decimal-lacks colon r.first greatest_id (lit≤ tt) (lit< tt)
-            (first-within r is),
-        (
-          decimal-lacks colon r.count (greatest_id + 1) (lit≤ tt) (lit< tt)
-              (count-within r is),
-          tt,
-        ),
-      ),
-    );
-    some = omega arith;
-  };
-  named = is.owner.some;
-  first_reads = decimal-number greatest_id r.first (lit< tt) (first-within r is);
-  count_reads = decimal-number (greatest_id + 1) r.count (lit< tt) (count-within r is);
-  some = is.some;
-  last = is.last;
-}
-
--- its text is one line, and reads as it
+-- that of subuid or subgid; its last ID bounds the first and the count
 pub subid-is-written : (r : SubidRecord) → IsSubid r → IsWritten subid_format r
-subid-is-written r is = record {
-  one_line = lacks-join newline colon (λ e. cc) (r.owner ∷ decimal r.first ∷ decimal r.count ∷ []) (
-    is.owner.field.no_newline,
-    (
-      decimal-lacks newline r.first greatest_id (lit≤ tt) (lit< tt)
-          (first-within r is),
-      (
-        decimal-lacks newline r.count (greatest_id + 1) (lit≤ tt) (lit< tt)
-            (count-within r is),
-        tt,
-      ),
-    ),
-  );
-  reads = subid-found (print_subid r) r (subid-written r is);
-}
+subid-is-written r is =
+    let first = id-number r.first (omega (arith, is.some, is.last))
+    in let count = decimal-number (greatest_id + 1) r.count (lit< tt)
+    (omega (arith, is.some, is.last))
+    in let fields = is.owner.field beside number-field first beside number-field count beside no_more
+    in record {
+      one_line = fields-line _ _ fields;
+      reads = subid-found (print_subid r) r (record {
+        first = decimal r.first;
+        count = decimal r.count;
+        cut = fields-cut _ _ fields;
+        named = is.owner.some;
+        first_reads = first;
+        count_reads = count;
+        some = is.some;
+        last = is.last;
+      });
+    }
