@@ -47,49 +47,59 @@ cut-lack :
 cut-lack c separator text pieces cut lacks =
     pieces-lack c separator pieces (subst (λ t. Lacks c t) (sym cut.joined) lacks)
 
--- pieces that aren't empty can stand in a list
-listed :
+-- pieces without `:` and newline can stand in fields
+pieces-field :
     (pieces : List (List ℕ))
     → AllByRecursion (Lacks colon) pieces
     → AllByRecursion (Lacks newline) pieces
+    → AllByRecursion IsField pieces
+pieces-field [] no_colon no_newline = tt
+pieces-field (piece ∷ rest) no_colon no_newline = (
+  record { no_colon = no_colon.0; no_newline = no_newline.0 },
+  pieces-field rest no_colon.1 no_newline.1,
+)
+
+-- the pieces of a line between colons can
+cut-field :
+    (text : List ℕ) (pieces : List (List ℕ))
+    → AreCutAt colon text pieces
+    → Lacks newline text
+    → AllByRecursion IsField pieces
+cut-field text pieces cut lacks =
+    pieces-field pieces cut.apart (cut-lack newline colon text pieces cut lacks)
+
+-- pieces that aren't empty can stand in a list
+listed :
+    (pieces : List (List ℕ))
+    → AllByRecursion IsField pieces
     → AllByRecursion (Lacks comma) pieces
     → AllByRecursion IsListed (nonempty pieces)
-listed [] no_colon no_newline no_comma = tt
-listed ([] ∷ rest) no_colon no_newline no_comma = listed rest no_colon.1 no_newline.1 no_comma.1
-listed ((b ∷ piece) ∷ rest) no_colon no_newline no_comma = (
+listed [] fields no_comma = tt
+listed ([] ∷ rest) fields no_comma = listed rest fields.1 no_comma.1
+listed ((b ∷ piece) ∷ rest) fields no_comma = (
   record {
-    name_field = record {
-      field = record {
-        no_colon = no_colon.0;
-        no_newline = no_newline.0;
-      };
-      some = omega arith;
-    };
+    name_field = record { field = fields.0; some = omega arith };
     no_comma = no_comma.0;
   },
-  listed rest no_colon.1 no_newline.1 no_comma.1,
+  listed rest fields.1 no_comma.1,
 )
 
 -- the names of a list field can stand in a list
 names-held :
-    (text : List ℕ) (names : List (List ℕ))
-    → Lacks colon text
-    → Lacks newline text
+    {text : List ℕ} {names : List (List ℕ)}
+    → IsField text
     → AreNames text names
     → AllByRecursion IsListed names
-names-held text names no_colon no_newline are =
+names-held {text = text} field are =
     subst (λ n. AllByRecursion IsListed n) (sym are.dropped)
-    (listed are.pieces (cut-lack colon comma text are.pieces are.cut no_colon)
-    (cut-lack newline comma text are.pieces are.cut no_newline) are.cut.apart)
+    (listed are.pieces (pieces-field are.pieces
+    (cut-lack colon comma text are.pieces are.cut field.no_colon)
+    (cut-lack newline comma text are.pieces are.cut field.no_newline)) are.cut.apart)
 
 -- a number of shadow is one that shadow holds
 days-held : (text : List ℕ) (days : Option ℕ) → IsDays text days → IsDaysNumber days
 days-held text None is = tt
 days-held text (Some n) is = is.bounded
-
--- a text without `:` and newline can stand in a field
-field : (text : List ℕ) → Lacks colon text → Lacks newline text → IsField text
-field text a b = record { no_colon = a; no_newline = b }
 
 -- ---- The five formats
 
@@ -100,18 +110,15 @@ passwd-held :
     → ReadsPasswd text r
     → IsPasswd r
 passwd-held text r lacks reads =
-    let no_newline = cut-lack newline colon text
-    (r.name ∷ r.password ∷ reads.uid ∷ reads.gid ∷ r.comment ∷ r.home ∷ r.shell
-    ∷ []) reads.cut lacks
-    in let no_colon = reads.cut.apart
+    let fields = cut-field _ _ reads.cut lacks
     in record {
-      name = record { field = field r.name no_colon.0 no_newline.0; some = reads.named };
-      password = field r.password no_colon.1.0 no_newline.1.0;
+      name = record { field = fields.0; some = reads.named };
+      password = fields.1.0;
       uid = reads.uid_reads.bounded;
       gid = reads.gid_reads.bounded;
-      comment = field r.comment no_colon.1.1.1.1.0 no_newline.1.1.1.1.0;
-      home = field r.home no_colon.1.1.1.1.1.0 no_newline.1.1.1.1.1.0;
-      shell = field r.shell no_colon.1.1.1.1.1.1.0 no_newline.1.1.1.1.1.1.0;
+      comment = fields.1.1.1.1.0;
+      home = fields.1.1.1.1.1.0;
+      shell = fields.1.1.1.1.1.1.0;
     }
 
 -- the records that lines of passwd hold
@@ -128,20 +135,17 @@ shadow-held :
     → ReadsShadow text r
     → IsShadow r
 shadow-held text r lacks reads =
-    let no_newline = cut-lack newline colon text
-    (r.name ∷ r.hash ∷ reads.last_change ∷ reads.minimum ∷ reads.maximum ∷ reads.warning
-    ∷ reads.inactive ∷ reads.expiration ∷ r.rest ∷ []) reads.cut lacks
-    in let no_colon = reads.cut.apart
+    let fields = cut-field _ _ reads.cut lacks
     in record {
-      name = record { field = field r.name no_colon.0 no_newline.0; some = reads.named };
-      hash = field r.hash no_colon.1.0 no_newline.1.0;
+      name = record { field = fields.0; some = reads.named };
+      hash = fields.1.0;
       last_change = days-held reads.last_change r.last_change reads.last_change_reads;
       minimum = days-held reads.minimum r.minimum reads.minimum_reads;
       maximum = days-held reads.maximum r.maximum reads.maximum_reads;
       warning = days-held reads.warning r.warning reads.warning_reads;
       inactive = days-held reads.inactive r.inactive reads.inactive_reads;
       expiration = days-held reads.expiration r.expiration reads.expiration_reads;
-      rest = field r.rest no_colon.1.1.1.1.1.1.1.1.0 no_newline.1.1.1.1.1.1.1.1.0;
+      rest = fields.1.1.1.1.1.1.1.1.0;
     }
 
 -- the records that lines of shadow hold
@@ -154,15 +158,12 @@ shadow-holds = record {
 -- what is read as a record of group can stand in a line of it
 group-held : (text : List ℕ) (r : GroupRecord) → Lacks newline text → ReadsGroup text r → IsGroup r
 group-held text r lacks reads =
-    let no_newline = cut-lack newline colon text
-    (r.name ∷ r.password ∷ reads.gid ∷ reads.members ∷ []) reads.cut lacks
-    in let no_colon = reads.cut.apart
+    let fields = cut-field _ _ reads.cut lacks
     in record {
-      name = record { field = field r.name no_colon.0 no_newline.0; some = reads.named };
-      password = field r.password no_colon.1.0 no_newline.1.0;
+      name = record { field = fields.0; some = reads.named };
+      password = fields.1.0;
       gid = reads.gid_reads.bounded;
-      members = names-held reads.members r.members no_colon.1.1.1.0
-          no_newline.1.1.1.0 reads.members_read;
+      members = names-held fields.1.1.1.0 reads.members_read;
     }
 
 -- the records that lines of group hold
@@ -179,16 +180,12 @@ gshadow-held :
     → ReadsGshadow text r
     → IsGshadow r
 gshadow-held text r lacks reads =
-    let no_newline = cut-lack newline colon text
-    (r.name ∷ r.password ∷ reads.administrators ∷ reads.members ∷ []) reads.cut lacks
-    in let no_colon = reads.cut.apart
+    let fields = cut-field _ _ reads.cut lacks
     in record {
-      name = record { field = field r.name no_colon.0 no_newline.0; some = reads.named };
-      password = field r.password no_colon.1.0 no_newline.1.0;
-      administrators = names-held reads.administrators r.administrators no_colon.1.1.0
-          no_newline.1.1.0 reads.administrators_read;
-      members = names-held reads.members r.members no_colon.1.1.1.0
-          no_newline.1.1.1.0 reads.members_read;
+      name = record { field = fields.0; some = reads.named };
+      password = fields.1.0;
+      administrators = names-held fields.1.1.0 reads.administrators_read;
+      members = names-held fields.1.1.1.0 reads.members_read;
     }
 
 -- the records that lines of gshadow hold
@@ -200,15 +197,11 @@ gshadow-holds = record {
 
 -- what is read as a record of subuid or subgid can stand in a line of it
 subid-held : (text : List ℕ) (r : SubidRecord) → Lacks newline text → ReadsSubid text r → IsSubid r
-subid-held text r lacks reads =
-    let no_newline = cut-lack newline colon text
-    (r.owner ∷ reads.first ∷ reads.count ∷ []) reads.cut lacks
-    in let no_colon = reads.cut.apart
-    in record {
-      owner = record { field = field r.owner no_colon.0 no_newline.0; some = reads.named };
-      some = reads.some;
-      last = reads.last;
-    }
+subid-held text r lacks reads = record {
+  owner = record { field = (cut-field _ _ reads.cut lacks).0; some = reads.named };
+  some = reads.some;
+  last = reads.last;
+}
 
 -- the records that lines of subuid and subgid hold
 pub subid-holds : Holds subid_format IsSubid
