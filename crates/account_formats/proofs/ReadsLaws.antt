@@ -1,5 +1,5 @@
 -- The reader of each format finds exactly the record that a text is.
-use Rattle.std.proofs.Common.{◌≡◌, ◌+◌, ◌-◌, ◌||◌, ℕ, ◌<◌, ◌≤◌, Bool, true, false, not, List, [], ◌∷◌, length, refl, ◌∙◌, ap, subst, lt_irrefl}
+use Rattle.std.proofs.Common.{◌≡◌, ◌+◌, ◌-◌, ◌||◌, ℕ, Bool, true, false, not, List, [], ◌∷◌, refl, ◌∙◌, ap, subst, lt_irrefl}
 use Rattle.std.specs.Prelude.{◌==◌, Option, Some, None, nat_le, option_map, if◌then◌else◌}
 use Rattle.std.proofs.lemmas.Bool.{ne_eqb, leb-true, le-leb}
 use Rattle.account_formats.specs.declared.records.PasswdRecord.{PasswdRecord}
@@ -9,28 +9,14 @@ use Rattle.account_formats.specs.declared.records.GshadowRecord.{GshadowRecord}
 use Rattle.account_formats.specs.declared.records.SubidRecord.{SubidRecord}
 use Rattle.acct_text.specs.Bytes.{colon, is_empty}
 use Rattle.acct_text.specs.Pieces.{cut_at, AreCutAt}
-use Rattle.acct_text.specs.Numbers.{number_within, IsNumber}
+use Rattle.acct_text.specs.Numbers.{number_within}
 use Rattle.account_formats.specs.Records.{greatest_id, read_id, read_days, read_names, passwd_format, passwd_of_fields, passwd_with, shadow_format, shadow_of_fields, shadow_with, group_format, group_of_fields, gshadow_format, gshadow_of_fields, subid_format, subid_of_fields, subid_with}
-use Rattle.account_formats.specs.Reads.{IsDays, AreNames, ReadsPasswd, ReadsShadow, ReadsGroup, ReadsGshadow, ReadsSubid}
+use Rattle.account_formats.specs.Reads.{ReadsPasswd, ReadsShadow, ReadsGroup, ReadsGshadow, ReadsSubid}
 use Rattle.account_formats.proofs.FieldReads.{names-found, names-are, days-found, days-is, some-number}
 use Rattle.acct_text.proofs.NumberLaws.{some-inj, empty-no, empty-some, number-found, number-is}
 use Rattle.acct_text.proofs.Cut.{cut_at-is, cut_at-only}
 
 -- ---- group
-
--- the fields of a record of group are that record
-group-fields : (name password gid members : List ℕ) (id : ℕ)
-    (names : List (List ℕ)) → 0 < length name
-    → IsNumber greatest_id gid id → AreNames members names
-    → group_of_fields (name ∷ password ∷ gid ∷ members ∷ [])
-    ≡ Some (record { name = name; password = password; gid = id; members = names })
-group-fields name password gid members id names named number are =
-    rw (
-      empty-no name named,
-      number-found greatest_id gid id number,
-      names-found
-          members names are,
-    ) refl
 
 -- a text that is a record of group reads as it
 pub group-found :
@@ -40,8 +26,11 @@ pub group-found :
 group-found text r reads =
     ap group_of_fields (cut_at-only colon text
     (r.name ∷ r.password ∷ reads.gid ∷ reads.members ∷ []) reads.cut)
-    ∙ group-fields r.name r.password reads.gid reads.members r.gid r.members reads.named
-    reads.gid_reads reads.members_read
+    ∙ (rw (
+      empty-no r.name reads.named,
+      number-found greatest_id reads.gid r.gid reads.gid_reads,
+      names-found reads.members r.members reads.members_read,
+    ) refl)
 
 -- what the fields of group read as, by what each reads as
 group-by : (text name password gid members : List ℕ) (r : GroupRecord)
@@ -94,26 +83,6 @@ group-is text r found = group-of text (cut_at colon text) r (cut_at-is colon tex
 
 -- ---- passwd
 
--- the fields of a record of passwd are that record
-passwd-fields : (name password uid gid comment home shell : List ℕ) (u g : ℕ) → 0 < length name
-    → IsNumber greatest_id uid u → IsNumber greatest_id gid g
-    → passwd_of_fields (name ∷ password ∷ uid ∷ gid ∷ comment ∷ home ∷ shell ∷ [])
-    ≡ Some (record {
-      name = name;
-      password = password;
-      uid = u;
-      gid = g;
-      comment = comment;
-      home = home;
-      shell = shell;
-    })
-passwd-fields name password uid gid comment home shell u g named is_uid is_gid =
-    rw (
-      number-found greatest_id uid u is_uid,
-      number-found greatest_id gid g is_gid,
-      empty-no name named,
-    ) refl
-
 -- a text that is a record of passwd reads as it
 pub passwd-found :
     (text : List ℕ) (r : PasswdRecord)
@@ -122,8 +91,11 @@ pub passwd-found :
 passwd-found text r reads =
     ap passwd_of_fields (cut_at-only colon text
     (r.name ∷ r.password ∷ reads.uid ∷ reads.gid ∷ r.comment ∷ r.home ∷ r.shell ∷ []) reads.cut)
-    ∙ passwd-fields r.name r.password reads.uid reads.gid r.comment r.home r.shell r.uid r.gid
-    reads.named reads.uid_reads reads.gid_reads
+    ∙ (rw (
+      number-found greatest_id reads.uid r.uid reads.uid_reads,
+      number-found greatest_id reads.gid r.gid reads.gid_reads,
+      empty-no r.name reads.named,
+    ) refl)
 
 -- what the fields of passwd read as, by what each reads as
 passwd-by :
@@ -135,10 +107,6 @@ passwd-by :
     → is_empty name ≡ empty
     → passwd_with name password u g comment home shell ≡ Some r
     → ReadsPasswd text r
-passwd-by text name password uid gid comment home shell r None g empty cut is_uid
-    is_gid none found = cc
-passwd-by text name password uid gid comment home shell r (Some u) None empty cut is_uid
-    is_gid none found = cc
 passwd-by text name password uid gid comment home shell r (Some u) (Some g) true cut is_uid is_gid
     none found = let e = rw none at found in cc
 passwd-by text name password uid gid comment home shell r (Some u) (Some g) false cut
@@ -160,6 +128,8 @@ passwd-by text name password uid gid comment home shell r (Some u) (Some g) fals
       gid_reads = number-is greatest_id gid g is_gid;
     }
     in subst (λ s. ReadsPasswd text s) (some-inj (rw none at found)) reads
+passwd-by text name password uid gid comment home shell r u g empty cut is_uid is_gid none found =
+    cc
 
 -- what the pieces of a text read as, it is as a record of passwd
 passwd-of :
@@ -181,20 +151,6 @@ passwd-is text r found = passwd-of text (cut_at colon text) r (cut_at-is colon t
 
 -- ---- gshadow
 
--- the fields of a record of gshadow are that record
-gshadow-fields : (name password administrators members : List ℕ)
-    (ads names : List (List ℕ)) → 0 < length name
-    → AreNames administrators ads → AreNames members names
-    → gshadow_of_fields (name ∷ password ∷ administrators ∷ members ∷ [])
-    ≡ Some (record { name = name; password = password; administrators = ads; members = names })
-gshadow-fields name password administrators members ads names named are_ads are =
-    rw (
-      empty-no name named,
-      names-found administrators ads are_ads,
-      names-found
-          members names are,
-    ) refl
-
 -- a text that is a record of gshadow reads as it
 pub gshadow-found :
     (text : List ℕ) (r : GshadowRecord)
@@ -203,8 +159,11 @@ pub gshadow-found :
 gshadow-found text r reads =
     ap gshadow_of_fields (cut_at-only colon text
     (r.name ∷ r.password ∷ reads.administrators ∷ reads.members ∷ []) reads.cut)
-    ∙ gshadow-fields r.name r.password reads.administrators reads.members r.administrators r.members
-    reads.named reads.administrators_read reads.members_read
+    ∙ (rw (
+      empty-no r.name reads.named,
+      names-found reads.administrators r.administrators reads.administrators_read,
+      names-found reads.members r.members reads.members_read,
+    ) refl)
 
 -- what the fields of gshadow read as, by what each reads as
 gshadow-by : (text name password administrators members : List ℕ) (r : GshadowRecord) (empty : Bool)
@@ -252,34 +211,6 @@ gshadow-is text r found = gshadow-of text (cut_at colon text) r (cut_at-is colon
 
 -- ---- shadow
 
--- the fields of a record of shadow are that record
-shadow-fields : (name hash last_change minimum maximum warning inactive expiration rest : List ℕ)
-    (a b c d e f : Option ℕ) → 0 < length name → IsDays last_change a → IsDays minimum b
-    → IsDays maximum c → IsDays warning d → IsDays inactive e → IsDays expiration f
-    → shadow_of_fields (name ∷ hash ∷ last_change ∷ minimum ∷ maximum ∷ warning ∷ inactive
-    ∷ expiration ∷ rest ∷ []) ≡ Some (record {
-      name = name;
-      hash = hash;
-      last_change = a;
-      minimum = b;
-      maximum = c;
-      warning = d;
-      inactive = e;
-      expiration = f;
-      rest = rest;
-    })
-shadow-fields name hash last_change minimum maximum warning inactive expiration rest a b c d e f
-    named is_a is_b is_c is_d is_e is_f =
-    rw (
-      days-found last_change a is_a,
-      days-found minimum b is_b,
-      days-found maximum c is_c,
-      days-found warning d is_d,
-      days-found inactive e is_e,
-      days-found expiration f is_f,
-      empty-no name named,
-    ) refl
-
 -- a text that is a record of shadow reads as it
 pub shadow-found :
     (text : List ℕ) (r : ShadowRecord)
@@ -289,10 +220,15 @@ shadow-found text r reads =
     ap shadow_of_fields (cut_at-only colon text
     (r.name ∷ r.hash ∷ reads.last_change ∷ reads.minimum ∷ reads.maximum ∷ reads.warning
     ∷ reads.inactive ∷ reads.expiration ∷ r.rest ∷ []) reads.cut)
-    ∙ shadow-fields r.name r.hash reads.last_change reads.minimum reads.maximum reads.warning
-    reads.inactive reads.expiration r.rest r.last_change r.minimum r.maximum r.warning
-    r.inactive r.expiration reads.named reads.last_change_reads reads.minimum_reads
-    reads.maximum_reads reads.warning_reads reads.inactive_reads reads.expiration_reads
+    ∙ (rw (
+      days-found reads.last_change r.last_change reads.last_change_reads,
+      days-found reads.minimum r.minimum reads.minimum_reads,
+      days-found reads.maximum r.maximum reads.maximum_reads,
+      days-found reads.warning r.warning reads.warning_reads,
+      days-found reads.inactive r.inactive reads.inactive_reads,
+      days-found reads.expiration r.expiration reads.expiration_reads,
+      empty-no r.name reads.named,
+    ) refl)
 
 -- what the fields of shadow read as, by what each reads as
 shadow-by :
@@ -309,18 +245,6 @@ shadow-by :
     → is_empty name ≡ empty
     → shadow_with name hash oa ob oc od oe of rest ≡ Some r
     → ReadsShadow text r
-shadow-by text name hash last_change minimum maximum warning inactive expiration rest r None ob oc
-    od oe of empty cut is_a is_b is_c is_d is_e is_f none found = cc
-shadow-by text name hash last_change minimum maximum warning inactive expiration rest r (Some a)
-    None oc od oe of empty cut is_a is_b is_c is_d is_e is_f none found = cc
-shadow-by text name hash last_change minimum maximum warning inactive expiration rest r (Some a)
-    (Some b) None od oe of empty cut is_a is_b is_c is_d is_e is_f none found = cc
-shadow-by text name hash last_change minimum maximum warning inactive expiration rest r (Some a)
-    (Some b) (Some c) None oe of empty cut is_a is_b is_c is_d is_e is_f none found = cc
-shadow-by text name hash last_change minimum maximum warning inactive expiration rest r (Some a)
-    (Some b) (Some c) (Some d) None of empty cut is_a is_b is_c is_d is_e is_f none found = cc
-shadow-by text name hash last_change minimum maximum warning inactive expiration rest r (Some a)
-    (Some b) (Some c) (Some d) (Some e) None empty cut is_a is_b is_c is_d is_e is_f none found = cc
 shadow-by text name hash last_change minimum maximum warning inactive expiration rest r (Some a)
     (Some b) (Some c) (Some d) (Some e) (Some f) true cut is_a is_b is_c is_d is_e is_f none found =
     let wrong = rw none at found in cc
@@ -354,6 +278,8 @@ shadow-by text name hash last_change minimum maximum warning inactive expiration
       expiration_reads = days-is expiration f is_f;
     }
     in subst (λ s. ReadsShadow text s) (some-inj (rw none at found)) reads
+shadow-by text name hash last_change minimum maximum warning inactive expiration rest r oa ob oc
+    od oe of empty cut is_a is_b is_c is_d is_e is_f none found = cc
 
 -- what the pieces of a text read as, it is as a record of shadow
 shadow-of :
@@ -378,20 +304,6 @@ shadow-is text r found = shadow-of text (cut_at colon text) r (cut_at-is colon t
 
 -- ---- subuid and subgid
 
--- the fields of a record of subuid or subgid are that record
-subid-fields : (owner first count : List ℕ) (f n : ℕ) → 0 < length owner
-    → IsNumber greatest_id first f → IsNumber (greatest_id + 1) count n
-    → 0 < n → f + n - 1 ≤ greatest_id → subid_of_fields (owner ∷ first ∷ count ∷ [])
-    ≡ Some (record { owner = owner; first = f; count = n })
-subid-fields owner first count f n named is_first is_count some last =
-    rw (
-      number-found greatest_id first f is_first,
-      number-found (greatest_id + 1) count n is_count,
-      empty-no owner named,
-      ne_eqb n 0 (λ e. lt_irrefl 0 (rw e at some)),
-      le-leb (f + n - 1) greatest_id last,
-    ) refl
-
 -- a text that is a record of subuid or subgid reads as it
 pub subid-found :
     (text : List ℕ) (r : SubidRecord)
@@ -399,8 +311,13 @@ pub subid-found :
     → subid_format.read text ≡ Some r
 subid-found text r reads =
     ap subid_of_fields (cut_at-only colon text (r.owner ∷ reads.first ∷ reads.count ∷ []) reads.cut)
-    ∙ subid-fields r.owner reads.first reads.count r.first r.count reads.named reads.first_reads
-    reads.count_reads reads.some reads.last
+    ∙ (rw (
+      number-found greatest_id reads.first r.first reads.first_reads,
+      number-found (greatest_id + 1) reads.count r.count reads.count_reads,
+      empty-no r.owner reads.named,
+      ne_eqb r.count 0 (λ e. lt_irrefl 0 (rw e at reads.some)),
+      le-leb (r.first + r.count - 1) greatest_id reads.last,
+    ) refl)
 
 -- what three fields with numbers read as, by the tests of owner and range
 subid-tests : (text owner first count : List ℕ) (r : SubidRecord) (f n : ℕ)
