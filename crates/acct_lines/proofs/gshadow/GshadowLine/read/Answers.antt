@@ -31,7 +31,6 @@ returns-in_err-end c =
     (rw (taken.other c.in_err-end.ensures.other, c.in_err-end.ensures.told) refl)
 
 pub returns-in_err-name : goal.returns-in_err-name
-returns-in_err-name c =
-    told-first _ _ _ _ c.from_residual-in_err-name.ensures.1
+returns-in_err-name c = told-first _ _ _ _ c.from_residual-in_err-name.ensures.1
     (gshadow-first (fields (goal.at.returns-in_err-name c).In_ok-end)
     (unnamed c.in_err-name.ensures))

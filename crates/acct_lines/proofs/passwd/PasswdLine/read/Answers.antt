@@ -34,21 +34,18 @@ returns-in_err-end c =
     (rw (taken.other c.in_err-end.ensures.other, c.in_err-end.ensures.told) refl)
 
 pub returns-in_err-uid : goal.returns-in_err-uid
-returns-in_err-uid c =
-    told-first _ _ _ _ c.from_residual-in_err-uid.ensures.1
+returns-in_err-uid c = told-first _ _ _ _ c.from_residual-in_err-uid.ensures.1
     (passwd-first (fields (goal.at.returns-in_err-uid c).In_ok-end)
     (unread read_id c.in_err-uid.ensures))
 
 pub returns-in_err-gid : goal.returns-in_err-gid
-returns-in_err-gid c =
-    told-first _ _ _ _ c.from_residual-in_err-gid.ensures.1
+returns-in_err-gid c = told-first _ _ _ _ c.from_residual-in_err-gid.ensures.1
     (passwd-first (fields (goal.at.returns-in_err-gid c).In_ok-end)
     (was-read read_id c.in_ok-uid.ensures
     (unread read_id c.in_err-gid.ensures)))
 
 pub returns-in_err-name : goal.returns-in_err-name
-returns-in_err-name c =
-    told-first _ _ _ _ c.from_residual-in_err-name.ensures.1
+returns-in_err-name c = told-first _ _ _ _ c.from_residual-in_err-name.ensures.1
     (passwd-first (fields (goal.at.returns-in_err-name c).In_ok-end)
     (was-read read_id c.in_ok-uid.ensures (was-read read_id c.in_ok-gid.ensures
     (unnamed c.in_err-name.ensures))))

@@ -38,44 +38,38 @@ returns-in_err-end c =
     (rw (taken.other c.in_err-end.ensures.other, c.in_err-end.ensures.told) refl)
 
 pub returns-in_err-last_change : goal.returns-in_err-last_change
-returns-in_err-last_change c =
-    told-first _ _ _ _ c.from_residual-in_err-last_change.ensures.1
+returns-in_err-last_change c = told-first _ _ _ _ c.from_residual-in_err-last_change.ensures.1
     (shadow-first (fields (goal.at.returns-in_err-last_change c).In_ok-end)
     (unread read_days c.in_err-last_change.ensures))
 
 pub returns-in_err-minimum : goal.returns-in_err-minimum
-returns-in_err-minimum c =
-    told-first _ _ _ _ c.from_residual-in_err-minimum.ensures.1
+returns-in_err-minimum c = told-first _ _ _ _ c.from_residual-in_err-minimum.ensures.1
     (shadow-first (fields (goal.at.returns-in_err-minimum c).In_ok-end)
     (was-read read_days c.in_ok-last_change.ensures
     (unread read_days c.in_err-minimum.ensures)))
 
 pub returns-in_err-maximum : goal.returns-in_err-maximum
-returns-in_err-maximum c =
-    told-first _ _ _ _ c.from_residual-in_err-maximum.ensures.1
+returns-in_err-maximum c = told-first _ _ _ _ c.from_residual-in_err-maximum.ensures.1
     (shadow-first (fields (goal.at.returns-in_err-maximum c).In_ok-end)
     (was-read read_days c.in_ok-last_change.ensures (was-read read_days c.in_ok-minimum.ensures
     (unread read_days c.in_err-maximum.ensures))))
 
 pub returns-in_err-warning : goal.returns-in_err-warning
-returns-in_err-warning c =
-    told-first _ _ _ _ c.from_residual-in_err-warning.ensures.1
+returns-in_err-warning c = told-first _ _ _ _ c.from_residual-in_err-warning.ensures.1
     (shadow-first (fields (goal.at.returns-in_err-warning c).In_ok-end)
     (was-read read_days c.in_ok-last_change.ensures (was-read read_days c.in_ok-minimum.ensures
     (was-read read_days c.in_ok-maximum.ensures
     (unread read_days c.in_err-warning.ensures)))))
 
 pub returns-in_err-inactive : goal.returns-in_err-inactive
-returns-in_err-inactive c =
-    told-first _ _ _ _ c.from_residual-in_err-inactive.ensures.1
+returns-in_err-inactive c = told-first _ _ _ _ c.from_residual-in_err-inactive.ensures.1
     (shadow-first (fields (goal.at.returns-in_err-inactive c).In_ok-end)
     (was-read read_days c.in_ok-last_change.ensures (was-read read_days c.in_ok-minimum.ensures
     (was-read read_days c.in_ok-maximum.ensures (was-read read_days c.in_ok-warning.ensures
     (unread read_days c.in_err-inactive.ensures))))))
 
 pub returns-in_err-expiration : goal.returns-in_err-expiration
-returns-in_err-expiration c =
-    told-first _ _ _ _ c.from_residual-in_err-expiration.ensures.1
+returns-in_err-expiration c = told-first _ _ _ _ c.from_residual-in_err-expiration.ensures.1
     (shadow-first (fields (goal.at.returns-in_err-expiration c).In_ok-end)
     (was-read read_days c.in_ok-last_change.ensures (was-read read_days c.in_ok-minimum.ensures
     (was-read read_days c.in_ok-maximum.ensures (was-read read_days c.in_ok-warning.ensures
@@ -83,8 +77,7 @@ returns-in_err-expiration c =
     (unread read_days c.in_err-expiration.ensures)))))))
 
 pub returns-in_err-name : goal.returns-in_err-name
-returns-in_err-name c =
-    told-first _ _ _ _ c.from_residual-in_err-name.ensures.1
+returns-in_err-name c = told-first _ _ _ _ c.from_residual-in_err-name.ensures.1
     (shadow-first (fields (goal.at.returns-in_err-name c).In_ok-end)
     (was-read read_days c.in_ok-last_change.ensures (was-read read_days c.in_ok-minimum.ensures
     (was-read read_days c.in_ok-maximum.ensures (was-read read_days c.in_ok-warning.ensures

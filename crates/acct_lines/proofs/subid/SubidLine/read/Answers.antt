@@ -32,21 +32,18 @@ returns-in_err-end c =
     (rw (taken.other c.in_err-end.ensures.other, c.in_err-end.ensures.told) refl)
 
 pub returns-in_err-first : goal.returns-in_err-first
-returns-in_err-first c =
-    told-first _ _ _ _ c.from_residual-in_err-first.ensures.1
+returns-in_err-first c = told-first _ _ _ _ c.from_residual-in_err-first.ensures.1
     (subid-first (fields (goal.at.returns-in_err-first c).In_ok-end)
     (unread read_id c.in_err-first.ensures))
 
 pub returns-in_err-count : goal.returns-in_err-count
-returns-in_err-count c =
-    told-first _ _ _ _ c.from_residual-in_err-count.ensures.1
+returns-in_err-count c = told-first _ _ _ _ c.from_residual-in_err-count.ensures.1
     (subid-first (fields (goal.at.returns-in_err-count c).In_ok-end)
     (was-read read_id c.in_ok-first.ensures
     (unread read_count c.in_err-count.ensures)))
 
 pub returns-in_err-owner : goal.returns-in_err-owner
-returns-in_err-owner c =
-    told-first _ _ _ _ c.from_residual-in_err-owner.ensures.1
+returns-in_err-owner c = told-first _ _ _ _ c.from_residual-in_err-owner.ensures.1
     (subid-first (fields (goal.at.returns-in_err-owner c).In_ok-end)
     (was-read read_id c.in_ok-first.ensures (was-read read_count c.in_ok-count.ensures
     (unnamed c.in_err-owner.ensures))))
