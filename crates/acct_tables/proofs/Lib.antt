@@ -18,4 +18,5 @@ pub mod ToldLines
 pub mod EditedNames
 pub mod MarkLemmas
 pub mod MarkedRecords
+pub mod KnownLines
 pub mod FieldMarks

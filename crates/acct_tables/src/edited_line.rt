@@ -1,5 +1,5 @@
 // A line of a table's file while edits change it.
-ghost use Rattle.std.specs.Prelude.{◌≡◌, ◌++◌, Bool, IfOk, IfSome, OnOk, OnErr};
+ghost use Rattle.std.specs.Prelude.{◌≡◌, ◌++◌, Some, option_map, IfOk, IfSome, OnOk, OnErr};
 ghost use Rattle.std.specs.Option.{option_copied};
 ghost use Rattle.acct_text.specs.Bytes.{newline};
 ghost use Rattle.acct_text.specs.Lines.{line_bytes};
@@ -7,7 +7,6 @@ ghost use Rattle.acct_text.specs.Pieces.{Lacks};
 ghost use Rattle.account_formats.specs.Edits.{as_ended, printed_line};
 ghost use Rattle.account_formats.specs.Written.{IsWritten};
 ghost use Rattle.acct_tables.specs.EditedTexts.{text_of};
-ghost use Rattle.acct_tables.specs.Kept.{is_printed_as};
 ghost use Rattle.acct_tables.specs.NameIndex.{line_name};
 ghost use Rattle.acct_tables.specs.TableLines.{with_record};
 
@@ -129,38 +128,24 @@ impl<'a> EditedLine<'a> {
         self.ended = true;
     }
 
-    /// Puts a record into the line, which keeps its end, and its bytes where it is the same record.
-    /// At `AllocError` the line is as before.
-    pub(crate) fn put<R: TableRecord + Drop>(
+    /// Puts a record in place of that of the line, of which this is the canonical text. The line
+    /// keeps its end, and its bytes where it is the same record. At `AllocError` it is as before.
+    pub(crate) fn put<R: TableRecord>(
         &mut self,
         alloc: Global,
+        kept: &[u8],
         item: &R,
     ) -> Result<(), AllocError>
-        requires { IsWritten R.format item.now }
+        requires kept { option_map R.format.print (R.format.read self.old.text) ≡ Some kept.now }
+        requires written { IsWritten R.format item.now }
         ensures put { OnOk result (self.new ≡ with_record R.format item.now self.old) }
         ensures unchanged { OnErr result (self.new ≡ self.old) }
     {
         let text = item.print(alloc)?;
-        if !self.prints_as::<R>(alloc, text.as_slice())? {
+        if text.as_slice() != kept {
             self.text = LineText::New(text);
         }
         Ok(())
-    }
-
-    // Whether the line is a record whose canonical text is this one.
-    fn prints_as<R: TableRecord + Drop>(
-        &self,
-        alloc: Global,
-        text: &[u8],
-    ) -> Result<bool, AllocError>
-        ensures { IfOk result (λ same. same ≡
-            is_printed_as R.format text.now (R.format.read self.now.text)) }
-    {
-        let kept: Option<R> = self.record(alloc)?;
-        match kept {
-            Some(kept) => Ok(kept.print(alloc)?.as_slice() == text),
-            None => Ok(false),
-        }
     }
 
     /// Adds the bytes of the line, with its newline. At `AllocError` the text may have a part of it.

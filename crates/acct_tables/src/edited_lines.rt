@@ -142,10 +142,13 @@ impl<'a, R: TableRecord + Drop> EditedLines<'a, R> {
         Ok(())
     }
 
-    /// Puts a record into the line at a place, the line of a record of the same name. It keeps its
-    /// end, and its bytes where it is the same record. At `AllocError` the lines are as before.
-    pub fn set_at(&mut self, place: usize, item: &R) -> Result<(), AllocError>
+    /// Puts a record in place of that at a place, of the same name, of which this is the canonical
+    /// text. The line keeps its end, and its bytes where it is the same record. At `AllocError` the
+    /// lines are as before.
+    pub fn set_at(&mut self, place: usize, kept: &[u8], item: &R) -> Result<(), AllocError>
         requires inside { place < length self.old }
+        requires kept { option_map R.format.print (record_at R.format self.old place)
+            ≡ Some kept.now }
         requires named { option_map R.format.name (record_at R.format self.old place)
             ≡ Some (R.format.name item.now) }
         requires written { IsWritten R.format item.now }
@@ -154,7 +157,7 @@ impl<'a, R: TableRecord + Drop> EditedLines<'a, R> {
         ensures unchanged { OnErr result (self.new ≡ self.old) }
     {
         let alloc = self.allocator();
-        self.lines[place].put(alloc, item)
+        self.lines[place].put(alloc, kept, item)
     }
 
     /// The bytes of the lines, one behind the other.

@@ -209,9 +209,10 @@ impl<R: ListRecord + Drop> TableLine<R> {
         ensures { IfOk result (λ line. line ≡
             changed_line R.format (R.renamed old.now new.now) self.now) }
     {
-        match self.record() {
-            Some(kept) => self.with_item(alloc, &kept.renamed(alloc, old, new)?),
-            None => self.copy(alloc),
-        }
+        let Some(mut item) = read_record::<R>(alloc, self.text.as_slice())? else {
+            return self.copy(alloc);
+        };
+        item.rename(alloc, old, new)?;
+        self.with_item(alloc, &item)
     }
 }

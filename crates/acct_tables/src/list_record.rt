@@ -1,9 +1,9 @@
 // The records with lists of users, in which a user is renamed (group(5), gshadow(5)).
-ghost use Rattle.std.specs.Prelude.{◌≡◌, ℕ, Bool, List, IfOk};
+ghost use Rattle.std.specs.Prelude.{◌≡◌, ℕ, Bool, List, OnOk};
 ghost use Rattle.account_formats.specs.Written.{IsListed, IsWritten};
 
 use crate::TableRecord;
-use crate::renaming::renamed_in;
+use crate::renaming::rename_in;
 use acct_lines::{GroupRecord, GshadowRecord};
 use std::alloc::{AllocError, Global};
 
@@ -19,13 +19,12 @@ pub trait ListRecord: TableRecord {
     fn holds(&self, name: &[u8]) -> bool
         ensures { result ≡ holds name.now self.now };
 
-    /// The record with the old name renamed to the new one in each list that holds it. There the
-    /// new name stands once, in its first place or the old one's; a list without the old name
-    /// stays.
+    /// Renames the old name to the new one in each list that holds it. There the new name stands
+    /// once, in its first place or the old one's; a list without the old name stays.
     ///
-    /// At `AllocError` there was no memory for it.
-    fn renamed(&self, alloc: Global, old: &[u8], new: &[u8]) -> Result<Self, AllocError>
-        ensures { IfOk result (λ item. item ≡ renamed old.now new.now self.now) };
+    /// At `AllocError` it may be renamed in the first list alone.
+    fn rename(&mut self, alloc: Global, old: &[u8], new: &[u8]) -> Result<(), AllocError>
+        ensures { OnOk result (self.new ≡ renamed old.now new.now self.old) };
 
     // a record that a line can hold stays one, for a new name that a list can hold
     ghost stays_written: { (old new : List ℕ) (r : Self) → IsListed new
@@ -45,13 +44,8 @@ impl ListRecord for GroupRecord {
         self.members.contains(name)
     }
 
-    fn renamed(&self, alloc: Global, old: &[u8], new: &[u8]) -> Result<Self, AllocError> {
-        Ok(GroupRecord {
-            name: self.name.copy()?,
-            password: self.password.copy()?,
-            gid: self.gid,
-            members: renamed_in(alloc, &self.members, old, new)?,
-        })
+    fn rename(&mut self, alloc: Global, old: &[u8], new: &[u8]) -> Result<(), AllocError> {
+        rename_in(alloc, &mut self.members, old, new)
     }
 
     ghost stays_written = { group-written };
@@ -70,13 +64,9 @@ impl ListRecord for GshadowRecord {
         self.administrators.contains(name) || self.members.contains(name)
     }
 
-    fn renamed(&self, alloc: Global, old: &[u8], new: &[u8]) -> Result<Self, AllocError> {
-        Ok(GshadowRecord {
-            name: self.name.copy()?,
-            password: self.password.copy()?,
-            administrators: renamed_in(alloc, &self.administrators, old, new)?,
-            members: renamed_in(alloc, &self.members, old, new)?,
-        })
+    fn rename(&mut self, alloc: Global, old: &[u8], new: &[u8]) -> Result<(), AllocError> {
+        rename_in(alloc, &mut self.administrators, old, new)?;
+        rename_in(alloc, &mut self.members, old, new)
     }
 
     ghost stays_written = { gshadow-written };

@@ -1,25 +1,25 @@
 // A user renamed in a list of names (usermod(8), `-l`).
-ghost use Rattle.std.specs.Prelude.{◌≡◌, bytes_eq, IfOk};
+ghost use Rattle.std.specs.Prelude.{◌≡◌, bytes_eq, IfOk, OnOk};
 ghost use Rattle.account_model.specs.Members.{name_once, in_place_of, renamed_in};
 ghost use Rattle.acct_tables.specs.Renaming.{renamed_name};
 
 use acct_text::Names;
 use std::alloc::{AllocError, Global};
 
-/// The names with the new one in the place of the old one, and once; the names where the old one
-/// isn't among them.
-pub(crate) fn renamed_in(
+/// Puts the new name in the place of the old one, and once. Where the old one is the same, or isn't
+/// among the names, they stay.
+pub(crate) fn rename_in(
     alloc: Global,
-    names: &Names,
+    names: &mut Names,
     old: &[u8],
     new: &[u8],
-) -> Result<Names, AllocError>
-    ensures { IfOk result (λ renamed. renamed ≡ renamed_in old.now new.now names.now) }
+) -> Result<(), AllocError>
+    ensures { OnOk result (names.new ≡ renamed_in old.now new.now names.old) }
 {
-    if names.contains(old) && old != new {
-        return put_in_place(alloc, names, old, new);
+    if old != new && names.contains(old) {
+        *names = put_in_place(alloc, names, old, new)?;
     }
-    names.copy()
+    Ok(())
 }
 
 // The names with the new one in the place of the old one; of the new one the first stays.

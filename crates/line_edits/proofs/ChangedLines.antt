@@ -2,13 +2,16 @@
 -- `change-left`, `change-stays`, `change-sets`), and what is done with a line alone too (`left-line`,
 -- `other-line`, `record-line`, `same-line`). Way: the line at the place reads as the record that was
 -- found there (`record-here`), so it becomes what `line_becomes` says of it (`becomes-read`).
-use Rattle.std.proofs.Common.{◌≡◌, ℕ, ◌+◌, ◌<◌, Bool, true, false, List, [], ◌∷◌, length, map, drop, refl, sym, ◌∙◌, ap, append-nil}
-use Rattle.std.specs.Prelude.{Option, Some, None, if◌then◌else◌}
+use Rattle.std.proofs.Common.{◌≡◌, ℕ, ◌+◌, ◌<◌, Bool, true, false, List, [], ◌∷◌, length, map, drop, refl, sym, ◌∙◌, ap, inl, inr, append-nil}
+use Rattle.std.specs.Prelude.{bytes_eq, Option, Some, None, if◌then◌else◌}
+use Rattle.std.proofs.lemmas.Bool.{cases_Bool, false_from_ne_true}
 use Rattle.std.proofs.lemmas.List.{drop_more}
+use Rattle.std.proofs.lemmas.Slice.Eq.{bytes_eq-Decides}
 use Rattle.acct_text.specs.Lines.{Line, file_bytes, line_bytes}
 use Rattle.account_formats.specs.Format.{Format}
 use Rattle.account_formats.specs.Edits.{becomes, line_becomes}
 use Rattle.account_formats.specs.RecordEdits.{TellsSame}
+use Rattle.account_formats.specs.Written.{IsWritten}
 use Rattle.acct_tables.specs.Order.{text_at}
 use Rattle.acct_tables.specs.TableLines.{record_at, changed_at, with_record}
 use Rattle.acct_tables.proofs.LinesHere.{blank_line, line_here, read-here, record-here}
@@ -42,6 +45,32 @@ module _ {R : Type 0} (format : Format R) where
       ≡ (if same then line else record line { text = format.print s }) ∷ []
   sets line s true = refl
   sets line s false = refl
+
+  -- records that lines hold are the same where they print as the same text
+  pub same-printed :
+      (old new : R)
+      → TellsSame format
+      → IsWritten format old
+      → IsWritten format new
+      → (text kept : List ℕ)
+      → text ≡ format.print new
+      → format.print old ≡ kept
+      → format.same old new ≡ bytes_eq text kept
+  same-printed old new tells old_written new_written text kept printed is =
+      elim (cases_Bool (bytes_eq text kept)) [
+        | inl equal ↦
+            let texts : text ≡ kept = (bytes_eq-Decides text kept).0 equal in
+            let found : Some old ≡ Some new =
+            sym old_written.reads ∙ ap format.read (is ∙ sym texts ∙ printed) ∙ new_written.reads in
+            let one : old ≡ new = cc in
+            (tells old new).1 one ∙ sym equal
+        | inr apart ↦
+            false_from_ne_true (format.same old new) (λ same.
+            let one : old ≡ new = (tells old new).0 same in
+            let equal : bytes_eq text kept ≡ true =
+            (bytes_eq-Decides text kept).1 (printed ∙ ap format.print (sym one) ∙ is) in cc)
+            ∙ sym apart
+      ]
 
   -- the line with the record, by the record that it has
   pub with-record :

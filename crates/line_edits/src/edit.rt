@@ -42,15 +42,10 @@ pub trait EditedRecord: TableRecord {
     // the records that a record becomes by a change
     ghost becomes: { Self.Change → Self → List Self };
 
-    /// A second record with the same fields.
-    fn copy(&self, alloc: Global) -> Result<Self, AllocError>
-        ensures { IfOk result (λ copy. copy ≡ self.now) };
-
     /// What becomes of the record by the change.
-    fn becoming(&self, alloc: Global, change: &Self::Change) -> Result<Becoming<Self>, AllocError>
-        requires { IsWritten Self.format self.now }
-        ensures { IfOk result (λ becoming.
-            records_in self.now becoming ≡ becomes change.now self.now) };
+    fn becoming(self, alloc: Global, change: &Self::Change) -> Result<Becoming<Self>, AllocError>
+        requires { IsWritten Self.format self }
+        ensures { IfOk result (λ becoming. records_in self becoming ≡ becomes change.now self) };
 
     /// Whether the change surely leaves the record that the line is, if it is one, by what can be seen
     /// without memory.

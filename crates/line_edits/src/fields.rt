@@ -1,5 +1,5 @@
 // Fields of records that a tool sets or leaves as they are, and those of a line by which one is left.
-ghost use Rattle.std.specs.Prelude.{◌≡◌, not, bytes_eq, IfOk, unwrap_or};
+ghost use Rattle.std.specs.Prelude.{◌≡◌, not, bytes_eq, OnOk, unwrap_or};
 ghost use Rattle.acct_text.specs.Pieces.{fields_of};
 ghost use Rattle.account_formats.specs.Faults.{field_at};
 ghost use Rattle.account_formats.specs.Naming.{first_field as first_of};
@@ -10,14 +10,14 @@ use acct_lines::{first_field, has_first_field};
 use acct_text::{Bytes, cut_once};
 use std::alloc::AllocError;
 
-/// The new text of a field, and its old one where none is given.
-pub(crate) fn copy_or(new: &Option<Bytes>, old: &Bytes) -> Result<Bytes, AllocError>
-    ensures { IfOk result (λ text. text ≡ unwrap_or new.now old.now) }
+/// Puts the new text into a field, where one is given.
+pub(crate) fn set_given(field: &mut Bytes, new: &Option<Bytes>) -> Result<(), AllocError>
+    ensures { OnOk result (field.new ≡ unwrap_or new.now field.old) }
 {
-    match new {
-        Some(text) => text.copy(),
-        None => old.copy(),
+    if let Some(text) = new {
+        *field = text.copy()?;
     }
+    Ok(())
 }
 
 /// Whether a name field that gets this text, if any is given, leaves the name.

@@ -10,7 +10,7 @@ ghost use Rattle.line_edits.specs.Naming.{ChangesOnly, names_in};
 ghost use Rattle.line_edits.specs.declared.group_changes.GroupChange.TheVariants.{All};
 
 use crate::fields::{fourth_field, has_other_name};
-use crate::lists::{with_name, without_name};
+use crate::lists::{add_name, remove_name};
 use crate::{Becoming, ChangedNames, EditedRecord, Membership};
 use acct_lines::{GroupRecord, TableRecord, first_field, lists};
 use acct_text::{Bytes, Names};
@@ -54,16 +54,7 @@ impl EditedRecord for GroupRecord {
 
     ghost becomes = { group_becomes };
 
-    fn copy(&self, _alloc: Global) -> Result<Self, AllocError> {
-        Ok(GroupRecord {
-            name: self.name.copy()?,
-            password: self.password.copy()?,
-            gid: self.gid,
-            members: self.members.copy()?,
-        })
-    }
-
-    fn becoming(&self, alloc: Global, change: &GroupChange) -> Result<Becoming<Self>, AllocError> {
+    fn becoming(self, alloc: Global, change: &GroupChange) -> Result<Becoming<Self>, AllocError> {
         match change {
             GroupChange::Named(name, act) if self.name() == name.as_slice() => {
                 Ok(Becoming::Changes(acted(alloc, self, act)?))
@@ -161,12 +152,11 @@ fn has_member(line: &[u8], user: &[u8]) -> bool
 }
 
 // The record after the act.
-fn acted(alloc: Global, old: &GroupRecord, act: &GroupAct) -> Result<GroupRecord, AllocError>
-    ensures { IfOk result (λ new. new ≡ group_after act.now old.now) }
+fn acted(alloc: Global, mut group: GroupRecord, act: &GroupAct) -> Result<GroupRecord, AllocError>
+    ensures { IfOk result (λ new. new ≡ group_after act.now group) }
 {
-    let mut new = old.copy(alloc)?;
-    act_on(alloc, &mut new, act)?;
-    Ok(new)
+    act_on(alloc, &mut group, act)?;
+    Ok(group)
 }
 
 // Does the act with the record. At `AllocError` a user who joins may have the old name in it.
@@ -177,9 +167,9 @@ fn act_on(alloc: Global, group: &mut GroupRecord, act: &GroupAct) -> Result<(), 
         GroupAct::SetGid(gid) => group.gid = *gid,
         GroupAct::Rename(name) => group.name = name.copy()?,
         GroupAct::SetPassword(password) => group.password = password.copy()?,
-        GroupAct::AddMember(user) => group.members = with_name(&group.members, user.as_slice())?,
+        GroupAct::AddMember(user) => return add_name(&mut group.members, user.as_slice()),
         GroupAct::RemoveMember(user) => {
-            group.members = without_name(alloc, &group.members, user.as_slice())?
+            return remove_name(alloc, &mut group.members, user.as_slice());
         }
         GroupAct::SetMembers(members) => group.members = members.copy()?,
         GroupAct::SetMembership(membership) => return set_membership(alloc, group, membership),
@@ -196,7 +186,6 @@ fn set_membership(
 ) -> Result<(), AllocError>
     ensures { OnOk result (group.new ≡ group_by membership.now group.old) }
 {
-    group.members = membership.members(alloc, group.name.as_slice(), &group.members)?;
-    *group = membership.renamed(alloc, group)?;
-    Ok(())
+    membership.join_or_leave(alloc, group.name.as_slice(), &mut group.members)?;
+    membership.rename_in(alloc, group)
 }

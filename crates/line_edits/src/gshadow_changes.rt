@@ -10,7 +10,7 @@ ghost use Rattle.line_edits.specs.Naming.{ChangesOnly, names_in};
 ghost use Rattle.line_edits.specs.declared.gshadow_changes.GshadowChange.TheVariants.{All};
 
 use crate::fields::{fourth_field, has_other_name, third_field};
-use crate::lists::{with_name, without_name};
+use crate::lists::{add_name, remove_name};
 use crate::{Becoming, ChangedNames, EditedRecord, Membership};
 use acct_lines::{GshadowRecord, TableRecord, first_field, lists};
 use acct_text::{Bytes, Names};
@@ -56,20 +56,7 @@ impl EditedRecord for GshadowRecord {
 
     ghost becomes = { gshadow_becomes };
 
-    fn copy(&self, _alloc: Global) -> Result<Self, AllocError> {
-        Ok(GshadowRecord {
-            name: self.name.copy()?,
-            password: self.password.copy()?,
-            administrators: self.administrators.copy()?,
-            members: self.members.copy()?,
-        })
-    }
-
-    fn becoming(
-        &self,
-        alloc: Global,
-        change: &GshadowChange,
-    ) -> Result<Becoming<Self>, AllocError> {
+    fn becoming(self, alloc: Global, change: &GshadowChange) -> Result<Becoming<Self>, AllocError> {
         match change {
             GshadowChange::Named(name, act) if self.name() == name.as_slice() => {
                 Ok(Becoming::Changes(acted(alloc, self, act)?))
@@ -167,12 +154,15 @@ fn has_user(line: &[u8], user: &[u8]) -> bool
 }
 
 // The record after the act.
-fn acted(alloc: Global, old: &GshadowRecord, act: &GshadowAct) -> Result<GshadowRecord, AllocError>
-    ensures { IfOk result (λ new. new ≡ gshadow_after act.now old.now) }
+fn acted(
+    alloc: Global,
+    mut group: GshadowRecord,
+    act: &GshadowAct,
+) -> Result<GshadowRecord, AllocError>
+    ensures { IfOk result (λ new. new ≡ gshadow_after act.now group) }
 {
-    let mut new = old.copy(alloc)?;
-    act_on(alloc, &mut new, act)?;
-    Ok(new)
+    act_on(alloc, &mut group, act)?;
+    Ok(group)
 }
 
 // Does the act with the record. At `AllocError` the user may have left one list alone.
@@ -183,9 +173,9 @@ fn act_on(alloc: Global, group: &mut GshadowRecord, act: &GshadowAct) -> Result<
         GshadowAct::Rename(name) => group.name = name.copy()?,
         GshadowAct::SetPassword(password) => group.password = password.copy()?,
         GshadowAct::SetAdministrators(names) => group.administrators = names.copy()?,
-        GshadowAct::AddMember(user) => group.members = with_name(&group.members, user.as_slice())?,
+        GshadowAct::AddMember(user) => return add_name(&mut group.members, user.as_slice()),
         GshadowAct::RemoveMember(user) => {
-            group.members = without_name(alloc, &group.members, user.as_slice())?
+            return remove_name(alloc, &mut group.members, user.as_slice());
         }
         GshadowAct::SetMembers(members) => group.members = members.copy()?,
         GshadowAct::RemoveUser(user) => return remove_user(alloc, group, user.as_slice()),
@@ -198,9 +188,8 @@ fn act_on(alloc: Global, group: &mut GshadowRecord, act: &GshadowAct) -> Result<
 fn remove_user(alloc: Global, group: &mut GshadowRecord, user: &[u8]) -> Result<(), AllocError>
     ensures { OnOk result (group.new ≡ without_user user.now group.old) }
 {
-    group.administrators = without_name(alloc, &group.administrators, user)?;
-    group.members = without_name(alloc, &group.members, user)?;
-    Ok(())
+    remove_name(alloc, &mut group.administrators, user)?;
+    remove_name(alloc, &mut group.members, user)
 }
 
 // The user joins or leaves the group, and has the new name in it. At `AllocError` the members may
@@ -212,7 +201,6 @@ fn set_membership(
 ) -> Result<(), AllocError>
     ensures { OnOk result (group.new ≡ gshadow_by membership.now group.old) }
 {
-    group.members = membership.members(alloc, group.name.as_slice(), &group.members)?;
-    *group = membership.renamed(alloc, group)?;
-    Ok(())
+    membership.join_or_leave(alloc, group.name.as_slice(), &mut group.members)?;
+    membership.rename_in(alloc, group)
 }

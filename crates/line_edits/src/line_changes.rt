@@ -11,7 +11,6 @@ ghost use Rattle.account_formats.specs.Written.{IsWritten};
 ghost use Rattle.acct_tables.specs.SeenLines.{seen_line};
 ghost use Rattle.line_edits.specs.OpenLines.{IsOpenFrom};
 
-use crate::multiple::differ;
 use crate::{Becoming, EditedRecord};
 use acct_tables::{FileLine, Lines, from_mark, read_record};
 use acct_text::Bytes;
@@ -94,7 +93,7 @@ fn push_changed<R: EditedRecord + Drop>(
         return line.push_to(made);
     }
     match read_record::<R>(alloc, line.text)? {
-        Some(item) => push_becoming(alloc, made, line, &item, change),
+        Some(item) => push_becoming(alloc, made, line, item, change),
         None => line.push_to(made),
     }
 }
@@ -104,41 +103,41 @@ fn push_becoming<R: EditedRecord + Drop>(
     alloc: Global,
     made: &mut Bytes,
     line: &FileLine<'_>,
-    item: &R,
+    item: R,
     change: &R::Change,
 ) -> Result<(), AllocError>
-    requires item { IsWritten R.format item.now }
+    requires item { IsWritten R.format item }
     requires written { IsWrittenEdit R.format (model.Become (R.becomes change.now)) }
     ensures { OnOk result (made.new ≡ made.old ++ file_bytes
-        (line_becomes R.format (seen_line line.now) item.now (R.becomes change.now item.now))) }
+        (line_becomes R.format (seen_line line.now) item (R.becomes change.now item))) }
 {
+    let kept = item.print(alloc)?;
     match item.becoming(alloc, change)? {
         Becoming::Stays => line.push_to(made),
-        Becoming::Changes(new) => push_instead(alloc, made, line, item, &new),
+        Becoming::Changes(new) => push_instead(alloc, made, line, kept.as_slice(), &new),
         Becoming::Goes => Ok(()),
         Becoming::Splits(first, second) => push_two(alloc, made, &first, &second),
     }
 }
 
-// Adds the line of a record, or that of another in its place, which keeps the line's end. The same
-// record keeps its bytes.
+// Adds the line of a record with this canonical text, or that of another in its place, which keeps
+// the line's end. The same record keeps its bytes.
 fn push_instead<R: EditedRecord + Drop>(
     alloc: Global,
     made: &mut Bytes,
     line: &FileLine<'_>,
-    old: &R,
+    kept: &[u8],
     new: &R,
 ) -> Result<(), AllocError>
-    requires old { IsWritten R.format old.now }
-    requires new { IsWritten R.format new.now }
-    ensures { OnOk result (made.new ≡ made.old ++ file_bytes
-        (line_becomes R.format (seen_line line.now) old.now (new.now ∷ []))) }
+    requires { IsWritten R.format new.now }
+    ensures { OnOk result ((old : R) → IsWritten R.format old → R.format.print old ≡ kept.now
+        → made.new ≡ made.old ++ file_bytes
+        (line_becomes R.format (seen_line line.now) old (new.now ∷ []))) }
 {
-    let differs = differ(alloc, old, new)?;
-    if !differs {
+    let text = new.print(alloc)?;
+    if text.as_slice() == kept {
         return line.push_to(made);
     }
-    let text = new.print(alloc)?;
     let changed = FileLine {
         text: text.as_slice(),
         ended: line.ended,
@@ -189,8 +188,9 @@ pub(crate) fn push_record<R: EditedRecord + Drop>(
         → made.new ≡ made.old ++ file_bytes
         (line_becomes R.format (seen_line line.now) old (item.now ∷ []))) }
 {
-    match read_record::<R>(alloc, line.text)? {
-        Some(old) => push_instead(alloc, made, line, &old, item),
-        None => Ok(()),
-    }
+    let Some(old) = read_record::<R>(alloc, line.text)? else {
+        return Ok(());
+    };
+    let kept = old.print(alloc)?;
+    push_instead(alloc, made, line, kept.as_slice(), item)
 }

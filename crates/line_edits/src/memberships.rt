@@ -1,10 +1,10 @@
 // What becomes of a user in the lists of all groups (usermod(8), `-G`, `-a` and `-l`).
-ghost use Rattle.std.specs.Prelude.{◌≡◌, IfOk, IfSome};
+ghost use Rattle.std.specs.Prelude.{◌≡◌, IfSome, OnOk};
 ghost use Rattle.line_edits.specs.Memberships.{ChangesOnlyIn, joins, members_with};
 ghost use Rattle.line_edits.specs.Naming.{names_in};
 ghost use Rattle.line_edits.specs.declared.memberships.UserGroups.TheVariants.{Kept as KeptGroups};
 
-use crate::lists::{with_name, without_name};
+use crate::lists::{add_name, remove_name};
 use crate::{ChangedNames, NameSet};
 use acct_tables::ListRecord;
 use acct_text::{Bytes, Names};
@@ -68,31 +68,34 @@ impl Membership {
         }
     }
 
-    /// The members of a group once the user has joined or left it, by the name so far.
-    pub(crate) fn members(
+    /// Lets the user, by the name so far, join or leave a group with these members.
+    pub(crate) fn join_or_leave(
         &self,
         alloc: Global,
         group: &[u8],
-        members: &Names,
-    ) -> Result<Names, AllocError>
-        ensures { IfOk result (λ new. new ≡
-            members_with self.now.groups self.now.user group.now members.now) }
+        members: &mut Names,
+    ) -> Result<(), AllocError>
+        ensures { OnOk result (members.new ≡
+            members_with self.now.groups self.now.user group.now members.old) }
     {
         let user = self.user.as_slice();
         match &self.groups {
             UserGroups::Also(groups) | UserGroups::Only(groups) if groups.has(group) => {
-                with_name(members, user)
+                add_name(members, user)
             }
-            UserGroups::Only(_) => without_name(alloc, members, user),
-            UserGroups::Kept | UserGroups::Also(_) => members.copy(),
+            UserGroups::Only(_) => remove_name(alloc, members, user),
+            UserGroups::Kept | UserGroups::Also(_) => Ok(()),
         }
     }
 
-    /// The record with the user's new name in each of its lists.
-    pub(crate) fn renamed<R: ListRecord>(&self, alloc: Global, item: &R) -> Result<R, AllocError>
-        ensures { IfOk result (λ new. new ≡
-            R.renamed self.now.user self.now.new_name item.now) }
+    /// Gives the user the new name in each list of the record.
+    pub(crate) fn rename_in<R: ListRecord>(
+        &self,
+        alloc: Global,
+        item: &mut R,
+    ) -> Result<(), AllocError>
+        ensures { OnOk result (item.new ≡ R.renamed self.now.user self.now.new_name item.old) }
     {
-        item.renamed(alloc, self.user.as_slice(), self.new_name.as_slice())
+        item.rename(alloc, self.user.as_slice(), self.new_name.as_slice())
     }
 }

@@ -1,5 +1,5 @@
 // Which records the edits of a table touch, and the first of them whose name has several records.
-ghost use Rattle.std.specs.Prelude.{◌≡◌, true, false, Some, None, not, nat_le, IfOk, IfSome};
+ghost use Rattle.std.specs.Prelude.{◌≡◌, true, false, Some, None, nat_le, IfOk, IfSome};
 ghost use Rattle.std.specs.List.{AllByRecursion};
 ghost use Rattle.acct_text.specs.Bytes.{newline};
 ghost use Rattle.acct_text.specs.Lines.{lines_of};
@@ -230,22 +230,13 @@ fn changes<R: EditedRecord + Drop>(
     ensures { IfOk result (λ changes. changes ≡
         touches_alone R.format (model.Become (R.becomes change.now)) item.now) }
 {
-    match item.becoming(alloc, change)? {
+    let kept = item.print(alloc)?;
+    let Some(copy) = read_record::<R>(alloc, kept.as_slice())? else {
+        return Ok(false);
+    };
+    match copy.becoming(alloc, change)? {
         Becoming::Stays => Ok(false),
-        Becoming::Changes(new) => differ(alloc, item, &new),
+        Becoming::Changes(new) => Ok(new.print(alloc)?.as_slice() != kept.as_slice()),
         Becoming::Goes | Becoming::Splits(..) => Ok(true),
     }
-}
-
-/// Whether the records differ: their lines do.
-pub(crate) fn differ<R: EditedRecord + Drop>(
-    alloc: Global,
-    old: &R,
-    new: &R,
-) -> Result<bool, AllocError>
-    requires old_written { IsWritten R.format old.now }
-    requires new_written { IsWritten R.format new.now }
-    ensures { IfOk result (λ differ. differ ≡ not (R.format.same old.now new.now)) }
-{
-    Ok(old.print(alloc)?.as_slice() != new.print(alloc)?.as_slice())
 }

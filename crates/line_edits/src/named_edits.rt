@@ -10,7 +10,7 @@ ghost use Rattle.line_edits.specs.Naming.{ChangesOnly, KeepsNames, names_in, on_
 ghost use Rattle.line_edits.specs.SeenEdits.{seen_edit};
 ghost use Rattle.line_edits.specs.Touching.{edited_where};
 
-use crate::placed_edits::{change_all, change_at};
+use crate::placed_edits::{change_all, change_at, put_at};
 use crate::{ChangedNames, Edit, EditedRecord};
 use acct_tables::EditedLines;
 use std::alloc::{AllocError, Global};
@@ -38,7 +38,7 @@ pub(crate) fn apply_there<R: EditedRecord + Drop>(
             Ok(true)
         }
         Edit::Put(item) => {
-            put(lines, item)?;
+            put(alloc, lines, item)?;
             Ok(true)
         }
     }
@@ -60,12 +60,16 @@ fn add_missing<R: EditedRecord + Drop>(
 }
 
 // Puts the record in place of the first of its name, or behind the last line where there is none.
-fn put<R: EditedRecord + Drop>(lines: &mut EditedLines<'_, R>, item: &R) -> Result<(), AllocError>
+fn put<R: EditedRecord + Drop>(
+    alloc: Global,
+    lines: &mut EditedLines<'_, R>,
+    item: &R,
+) -> Result<(), AllocError>
     requires { IsWritten R.format item.now }
     ensures { OnOk result (lines.new ≡ edited R.format lines.old (model.Put item.now)) }
 {
     match lines.get(item.name()) {
-        Some(there) => lines.set_at(there.first, item),
+        Some(there) => put_at(alloc, lines, there.first, item),
         None => lines.append(item),
     }
 }

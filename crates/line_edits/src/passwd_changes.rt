@@ -1,10 +1,10 @@
 // What the tools do with records of passwd (passwd(5)).
-ghost use Rattle.std.specs.Prelude.{◌≡◌, ◌==◌, Some, IfOk};
+ghost use Rattle.std.specs.Prelude.{◌≡◌, ◌==◌, Some, IfOk, OnOk};
 ghost use Rattle.account_formats.specs.Records.{passwd_format};
 ghost use Rattle.account_formats.specs.declared.records.PasswdRecord.{PasswdRecord};
 ghost use Rattle.line_edits.specs.PasswdChanges.{keeps_user_name, passwd_after, with_user_fields};
 
-use crate::fields::{copy_or, fourth_field, has_other_name, leaves_name};
+use crate::fields::{fourth_field, has_other_name, leaves_name, set_given};
 use crate::{Becoming, ChangedNames, EditedRecord, HashChange};
 use account_formats::GREATEST_ID;
 use acct_lines::{PasswdRecord, TableRecord};
@@ -60,19 +60,7 @@ impl EditedRecord for PasswdRecord {
 
     ghost becomes = { passwd_becomes };
 
-    fn copy(&self, _alloc: Global) -> Result<Self, AllocError> {
-        Ok(PasswdRecord {
-            name: self.name.copy()?,
-            password: self.password.copy()?,
-            uid: self.uid,
-            gid: self.gid,
-            comment: self.comment.copy()?,
-            home: self.home.copy()?,
-            shell: self.shell.copy()?,
-        })
-    }
-
-    fn becoming(&self, alloc: Global, change: &PasswdChange) -> Result<Becoming<Self>, AllocError> {
+    fn becoming(self, alloc: Global, change: &PasswdChange) -> Result<Becoming<Self>, AllocError> {
         match change {
             PasswdChange::Named(name, act) if self.name() == name.as_slice() => {
                 Ok(Becoming::Changes(acted(alloc, self, act)?))
@@ -135,30 +123,34 @@ fn keeps_name(name: &Bytes, act: &PasswdAct) -> bool
 }
 
 // The record after the act.
-fn acted(alloc: Global, old: &PasswdRecord, act: &PasswdAct) -> Result<PasswdRecord, AllocError>
-    ensures { IfOk result (λ new. new ≡ passwd_after act.now old.now) }
+fn acted(alloc: Global, mut user: PasswdRecord, act: &PasswdAct) -> Result<PasswdRecord, AllocError>
+    ensures { IfOk result (λ new. new ≡ passwd_after act.now user) }
 {
-    let mut new = old.copy(alloc)?;
-    match act {
-        PasswdAct::SetPassword(password) => new.password = password.copy()?,
-        PasswdAct::SetGid(gid) => new.gid = *gid,
-        PasswdAct::ChangePassword(change) => new.password = change.of(alloc, &old.password)?,
-        PasswdAct::SetFields(fields) => return with_fields(old, fields),
-    }
-    Ok(new)
+    act_on(alloc, &mut user, act)?;
+    Ok(user)
 }
 
-// The record with the fields that are given.
-fn with_fields(old: &PasswdRecord, fields: &UserFields) -> Result<PasswdRecord, AllocError>
-    ensures { IfOk result (λ new. new ≡ with_user_fields fields.now old.now) }
+// Does the act with the record. At `AllocError` it may have some of the fields that are given.
+fn act_on(alloc: Global, user: &mut PasswdRecord, act: &PasswdAct) -> Result<(), AllocError>
+    ensures { OnOk result (user.new ≡ passwd_after act.now user.old) }
 {
-    Ok(PasswdRecord {
-        name: copy_or(&fields.name, &old.name)?,
-        password: old.password.copy()?,
-        uid: fields.uid.unwrap_or(old.uid),
-        gid: fields.gid.unwrap_or(old.gid),
-        comment: copy_or(&fields.comment, &old.comment)?,
-        home: copy_or(&fields.home, &old.home)?,
-        shell: copy_or(&fields.shell, &old.shell)?,
-    })
+    match act {
+        PasswdAct::SetPassword(password) => user.password = password.copy()?,
+        PasswdAct::SetGid(gid) => user.gid = *gid,
+        PasswdAct::ChangePassword(change) => user.password = change.of(alloc, &user.password)?,
+        PasswdAct::SetFields(fields) => return set_fields(user, fields),
+    }
+    Ok(())
+}
+
+// Puts the fields that are given into the record. At `AllocError` it may have some of them.
+fn set_fields(user: &mut PasswdRecord, fields: &UserFields) -> Result<(), AllocError>
+    ensures { OnOk result (user.new ≡ with_user_fields fields.now user.old) }
+{
+    user.uid = fields.uid.unwrap_or(user.uid);
+    user.gid = fields.gid.unwrap_or(user.gid);
+    set_given(&mut user.name, &fields.name)?;
+    set_given(&mut user.comment, &fields.comment)?;
+    set_given(&mut user.home, &fields.home)?;
+    set_given(&mut user.shell, &fields.shell)
 }

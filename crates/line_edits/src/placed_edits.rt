@@ -1,8 +1,11 @@
-// A change that leaves the names of records, carried out in lines at their places.
-ghost use Rattle.std.specs.Prelude.{◌≡◌, ◌<◌, [], ◌∷◌, length, OnOk};
+// A change that leaves the names of records, and a record in place of another of its name, carried
+// out in lines at their places.
+ghost use Rattle.std.specs.Prelude.{◌≡◌, ◌<◌, [], ◌∷◌, Some, length, option_map, OnOk};
 ghost use Rattle.account_formats.specs.Edits.{becomes, edited};
 ghost use Rattle.account_formats.specs.Edits as model;
 ghost use Rattle.account_formats.specs.RecordEdits.{IsWrittenEdit};
+ghost use Rattle.account_formats.specs.Written.{IsWritten};
+ghost use Rattle.acct_tables.specs.TableLines.{changed_at, record_at, with_record};
 ghost use Rattle.line_edits.specs.Naming.{KeepsNames, on_named};
 ghost use Rattle.line_edits.specs.Places.{spliced_at};
 
@@ -71,11 +74,33 @@ pub(crate) fn change_at<R: EditedRecord + Drop>(
     let Some(item) = lines.record_at(alloc, place)? else {
         return Ok(());
     };
+    let kept = item.print(alloc)?;
     match item.becoming(alloc, change)? {
         Becoming::Stays => Ok(()),
-        Becoming::Changes(new) => lines.set_at(place, &new),
+        Becoming::Changes(new) => lines.set_at(place, kept.as_slice(), &new),
         // of a change that leaves the names
         Becoming::Goes => Ok(()),
         Becoming::Splits(..) => Ok(()),
     }
+}
+
+/// Puts the record in place of that at a place, of the same name.
+pub(crate) fn put_at<R: EditedRecord + Drop>(
+    alloc: Global,
+    lines: &mut EditedLines<'_, R>,
+    place: usize,
+    item: &R,
+) -> Result<(), AllocError>
+    requires inside { place < length lines.old }
+    requires named { option_map R.format.name (record_at R.format lines.old place)
+        ≡ Some (R.format.name item.now) }
+    requires written { IsWritten R.format item.now }
+    ensures { OnOk result (lines.new ≡
+        changed_at (with_record R.format item.now) place lines.old) }
+{
+    let Some(old) = lines.record_at(alloc, place)? else {
+        return Ok(());
+    };
+    let kept = old.print(alloc)?;
+    lines.set_at(place, kept.as_slice(), item)
 }

@@ -1,8 +1,8 @@
 // What the tools do with records of shadow (shadow(5)).
-ghost use Rattle.std.specs.Prelude.{◌≡◌, None, IfOk, unwrap_or};
+ghost use Rattle.std.specs.Prelude.{◌≡◌, None, IfOk, OnOk, unwrap_or};
 ghost use Rattle.line_edits.specs.ShadowChanges.{given_days, keeps_shadow_name, shadow_after, with_shadow_fields};
 
-use crate::fields::{copy_or, has_other_name, leaves_name};
+use crate::fields::{has_other_name, leaves_name, set_given};
 use crate::{Becoming, ChangedNames, EditedRecord, HashChange};
 use acct_lines::{ShadowRecord, TableRecord};
 use acct_text::Bytes;
@@ -117,21 +117,7 @@ impl EditedRecord for ShadowRecord {
 
     ghost becomes = { shadow_becomes };
 
-    fn copy(&self, _alloc: Global) -> Result<Self, AllocError> {
-        Ok(ShadowRecord {
-            name: self.name.copy()?,
-            hash: self.hash.copy()?,
-            last_change: self.last_change,
-            minimum: self.minimum,
-            maximum: self.maximum,
-            warning: self.warning,
-            inactive: self.inactive,
-            expiration: self.expiration,
-            rest: self.rest.copy()?,
-        })
-    }
-
-    fn becoming(&self, alloc: Global, change: &ShadowChange) -> Result<Becoming<Self>, AllocError> {
+    fn becoming(self, alloc: Global, change: &ShadowChange) -> Result<Becoming<Self>, AllocError> {
         match change {
             ShadowChange::Named(name, act) if self.name() == name.as_slice() => {
                 Ok(Becoming::Changes(acted(alloc, self, act)?))
@@ -178,32 +164,35 @@ fn keeps_name(name: &Bytes, act: &ShadowAct) -> bool
 }
 
 // The record after the act.
-fn acted(alloc: Global, old: &ShadowRecord, act: &ShadowAct) -> Result<ShadowRecord, AllocError>
-    ensures { IfOk result (λ new. new ≡ shadow_after act.now old.now) }
+fn acted(alloc: Global, mut user: ShadowRecord, act: &ShadowAct) -> Result<ShadowRecord, AllocError>
+    ensures { IfOk result (λ new. new ≡ shadow_after act.now user) }
 {
-    let mut new = old.copy(alloc)?;
-    match act {
-        ShadowAct::SetHash(hash) => new.hash = hash.copy()?,
-        ShadowAct::SetLastChange(day) => new.last_change = Some(*day),
-        ShadowAct::ChangeHash(change) => new.hash = change.of(alloc, &old.hash)?,
-        ShadowAct::SetFields(fields) => return with_fields(old, fields),
-    }
-    Ok(new)
+    act_on(alloc, &mut user, act)?;
+    Ok(user)
 }
 
-// The record with the fields that are given.
-fn with_fields(old: &ShadowRecord, fields: &ShadowFields) -> Result<ShadowRecord, AllocError>
-    ensures { IfOk result (λ new. new ≡ with_shadow_fields fields.now old.now) }
+// Does the act with the record. At `AllocError` it may have some of the days that are given.
+fn act_on(alloc: Global, user: &mut ShadowRecord, act: &ShadowAct) -> Result<(), AllocError>
+    ensures { OnOk result (user.new ≡ shadow_after act.now user.old) }
 {
-    Ok(ShadowRecord {
-        name: copy_or(&fields.name, &old.name)?,
-        hash: old.hash.copy()?,
-        last_change: fields.last_change.after(old.last_change),
-        minimum: fields.minimum.after(old.minimum),
-        maximum: fields.maximum.after(old.maximum),
-        warning: fields.warning.after(old.warning),
-        inactive: fields.inactive.after(old.inactive),
-        expiration: fields.expiration.after(old.expiration),
-        rest: old.rest.copy()?,
-    })
+    match act {
+        ShadowAct::SetHash(hash) => user.hash = hash.copy()?,
+        ShadowAct::SetLastChange(day) => user.last_change = Some(*day),
+        ShadowAct::ChangeHash(change) => user.hash = change.of(alloc, &user.hash)?,
+        ShadowAct::SetFields(fields) => return set_fields(user, fields),
+    }
+    Ok(())
+}
+
+// Puts the fields that are given into the record. At `AllocError` it may have the days alone.
+fn set_fields(user: &mut ShadowRecord, fields: &ShadowFields) -> Result<(), AllocError>
+    ensures { OnOk result (user.new ≡ with_shadow_fields fields.now user.old) }
+{
+    user.last_change = fields.last_change.after(user.last_change);
+    user.minimum = fields.minimum.after(user.minimum);
+    user.maximum = fields.maximum.after(user.maximum);
+    user.warning = fields.warning.after(user.warning);
+    user.inactive = fields.inactive.after(user.inactive);
+    user.expiration = fields.expiration.after(user.expiration);
+    set_given(&mut user.name, &fields.name)
 }

@@ -45,15 +45,7 @@ impl EditedRecord for SubidRecord {
 
     ghost becomes = { subid_becomes };
 
-    fn copy(&self, _alloc: Global) -> Result<Self, AllocError> {
-        Ok(SubidRecord {
-            owner: self.owner.copy()?,
-            first: self.first,
-            count: self.count,
-        })
-    }
-
-    fn becoming(&self, _alloc: Global, change: &SubidChange) -> Result<Becoming<Self>, AllocError> {
+    fn becoming(self, _alloc: Global, change: &SubidChange) -> Result<Becoming<Self>, AllocError> {
         match change {
             SubidChange::Rename(old, new) if self.name() == old.as_slice() => {
                 Ok(Becoming::Changes(SubidRecord {
@@ -62,11 +54,11 @@ impl EditedRecord for SubidRecord {
                     count: self.count,
                 }))
             }
-            SubidChange::Remove(user, uid) if is_owned(self, user.as_slice(), *uid) => {
+            SubidChange::Remove(user, uid) if is_owned(&self, user.as_slice(), *uid) => {
                 Ok(Becoming::Goes)
             }
-            SubidChange::Cut(cut) if is_owned(self, cut.owner.as_slice(), cut.uid) => {
-                left_without(self, cut.first, cut.last)
+            SubidChange::Cut(cut) if is_owned(&self, cut.owner.as_slice(), cut.uid) => {
+                left_without(&self, cut.first, cut.last)
             }
             _ => Ok(Becoming::Stays),
         }

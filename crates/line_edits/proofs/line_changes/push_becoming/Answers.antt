@@ -12,7 +12,7 @@ returns-in-Stays g c =
     let format = g.R.TableRecord.format in
     let change = g.R.EditedRecord.becomes c.args.change.now in
     let line = seen_line c.args.line.now in
-    let item = c.args.item.now in
+    let item = c.args.item in
     let same : change item ≡ item ∷ [] =
     sym c.in_ok-becoming.ensures ∙ ap (records_in item) c.in-Stays.is in
     on_ok_weaker c.push_to.result
@@ -25,9 +25,9 @@ pub returns-in-Changes : goal.returns-in-Changes
 returns-in-Changes g c =
     let format = g.R.TableRecord.format in
     let line = seen_line c.args.line.now in
-    let item = c.args.item.now in
+    let item = c.args.item in
     on_ok_weaker c.push_instead.result
-    (λ pushed. pushed
+    (λ pushed. pushed item c.requires.item (sym (c.as_slice.ensures ∙ c.in_ok-kept.ensures))
     ∙ ap (λ records. c.args.made.now ++ file_bytes (line_becomes format line item records))
     (sym (ap (records_in item) c.in-Changes.is) ∙ c.in_ok-becoming.ensures))
     c.push_instead.ensures
@@ -36,16 +36,16 @@ pub returns-in-Goes : goal.returns-in-Goes
 returns-in-Goes g c =
     let format = g.R.TableRecord.format in
     let line = seen_line c.args.line.now in
-    let item = c.args.item.now in
+    let item = c.args.item in
     sym (append-nil c.args.made.now)
     ∙ ap (λ records. c.args.made.now ++ file_bytes (line_becomes format line item records))
     (sym (ap (records_in item) c.in-Goes.is) ∙ c.in_ok-becoming.ensures)
 
-pub returns-in-Splits : goal.returns-in-Splits
-returns-in-Splits g c =
+pub returns : goal.returns
+returns g c =
     let format = g.R.TableRecord.format in
     let line = seen_line c.args.line.now in
-    let item = c.args.item.now in
+    let item = c.args.item in
     on_ok_weaker c.push_two.result
     (λ pushed. pushed
     ∙ ap (λ records. c.args.made.now ++ file_bytes (line_becomes format line item records))

@@ -4,15 +4,15 @@ use Rattle.acct_tables.specs.NameIndex.{line_names, lines_named}
 use Rattle.line_edits.proofs.PlacedRecords.{put-inside, put-named, put-there, puts-line}
 use Rattle.line_edits.proofs.named_edits.put.Goals as goal
 
-pub set_at-requires-clause-inside : goal.set_at-requires-clause-inside
-set_at-requires-clause-inside g c =
+pub put_at-requires-clause-inside : goal.put_at-requires-clause-inside
+put_at-requires-clause-inside g c =
     let format = g.R.TableRecord.format in
     put-inside format c.args.item.now c.args.lines.now c.in-Some.there
     (sym c.in-Some.is ∙ c.get.ensures
     ∙ ap (λ name. lines_named name (line_names format c.args.lines.now)) c.name.ensures)
 
-pub set_at-requires-clause-named : goal.set_at-requires-clause-named
-set_at-requires-clause-named g c =
+pub put_at-requires-clause-named : goal.put_at-requires-clause-named
+put_at-requires-clause-named g c =
     let format = g.R.TableRecord.format in
     put-named format c.args.item.now c.args.lines.now c.in-Some.there
     (sym c.in-Some.is ∙ c.get.ensures
@@ -21,12 +21,12 @@ set_at-requires-clause-named g c =
 pub returns-in-Some : goal.returns-in-Some
 returns-in-Some g c =
     let format = g.R.TableRecord.format in
-    on_ok_weaker c.set_at.result
+    on_ok_weaker c.put_at.result
     (λ set.
     set ∙ put-there format c.args.item.now c.args.lines.now c.in-Some.there
     (sym c.in-Some.is ∙ c.get.ensures
     ∙ ap (λ name. lines_named name (line_names format c.args.lines.now)) c.name.ensures))
-    c.set_at.ensures.set
+    c.put_at.ensures
 
 pub returns-in-None : goal.returns-in-None
 returns-in-None g c =

@@ -1,0 +1,46 @@
+-- Claim: a record of another canonical text than that of a line takes the line (`put-other`). Way: it
+-- is another record.
+use Rattle.std.proofs.Common.{◌≡◌, ◌∙◌, ℕ, Bool, true, false, List, refl, sym, ap}
+use Rattle.std.specs.Prelude.{Option, Some, None, bytes_eq, not, option_map, if◌then◌else◌}
+use Rattle.std.proofs.lemmas.Bool.{false_from_ne_true}
+use Rattle.std.proofs.lemmas.Slice.Eq.{bytes_eq-Decides}
+use Rattle.acct_text.specs.Lines.{Line}
+use Rattle.account_formats.specs.Format.{Format}
+use Rattle.account_formats.specs.RecordEdits.{TellsSame}
+use Rattle.acct_tables.specs.TableLines.{with_record}
+
+-- what isn't so is false
+pub isn't : (test : Bool) → not test ≡ true → test ≡ false
+isn't true other = absurd cc
+isn't false other = refl
+
+module _ {R : Type 0} (format : Format R) (tells : TellsSame format) (item : R) where
+  -- a record of another text is another one
+  other-record :
+      (old : R) → bytes_eq (format.print item) (format.print old) ≡ false
+      → format.same old item ≡ false
+  other-record old other = false_from_ne_true (format.same old item) (λ same.
+      let texts : format.print item ≡ format.print old =
+      ap format.print (sym ((tells old item).0 same)) in
+      let equal : bytes_eq (format.print item) (format.print old) ≡ true =
+      (bytes_eq-Decides (format.print item) (format.print old)).1 texts in cc)
+
+  -- so it takes the line, by what that reads as
+  pub put-other :
+      (line : Line) (found : Option R) (kept text : List ℕ)
+      → format.read line.text ≡ found
+      → option_map format.print found ≡ Some kept
+      → text ≡ format.print item
+      → bytes_eq text kept ≡ false
+      → record line { text = format.print item } ≡ with_record format item line
+  put-other line None kept text reads known is other = absurd cc
+  put-other line (Some old) kept text reads known is other =
+      let new : Line = record line { text = format.print item } in
+      let printed : format.print old ≡ kept = cc in
+      let apart : bytes_eq (format.print item) (format.print old) ≡ false =
+      ap (λ t. bytes_eq t (format.print old)) (sym is) ∙ ap (bytes_eq text) printed ∙ other in
+      ap (λ same. if same then line else new) (sym (other-record old apart))
+      ∙ ap (λ found. elim found [
+        | None ↦ new
+        | Some old ↦ if format.same old item then line else new
+      ]) (sym reads)
