@@ -17,6 +17,7 @@ pub mod NamedRecords
 pub mod ToldLines
 pub mod EditedNames
 pub mod MarkLemmas
+pub mod FrontLines
 pub mod MarkedRecords
 pub mod KnownLines
 pub mod FieldMarks

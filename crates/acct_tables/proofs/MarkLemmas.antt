@@ -37,6 +37,19 @@ front-lines (piece ∷ next ∷ more) rest apart some =
     ∙ lines_of-line piece (later ++ newline ∷ rest) apart.0
     ∙ ap (λ lines. line ∷ lines) (front-lines (next ∷ more) rest apart.1 (omega arith))
 
+-- the lines of a text that is cut behind a newline
+pub newline-cut :
+    (front behind : List ℕ)
+    → lines_of (front ++ newline ∷ behind) ≡ lines_of (front ++ newline ∷ []) ++ lines_of behind
+newline-cut front behind =
+    let pieces = cut_at newline front in
+    let are = cut_at-is newline front in
+    let found = λ (rest : List ℕ). ap (λ t. lines_of (t ++ newline ∷ rest)) (sym are.joined)
+    ∙ front-lines pieces rest are.apart are.some in
+    found behind
+    ∙ ap (λ lines. lines ++ lines_of behind)
+    (sym (found [] ∙ append-nil (ended_lines pieces)))
+
 module _ (mark : List ℕ) where
   -- a text has what its front has
   pub holds-front : (text more : List ℕ) → Holds mark text → Holds mark (text ++ more)

@@ -28,7 +28,7 @@ pub use fault::TableFault;
 pub use line::{is_named, is_record, name_of, read_record};
 pub use lines::{FileLine, Lines, append_line, find_record, has_record, has_several_records};
 pub use list_record::ListRecord;
-pub use marks::from_mark;
+pub use marks::{Marks, from_mark, from_marks};
 pub use name_index::{MANY, NameIndex, NamedLines};
 pub use owner::{is_owned, is_owner, last_id};
 pub use table::Table;

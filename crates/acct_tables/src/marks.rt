@@ -1,8 +1,35 @@
-// Lines that are passed over at once: those without bytes that each line has which is looked for
-// (passwd(5), and likewise the other five tables).
-ghost use Rattle.acct_tables.specs.Marks.{IsFromMark};
+// Lines that are passed over at once: those without bytes of which each line that is looked for has
+// some (passwd(5), and likewise the other five tables).
+ghost use Rattle.std.specs.Prelude.{◌≡◌, ◌<◌, [], ◌∷◌, length};
+ghost use Rattle.acct_tables.specs.Marks.{IsFromMark, IsFromMarks, IsFrontWithout, marks_in};
 
+use acct_text::cut_once;
 use memchr::{memmem, memrchr};
+
+// So many bytes are searched for each mark before those behind them: a mark that stands nowhere isn't
+// looked for in the whole text at each line that has another one.
+const CHUNK: usize = 4096;
+
+/// Bytes of which each line that is looked for has some.
+#[derive(Clone, Copy)]
+pub struct Marks<'m> {
+    /// The first mark.
+    pub first: &'m [u8],
+    /// The other ones.
+    pub others: &'m [Vec<u8>],
+}
+
+impl<'m> Marks<'m> {
+    /// This mark alone.
+    pub fn one(mark: &'m [u8]) -> Self
+        ensures { marks_in result ≡ mark.now ∷ [] }
+    {
+        Marks {
+            first: mark,
+            others: &[],
+        }
+    }
+}
 
 /// The text of a file from the line on in which these bytes first stand; empty where they stand
 /// nowhere.
@@ -16,4 +43,54 @@ pub fn from_mark<'a>(text: &'a [u8], mark: &[u8]) -> &'a [u8]
         Some(end) => &text[end + 1..],
         None => text,
     }
+}
+
+/// The text of a file from the line on in which one of the marks first stands; empty where none
+/// stands anywhere.
+pub fn from_marks<'a>(text: &'a [u8], marks: Marks<'_>) -> &'a [u8]
+    ensures { IsFromMarks (marks_in marks.entry) text.now result.now }
+{
+    let mut left = text;
+    'chunks: while !left.is_empty() {
+        let chunk = chunk_of(left);
+        let front = front_without(chunk, marks);
+        left = &left[front.len()..];
+        if front.len() < chunk.len() {
+            return left;
+        }
+    }
+    left
+}
+
+// The first lines of a text, as many as have the bytes of a chunk.
+fn chunk_of(text: &[u8]) -> &[u8]
+    ensures front { IsFrontWithout [] text.now result.now }
+    ensures some { 0 < length text.now → 0 < length result.now }
+{
+    if text.len() <= CHUNK {
+        return text;
+    }
+    match cut_once(b'\n', &text[CHUNK..]) {
+        Some(cut) => &text[..text.len() - cut.behind.len()],
+        None => text,
+    }
+}
+
+// The lines of a text in front of the first that has one of the marks.
+fn front_without<'a>(text: &'a [u8], marks: Marks<'_>) -> &'a [u8]
+    ensures { IsFrontWithout (marks_in marks.entry) text.now result.now }
+{
+    let mut front = front_of(text, marks.first);
+    'others: for mark in marks.others {
+        front = front_of(front, mark.as_slice());
+    }
+    front
+}
+
+// The lines of a text in front of the first that has the mark.
+fn front_of<'a>(text: &'a [u8], mark: &[u8]) -> &'a [u8]
+    ensures { IsFrontWithout (mark.now ∷ []) text.now result.now }
+{
+    let rest = from_mark(text, mark);
+    &text[..text.len() - rest.len()]
 }

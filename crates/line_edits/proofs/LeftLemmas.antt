@@ -1,15 +1,17 @@
 -- Claim: a line that begins with another name isn't a record of the name (`other-name`), a list
--- without a user stays without it (`without-unlisted`), and so do the members of a group that the user
--- doesn't join (`unjoined`); so changes leave such lines. Way: the name of a record is the first field
+-- without a user stays without it (`without-unlisted`), and so does a group that the user doesn't join
+-- (`left-group`, `left-gshadow`); so changes leave such lines. Way: the name of a record is the first field
 -- of its line.
 use Rattle.std.proofs.Common.{◌≡◌, ℕ, true, false, Bool, List, [], ◌∷◌, refl, sym, ◌∙◌, ap}
 use Rattle.std.specs.Prelude.{◌||◌, not, bytes_eq, Some}
 use Rattle.account_formats.specs.Format.{Format, is_named}
+use Rattle.account_formats.specs.declared.records.GroupRecord.{GroupRecord}
+use Rattle.account_formats.specs.declared.records.GshadowRecord.{GshadowRecord}
 use Rattle.account_model.specs.Members.{renamed_in, without_name}
 use Rattle.account_formats.specs.Text.{is_listed}
 use Rattle.account_model.proofs.RenamingLaws.{flipped, unlisted_stays}
 use Rattle.account_formats.specs.Naming.{NamesFirst, first_field}
-use Rattle.line_edits.specs.Memberships.{joins, members_by, members_with}
+use Rattle.line_edits.specs.Memberships.{group_by, gshadow_by, joins, members_by, members_with}
 use Rattle.line_edits.specs.declared.memberships.Membership.{Membership}
 use Rattle.line_edits.specs.declared.memberships.UserGroups.{UserGroups}
 use Rattle.line_edits.specs.declared.memberships.UserGroups.TheVariants.{Kept, Also, Only}
@@ -62,7 +64,7 @@ unjoined-with (Only groups) user group members other unlisted =
     rw other (without-unlisted user members unlisted)
 
 -- and so once the user is renamed in them
-pub unjoined :
+unjoined :
     (membership : Membership) (group : List ℕ) (members : List (List ℕ))
     → joins membership.groups group ≡ false
     → is_listed membership.user members ≡ false
@@ -71,3 +73,28 @@ unjoined membership group members other unlisted =
     ap (renamed_in membership.user membership.new_name)
     (unjoined-with membership.groups membership.user group members other unlisted)
     ∙ unlisted_stays membership.user membership.new_name members unlisted
+
+-- a group that the user doesn't join and that doesn't list it stays
+pub left-group :
+    (membership : Membership) (group : GroupRecord)
+    → joins membership.groups group.name ≡ false
+    → is_listed membership.user group.members ≡ false
+    → group_by membership group ≡ group
+left-group membership group other unlisted =
+    ap (λ members. record group { members = members })
+    (unjoined membership group.name group.members other unlisted)
+
+-- and so does a record of gshadow
+pub left-gshadow :
+    (membership : Membership) (group : GshadowRecord)
+    → joins membership.groups group.name ≡ false
+    → is_listed membership.user group.administrators ≡ false
+    → is_listed membership.user group.members ≡ false
+    → gshadow_by membership group ≡ group
+left-gshadow membership group other apart unlisted =
+    ap (λ names. record group {
+      administrators = names;
+      members = members_by membership group.name group.members;
+    }) (unlisted_stays membership.user membership.new_name group.administrators apart)
+    ∙ ap (λ names. record group { members = names })
+    (unjoined membership group.name group.members other unlisted)

@@ -1,10 +1,12 @@
--- Claim: a record whose line is without a name doesn't have it (`other-record`), and a group whose
--- line is without a user doesn't list it (`unlisted-group`, `unlisted-gshadow`), so acts that take
--- the user from a list or rename it there leave the group. Way: the line of a record has its fields,
--- and a field with names has each of these.
+-- Claim: a record whose line is without a name doesn't have it (`other-record`, `unlisted-name`), and
+-- a group whose line is without a user doesn't list it (`unlisted-group`, `unlisted-gshadow`), so
+-- acts that take the user from a list leave the group, and those that rename it or let it join other
+-- groups (`kept-group`, `kept-gshadow`). Way: the line of a record has its fields, and a field with
+-- names has each of these.
 use Rattle.std.proofs.Common.{◌≡◌, ◌∙◌, ℕ, true, false, inl, inr, List, [], ◌∷◌, refl, sym, ap, subst}
-use Rattle.std.specs.Prelude.{◌||◌, bytes_eq, IfSome, Option, Some, None}
+use Rattle.std.specs.Prelude.{◌||◌, bytes_eq, map, IfSome, Option, Some, None}
 use Rattle.std.specs.List.{join_with_byte}
+use Rattle.std.specs.Vec.{vec_items}
 use Rattle.std.proofs.lemmas.Bool.{cases_Bool}
 use Rattle.std.proofs.lemmas.Slice.Eq.{bytes_eq-Decides}
 use Rattle.acct_text.specs.Bytes.{colon}
@@ -15,21 +17,21 @@ use Rattle.account_formats.specs.Records.{group_format, gshadow_format}
 use Rattle.account_formats.specs.Text.{comma, is_listed, nonempty}
 use Rattle.account_formats.specs.declared.records.GroupRecord.{GroupRecord}
 use Rattle.account_formats.specs.declared.records.GshadowRecord.{GshadowRecord}
+use Rattle.account_formats.proofs.NamingLaws.{group-names_first, gshadow-names_first}
 use Rattle.account_formats.proofs.ReadsLaws.{group-is, gshadow-is}
-use Rattle.account_model.specs.Members.{renamed_in, without_name}
-use Rattle.acct_tables.specs.Marks.{Holds, IsWithout}
+use Rattle.account_model.specs.Members.{without_name}
+use Rattle.acct_tables.specs.Marks.{Holds, IsWithout, IsWithoutAll, marks_in}
+use Rattle.acct_tables.specs.declared.marks.Marks.{Marks}
 use Rattle.acct_tables.proofs.FieldMarks.{holds-self, joined-first, joined-rest}
 use Rattle.acct_tables.proofs.MarkedRecords.{unnamed}
 use Rattle.line_edits.specs.GroupChanges.{group_after}
 use Rattle.line_edits.specs.GshadowChanges.{gshadow_after}
-use Rattle.line_edits.specs.Memberships.{group_by, gshadow_by, members_with}
-use Rattle.line_edits.specs.Naming.{IsMarkOf}
+use Rattle.line_edits.specs.Memberships.{AreMarksIn, group_by, gshadow_by}
+use Rattle.line_edits.specs.Naming.{AreMarksOf}
 use Rattle.line_edits.specs.declared.group_changes.GroupAct.TheVariants.{RemoveMember}
 use Rattle.line_edits.specs.declared.gshadow_changes.GshadowAct.TheVariants.{RemoveUser}
 use Rattle.line_edits.specs.declared.memberships.Membership.{Membership}
-use Rattle.line_edits.specs.declared.memberships.UserGroups.TheVariants.{Kept}
-use Rattle.line_edits.proofs.LeftLemmas.{without-unlisted}
-use denote.Ref.{Bor}
+use Rattle.line_edits.proofs.LeftLemmas.{left-group, left-gshadow, without-unlisted}
 
 -- a record whose line is without the name has another
 pub other-record :
@@ -73,17 +75,10 @@ unlisted name text names are without = elim (cases_Bool (is_listed name names)) 
   | inr none ↦ none
 ]
 
--- a name that isn't listed isn't renamed
-renamed-unlisted :
-    (old new : List ℕ) (names : List (List ℕ))
-    → is_listed old names ≡ false
-    → renamed_in old new names ≡ names
-renamed-unlisted old new names none = rw none refl
-
 module _ (user line : List ℕ) (without : IsWithout user line) where
   module _ (group : GroupRecord) (read : group_format.read line ≡ Some group) where
     -- a line of group without the user doesn't list it
-    unlisted-group : is_listed user group.members ≡ false
+    pub unlisted-group : is_listed user group.members ≡ false
     unlisted-group =
         let reads = group-is line group read in
         unlisted user reads.members group.members reads.members_read
@@ -98,24 +93,9 @@ module _ (user line : List ℕ) (without : IsWithout user line) where
         ap (λ members. record group { members = members })
         (without-unlisted user group.members unlisted-group)
 
-    -- nor renamed in it
-    pub left-membership :
-        (membership : Membership)
-        → user ≡ membership.user
-        → membership.groups ≡ Kept
-        → group_by membership group ≡ group
-    left-membership membership is kept =
-        ap (λ groups. record group {
-          members = renamed_in membership.user membership.new_name
-              (members_with groups membership.user group.name group.members);
-        }) kept
-        ∙ ap (λ members. record group { members = members })
-        (renamed-unlisted membership.user membership.new_name group.members
-        (sym (ap (λ name. is_listed name group.members) is) ∙ unlisted-group))
-
   module _ (group : GshadowRecord) (read : gshadow_format.read line ≡ Some group) where
     -- a line of gshadow without the user doesn't list it as administrator
-    unlisted-administrator : is_listed user group.administrators ≡ false
+    pub unlisted-administrator : is_listed user group.administrators ≡ false
     unlisted-administrator =
         let reads = gshadow-is line group read in
         unlisted user reads.administrators group.administrators reads.administrators_read
@@ -126,7 +106,7 @@ module _ (user line : List ℕ) (without : IsWithout user line) where
         (joined-first user colon reads.administrators (reads.members ∷ []) holds)))))
 
     -- nor as member
-    unlisted-gshadow : is_listed user group.members ≡ false
+    pub unlisted-gshadow : is_listed user group.members ≡ false
     unlisted-gshadow =
         let reads = gshadow-is line group read in
         unlisted user reads.members group.members reads.members_read
@@ -146,57 +126,73 @@ module _ (user line : List ℕ) (without : IsWithout user line) where
         ∙ ap (λ names. record group { members = names })
         (without-unlisted user group.members unlisted-gshadow)
 
-    -- nor renamed in it
-    pub left-lists :
-        (membership : Membership)
-        → user ≡ membership.user
-        → membership.groups ≡ Kept
-        → gshadow_by membership group ≡ group
-    left-lists membership is kept =
-        let old = membership.user in
-        let new = membership.new_name in
-        ap (λ groups. record group {
-          administrators = renamed_in old new group.administrators;
-          members = renamed_in old new (members_with groups old group.name group.members);
-        }) kept
-        ∙ ap (λ names. record group {
-          administrators = names;
-          members = renamed_in old new group.members;
-        }) (renamed-unlisted old new group.administrators
-        (sym (ap (λ name. is_listed name group.administrators) is) ∙ unlisted-administrator))
-        ∙ ap (λ names. record group { members = names }) (renamed-unlisted old new group.members
-        (sym (ap (λ name. is_listed name group.members) is) ∙ unlisted-gshadow))
+-- ---- Marks of changes
 
--- ---- Marks of memberships
+-- a record whose line is without names has none of them
+pub unlisted-name :
+    {R : Type 0} (format : Format R)
+    → NamesFirst format
+    → (names : List (List ℕ)) (line : List ℕ) (r : R)
+    → format.read line ≡ Some r
+    → IsWithoutAll names line
+    → is_listed (format.name r) names ≡ false
+unlisted-name format first [] line r read without = refl
+unlisted-name format first (name ∷ names) line r read without =
+    ap (λ same. same || is_listed (format.name r) names)
+    (other-record format first name line r read without.0)
+    ∙ unlisted-name format first names line r read without.1
 
--- a group whose line is without the mark of a membership stays
+-- a change that leaves records of other names has the name for its mark
+pub named-marks :
+    {R : Type 0} (format : Format R)
+    → NamesFirst format
+    → (name : List ℕ) (marks : List (List ℕ)) (f : R → List R)
+    → marks ≡ name ∷ []
+    → ((r : R) → is_named format name r ≡ false → f r ≡ r ∷ [])
+    → AreMarksOf format f marks
+named-marks format first name marks f is left = λ line without r read.
+    left r (other-record format first name line r read
+    (subst (λ found. IsWithoutAll found line) is without).0)
+
+-- a group whose line is without the marks of a membership stays
 pub kept-group :
-    (mark : Option (Bor (List ℕ))) (membership : Membership)
-    → IfSome mark (λ m. (m.now ≡ membership.user) × (membership.groups ≡ Kept))
-    → IfSome mark (λ m. (line : List ℕ) → IsWithout m.now line
+    (marks : Option Marks) (membership : Membership)
+    → IfSome marks (AreMarksIn membership)
+    → IfSome marks (λ m. (line : List ℕ) → IsWithoutAll (marks_in m) line
     → (group : GroupRecord) → group_format.read line ≡ Some group
     → group_by membership group ≡ group)
 kept-group None membership is = tt
-kept-group (Some mark) membership is = λ line without group read.
-    left-membership mark.now line without group read membership is.0 is.1
+kept-group (Some marks) membership is = λ line without group read.
+    left-group membership group
+    (sym (is.joined group.name)
+    ∙ unlisted-name group_format group-names_first (map vec_items marks.others.now) line
+    group read without.1)
+    (unlisted-group membership.user line (subst (λ user. IsWithout user line) is.user without.0)
+    group read)
 
 -- and so does a record of gshadow
 pub kept-gshadow :
-    (mark : Option (Bor (List ℕ))) (membership : Membership)
-    → IfSome mark (λ m. (m.now ≡ membership.user) × (membership.groups ≡ Kept))
-    → IfSome mark (λ m. (line : List ℕ) → IsWithout m.now line
+    (marks : Option Marks) (membership : Membership)
+    → IfSome marks (AreMarksIn membership)
+    → IfSome marks (λ m. (line : List ℕ) → IsWithoutAll (marks_in m) line
     → (group : GshadowRecord) → gshadow_format.read line ≡ Some group
     → gshadow_by membership group ≡ group)
 kept-gshadow None membership is = tt
-kept-gshadow (Some mark) membership is = λ line without group read.
-    left-lists mark.now line without group read membership is.0 is.1
+kept-gshadow (Some marks) membership is = λ line without group read.
+    let user = subst (λ user. IsWithout user line) is.user without.0 in
+    left-gshadow membership group
+    (sym (is.joined group.name)
+    ∙ unlisted-name gshadow_format gshadow-names_first (map vec_items marks.others.now) line
+    group read without.1)
+    (unlisted-administrator membership.user line user group read)
+    (unlisted-gshadow membership.user line user group read)
 
--- what leaves each record without a mark leaves it alone in its place
+-- what leaves each record without some marks leaves it alone in its place
 pub alone :
-    {R : Type 0} (format : Format R) (f : R → R) (mark : Option (Bor (List ℕ)))
-    → IfSome mark (λ m. (line : List ℕ) → IsWithout m.now line
+    {R : Type 0} (format : Format R) (f : R → R) (marks : Option Marks)
+    → IfSome marks (λ m. (line : List ℕ) → IsWithoutAll (marks_in m) line
     → (r : R) → format.read line ≡ Some r → f r ≡ r)
-    → IfSome mark (λ m. IsMarkOf format (λ r. f r ∷ []) m.now)
+    → IfSome marks (λ m. AreMarksOf format (λ r. f r ∷ []) (marks_in m))
 alone format f None is = tt
-alone format f (Some mark) is = λ line without r read.
+alone format f (Some marks) is = λ line without r read.
     ap (λ s. s ∷ []) (is line without r read)

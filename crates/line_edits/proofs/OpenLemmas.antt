@@ -1,9 +1,9 @@
--- Claim: a file is open from its start (`open-all`), and from the mark of the change on
--- (`open-marked`), and behind a line that the change leaves from the next one on (`open-next`); and what is copied of it, with what becomes of the rest, is what
--- becomes of all (`front-pushed`). Way: a line that is left becomes itself.
-use Rattle.std.proofs.Common.{◌≡◌, ◌∙◌, ℕ, ◌+◌, ◌-◌, List, [], ◌∷◌, ◌++◌, length, take, refl, sym, ap, arith, append_assoc}
+-- Claim: a file is open from its start (`open-all`), and from the marks of the change on
+-- (`open-marked`), and behind a line that the change leaves from the next one on (`open-next`), or
+-- from where that is open (`open-further`); and what is copied of it, with what becomes of the rest,
+-- is what becomes of all (`front-pushed`). Way: a line that is left becomes itself.
+use Rattle.std.proofs.Common.{◌≡◌, ◌∙◌, ℕ, ◌-◌, List, [], ◌∷◌, ◌++◌, length, take, refl, sym, ap, arith, append_assoc}
 use Rattle.std.specs.Prelude.{flat_map}
-use Rattle.std.proofs.Math.Seq.{take-append_seam}
 use Rattle.std.specs.List.{AllByRecursion}
 use Rattle.std.proofs.lemmas.Grind.{flat_map-append}
 use Rattle.std.proofs.lemmas.List.{length-append}
@@ -12,21 +12,11 @@ use Rattle.acct_text.proofs.LinesLaws.{lines_of-are}
 use Rattle.account_formats.specs.Edits.{becomes}
 use Rattle.account_formats.specs.Format.{Format}
 use Rattle.account_formats.specs.RecordEdits.{TellsSame}
-use Rattle.acct_tables.specs.Marks.{IsFromMark, IsWithout}
-use Rattle.line_edits.specs.Naming.{IsMarkOf, Leaves}
+use Rattle.acct_tables.specs.Marks.{IsFromMarks, IsWithoutAll}
+use Rattle.acct_tables.proofs.FrontLines.{front-taken}
+use Rattle.line_edits.specs.Naming.{AreMarksOf, Leaves}
 use Rattle.line_edits.specs.OpenLines.{IsOpenFrom}
 use Rattle.line_edits.proofs.ChangedLines.{left-line}
-
--- what stands in front of the end of a text
-front-taken :
-    (front behind text : List ℕ)
-    → text ≡ front ++ behind
-    → take (length text - length behind) text ≡ front
-front-taken front behind text is =
-    let size : length text ≡ length front + length behind = ap length is
-    ∙ length-append front behind in
-    let place : length text - length behind ≡ length front = omega (arith, size) in
-    ap (λ n. take n text) place ∙ ap (take (length front)) is ∙ take-append_seam front behind
 
 module _ {R : Type 0} (format : Format R) (tells : TellsSame format) (f : R → List R) where
   -- a file is open from its start
@@ -43,23 +33,23 @@ module _ {R : Type 0} (format : Format R) (tells : TellsSame format) (f : R → 
       ap (λ now. now ++ flat_map (becomes format f) lines) (left-line format f line tells left.0)
       ∙ ap (λ later. line ∷ later) (front-stays lines left.1)
 
-  -- lines without the mark are left
+  -- lines without the marks are left
   marked-left :
-      (mark : List ℕ) (lines : List Line)
-      → IsMarkOf format f mark
-      → AllByRecursion (λ line. IsWithout mark line.text) lines
+      (marks : List (List ℕ)) (lines : List Line)
+      → AreMarksOf format f marks
+      → AllByRecursion (λ line. IsWithoutAll marks line.text) lines
       → AllByRecursion (λ line. Leaves format f line.text) lines
-  marked-left mark [] is without = tt
-  marked-left mark (line ∷ lines) is without =
-      (is line.text without.0, marked-left mark lines is without.1)
+  marked-left marks [] are without = tt
+  marked-left marks (line ∷ lines) are without =
+      (are line.text without.0, marked-left marks lines are without.1)
 
-  -- from the mark of the change on
+  -- from the marks of the change on
   pub open-marked :
-      (mark text rest : List ℕ)
-      → IsMarkOf format f mark
-      → IsFromMark mark text rest
+      (marks : List (List ℕ)) (text rest : List ℕ)
+      → AreMarksOf format f marks
+      → IsFromMarks marks text rest
       → IsOpenFrom format f text rest
-  open-marked mark text rest is from =
+  open-marked marks text rest are from =
       let made = flat_map (becomes format f) in
       let front = file_bytes from.front in
       record {
@@ -70,7 +60,7 @@ module _ {R : Type 0} (format : Format R) (tells : TellsSame format) (f : R → 
         left = ap (λ lines. file_bytes (made lines)) from.joined
             ∙ ap file_bytes (flat_map-append (becomes format f) from.front (lines_of rest))
             ∙ ap (λ lines. file_bytes (lines ++ made (lines_of rest)))
-            (front-stays from.front (marked-left mark from.front is from.without))
+            (front-stays from.front (marked-left marks from.front are from.without))
             ∙ flat_map-append line_bytes from.front (made (lines_of rest));
         no_more = (let size = ap length from.joined ∙ length-append from.front (lines_of rest) in
             omega (arith, size));
@@ -101,6 +91,18 @@ module _ {R : Type 0} (format : Format R) (tells : TellsSame format) (f : R → 
               ∙ ap (λ all. (from.front ++ line_bytes line) ++ file_bytes (made all)) (sym lines);
           no_more = omega (arith, from.no_more, ap length begins, ap length lines);
         }
+
+    -- from a text on that is open from there
+    pub open-further : (next : List ℕ) → IsOpenFrom format f behind next → IsOpenFrom format f text next
+    open-further next to = record {
+      front = from.front ++ to.front;
+      joined = from.joined ∙ ap (λ tail. from.front ++ tail) to.joined
+          ∙ sym (append_assoc from.front to.front next);
+      left = from.left ∙ ap (λ bytes. from.front ++ bytes) to.left
+          ∙ sym (append_assoc from.front to.front
+          (file_bytes (flat_map (becomes format f) (lines_of next))));
+      no_more = omega (arith, from.no_more, to.no_more);
+    }
 
     -- the bytes in front, with what becomes of the rest
     pub front-pushed :

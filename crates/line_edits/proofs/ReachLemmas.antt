@@ -1,22 +1,30 @@
 -- Claim: what edits reach tells from which line on they may touch records (`open-nothing`,
 -- `open-marked`, `open-any`), and what is met from there on is what is met in all (`open-met`). Way:
 -- a line out of reach is no record that is touched, so it is passed.
-use Rattle.std.proofs.Common.{◌≡◌, ◌∙◌, ℕ, List, [], ◌∷◌, ◌++◌, refl, sym, ap, subst, append-nil}
-use Rattle.std.specs.Prelude.{◌||◌, not, IfSome, Option, Some, None, if◌then◌else◌}
+use Rattle.std.proofs.Common.{◌≡◌, ◌∙◌, ℕ, true, false, List, [], ◌∷◌, ◌++◌, ◌≤◌, length, refl, sym, ap, subst, arith, append-nil}
+use Rattle.std.specs.Prelude.{◌==◌, ◌||◌, map, not, IfSome, Option, Some, None, if◌then◌else◌}
 use Rattle.std.specs.List.{AllByRecursion}
+use Rattle.std.specs.Vec.{vec_items}
+use Rattle.std.proofs.lemmas.Bool.{ne_eqb}
+use Rattle.std.proofs.lemmas.List.{length-append}
 use Rattle.acct_text.specs.Lines.{Line, lines_of}
 use Rattle.account_formats.specs.Edits.{Edit, becoming_touches, touches}
 use Rattle.account_formats.specs.Edits.Edit.{Become}
 use Rattle.account_formats.specs.Format.{Format, records_of}
 use Rattle.account_formats.specs.RecordEdits.{TellsSame}
-use Rattle.acct_tables.specs.Marks.{IsFromMark, IsWithout}
-use Rattle.line_edits.specs.Naming.{IsMarkOf, Leaves}
+use Rattle.acct_tables.specs.Marks.{IsFromMarks, marks_in}
+use Rattle.acct_tables.specs.declared.marks.Marks.{Marks}
+use Rattle.line_edits.specs.Naming.{AreMarksOf, Leaves}
 use Rattle.line_edits.specs.Reach.{IsOpenTo, IsOutOf, IsUntouched, reach_by}
 use Rattle.line_edits.specs.Touching.{LeavesTo, first_touched, is_met, met_in}
 use Rattle.line_edits.specs.declared.reach.Reach.{Reach}
 use Rattle.line_edits.specs.declared.reach.Reach.TheVariants.{Nothing, Marked}
 use Rattle.line_edits.proofs.TouchedRecords.{met-untouched, passed-here}
-use denote.Ref.{Bor}
+
+-- no line is in reach where nothing is
+none-in : (lines : List Line) → AllByRecursion (λ line. IsOutOf Nothing line.text) lines
+none-in [] = tt
+none-in (line ∷ lines) = (tt, none-in lines)
 
 module _ {R : Type 0} (format : Format R) where
   -- what leaves a record leaves it to the edits behind
@@ -28,13 +36,13 @@ module _ {R : Type 0} (format : Format R) where
 
   -- a line out of the reach of a change is left
   pub out-left :
-      (f : R → List R) (mark : Option (Bor (List ℕ)))
-      → IfSome mark (λ m. IsMarkOf format f m.now)
+      (f : R → List R) (marks : Option Marks)
+      → IfSome marks (λ m. AreMarksOf format f (marks_in m))
       → (line : List ℕ)
-      → IsOutOf (reach_by mark) line
+      → IsOutOf (reach_by marks) line
       → Leaves format f line
-  out-left f None is line out = absurd out
-  out-left f (Some mark) is line out = is line out
+  out-left f None are line out = absurd out
+  out-left f (Some marks) are line out = are line out
 
   module _ (edits : List (Edit R)) where
     -- by what a line that isn't touched reads as
@@ -50,6 +58,17 @@ module _ {R : Type 0} (format : Format R) where
         ]) is
     unmet-by whole text (Some r) is left = met-untouched format edits whole text r is (left r is)
 
+    -- lines out of reach aren't touched
+    all-left :
+        (reach : Reach)
+        → ((line : List ℕ) → IsOutOf reach line → IsUntouched format edits line)
+        → (lines : List Line)
+        → AllByRecursion (λ line. IsOutOf reach line.text) lines
+        → AllByRecursion (λ line. IsUntouched format edits line.text) lines
+    all-left reach left [] out = tt
+    all-left reach left (line ∷ lines) out =
+        (left line.text out.0, all-left reach left lines out.1)
+
     -- lines that aren't touched are passed
     front-passed :
         (whole : List R) (front later : List Line)
@@ -62,64 +81,64 @@ module _ {R : Type 0} (format : Format R) where
         (unmet-by whole line.text (format.read line.text) refl left.0)
         ∙ front-passed whole front later left.1
 
-    -- what is met from the first line on that may be touched is what is met in all
+    -- what is met from the first line on that is in reach is what is met in all
     pub open-met :
-        (whole : List R) (text behind : List ℕ)
-        → IsOpenTo format edits text behind
+        (reach : Reach)
+        → ((line : List ℕ) → IsOutOf reach line → IsUntouched format edits line)
+        → (whole : List R) (text behind : List ℕ)
+        → IsOpenTo reach text behind
         → first_touched format edits whole (records_of format (lines_of behind))
         ≡ first_touched format edits whole (records_of format (lines_of text))
-    open-met whole text behind from =
+    open-met reach left whole text behind from =
         sym (ap (λ lines. first_touched format edits whole (records_of format lines)) from.joined
-        ∙ front-passed whole from.front (lines_of behind) from.untouched)
+        ∙ front-passed whole from.front (lines_of behind) (all-left reach left from.front from.out))
 
-    -- a text is open from its start
-    pub open-any : (text : List ℕ) → IsOpenTo format edits text text
-    open-any text = record { front = []; joined = refl; untouched = tt }
+-- ---- What is in reach
 
-    module _
-        (reach : Reach)
-        (left : (line : List ℕ) → IsOutOf reach line → IsUntouched format edits line) where
-      -- lines out of reach
-      all-out :
-          (lines : List Line)
-          → AllByRecursion (λ line. IsOutOf reach line.text) lines
-          → AllByRecursion (λ line. IsUntouched format edits line.text) lines
-      all-out [] out = tt
-      all-out (line ∷ lines) out = (left line.text out.0, all-out lines out.1)
+-- no other marks, by how many there are
+none-of : {X : Type 0} (xs : List X) → (length xs == 0) ≡ true → xs ≡ []
+none-of [] none = refl
+none-of (x ∷ xs) none =
+    let some : (length (x ∷ xs) == 0) ≡ false =
+    ne_eqb (length (x ∷ xs)) 0 (λ same. omega (arith, same)) in
+    absurd cc
 
-      -- where nothing is in reach, no line is
-      none-in : reach ≡ Nothing → (lines : List Line) →
-          AllByRecursion (λ line. IsOutOf reach line.text) lines
-      none-in is [] = tt
-      none-in is (line ∷ lines) =
-          (subst (λ r. IsOutOf r line.text) (sym is) tt, none-in is lines)
+-- then there is one mark
+pub one-mark :
+    (marks : Marks) → (length marks.others.now == 0) ≡ true → marks_in marks ≡ marks.first.now ∷ []
+one-mark marks none =
+    ap (λ others. marks.first.now ∷ map vec_items others) (none-of marks.others.now none)
 
-      -- then no line is open
-      pub open-nothing : reach ≡ Nothing → (text : List ℕ) → IsOpenTo format edits text []
-      open-nothing is text = record {
-        front = lines_of text;
-        joined = sym (append-nil (lines_of text));
-        untouched = all-out (lines_of text) (none-in is (lines_of text));
-      }
+-- where nothing is in reach, no line is open
+pub open-nothing : (reach : Reach) (text : List ℕ) → reach ≡ Nothing → IsOpenTo reach text []
+open-nothing reach text is = record {
+  front = lines_of text;
+  joined = sym (append-nil (lines_of text));
+  out = subst (λ r. AllByRecursion (λ line. IsOutOf r line.text) (lines_of text)) (sym is)
+      (none-in (lines_of text));
+}
 
-      -- lines without the mark are out of reach
-      without-out :
-          (mark : Bor (List ℕ)) (lines : List Line)
-          → reach ≡ Marked mark
-          → AllByRecursion (λ line. IsWithout mark.now line.text) lines
-          → AllByRecursion (λ line. IsOutOf reach line.text) lines
-      without-out mark [] is without = tt
-      without-out mark (line ∷ lines) is without =
-          (subst (λ r. IsOutOf r line.text) (sym is) without.0, without-out mark lines is without.1)
+-- a text is open from the marks on
+pub open-marked :
+    (reach : Reach) (marks : Marks) (text rest : List ℕ)
+    → reach ≡ Marked marks
+    → IsFromMarks (marks_in marks) text rest
+    → IsOpenTo reach text rest
+open-marked reach marks text rest is from = record {
+  front = from.front;
+  joined = from.joined;
+  out = subst (λ r. AllByRecursion (λ line. IsOutOf r line.text) from.front) (sym is) from.without;
+}
 
-      -- a text is open from the mark on
-      pub open-marked :
-          (mark : Bor (List ℕ)) (text rest : List ℕ)
-          → reach ≡ Marked mark
-          → IsFromMark mark.now text rest
-          → IsOpenTo format edits text rest
-      open-marked mark text rest is from = record {
-        front = from.front;
-        joined = from.joined;
-        untouched = all-out from.front (without-out mark from.front is from.without);
-      }
+-- and in any case from its start
+pub open-any : (reach : Reach) (text : List ℕ) → IsOpenTo reach text text
+open-any reach text = record { front = []; joined = refl; out = tt }
+
+-- no more lines are open than there are
+pub open-fewer :
+    (reach : Reach) (text behind : List ℕ)
+    → IsOpenTo reach text behind
+    → length (lines_of behind) ≤ length (lines_of text)
+open-fewer reach text behind from =
+    let size = ap length from.joined ∙ length-append from.front (lines_of behind) in
+    omega (arith, size)

@@ -1,10 +1,12 @@
 -- What becomes of a user in the lists of all groups (usermod(8), `-G`, `-a` and `-l`).
-use Rattle.std.specs.Prelude.{◌≡◌, ℕ, Bool, false, List, bytes_eq, if◌then◌else◌}
+use Rattle.std.specs.Prelude.{◌≡◌, ℕ, Bool, false, List, map, bytes_eq, if◌then◌else◌}
 use Rattle.std.specs.List.{IsDistinct}
+use Rattle.std.specs.Vec.{vec_items}
 use Rattle.account_formats.specs.declared.records.GroupRecord.{GroupRecord}
 use Rattle.account_formats.specs.declared.records.GshadowRecord.{GshadowRecord}
 use Rattle.account_model.specs.Members.{with_name, without_name, renamed_in}
 use Rattle.account_formats.specs.Text.{is_listed}
+use Rattle.acct_tables.specs.declared.marks.Marks.{Marks}
 use Rattle.line_edits.specs.declared.memberships.Membership.{Membership}
 use Rattle.line_edits.specs.declared.memberships.UserGroups.{UserGroups}
 use Rattle.line_edits.specs.declared.memberships.UserGroups.TheVariants.{Kept, Also, Only}
@@ -22,6 +24,12 @@ abbrev pub joins : UserGroups → List ℕ → Bool
 joins Kept group = false
 joins (Also groups) group = is_listed group groups
 joins (Only groups) group = is_listed group groups
+
+-- the marks are the user and the groups that it joins
+pub record AreMarksIn (membership : Membership) (marks : Marks) : Type 0 where
+  pub user : marks.first.now ≡ membership.user
+  pub joined : (group : List ℕ)
+      → is_listed group (map vec_items marks.others.now) ≡ joins membership.groups group
 
 -- the members of a group in which the user then has the new name (usermod(8), `-l`)
 abbrev pub members_by : Membership → List ℕ → List (List ℕ) → List (List ℕ)

@@ -5,7 +5,7 @@ use Rattle.std.specs.List.{IsDistinct}
 use Rattle.std.specs.Vec.{vec_items}
 use Rattle.account_formats.specs.Format.{Format}
 use Rattle.account_formats.specs.Text.{is_listed}
-use Rattle.acct_tables.specs.Marks.{IsWithout}
+use Rattle.acct_tables.specs.Marks.{IsWithoutAll}
 use Rattle.line_edits.specs.declared.changed_names.ChangedNames.{ChangedNames}
 use Rattle.line_edits.specs.declared.changed_names.ChangedNames.TheVariants.{One, Each}
 
@@ -13,9 +13,9 @@ use Rattle.line_edits.specs.declared.changed_names.ChangedNames.TheVariants.{One
 abbrev pub Leaves : {R : Type 0} → Format R → (R → List R) → List ℕ → Type 0
 Leaves {R = R} format f text = (r : R) → format.read text ≡ Some r → f r ≡ r ∷ []
 
--- f leaves each record whose line is without these bytes
-abbrev pub IsMarkOf : {R : Type 0} → Format R → (R → List R) → List ℕ → Type 0
-IsMarkOf format f mark = (line : List ℕ) → IsWithout mark line → Leaves format f line
+-- f leaves each record whose line is without all of these marks
+abbrev pub AreMarksOf : {R : Type 0} → Format R → (R → List R) → List (List ℕ) → Type 0
+AreMarksOf format f marks = (line : List ℕ) → IsWithoutAll marks line → Leaves format f line
 
 -- a name field that is given this, if anything, leaves the name
 abbrev pub leaves_name : List ℕ → Option (List ℕ) → Bool

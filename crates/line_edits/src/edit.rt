@@ -1,11 +1,13 @@
 // The edits of a table as data, and what a record has so that edits can be made of it.
 ghost use Rattle.std.specs.Prelude.{◌≡◌, true, List, [], None, IfOk, IfSome};
 ghost use Rattle.account_formats.specs.Written.{IsWritten};
-ghost use Rattle.line_edits.specs.Naming.{ChangesOnly, IsMarkOf, Leaves, names_in};
+ghost use Rattle.acct_tables.specs.Marks.{marks_in};
+ghost use Rattle.line_edits.specs.Naming.{AreMarksOf, ChangesOnly, Leaves, names_in};
 ghost use Rattle.line_edits.specs.SeenEdits.{records_in};
 
 use crate::ChangedNames;
 use acct_lines::TableRecord;
+use acct_tables::Marks;
 use std::alloc::{AllocError, Global};
 
 /// What becomes of a record, in its place.
@@ -52,10 +54,11 @@ pub trait EditedRecord: TableRecord {
     fn leaves(change: &Self::Change, line: &[u8]) -> bool
         ensures { result ≡ true → Leaves Self.format (becomes change.now) line.now };
 
-    /// Bytes that the line of each record has which the change may touch; none where no such bytes are
-    /// known.
-    fn mark(change: &Self::Change) -> Option<&[u8]>
-        ensures { IfSome result (λ mark. IsMarkOf Self.format (becomes change.now) mark.now) };
+    /// Marks of which the line of each record has one that the change may touch; none where no such
+    /// marks are known, or they are many.
+    fn marks(change: &Self::Change) -> Option<Marks<'_>>
+        ensures { IfSome result (λ marks.
+            AreMarksOf Self.format (becomes change.now) (marks_in marks)) };
 
     /// The names of all records that the change may touch, where it leaves their names; none where
     /// it may touch others.

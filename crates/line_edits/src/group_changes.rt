@@ -3,7 +3,7 @@ ghost use Rattle.std.specs.Prelude.{◌≡◌, ℕ, List, true, Some, IfOk, IfSo
 ghost use Rattle.account_formats.specs.Records.{group_format};
 ghost use Rattle.account_formats.specs.Text.{is_listed};
 ghost use Rattle.account_formats.specs.declared.records.GroupRecord.{GroupRecord};
-ghost use Rattle.acct_tables.specs.Marks.{IsWithout};
+ghost use Rattle.acct_tables.specs.Marks.{IsWithoutAll, marks_in};
 ghost use Rattle.line_edits.specs.GroupChanges.{group_after, group_becomes, keeps_group_name};
 ghost use Rattle.line_edits.specs.Memberships.{group_by};
 ghost use Rattle.line_edits.specs.Naming.{ChangesOnly, names_in};
@@ -13,6 +13,7 @@ use crate::fields::{fourth_field, has_other_name};
 use crate::lists::{add_name, remove_name};
 use crate::{Becoming, ChangedNames, EditedRecord, Membership};
 use acct_lines::{GroupRecord, TableRecord, first_field, lists};
+use acct_tables::Marks;
 use acct_text::{Bytes, Names};
 use std::alloc::{AllocError, Global};
 
@@ -73,11 +74,11 @@ impl EditedRecord for GroupRecord {
         }
     }
 
-    fn mark(change: &GroupChange) -> Option<&[u8]> {
+    fn marks(change: &GroupChange) -> Option<Marks<'_>> {
         match change {
-            GroupChange::Named(name, _) => Some(name.as_slice()),
-            GroupChange::All(act) => act_mark(act),
-            GroupChange::Remove(name) => Some(name.as_slice()),
+            GroupChange::Named(name, _) => Some(Marks::one(name.as_slice())),
+            GroupChange::All(act) => act_marks(act),
+            GroupChange::Remove(name) => Some(Marks::one(name.as_slice())),
         }
     }
 
@@ -116,15 +117,16 @@ fn act_names(act: &GroupAct) -> Option<ChangedNames<'_>>
     }
 }
 
-// Bytes that the line of each group has which the act may change; none where no such bytes are known.
-fn act_mark(act: &GroupAct) -> Option<&[u8]>
-    ensures { IfSome result (λ mark. (line : List ℕ) → IsWithout mark.now line
+// Marks of which the line of each group has one that the act may change; none where no such marks
+// are known, or they are many.
+fn act_marks(act: &GroupAct) -> Option<Marks<'_>>
+    ensures { IfSome result (λ marks. (line : List ℕ) → IsWithoutAll (marks_in marks) line
         → (group : GroupRecord) → group_format.read line ≡ Some group
         → group_after act.now group ≡ group) }
 {
     match act {
-        GroupAct::RemoveMember(user) => Some(user.as_slice()),
-        GroupAct::SetMembership(membership) => membership.mark(),
+        GroupAct::RemoveMember(user) => Some(Marks::one(user.as_slice())),
+        GroupAct::SetMembership(membership) => membership.marks(),
         _ => None,
     }
 }

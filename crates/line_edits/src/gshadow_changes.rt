@@ -3,7 +3,7 @@ ghost use Rattle.std.specs.Prelude.{◌≡◌, ◌||◌, ℕ, List, true, Some, 
 ghost use Rattle.account_formats.specs.declared.records.GshadowRecord.{GshadowRecord};
 ghost use Rattle.account_formats.specs.Records.{gshadow_format};
 ghost use Rattle.account_formats.specs.Text.{is_listed};
-ghost use Rattle.acct_tables.specs.Marks.{IsWithout};
+ghost use Rattle.acct_tables.specs.Marks.{IsWithoutAll, marks_in};
 ghost use Rattle.line_edits.specs.GshadowChanges.{gshadow_after, gshadow_becomes, keeps_gshadow_name, without_user};
 ghost use Rattle.line_edits.specs.Memberships.{gshadow_by};
 ghost use Rattle.line_edits.specs.Naming.{ChangesOnly, names_in};
@@ -13,6 +13,7 @@ use crate::fields::{fourth_field, has_other_name, third_field};
 use crate::lists::{add_name, remove_name};
 use crate::{Becoming, ChangedNames, EditedRecord, Membership};
 use acct_lines::{GshadowRecord, TableRecord, first_field, lists};
+use acct_tables::Marks;
 use acct_text::{Bytes, Names};
 use std::alloc::{AllocError, Global};
 
@@ -75,11 +76,11 @@ impl EditedRecord for GshadowRecord {
         }
     }
 
-    fn mark(change: &GshadowChange) -> Option<&[u8]> {
+    fn marks(change: &GshadowChange) -> Option<Marks<'_>> {
         match change {
-            GshadowChange::Named(name, _) => Some(name.as_slice()),
-            GshadowChange::All(act) => act_mark(act),
-            GshadowChange::Remove(name) => Some(name.as_slice()),
+            GshadowChange::Named(name, _) => Some(Marks::one(name.as_slice())),
+            GshadowChange::All(act) => act_marks(act),
+            GshadowChange::Remove(name) => Some(Marks::one(name.as_slice())),
         }
     }
 
@@ -118,15 +119,16 @@ fn act_names(act: &GshadowAct) -> Option<ChangedNames<'_>>
     }
 }
 
-// Bytes that the line of each group has which the act may change; none where no such bytes are known.
-fn act_mark(act: &GshadowAct) -> Option<&[u8]>
-    ensures { IfSome result (λ mark. (line : List ℕ) → IsWithout mark.now line
+// Marks of which the line of each group has one that the act may change; none where no such marks
+// are known, or they are many.
+fn act_marks(act: &GshadowAct) -> Option<Marks<'_>>
+    ensures { IfSome result (λ marks. (line : List ℕ) → IsWithoutAll (marks_in marks) line
         → (group : GshadowRecord) → gshadow_format.read line ≡ Some group
         → gshadow_after act.now group ≡ group) }
 {
     match act {
-        GshadowAct::RemoveUser(user) => Some(user.as_slice()),
-        GshadowAct::SetMembership(membership) => membership.mark(),
+        GshadowAct::RemoveUser(user) => Some(Marks::one(user.as_slice())),
+        GshadowAct::SetMembership(membership) => membership.marks(),
         _ => None,
     }
 }

@@ -12,7 +12,7 @@ ghost use Rattle.acct_tables.specs.SeenLines.{seen_line};
 ghost use Rattle.line_edits.specs.OpenLines.{IsOpenFrom};
 
 use crate::{Becoming, EditedRecord};
-use acct_tables::{FileLine, Lines, from_mark, read_record};
+use acct_tables::{FileLine, Lines, from_marks, read_record};
 use acct_text::Bytes;
 use std::alloc::{AllocError, Global};
 
@@ -62,17 +62,18 @@ fn open_from<'a, R: EditedRecord>(text: &'a [u8], change: &R::Change) -> &'a [u8
         if !R::leaves(change, line.text) {
             return behind;
         }
-        behind = left.bytes();
+        behind = marked_from::<R>(left.bytes(), change);
+        left = Lines::of(behind);
     }
     behind
 }
 
-// The text from a line on, where the change leaves the lines in front: they lack its mark.
+// The text from a line on, where the change leaves the lines in front: they lack its marks.
 fn marked_from<'a, R: EditedRecord>(text: &'a [u8], change: &R::Change) -> &'a [u8]
     ensures { IsOpenFrom R.format (R.becomes change.now) text.now result.now }
 {
-    match R::mark(change) {
-        Some(mark) => from_mark(text, mark),
+    match R::marks(change) {
+        Some(marks) => from_marks(text, marks),
         None => text,
     }
 }

@@ -1,12 +1,13 @@
 // What becomes of a user in the lists of all groups (usermod(8), `-G`, `-a` and `-l`).
-ghost use Rattle.std.specs.Prelude.{◌≡◌, IfSome, OnOk};
-ghost use Rattle.line_edits.specs.Memberships.{ChangesOnlyIn, joins, members_with};
+ghost use Rattle.std.specs.Prelude.{◌≡◌, ℕ, List, map, IfSome, OnOk};
+ghost use Rattle.std.specs.Vec.{vec_items};
+ghost use Rattle.account_formats.specs.Text.{is_listed};
+ghost use Rattle.line_edits.specs.Memberships.{AreMarksIn, ChangesOnlyIn, joins, members_with};
 ghost use Rattle.line_edits.specs.Naming.{names_in};
-ghost use Rattle.line_edits.specs.declared.memberships.UserGroups.TheVariants.{Kept as KeptGroups};
 
 use crate::lists::{add_name, remove_name};
 use crate::{ChangedNames, NameSet};
-use acct_tables::ListRecord;
+use acct_tables::{ListRecord, MANY, Marks};
 use acct_text::{Bytes, Names};
 use std::alloc::{AllocError, Global};
 
@@ -43,14 +44,28 @@ impl Membership {
         }
     }
 
-    /// The user, where it joins no group and leaves none; none else.
-    pub(crate) fn mark(&self) -> Option<&[u8]>
-        ensures { IfSome result (λ mark.
-            (mark.now ≡ self.now.user) × (self.now.groups ≡ KeptGroups)) }
+    /// The user and the groups that it joins, where these are few; none else.
+    pub(crate) fn marks(&self) -> Option<Marks<'_>>
+        ensures { IfSome result (AreMarksIn self.now) }
+    {
+        let groups = self.joined();
+        if groups.len() > MANY {
+            return None;
+        }
+        Some(Marks {
+            first: self.user.as_slice(),
+            others: groups,
+        })
+    }
+
+    // The groups that the user joins, each once.
+    fn joined(&self) -> &[Vec<u8>]
+        ensures { (group : List ℕ) →
+            is_listed group (map vec_items result.now) ≡ joins self.now.groups group }
     {
         match &self.groups {
-            UserGroups::Kept => Some(self.user.as_slice()),
-            UserGroups::Also(_) | UserGroups::Only(_) => None,
+            UserGroups::Kept => &[],
+            UserGroups::Also(groups) | UserGroups::Only(groups) => groups.each(),
         }
     }
 

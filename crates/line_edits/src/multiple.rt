@@ -14,7 +14,7 @@ ghost use Rattle.line_edits.specs.SeenEdits.{seen_edit, seen_edits};
 ghost use Rattle.line_edits.specs.Touching.{LacksName, LeavesTo, TouchOnly, met_in, touches_alone};
 
 use crate::fields::has_other_name;
-use crate::reach::open_to;
+use crate::reach::{Reach, open_to, reach_of_all};
 use crate::touched::touched_names;
 use crate::{Becoming, Edit, EditedRecord};
 use acct_tables::{Lines, MANY, NameIndex, has_several_records, name_of, read_record};
@@ -33,39 +33,44 @@ pub fn first_multiple<R: EditedRecord + Drop>(
     ensures { IfOk result (λ name. name ≡ first_multiple R.format (seen_edits R.becomes edits.now)
         (records_of R.format (lines_of text.now))) }
 {
-    let behind = open_to(text, edits);
-    let names = &names_for(alloc, text, behind, edits)?;
+    let reach = reach_of_all(edits);
+    let names = &names_for(alloc, text, reach, edits)?;
     let touched = &touched_names(alloc, edits)?;
-    let mut left = Lines::of(behind);
+    let mut left = Lines::of(open_to(text, reach));
     'lines: while let Some(line) = left.take() {
         if let Some(name) = met_in(alloc, text, edits, names, touched, line.text)? {
             return Ok(Some(name));
         }
+        left = Lines::of(open_to(left.bytes(), reach));
     }
     Ok(None)
 }
 
 // Where the records of each name stand; none where the edits ask for few names, of which each is
-// counted then. They touch none in front of `behind`.
+// counted then.
 fn names_for<'a, R: EditedRecord>(
     alloc: Global,
     text: &'a [u8],
-    behind: &[u8],
+    reach: Reach<'_>,
     edits: &[Edit<R, R::Change>],
 ) -> Result<Option<NameIndex<'a>>, AllocError>
     ensures { IfOk result (λ names. IfSome names (λ names.
         Tells (line_names R.format (lines_of text.now)) (told names))) }
 {
-    if edits.len() < MANY && !may_touch_many(behind, edits) {
+    if edits.len() < MANY && !may_touch_many(text, reach, edits) {
         return Ok(None);
     }
     Ok(Some(NameIndex::of::<R>(alloc, text)?))
 }
 
 // Whether so many lines may be touched that an index of all names saves time.
-fn may_touch_many<R: EditedRecord>(text: &[u8], edits: &[Edit<R, R::Change>]) -> bool {
+fn may_touch_many<R: EditedRecord>(
+    text: &[u8],
+    reach: Reach<'_>,
+    edits: &[Edit<R, R::Change>],
+) -> bool {
     let mut open = 0;
-    let mut left = Lines::of(text);
+    let mut left = Lines::of(open_to(text, reach));
     'lines: while let Some(line) = left.take() {
         if !leave(edits, line.text) {
             open += 1;
@@ -73,6 +78,7 @@ fn may_touch_many<R: EditedRecord>(text: &[u8], edits: &[Edit<R, R::Change>]) ->
         if open == MANY {
             return true;
         }
+        left = Lines::of(open_to(left.bytes(), reach));
     }
     false
 }

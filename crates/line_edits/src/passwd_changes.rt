@@ -8,6 +8,7 @@ use crate::fields::{fourth_field, has_other_name, leaves_name, set_given};
 use crate::{Becoming, ChangedNames, EditedRecord, HashChange};
 use account_formats::GREATEST_ID;
 use acct_lines::{PasswdRecord, TableRecord};
+use acct_tables::Marks;
 use acct_text::{Bytes, read_decimal};
 use std::alloc::{AllocError, Global};
 
@@ -81,11 +82,11 @@ impl EditedRecord for PasswdRecord {
         }
     }
 
-    fn mark(change: &PasswdChange) -> Option<&[u8]> {
+    fn marks(change: &PasswdChange) -> Option<Marks<'_>> {
         match change {
-            PasswdChange::Named(name, _) => Some(name.as_slice()),
+            PasswdChange::Named(name, _) => Some(Marks::one(name.as_slice())),
             PasswdChange::OfGroup(..) => None,
-            PasswdChange::Remove(name) => Some(name.as_slice()),
+            PasswdChange::Remove(name) => Some(Marks::one(name.as_slice())),
         }
     }
 

@@ -1,36 +1,37 @@
-// The lines whose records the edits of a table may touch, by bytes that each of these has.
-ghost use Rattle.std.specs.Prelude.{◌≡◌, ℕ, List, Some};
+// The lines whose records the edits of a table may touch, by marks of which each of these has one.
+ghost use Rattle.std.specs.Prelude.{◌≡◌, ℕ, List, true, Some};
+ghost use Rattle.acct_tables.specs.Marks.{marks_in};
 ghost use Rattle.line_edits.specs.Reach.{IsOpenTo, IsOutOf, IsUntouched, reach_by};
 ghost use Rattle.line_edits.specs.SeenEdits.{seen_edit, seen_edits};
 ghost use Rattle.line_edits.specs.Touching.{LeavesTo};
 
 use crate::{Edit, EditedRecord};
-use acct_tables::from_mark;
+use acct_tables::{Marks, from_marks};
 
 /// Which lines edits may touch.
 #[derive(Clone, Copy)]
 pub(crate) enum Reach<'e> {
     /// None.
     Nothing,
-    /// Those that have these bytes.
-    Marked(&'e [u8]),
+    /// Those that have one of the marks.
+    Marked(Marks<'e>),
     /// Any.
     Anything,
 }
 
-/// The text of a file from the first line on that the edits may touch.
-pub(crate) fn open_to<'a, R: EditedRecord>(text: &'a [u8], edits: &[Edit<R, R::Change>]) -> &'a [u8]
-    ensures { IsOpenTo R.format (seen_edits R.becomes edits.now) text.now result.now }
+/// The text of a file from the first line on that is in reach.
+pub(crate) fn open_to<'a>(text: &'a [u8], reach: Reach<'_>) -> &'a [u8]
+    ensures { IsOpenTo reach.entry text.now result.now }
 {
-    match reach_of_all(edits) {
+    match reach {
         Reach::Nothing => &[],
-        Reach::Marked(mark) => from_mark(text, mark),
+        Reach::Marked(marks) => from_marks(text, marks),
         Reach::Anything => text,
     }
 }
 
-// Which lines the edits may touch.
-fn reach_of_all<'e, R: EditedRecord>(edits: &'e [Edit<R, R::Change>]) -> Reach<'e>
+/// Which lines the edits may touch.
+pub(crate) fn reach_of_all<'e, R: EditedRecord>(edits: &'e [Edit<R, R::Change>]) -> Reach<'e>
     ensures { (line : List ℕ) → IsOutOf result line
         → IsUntouched R.format (seen_edits R.becomes edits.now) line }
 {
@@ -47,18 +48,18 @@ fn reach_of<'e, R: EditedRecord>(edit: &'e Edit<R, R::Change>) -> Reach<'e>
         → LeavesTo R.format (seen_edit R.becomes edit.now) r }
 {
     match edit {
-        Edit::Become(change) => marked(R::mark(change)),
-        Edit::Put(item) => Reach::Marked(item.name()),
+        Edit::Become(change) => marked(R::marks(change)),
+        Edit::Put(item) => Reach::Marked(Marks::one(item.name())),
         Edit::Add(_) | Edit::AddMissing(_) => Reach::Nothing,
     }
 }
 
-// The lines that have the bytes, where there are some, and else any.
-fn marked(mark: Option<&[u8]>) -> Reach<'_>
-    ensures { result ≡ reach_by mark.entry }
+// The lines that have one of the marks, where there are some, and else any.
+fn marked(marks: Option<Marks<'_>>) -> Reach<'_>
+    ensures { result ≡ reach_by marks.entry }
 {
-    match mark {
-        Some(mark) => Reach::Marked(mark),
+    match marks {
+        Some(marks) => Reach::Marked(marks),
         None => Reach::Anything,
     }
 }
@@ -71,7 +72,20 @@ fn both<'e>(one: Reach<'e>, other: Reach<'e>) -> Reach<'e>
     match (one, other) {
         (Reach::Nothing, other) => other,
         (one, Reach::Nothing) => one,
-        (Reach::Marked(mark), Reach::Marked(same)) if mark == same => one,
+        (Reach::Marked(marks), Reach::Marked(same)) if are_same(marks, same) => one,
         _ => Reach::Anything,
     }
+}
+
+// Whether both are one mark, and the same.
+fn are_same(marks: Marks<'_>, others: Marks<'_>) -> bool
+    ensures { result ≡ true → marks_in marks.entry ≡ marks_in others.entry }
+{
+    if !marks.others.is_empty() {
+        return false;
+    }
+    if !others.others.is_empty() {
+        return false;
+    }
+    marks.first == others.first
 }

@@ -5,6 +5,7 @@ ghost use Rattle.line_edits.specs.ShadowChanges.{given_days, keeps_shadow_name, 
 use crate::fields::{has_other_name, leaves_name, set_given};
 use crate::{Becoming, ChangedNames, EditedRecord, HashChange};
 use acct_lines::{ShadowRecord, TableRecord};
+use acct_tables::Marks;
 use acct_text::Bytes;
 use std::alloc::{AllocError, Global};
 
@@ -134,10 +135,10 @@ impl EditedRecord for ShadowRecord {
         }
     }
 
-    fn mark(change: &ShadowChange) -> Option<&[u8]> {
+    fn marks(change: &ShadowChange) -> Option<Marks<'_>> {
         match change {
-            ShadowChange::Named(name, _) => Some(name.as_slice()),
-            ShadowChange::Remove(name) => Some(name.as_slice()),
+            ShadowChange::Named(name, _) => Some(Marks::one(name.as_slice())),
+            ShadowChange::Remove(name) => Some(Marks::one(name.as_slice())),
         }
     }
 

@@ -9,7 +9,7 @@ ghost use Rattle.line_edits.specs.SeenEdits.{records_in};
 use crate::fields::has_other_name;
 use crate::{Becoming, ChangedNames, EditedRecord};
 use acct_lines::{SubidRecord, TableRecord, first_field};
-use acct_tables::{is_owned, is_owner, last_id};
+use acct_tables::{Marks, is_owned, is_owner, last_id};
 use acct_text::Bytes;
 use std::alloc::{AllocError, Global};
 
@@ -74,9 +74,9 @@ impl EditedRecord for SubidRecord {
         }
     }
 
-    fn mark(change: &SubidChange) -> Option<&[u8]> {
+    fn marks(change: &SubidChange) -> Option<Marks<'_>> {
         match change {
-            SubidChange::Rename(old, _) => Some(old.as_slice()),
+            SubidChange::Rename(old, _) => Some(Marks::one(old.as_slice())),
             _ => None,
         }
     }

@@ -4,7 +4,7 @@ use Rattle.account_formats.specs.Text.{is_listed}
 use Rattle.account_formats.proofs.NamingLaws.{group-names_first}
 use Rattle.line_edits.specs.GroupChanges.{group_after}
 use Rattle.line_edits.specs.Memberships.{joins}
-use Rattle.line_edits.proofs.LeftLemmas.{isn't, unjoined, without-unlisted}
+use Rattle.line_edits.proofs.LeftLemmas.{isn't, left-group, without-unlisted}
 use Rattle.line_edits.proofs.group_changes.act_leaves.Goals as goal
 
 pub returns-in-RemoveMember : goal.returns-in-RemoveMember
@@ -30,5 +30,4 @@ returns-then-not-joins c = λ no group read.
     ∙ sym (c.has_member-then-not-joins.ensures group read)
     ∙ isn't c.has_member-then-not-joins.result no in
     ap (λ act. group_after act group) c.in-SetMembership.is
-    ∙ ap (λ members. record group { members = members })
-    (unjoined membership group.name group.members other unlisted)
+    ∙ left-group membership group other unlisted

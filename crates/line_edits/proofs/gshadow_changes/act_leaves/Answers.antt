@@ -1,12 +1,11 @@
 use Rattle.std.proofs.Common.{◌≡◌, ◌∙◌, false, ap, sym}
 use Rattle.std.specs.Prelude.{◌||◌}
 use Rattle.account_model.specs.Members.{without_name}
-use Rattle.account_model.proofs.RenamingLaws.{unlisted_stays}
 use Rattle.account_formats.specs.Text.{is_listed}
 use Rattle.account_formats.proofs.NamingLaws.{gshadow-names_first}
 use Rattle.line_edits.specs.GshadowChanges.{gshadow_after, without_user}
-use Rattle.line_edits.specs.Memberships.{joins, members_by}
-use Rattle.line_edits.proofs.LeftLemmas.{isn't, neither, unjoined, without-unlisted}
+use Rattle.line_edits.specs.Memberships.{joins}
+use Rattle.line_edits.proofs.LeftLemmas.{isn't, left-gshadow, neither, without-unlisted}
 use Rattle.line_edits.proofs.gshadow_changes.act_leaves.Goals as goal
 
 pub returns-in-RemoveUser : goal.returns-in-RemoveUser
@@ -37,9 +36,4 @@ returns-then-not-joins c = λ no group read.
     ∙ sym (c.has_user-then-not-joins.ensures group read)
     ∙ isn't c.has_user-then-not-joins.result no) in
     ap (λ act. gshadow_after act group) c.in-SetMembership.is
-    ∙ ap (λ names. record group {
-      administrators = names;
-      members = members_by membership group.name group.members;
-    }) (unlisted_stays membership.user membership.new_name group.administrators both.0)
-    ∙ ap (λ names. record group { members = names })
-    (unjoined membership group.name group.members other both.1)
+    ∙ left-gshadow membership group other both.0 both.1

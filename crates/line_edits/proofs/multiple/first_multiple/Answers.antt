@@ -1,10 +1,10 @@
-use Rattle.std.proofs.Common.{◌∙◌, length, ap, sym, arith}
-use Rattle.acct_text.specs.Lines.{lines_of}
+use Rattle.std.proofs.Common.{List, ◌∙◌, length, ap, sym, arith}
+use Rattle.acct_text.specs.Lines.{Line, lines_of}
 use Rattle.account_formats.specs.Format.{records_of}
 use Rattle.acct_tables.specs.SeenLines.{seen_line}
 use Rattle.line_edits.specs.SeenEdits.{seen_edits}
 use Rattle.line_edits.specs.Touching.{first_touched}
-use Rattle.line_edits.proofs.ReachLemmas.{open-met}
+use Rattle.line_edits.proofs.ReachLemmas.{open-fewer, open-met}
 use Rattle.line_edits.proofs.TouchedRecords.{met-here, passed-here}
 use Rattle.line_edits.proofs.multiple.first_multiple.Goals as goal
 
@@ -20,8 +20,14 @@ returns-in-Some-2 g c =
 pub lines-preserved : goal.lines-preserved
 lines-preserved g c =
     let format = g.R.TableRecord.format in
-    sym (passed-here format (seen_edits g.R.EditedRecord.becomes c.args.edits.now)
-    (records_of format (lines_of c.args.text.now)) (seen_line c.in-Some.line) c.lines.left
+    let edits = seen_edits g.R.EditedRecord.becomes c.args.edits.now in
+    let whole = records_of format (lines_of c.args.text.now) in
+    let first = λ (lines : List Line). first_touched format edits whole (records_of format lines) in
+    ap first c.of-left-in-Some.ensures
+    ∙ open-met format edits c.reach_of_all-reach.result c.reach_of_all-reach.ensures whole
+    c.bytes.result.now c.open_to-in-Some.result.now c.open_to-in-Some.ensures
+    ∙ ap first c.bytes.ensures.lines
+    ∙ sym (passed-here format edits whole (seen_line c.in-Some.line) c.lines.left
     c.take.new.self c.in-Some.ensures.taken (sym c.in_ok-name.ensures ∙ c.in_default-2.is))
     ∙ c.lines.invariant
 
@@ -31,8 +37,17 @@ lines-init g c =
     let edits = seen_edits g.R.EditedRecord.becomes c.args.edits.now in
     let whole = records_of format (lines_of c.args.text.now) in
     ap (λ lines. first_touched format edits whole (records_of format lines)) c.of-left.ensures
-    ∙ open-met format edits whole c.args.text.now c.open_to-behind.result.now
-    c.open_to-behind.ensures
+    ∙ open-met format edits c.reach_of_all-reach.result c.reach_of_all-reach.ensures whole
+    c.args.text.now c.open_to.result.now c.open_to.ensures
 
 pub lines-smaller : goal.lines-smaller
-lines-smaller g c = omega (arith, ap length c.in-Some.ensures.taken)
+lines-smaller g c =
+    let fewer = open-fewer c.reach_of_all-reach.result c.bytes.result.now c.open_to-in-Some.result.now
+    c.open_to-in-Some.ensures in
+    omega (
+      arith,
+      fewer,
+      ap length c.in-Some.ensures.taken,
+      ap length c.bytes.ensures.lines,
+      ap length c.of-left-in-Some.ensures,
+    )
