@@ -1,35 +1,35 @@
 -- Claim: a tool that changes nothing decides as its report says (`told-decides`), and one that sorts
--- by the tables that differ then (`users-sorted`, `groups-sorted`). Way: without edits no name has multiple entries, and all six
--- files stay; a sort touches no record (`users-untouched`, `groups-untouched`).
-use Rattle.std.proofs.Common.{◌≡◌, ◌∙◌, ◌++◌, ℕ, false, true, List, [], ◌∷◌, refl, sym, ap, subst}
-use Rattle.std.specs.Prelude.{codes, Option, Some, None, Ok, is_some}
-use Rattle.std.specs.List.{position_or_len}
+-- two tables lists those that differ then (`tables-sorted`), as pwck and grpck do (`users-sorted`,
+-- `groups-sorted`). Way: without edits no name has multiple entries, and the files stay; a sort
+-- touches no record.
+use Rattle.std.proofs.Common.{◌≡◌, ◌∙◌, ◌++◌, ℕ, true, List, [], ◌∷◌, refl, sym, ap, ap₂}
+use Rattle.std.specs.Prelude.{Option, Some, None, Ok, is_some}
 use Rattle.acct_text.specs.declared.files.Files.{Files}
 use Rattle.account_model.specs.declared.refusal.Refusal.{Refusal}
 use Rattle.account_words.specs.declared.tool.Tool.{Tool}
 use Rattle.acct_text.specs.declared.new_tables.NewTable.{NewTable}
-use Rattle.acct_text.specs.ChangedTables.{changed_bytes, changed_tables, with_new_table}
-use Rattle.acct_text.specs.Contents.{same_content}
+use Rattle.acct_text.specs.ChangedTables.{changed_among, changed_bytes, changed_tables, with_new_table}
+use Rattle.acct_text.specs.Contents.{Contents, same_content}
 use Rattle.acct_text.specs.Files.{table_of}
-use Rattle.acct_text.specs.Tables.{all_tables}
 use Rattle.acct_text.specs.declared.Tab.{Tab}
-use Rattle.acct_text.specs.declared.Tab.TheVariants.{Passwd, Shadow, Group, Gshadow, Subuid, Subgid}
-use Rattle.account_model.specs.Action.{changes, made_by, outcome_of, reports, multiple_entries}
+use Rattle.acct_text.specs.declared.Tab.TheVariants.{Passwd, Shadow, Group, Gshadow}
+use Rattle.account_model.specs.Action.{made_by, outcome_of, reports, multiple_entries}
 use Rattle.account_formats.specs.Edits.{Arrange, first_multiple}
-use Rattle.account_formats.specs.Format.{Format, is_named}
-use Rattle.account_model.specs.Grpck.{grpck, grpck_report, grpck_sort, sorted_groups}
-use Rattle.account_model.specs.Pwck.{pwck, pwck_report, pwck_sort, sorted_users}
-use Rattle.account_words.specs.Request.{Request, has_option}
+use Rattle.account_formats.specs.Format.{Format}
+use Rattle.account_model.specs.Grpck.{grpck_sort, sorted_groups}
+use Rattle.account_model.specs.Pwck.{pwck_sort, sorted_users}
 use Rattle.account_formats.specs.Records.{passwd_format, shadow_format, group_format, gshadow_format}
-use Rattle.account_formats.specs.Tables.{no_edits, files_after, table_after, table_records, passwd_records, shadow_records, group_records, gshadow_records}
+use Rattle.account_formats.specs.Tables.{Script, no_edits, files_after, table_after, table_records, passwd_records, shadow_records, group_records, gshadow_records}
 use Rattle.account_formats.specs.Text.{first_some}
 use Rattle.tool_answers.specs.Decisions.{decision_by, decision_of, made_output}
 use Rattle.tool_answers.specs.declared.decision.Decision.{Decision}
 use Rattle.tool_answers.specs.declared.decision.Decision.TheVariants.{Same}
 use Rattle.account_formats.proofs.NoEdits.{files-stay}
 use Rattle.account_formats.proofs.SameLaws.{bytes-self}
-use Rattle.tool_answers.proofs.ListedTables.{AreListedBefore, all-listed, listed-on, listed-past, none-listed}
+use Rattle.acct_text.proofs.ChangedTablesLemmas.{changed_among-cons, with_new_table-append}
+use Rattle.tool_answers.proofs.ListedTables.{added}
 use Rattle.check_reports.specs.Decided.{DecidesBy}
+use Rattle.check_reports.specs.Sorted.{Sorts, place_in}
 
 -- no edit touches a record
 none-multiple : {R : Type 0} (format : Format R) (records : List R)
@@ -98,57 +98,56 @@ pub sort-multiple :
 sort-multiple format key [] = refl
 sort-multiple format key (r ∷ rest) = sort-multiple format key rest
 
--- the script of pwck touches no record
-pub users-untouched : (files : Files) → multiple_entries (pwck_sort files) files ≡ None
-users-untouched files =
-    rw (
-      sort-multiple passwd_format (λ user. user.uid) (passwd_records files),
-      sort-multiple shadow_format
-          (λ r. position_or_len (is_named passwd_format r.name) (sorted_users files))
-          (shadow_records files),
-      none-multiple group_format (group_records files),
-      none-multiple gshadow_format (gshadow_records files),
-    ) refl
+-- a table without edits is the same
+unsorted :
+    (files : Files) (part : Files → Option (List ℕ))
+    → same_content (part files) (part (files_after no_edits files)) ≡ true
+unsorted files part =
+    ap (same_content (part files)) (ap part (files-stay files)) ∙ same-self (part files)
 
--- nor does that of grpck
-pub groups-untouched : (files : Files) → multiple_entries (grpck_sort files) files ≡ None
-groups-untouched files =
-    rw (
-      none-multiple passwd_format (passwd_records files),
-      none-multiple shadow_format (shadow_records files),
-      sort-multiple group_format (λ group. group.gid) (group_records files),
-      sort-multiple gshadow_format
-          (λ r. position_or_len (is_named group_format r.name) (sorted_groups files))
-          (gshadow_records files),
-    ) refl
+-- pwck sorts passwd and shadow
+pub users-sorted :
+    (files : Files)
+    → Sorts passwd_format shadow_format (λ user. user.uid) Passwd Shadow (pwck_sort files) files
+users-sorted files = record {
+  sorts_main = refl;
+  sorts_hashes = refl;
+  leaves_others = rw (
+    unsorted files (λ f. f.group),
+    unsorted files (λ f. f.gshadow),
+    unsorted files (λ f. f.subuid),
+    unsorted files (λ f. f.subgid),
+  ) refl;
+  touches_none = rw (
+    sort-multiple passwd_format (λ user. user.uid) (passwd_records files),
+    sort-multiple shadow_format (place_in passwd_format (sorted_users files) shadow_format)
+        (shadow_records files),
+    none-multiple group_format (group_records files),
+    none-multiple gshadow_format (gshadow_records files),
+  ) refl;
+}
 
--- ---- What a tool does by its options
-
-module _ (request : Request) (files : Files) (today : ℕ) where
-  -- pwck sorts with `-s`
-  pub pwck-sorts :
-      has_option (codes "s") request ≡ true
-      → changes [] (pwck_sort files) ≡ pwck request files today
-  pwck-sorts sorts = rw sorts refl
-
-  -- and reports without it
-  pub pwck-reports :
-      has_option (codes "s") request ≡ false
-      → pwck_report request files today ≡ pwck request files today
-  pwck-reports reports = rw reports refl
-
-module _ (request : Request) (files : Files) where
-  -- grpck sorts with `-s`
-  pub grpck-sorts :
-      has_option (codes "s") request ≡ true → changes [] (grpck_sort files) ≡ grpck request files
-  grpck-sorts sorts = rw sorts refl
-
-  -- and reports without it
-  pub grpck-reports :
-      has_option (codes "s") request ≡ false → grpck_report files ≡ grpck request files
-  grpck-reports reports = rw reports refl
-
--- ---- The sorted files
+-- and grpck group and gshadow
+pub groups-sorted :
+    (files : Files)
+    → Sorts group_format gshadow_format (λ group. group.gid) Group Gshadow (grpck_sort files) files
+groups-sorted files = record {
+  sorts_main = refl;
+  sorts_hashes = refl;
+  leaves_others = rw (
+    unsorted files (λ f. f.passwd),
+    unsorted files (λ f. f.shadow),
+    unsorted files (λ f. f.subuid),
+    unsorted files (λ f. f.subgid),
+  ) refl;
+  touches_none = rw (
+    none-multiple passwd_format (passwd_records files),
+    none-multiple shadow_format (shadow_records files),
+    sort-multiple group_format (λ group. group.gid) (group_records files),
+    sort-multiple gshadow_format (place_in group_format (sorted_groups files) gshadow_format)
+        (gshadow_records files),
+  ) refl;
+}
 
 -- a table stands once it is sorted where it stood
 pub sorted-stands :
@@ -157,77 +156,49 @@ pub sorted-stands :
 sorted-stands format key None = refl
 sorted-stands format key (Some bytes) = refl
 
-module _ (files : Files) where
-  -- a table without edits is the same
-  unsorted : (part : Files → Option (List ℕ)) →
-      same_content (part files) (part (files_after no_edits files)) ≡ true
-  unsorted part = ap (same_content (part files)) (ap part (files-stay files)) ∙ same-self (part files)
+-- one table behind another is listed as both are at once
+pub both-listed :
+    (old new : Contents) (first second : Tab)
+    → added old new first ++ added old new second
+    ≡ changed_among (first ∷ second ∷ []) old new
+both-listed old new first second =
+    with_new_table-append first (changed_bytes (old first) (new first)) (added old new second)
+    ∙ ap (with_new_table first (changed_bytes (old first) (new first)))
+    (sym (changed_among-cons second [] old new))
+    ∙ sym (changed_among-cons first (second ∷ []) old new)
 
-  -- what a table adds to the tables that differ, by its new content
-  abbrev with_table : Tab → Option (List ℕ) → Option (List ℕ) → List NewTable → List NewTable
-  with_table table old new before = before ++ with_new_table table (changed_bytes old new) []
-
-  -- passwd and shadow in order are all that can differ
-  pub users-sorted :
-      (passwd shadow : Option (List ℕ)) (none one both : List NewTable)
-      → passwd ≡ (files_after (pwck_sort files) files).passwd
-      → shadow ≡ table_after shadow_format
-      (Arrange (λ r. position_or_len (is_named passwd_format r.name)
-      (table_records passwd_format passwd)) ∷ [])
-      files.shadow
+module _ {M R : Type 0} (main_format : Format M) (format : Format R) (key : M → ℕ)
+    (main hashes : Tab) (script : Script) (files : Files)
+    (is : Sorts main_format format key main hashes script files) where
+  -- the sorted tables are all that differ
+  pub tables-sorted :
+      (main_file hashes_file sorted alike : Option (List ℕ)) (none one both : List NewTable)
+      → main_file ≡ table_of files main
+      → hashes_file ≡ table_of files hashes
+      → sorted ≡ table_after main_format (Arrange key ∷ []) main_file
+      → alike ≡ table_after format
+      (Arrange (place_in main_format (table_records main_format sorted) format) ∷ []) hashes_file
       → none ≡ []
-      → one ≡ with_table Passwd files.passwd passwd none
-      → both ≡ with_table Shadow files.shadow shadow one
-      → both ≡ changed_tables (table_of files) (table_of (files_after (pwck_sort files) files))
-  users-sorted passwd shadow none one both passwd_is shadow_is none_is one_is both_is =
+      → one ≡ none ++ with_new_table main (changed_bytes main_file sorted) []
+      → both ≡ one ++ with_new_table hashes (changed_bytes hashes_file alike) []
+      → both ≡ changed_tables (table_of files) (table_of (files_after script files))
+  tables-sorted main_file hashes_file sorted alike none one both of_main of_hashes sorted_is
+      alike_is none_is one_is both_is =
       let old = table_of files in
-      let new = table_of (files_after (pwck_sort files) files) in
-      let like : shadow ≡ (files_after (pwck_sort files) files).shadow =
-      shadow_is ∙ ap (λ passwd. table_after shadow_format
-      (Arrange (λ r. position_or_len (is_named passwd_format r.name)
-      (table_records passwd_format passwd)) ∷ [])
-      files.shadow) passwd_is in
-      let first = listed-on old new Passwd (Shadow ∷ Group ∷ Gshadow ∷ Subuid ∷ Subgid ∷ []) none one
-      (one_is ∙ ap (λ content. with_table Passwd files.passwd content none) passwd_is)
-      (subst (AreListedBefore old new all_tables) (sym none_is) (none-listed old new)) in
-      let users = listed-on old new Shadow (Group ∷ Gshadow ∷ Subuid ∷ Subgid ∷ []) one both
-      (both_is ∙ ap (λ content. with_table Shadow files.shadow content one) like) first in
-      all-listed old new both
-      (listed-past old new Subgid [] both (unsorted (λ f. f.subgid))
-      (listed-past old new Subuid (Subgid ∷ []) both (unsorted (λ f. f.subuid))
-      (listed-past old new Gshadow (Subuid ∷ Subgid ∷ []) both (unsorted (λ f. f.gshadow))
-      (listed-past old new Group (Gshadow ∷ Subuid ∷ Subgid ∷ []) both (unsorted (λ f. f.group))
-      users))))
-
-  -- and so are group and gshadow
-  pub groups-sorted :
-      (group gshadow : Option (List ℕ)) (none one both : List NewTable)
-      → group ≡ (files_after (grpck_sort files) files).group
-      → gshadow ≡ table_after gshadow_format
-      (Arrange (λ r. position_or_len (is_named group_format r.name)
-      (table_records group_format group)) ∷ [])
-      files.gshadow
-      → none ≡ []
-      → one ≡ with_table Group files.group group none
-      → both ≡ with_table Gshadow files.gshadow gshadow one
-      → both ≡ changed_tables (table_of files) (table_of (files_after (grpck_sort files) files))
-  groups-sorted group gshadow none one both group_is gshadow_is none_is one_is both_is =
-      let old = table_of files in
-      let new = table_of (files_after (grpck_sort files) files) in
-      let like : gshadow ≡ (files_after (grpck_sort files) files).gshadow =
-      gshadow_is ∙ ap (λ group. table_after gshadow_format
-      (Arrange (λ r. position_or_len (is_named group_format r.name)
-      (table_records group_format group)) ∷ [])
-      files.gshadow) group_is in
-      let users = listed-past old new Shadow (Group ∷ Gshadow ∷ Subuid ∷ Subgid ∷ []) none
-      (unsorted (λ f. f.shadow))
-      (listed-past old new Passwd (Shadow ∷ Group ∷ Gshadow ∷ Subuid ∷ Subgid ∷ []) none
-      (unsorted (λ f. f.passwd))
-      (subst (AreListedBefore old new all_tables) (sym none_is) (none-listed old new))) in
-      let first = listed-on old new Group (Gshadow ∷ Subuid ∷ Subgid ∷ []) none one
-      (one_is ∙ ap (λ content. with_table Group files.group content none) group_is) users in
-      let groups = listed-on old new Gshadow (Subuid ∷ Subgid ∷ []) one both
-      (both_is ∙ ap (λ content. with_table Gshadow files.gshadow content one) like) first in
-      all-listed old new both
-      (listed-past old new Subgid [] both (unsorted (λ f. f.subgid))
-      (listed-past old new Subuid (Subgid ∷ []) both (unsorted (λ f. f.subuid)) groups))
+      let new = table_of (files_after script files) in
+      let now : sorted ≡ new main =
+      sorted_is ∙ ap (table_after main_format (Arrange key ∷ [])) of_main ∙ sym is.sorts_main in
+      let like : alike ≡ new hashes =
+      alike_is
+      ∙ ap₂ (λ sorted file. table_after format
+      (Arrange (place_in main_format (table_records main_format sorted) format) ∷ []) file)
+      now of_hashes
+      ∙ sym is.sorts_hashes in
+      let first : one ≡ added old new main =
+      one_is ∙ ap₂ (λ none content. none ++ content) none_is
+      (ap₂ (λ file content. with_new_table main (changed_bytes file content) []) of_main now) in
+      both_is
+      ∙ ap₂ (λ one content. one ++ content) first
+      (ap₂ (λ file content. with_new_table hashes (changed_bytes file content) []) of_hashes like)
+      ∙ both-listed old new main hashes
+      ∙ is.leaves_others

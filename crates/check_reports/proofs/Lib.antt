@@ -3,7 +3,6 @@ pub mod RangeLines
 pub mod RecordWalk
 pub mod KnownLemmas
 pub mod UnknownLemmas
-pub mod ReadProblems
 pub mod PlaceLemmas
 pub mod ReportWalk
 pub mod ReportLemmas

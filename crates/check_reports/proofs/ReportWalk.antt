@@ -2,17 +2,18 @@
 -- (`report-more`, `report-end`, `report-in-lines`), and of each record it is told whether one before it
 -- has its name (`tells-before`). Way: problems one after another are taken as all at once
 -- (`problems-after`), and those of a line come first of those that are left.
-use Rattle.std.proofs.Common.{◌≡◌, ◌∙◌, ℕ, ◌+◌, Bool, true, false, List, [], ◌∷◌, ◌++◌, length, length-append, refl, sym, ap, arith, append-nil, append_assoc}
+use Rattle.std.proofs.Common.{◌≡◌, ◌∙◌, ℕ, ◌+◌, ◌^◌, ◌<◌, Bool, true, false, List, [], ◌∷◌, ◌++◌, length, length-append, refl, sym, ap, arith, append-nil, append_assoc}
 use Rattle.std.specs.Prelude.{◌&&◌, Option, None, Some, not}
 use Rattle.std.proofs.lemmas.List.Concat.{flat_map-append}
 use Rattle.std.proofs.lemmas.List.Elements.{filter-append}
 use Rattle.acct_text.specs.declared.Tab.{Tab}
 use Rattle.acct_text.specs.Bytes.{is_empty}
-use Rattle.acct_text.specs.Lines.{Line}
+use Rattle.acct_text.specs.Lines.{Line, lines_of}
 use Rattle.account_formats.specs.Format.{Format, records_of}
 use Rattle.account_model.specs.Problems.{Located, RecordProblems, at_line, is_notice, problem_line, problem_lines, problems_behind, problems_of_line, table_problems}
 use Rattle.acct_tables.specs.declared.name_index.NameIndex.{NameIndex}
 use Rattle.acct_tables.specs.NameIndex.{Tells, begins_before, line_names, lines_named, told}
+use Rattle.acct_tables.proofs.LinesCounted.{lines-counted}
 use Rattle.acct_tables.proofs.NamedRecords.{told-before}
 use Rattle.table_lookups.specs.TablesOfLines.{lines_in}
 use Rattle.check_reports.specs.declared.report.Report.{Report}
@@ -106,11 +107,21 @@ module _ {R : Type 0} (format : Format R) (problems : RecordProblems R) (tab : T
   abbrev done : List Line
   done = is.taken.done
 
-  -- so many lines are there
-  pub place-inside : place + length left ≡ length all
-  place-inside = omega (arith, is.counted, length-append done left, ap length is.taken.joined)
-
   module _ (line : Line) (rest : List Line) (first : left ≡ line ∷ rest) where
+    -- the place of the next line, and that behind it, are numbers of the machine
+    pub place-fits :
+        (text : List ℕ) → lines_of text ≡ all → length text < 2 ^ 64 → place + 1 < 2 ^ 64
+    place-fits text are fits = omega (
+      arith,
+      is.counted,
+      length-append done left,
+      ap length is.taken.joined,
+      ap length first,
+      ap length are,
+      lines-counted text,
+      fits,
+    )
+
     -- all lines, with the next among them
     all-are : done ++ line ∷ rest ≡ all
     all-are = ap (λ left. done ++ left) (sym first) ∙ is.taken.joined

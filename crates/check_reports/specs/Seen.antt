@@ -1,13 +1,32 @@
--- The problems of pwck and grpck as account_model has them: one of the program stands for one of
--- these (pwck(8), grpck(8)).
+-- What pwck and grpck know, and the problems that they find, as account_model has them: one of the
+-- program stands for one of these (pwck(8), grpck(8)).
 use Rattle.std.specs.Prelude.{ℕ, List, map}
 use Rattle.acct_text.specs.declared.files.Files.{Files}
+use Rattle.acct_text.specs.Files.{no_files}
 use Rattle.account_model.specs.Grpck.{unknown_users}
 use Rattle.account_model.specs.Problems as model
+use Rattle.check_reports.specs.declared.known.KnownGroups.{KnownGroups}
+use Rattle.check_reports.specs.declared.known.KnownUsers.{KnownUsers}
 use Rattle.check_reports.specs.declared.problem.Listing.{Listing}
 use Rattle.check_reports.specs.declared.problem.Listing.TheVariants.{Administrator, Member}
 use Rattle.check_reports.specs.declared.problem.Problem.{Problem}
 use Rattle.check_reports.specs.declared.problem.Problem.TheVariants.{InvalidEntry, DuplicateName, InvalidUserName, NoPrimaryGroup, NoShadowEntry, PasswordNotInShadow, NoPasswdEntry, ChangeInFuture, InvalidGroupName, NoGshadowEntry, NoGroupEntry, UnknownAdministrator, UnknownMember}
+
+-- the tables that pwck knows; it looks at no other
+abbrev pub users_seen : KnownUsers → Files
+users_seen known = record no_files {
+  passwd = known.users.file.now;
+  shadow = known.hashes.file.now;
+  group = known.groups.now;
+}
+
+-- the tables that grpck knows
+abbrev pub groups_seen : KnownGroups → Files
+groups_seen known = record no_files {
+  passwd = known.users.file.now;
+  group = known.groups.file.now;
+  gshadow = known.hashes.file.now;
+}
 
 -- the problem
 abbrev pub seen_problem : Problem → model.Problem

@@ -2,17 +2,14 @@
 //! tables, by what was asked for and the day.
 //!
 //! Each tool is a module: pwck and grpck say what the problems of their records are. `report` walks
-//! the lines of a table and tells the problems of each, of which `problem` has the texts;
-//! `known_users` and `known_groups` look names and GIDs up. `sorting` puts the records of a table
-//! in order.
+//! the lines of a table and tells the problems of each, of which `problem` has the texts; `known`
+//! looks names and GIDs up. `sorting` puts the records of a table in order.
 #![tactic(auto)]
 
 mod decision;
 pub mod getsubids;
 pub mod grpck;
 mod known;
-mod known_groups;
-mod known_users;
 mod problem;
 mod problems;
 pub mod pwck;

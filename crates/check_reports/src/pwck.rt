@@ -1,26 +1,22 @@
 // pwck (pwck(8)): reports the problems of passwd and shadow (`-r`), or sorts them (`-s`).
-ghost use Rattle.std.specs.Prelude.{◌≡◌, List, [], IfOk};
-ghost use Rattle.account_formats.specs.declared.records.PasswdRecord.{PasswdRecord};
-ghost use Rattle.account_formats.specs.declared.records.ShadowRecord.{ShadowRecord};
-ghost use Rattle.account_formats.specs.Format.{has_named};
-ghost use Rattle.account_formats.specs.Records.{passwd_format, shadow_format};
-ghost use Rattle.account_model.specs.Action.{changes};
-ghost use Rattle.account_model.specs.Pwck.{is_after, pwck, pwck_report, pwck_sort, shadow_problems, user_problems};
-ghost use Rattle.acct_lines.specs.Shown.{passwd_shown, shadow_shown};
+ghost use Rattle.std.specs.Prelude.{◌≡◌, IfOk};
+ghost use Rattle.acct_text.specs.declared.files.Files.{Files};
+ghost use Rattle.account_model.specs.Pwck.{is_after, pwck, pwck_report};
 ghost use Rattle.check_reports.specs.Decided.{DecidesBy};
+ghost use Rattle.check_reports.specs.Seen.{users_seen};
 
-use crate::decision::{changed, push_sorted};
-use crate::known_users::KnownUsers;
+use crate::decision::sort_tables;
+use crate::known::{KnownUsers, NamedFile};
 use crate::problem::Problem;
 use crate::problems::Problems;
 use crate::report::{Checks, Report};
-use crate::sorting::{ById, sorted_file, sorted_like};
+use crate::sorting::ById;
 use account_formats::{PasswdRecord, ShadowRecord};
-use acct_lines::{PasswdLine, ShadowLine, is_valid_name};
-use acct_tables::NameIndex;
-use acct_text::{Files, NewTables, Tab};
+use acct_lines::{PasswdLine, ReadFault, ShadowLine, is_valid_name};
+use acct_text::{Files, Tab};
 use command_values::Asked;
 use std::alloc::{AllocError, Global};
+use table_lookups::Tables;
 use tool_answers::Decision;
 
 /// Sorts passwd and shadow with `-s`, and else reports their problems, on the day in days since
@@ -30,141 +26,83 @@ pub fn pwck(alloc: Global, asked: &Asked, files: &Files, today: u32) -> Result<D
         (DecidesBy asked.now.tool (pwck asked.now files.now today) files.now) }
 {
     if asked.has(b's') {
-        return sort_users(alloc, asked, files);
+        let (main, hashes) = (Tab::Passwd, Tab::Shadow);
+        return sort_tables::<PasswdRecord, ShadowRecord, ById>(alloc, files, main, hashes, &ById);
     }
-    let known = KnownUsers::gather(alloc, files, today)?;
+    let known = KnownUsers {
+        users: NamedFile::of(alloc, &files.passwd)?,
+        hashes: NamedFile::of(alloc, &files.shadow)?,
+        groups: &files.group,
+        gids: Tables::of(files).used_gids(alloc)?,
+        today,
+    };
     report_users(alloc, asked, &known)
-}
-
-/// Sorts passwd by UID, and shadow by the place of the name there; names that passwd lacks come
-/// last. The sorted passwd is read again, as its records are those that count.
-fn sort_users(alloc: Global, asked: &Asked, files: &Files) -> Result<Decision, AllocError>
-    ensures { IfOk result
-        (DecidesBy asked.now.tool (changes [] (pwck_sort files.now)) files.now) }
-{
-    let passwd = sorted_file::<PasswdRecord, ById>(alloc, &files.passwd, &ById)?;
-    let shadow = sorted_like::<PasswdRecord, ShadowRecord>(alloc, &passwd, &files.shadow)?;
-    let mut tables = NewTables::none(alloc);
-    push_sorted(&mut tables, Tab::Passwd, &files.passwd, passwd)?;
-    push_sorted(&mut tables, Tab::Shadow, &files.shadow, shadow)?;
-    Ok(changed(alloc, tables))
 }
 
 /// Reports the problems of passwd and shadow, in the order of lines. Notices are left out with
 /// `-q`, and count for the status all the same.
 fn report_users(alloc: Global, asked: &Asked, known: &KnownUsers) -> Result<Decision, AllocError>
-    ensures { IfOk result (DecidesBy asked.now.tool
-        (pwck_report asked.now known.now.files known.now.today) known.now.files) }
+    ensures { IfOk result (λ decision. (files : Files) → DecidesBy asked.now.tool
+        (pwck_report asked.now (users_seen known.now) known.now.today) files decision) }
 {
-    let files = known.files();
     let mut report = Report::new(alloc, asked.has(b'q'));
-    report.push_table::<PasswdRecord, KnownUsers>(
-        alloc,
-        known,
-        known.users(),
-        &files.passwd,
-        Tab::Passwd,
-    )?;
-    report.push_table::<ShadowRecord, KnownUsers>(
-        alloc,
-        known,
-        known.hashes(),
-        &files.shadow,
-        Tab::Shadow,
-    )?;
+    report.push_table(alloc, known, &known.users, Tab::Passwd)?;
+    report.push_table(alloc, known, &known.hashes, Tab::Shadow)?;
     Ok(report.told(alloc))
 }
 
 impl<'a> Checks<PasswdRecord> for KnownUsers<'a> {
+    ghost use Rattle.std.proofs.Common.{append_assoc, rules};
     ghost use Rattle.account_model.specs.Pwck.{user_problems};
+    ghost use Rattle.check_reports.specs.Seen.{users_seen};
 
-    ghost problems = { λ sight. user_problems sight.files };
+    ghost problems = { λ known. user_problems (users_seen known) };
 
-    fn problems<'t>(
+    fn note<'t>(
         &self,
-        alloc: Global,
-        names: &NameIndex<'_>,
+        found: &mut Problems<'t>,
         place: usize,
         text: &'t [u8],
-    ) -> Result<Problems<'t>, AllocError> {
-        match PasswdLine::read(text) {
-            Ok(user) => {
-                let is_repeated = names.has_before(user.name, place);
-                user_problems(alloc, self, &user, place, is_repeated)
-            }
-            Err(_) => Problems::invalid_entry(alloc),
-        }
+    ) -> Result<(), ReadFault> {
+        let user = PasswdLine::read(text)?;
+        let name = user.name;
+        found.note_if(!is_valid_name(name), Problem::InvalidUserName(name))?;
+        let lacks_group = !self.has_gid(user.gid);
+        found.note_if(lacks_group, Problem::NoPrimaryGroup(name, user.gid))?;
+        let has_hashes = self.hashes.file.is_some();
+        let lacks_entry = has_hashes && !self.hashes.has_near(name, place);
+        found.note_if(lacks_entry, Problem::NoShadowEntry(name))?;
+        let keeps_password = has_hashes && user.password != b"x".as_slice();
+        found.note_if(keeps_password, Problem::PasswordNotInShadow(name))?;
+        Ok(())
     }
-}
 
-/// The problems of a user of passwd at a place, whose name an earlier one has, or none.
-fn user_problems<'t>(
-    alloc: Global,
-    known: &KnownUsers,
-    user: &PasswdLine<'t>,
-    place: usize,
-    is_repeated: bool,
-) -> Result<Problems<'t>, AllocError>
-    ensures { IfOk result (λ found. (earlier : List PasswdRecord)
-        → has_named passwd_format user.now.name.now earlier ≡ is_repeated
-        → found ≡ user_problems known.now.files earlier (passwd_shown user.now)) }
-{
-    let name = user.name;
-    let mut problems = Problems::none(alloc);
-    problems.note_if(is_repeated, Problem::DuplicateName(name))?;
-    problems.note_if(!is_valid_name(name), Problem::InvalidUserName(name))?;
-    problems.note_if(
-        !known.has_gid(user.gid),
-        Problem::NoPrimaryGroup(name, user.gid),
-    )?;
-    let lacks_entry = known.has_shadow_file() && !known.has_shadow(name, place);
-    problems.note_if(lacks_entry, Problem::NoShadowEntry(name))?;
-    let keeps_password = known.has_shadow_file() && user.password != b"x".as_slice();
-    problems.note_if(keeps_password, Problem::PasswordNotInShadow(name))?;
-    Ok(problems)
+    ghost tells_repeated = { Prim.search (rules, append_assoc) };
 }
 
 impl<'a> Checks<ShadowRecord> for KnownUsers<'a> {
+    ghost use Rattle.std.proofs.Common.{append_assoc, rules};
     ghost use Rattle.account_model.specs.Pwck.{shadow_problems};
+    ghost use Rattle.check_reports.specs.Seen.{users_seen};
 
-    ghost problems = { λ sight. shadow_problems sight.files sight.today };
+    ghost problems = { λ known. shadow_problems (users_seen known) known.today };
 
-    fn problems<'t>(
+    fn note<'t>(
         &self,
-        alloc: Global,
-        names: &NameIndex<'_>,
+        found: &mut Problems<'t>,
         place: usize,
         text: &'t [u8],
-    ) -> Result<Problems<'t>, AllocError> {
-        match ShadowLine::read(text) {
-            Ok(hash) => {
-                let is_repeated = names.has_before(hash.name, place);
-                hash_problems(alloc, self, &hash, place, is_repeated)
-            }
-            Err(_) => Problems::invalid_entry(alloc),
-        }
+    ) -> Result<(), ReadFault> {
+        let hash = ShadowLine::read(text)?;
+        let name = hash.name;
+        let lacks_entry = !self.users.has_near(name, place);
+        found.note_if(lacks_entry, Problem::NoPasswdEntry(name))?;
+        let is_future = is_after(self.today, hash.last_change);
+        found.note_if(is_future, Problem::ChangeInFuture(name))?;
+        Ok(())
     }
-}
 
-/// The problems of a line of shadow at a place, whose name an earlier one has, or none.
-fn hash_problems<'t>(
-    alloc: Global,
-    known: &KnownUsers,
-    hash: &ShadowLine<'t>,
-    place: usize,
-    is_repeated: bool,
-) -> Result<Problems<'t>, AllocError>
-    ensures { IfOk result (λ found. (earlier : List ShadowRecord)
-        → has_named shadow_format hash.now.name.now earlier ≡ is_repeated
-        → found ≡ shadow_problems known.now.files known.now.today earlier (shadow_shown hash.now)) }
-{
-    let name = hash.name;
-    let mut problems = Problems::none(alloc);
-    problems.note_if(is_repeated, Problem::DuplicateName(name))?;
-    problems.note_if(!known.has_user(name, place), Problem::NoPasswdEntry(name))?;
-    let is_future = is_after(known.today(), hash.last_change);
-    problems.note_if(is_future, Problem::ChangeInFuture(name))?;
-    Ok(problems)
+    ghost tells_repeated = { Prim.search (rules, append_assoc) };
 }
 
 /// Whether a day lies after today, both in days since 1970-01-01.

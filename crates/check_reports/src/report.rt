@@ -1,19 +1,20 @@
 // The report of a check: the problems of its tables, line after line (pwck(8), grpck(8), `-r`).
-ghost use Rattle.std.specs.Prelude.{◌≡◌, ◌+◌, ◌^◌, ◌<◌, ◌++◌, ◌∷◌, [], List, true, IfOk, OnOk};
+ghost use Rattle.std.specs.Prelude.{◌≡◌, ◌+◌, ◌^◌, ◌<◌, ◌++◌, ◌∷◌, [], List, Some, true, option_map, IfOk, OnOk};
 ghost use Rattle.acct_text.specs.declared.files.Files.{Files};
 ghost use Rattle.account_words.specs.declared.tool.Tool.{Tool};
 ghost use Rattle.account_model.specs.Action.{reports};
-ghost use Rattle.account_model.specs.Problems as model;
-ghost use Rattle.account_model.specs.Problems.{at_line, is_nis, problem_line, problems_of_line, table_problems};
+ghost use Rattle.account_model.specs.Problems.{RecordProblems, at_line, duplicate_name, is_nis, problem_line, problems_of_line, table_problems};
+ghost use Rattle.acct_lines.specs.Reading.{MatchRead};
 ghost use Rattle.check_reports.specs.Decided.{DecidesBy};
-ghost use Rattle.check_reports.specs.Known.{TellsBefore, TellsOf, problems_in};
+ghost use Rattle.check_reports.specs.Known.{TellsBefore};
 ghost use Rattle.check_reports.specs.Reported.{status_of, with_problems};
 ghost use Rattle.check_reports.specs.Seen.{seen_problem};
 
 use crate::decision::told;
+use crate::known::NamedFile;
 use crate::problem::Problem;
 use crate::problems::Problems;
-use acct_lines::TableRecord;
+use acct_lines::{ReadFault, TableRecord, first_field};
 use acct_tables::{Lines, NameIndex};
 use acct_text::{Bytes, Tab, push_decimal};
 use std::alloc::{AllocError, Global};
@@ -26,20 +27,25 @@ const BAD_ENTRIES: u8 = 2;
 /// What checks the records R, by what it knows of the tables.
 pub(crate) trait Checks<R: TableRecord> {
     // the problems of a record behind the earlier ones
-    ghost problems: { Self → List R → R → List model.Problem };
+    ghost problems: { Self → RecordProblems R };
 
-    /// The problems of a line at a place of its table, counted from 0, which is read where it
-    /// stands. The table has these names.
-    fn problems<'t>(
+    /// Adds the problems of the record that the line at a place is, counted from 0 over all lines,
+    /// but for that an earlier one has its name. At `Line` it is other text; the line is read where
+    /// it stands.
+    fn note<'t>(
         &self,
-        alloc: Global,
-        names: &NameIndex<'_>,
+        found: &mut Problems<'t>,
         place: usize,
         text: &'t [u8],
-    ) -> Result<Problems<'t>, AllocError>
-        ensures { IfOk result (λ found. (before : List R)
-            → TellsBefore R.format names.now place before text.now
-            → found ≡ problems_in R.format (problems self.now) before text.now) };
+    ) -> Result<(), ReadFault>
+        ensures { MatchRead result
+            (λ _. Some found.new ≡ option_map (λ r. found.old ++ problems self.now [] r)
+            (R.format.read text.now))
+            (λ first. R.fault text.now ≡ Some first) };
+
+    // of earlier records it matters only that one has the name, which is told first
+    ghost tells_repeated: { (known : Self) (earlier : List R) (r : R) → problems known earlier r
+        ≡ duplicate_name R.format earlier r ++ problems known [] r };
 }
 
 /// What a check tells: a line for each problem that is shown, table after table.
@@ -64,24 +70,21 @@ impl Report {
         }
     }
 
-    /// Adds the problems of a table by what is known and by its names, line after line; an absent
-    /// table has none.
+    /// Adds the problems of a table by what is known, line after line; an absent table has none.
     pub(crate) fn push_table<R: TableRecord, K: Checks<R>>(
         &mut self,
         alloc: Global,
         known: &K,
-        names: &NameIndex<'_>,
-        file: &Option<Bytes>,
+        table: &NamedFile<'_, R>,
         tab: Tab,
     ) -> Result<(), AllocError>
-        requires { TellsOf R.format file.now names.now }
         ensures { OnOk result (self.new ≡ with_problems tab
-            (table_problems R.format (K.problems known.now) file.now) self.old) }
+            (table_problems R.format (K.problems known.now) table.now.file.now) self.old) }
     {
         let mut place = 0usize;
-        let mut left = Lines::of(text_of(file));
+        let mut left = Lines::of(text_of(table.file));
         'lines: while let Some(line) = left.take() {
-            self.check_line::<R, K>(alloc, known, names, tab, place, line.text)?;
+            self.check_line::<R, K>(alloc, known, &table.names, tab, place, line.text)?;
             place += 1;
         }
         Ok(())
@@ -191,10 +194,17 @@ fn line_problems<'t, R: TableRecord, K: Checks<R>>(
         → TellsBefore R.format names.now place before text.now
         → problems ≡ problems_of_line R.format (K.problems known.now) before text.now) }
 {
+    let mut found = Problems::none(alloc);
     if is_nis(text) {
-        return Ok(Problems::none(alloc));
+        return Ok(found);
     }
-    known.problems(alloc, names, place, text)
+    let name = first_field(text);
+    found.note_if(names.has_before(name, place), Problem::DuplicateName(name))?;
+    match known.note(&mut found, place, text) {
+        Ok(()) => Ok(found),
+        Err(ReadFault::Line(_)) => Problems::invalid_entry(alloc),
+        Err(ReadFault::Memory) => Err(AllocError),
+    }
 }
 
 /// Whether the line belongs to NIS: it begins with `+` or `-`.

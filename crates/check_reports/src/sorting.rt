@@ -2,11 +2,10 @@
 ghost use Rattle.std.specs.Prelude.{◌≡◌, ◌+◌, ◌^◌, ◌<◌, ◌≤◌, drop, length, ◌++◌, ◌∷◌, [], List, ℕ, map, true, option_map, option_to_list, IfOk, OnOk};
 ghost use Rattle.acct_text.specs.Lines.{Line, file_bytes, line_bytes, lines_of};
 ghost use Rattle.account_formats.specs.Edits.{Arrange, edited, in_places, keyed_text, keyed_texts, sorted_by_key};
-ghost use Rattle.account_formats.specs.Format.{is_named};
 ghost use Rattle.account_formats.specs.Tables.{table_after, table_records};
 ghost use Rattle.acct_tables.specs.SeenLines.{seen_line};
-ghost use Rattle.check_reports.specs.Sorted.{IsOrderOf, kept_places, seen_keyed, with_place};
-ghost use Rattle.std.specs.List.{position_or_len};
+ghost use Rattle.check_reports.specs.Sorted.{IsOrderOf, kept_places, place_in, seen_keyed, with_place};
+ghost use Rattle.std.specs.Option.{option_copied};
 
 use account_formats::{GroupRecord, PasswdRecord};
 use acct_lines::{GroupLine, PasswdLine, TableRecord};
@@ -126,11 +125,11 @@ struct Keyed<'a> {
 /// absent table stays absent.
 pub(crate) fn sorted_file<R: TableRecord, K: SortKey<R>>(
     alloc: Global,
-    file: &Option<Bytes>,
+    file: Option<&Bytes>,
     key: &K,
 ) -> Result<Option<Bytes>, AllocError>
     ensures { IfOk result (λ sorted. sorted
-        ≡ table_after R.format (Arrange (K.key_of key.now) ∷ []) file.now) }
+        ≡ table_after R.format (Arrange (K.key_of key.now) ∷ []) (option_copied file.entry)) }
 {
     match file {
         Some(text) => Ok(Some(sorted_text::<R, K>(alloc, text.as_slice(), key)?)),
@@ -143,11 +142,11 @@ pub(crate) fn sorted_file<R: TableRecord, K: SortKey<R>>(
 pub(crate) fn sorted_like<M: TableRecord + Drop, R: TableRecord>(
     alloc: Global,
     main: &Option<Bytes>,
-    file: &Option<Bytes>,
+    file: Option<&Bytes>,
 ) -> Result<Option<Bytes>, AllocError>
     ensures { IfOk result (λ sorted. sorted ≡ table_after R.format
-        (Arrange (λ r. position_or_len (is_named M.format (R.format.name r))
-        (table_records M.format main.now)) ∷ []) file.now) }
+        (Arrange (place_in M.format (table_records M.format main.now) R.format) ∷ [])
+        (option_copied file.entry)) }
 {
     let order = ByPlace::of::<M>(alloc, main)?;
     sorted_file::<R, ByPlace>(alloc, file, &order)

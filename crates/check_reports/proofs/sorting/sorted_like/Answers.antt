@@ -1,11 +1,10 @@
 use Rattle.std.proofs.Common.{◌≡◌, ◌∙◌, [], ◌∷◌, ap}
 use Rattle.std.specs.Prelude.{unwrap_or}
-use Rattle.std.specs.List.{position_or_len}
+use Rattle.std.specs.Option.{option_copied}
 use Rattle.std.proofs.lemmas.Result.{IfOk-weaker}
 use Rattle.account_formats.specs.Edits.{Arrange}
-use Rattle.account_formats.specs.Format.{is_named}
 use Rattle.account_formats.specs.Tables.{table_after, table_records}
-use Rattle.check_reports.specs.Sorted.{kept_places}
+use Rattle.check_reports.specs.Sorted.{kept_places, place_in}
 use Rattle.check_reports.proofs.PlaceLemmas.{place-or-count}
 use Rattle.check_reports.proofs.sorting.sorted_like.Goals as goal
 
@@ -17,8 +16,9 @@ returns g c =
     let order = c.in_ok-order.order in
     let key_is :
     (λ r. unwrap_or (kept_places order (format.name r)) order.count)
-    ≡ (λ r. position_or_len (is_named main (format.name r)) records) =
+    ≡ place_in main records format =
     λ i r. place-or-count main records order (format.name r) c.in_ok-order.ensures i in
     IfOk-weaker c.sorted_file.result _ _
-    (λ sorted is. is ∙ ap (λ key. table_after format (Arrange key ∷ []) c.args.file.now) key_is)
+    (λ sorted is. is
+    ∙ ap (λ key. table_after format (Arrange key ∷ []) (option_copied c.args.file)) key_is)
     c.sorted_file.ensures

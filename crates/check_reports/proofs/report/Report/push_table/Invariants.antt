@@ -10,7 +10,7 @@ abbrev pub invariant-lines : goal.invariant-lines
 invariant-lines g l =
     let format = g.R.TableRecord.format in
     let problems = g.K.Checks.problems l.known in
-    let all = lines_in l.file in
+    let all = lines_in l.table.file.now in
     IsReported format problems l.tab all l.left l.place l.self
     (with_problems l.tab (problems_behind format problems [] all) l.initial.self)
 
