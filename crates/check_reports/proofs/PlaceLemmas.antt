@@ -1,65 +1,18 @@
--- Claim: the places and the count of records are kept line by line (`order-more`), as a name that
--- has no place gets the next (`noted`); and a name's place is where a search of the records stops
--- (`place-or-count`). Way: a name's first place among records grows with them (`first-more`).
-use Rattle.std.proofs.Common.{◌≡◌, ◌∙◌, ℕ, ◌+◌, Bool, true, false, List, [], ◌∷◌, ◌++◌, length, length-append, refl, sym, ap, subst, arith, append-nil}
-use Rattle.std.specs.Prelude.{Option, Some, None, bytes_eq, cond, is_some, not, option_map, option_to_list, unwrap_or, if◌then◌else◌}
+-- Claim: the places and the count of records are kept record by record (`order-record`,
+-- `order-other`), and a name's place is where a search of the records stops (`place-or-count`).
+-- Way: an index tells of the names of records as of those of lines.
+use Rattle.std.proofs.Common.{◌≡◌, ◌∙◌, ℕ, ◌+◌, ◌^◌, ◌<◌, Bool, true, false, List, [], ◌∷◌, ◌++◌, length, length-append, map, refl, sym, ap, subst, arith, append-nil}
+use Rattle.std.specs.Prelude.{Option, Some, None, cond, count_by, not, option_map, option_to_list, unwrap_or}
 use Rattle.std.specs.List.{position_from, position_or_len}
-use Rattle.std.specs.Cmp.Lexicographic.{bytes_decides}
-use Rattle.std.specs.Map.{update}
-use Rattle.acct_text.specs.Lines.{Line}
+use Rattle.std.proofs.lemmas.List.{length-map, map-append}
+use Rattle.acct_text.specs.Lines.{Line, lines_of}
 use Rattle.account_formats.specs.Format.{Format, is_named, records_of}
+use Rattle.acct_tables.specs.NameIndex.{IsNoted, Tells, TellsAtMost, has_name, records_at, told}
+use Rattle.acct_tables.proofs.LinesCounted.{lines-counted}
+use Rattle.acct_tables.proofs.NameIndexLemmas.{told-record, told-within}
 use Rattle.check_reports.specs.declared.sorting.ByPlace.{ByPlace}
-use Rattle.check_reports.specs.Sorted.{IsOrderOf, Places, first_places, kept_places, with_place}
-use Rattle.check_reports.proofs.RecordWalk.{records-more}
-
--- what is found at last, where nothing was found before
-abbrev or_at_last : Option ℕ → Bool → ℕ → Option ℕ
-or_at_last found test place =
-    elim found [ Some first ↦ Some first | None ↦ if test then Some place else None ]
-
-module _ {X : Type 0} (test : X → Bool) where
-  -- a first place by the test of the first
-  front-more :
-      (passes : Bool) (place : ℕ) (rest more : Option ℕ) (last : Bool) (end : ℕ)
-      → more ≡ or_at_last rest last end
-      → cond passes (Some place) more ≡ or_at_last (cond passes (Some place) rest) last end
-  front-more true place rest more last end later = refl
-  front-more false place rest more last end later = later
-
-  -- the first place with one more behind
-  position-more :
-      (place : ℕ) (xs : List X) (x : X)
-      → position_from test place (xs ++ x ∷ [])
-      ≡ or_at_last (position_from test place xs) (test x) (place + length xs)
-  position-more place [] x = ap (λ (end : ℕ). cond (test x) (Some end) None) (omega arith)
-  position-more place (first ∷ xs) x =
-      front-more (test first) place (position_from test (place + 1) xs) _ (test x)
-      (place + length (first ∷ xs))
-      (position-more (place + 1) xs x
-      ∙ ap (or_at_last (position_from test (place + 1) xs) (test x)) (omega arith))
-
--- nothing is found
-none-is : (found : Option ℕ) → is_some found ≡ false → found ≡ None
-none-is None absent = refl
-none-is (Some place) absent = absurd cc
-
--- what an update finds, by whether it is the name of the update
-noted-by :
-    (same : Bool) (found : Option ℕ) (place : ℕ)
-    → (same ≡ true → found ≡ None)
-    → cond same (Some place) found ≡ or_at_last found same place
-noted-by true found place none = ap (λ found. or_at_last found true place) (sym (none refl))
-noted-by false None place none = refl
-noted-by false (Some first) place none = refl
-
--- with a place for a name that had none, each name has the place that it gets
-pub noted :
-    (before : Places) (name : List ℕ) (place : ℕ) (other : List ℕ)
-    → is_some (before name) ≡ false
-    → update bytes_eq before name (Some place) other ≡ with_place before name place other
-noted before name place other absent =
-    noted-by (bytes_eq name other) (before other) place
-    (λ same. ap before (sym ((bytes_decides name other).0 same)) ∙ none-is (before name) absent)
+use Rattle.check_reports.specs.Sorted.{IsOrderOf, kept_place}
+use Rattle.check_reports.proofs.RecordWalk.{HaveTaken, records-few}
 
 -- by the test of the first, where a search stops
 front-or :
@@ -80,78 +33,108 @@ position-or test place (x ∷ xs) =
     (ap (unwrap_or (position_from test (place + 1) xs)) (omega arith)
     ∙ position-or test (place + 1) xs)
 
--- the places with that of a name, where there is one
-abbrev places_with : Option (List ℕ) → ByPlace → Places
-places_with None kept = kept_places kept
-places_with (Some name) kept = with_place (kept_places kept) name kept.count
-
--- the count with a name, where there is one
-abbrev count_with : Option (List ℕ) → ℕ → ℕ
-count_with None count = count
-count_with (Some name) count = count + 1
+-- the first of some records
+first-at :
+    (first : Option ℕ) (count total : ℕ)
+    → unwrap_or (option_map (λ found. found.first) (records_at first count)) total
+    ≡ unwrap_or first total
+first-at None count total = refl
+first-at (Some first) count total = refl
 
 module _ {R : Type 0} (format : Format R) where
-  -- the first places with one more record behind
-  first-more :
-      (records : List R) (r : R) (name : List ℕ)
-      → first_places format (records ++ r ∷ []) name
-      ≡ with_place (first_places format records) (format.name r) (length records) name
-  first-more records r name =
-      position-more (is_named format name) 0 records r
-      ∙ ap (λ (place : ℕ). with_place (first_places format records) (format.name r) place name)
-      (omega arith)
+  -- the names of records
+  abbrev names : List R → List (Option (List ℕ))
+  names records = map (λ r. Some (format.name r)) records
 
-  -- the order of the records with one more
-  order-by :
-      (records : List R) (found : Option R) (name : Option (List ℕ)) (before after : ByPlace)
-      → name ≡ option_map format.name found
+  -- as many names are kept as records
+  many : (records : List R) (kept : ByPlace) → IsOrderOf format records kept
+      → kept.count ≡ length (names records)
+  many records kept is =
+      is.counted ∙ sym (length-map records (λ r. Some (format.name r)))
+
+  -- a name's first place among names is that among records
+  place-named :
+      (name : List ℕ) (place : ℕ) (records : List R)
+      → position_from (has_name name) place (names records)
+      ≡ position_from (is_named format name) place records
+  place-named name place [] = refl
+  place-named name place (r ∷ rest) =
+      ap (λ behind. cond (is_named format name r) (Some place) behind)
+      (place-named name (place + 1) rest)
+
+  -- of no name more records are told than there are
+  pub order-within :
+      (records : List R) (kept : ByPlace)
+      → IsOrderOf format records kept
+      → TellsAtMost kept.count (told kept.names)
+  order-within records kept is =
+      subst (λ count. TellsAtMost count (told kept.names)) (sym (many records kept is))
+      (told-within (names records) (told kept.names) is.first)
+
+  -- the place of one more record is a number of the machine
+  pub order-fits :
+      (all left rest : List Line) (line : Line) (taken : HaveTaken all left) (kept : ByPlace)
+      (text : List ℕ)
+      → IsOrderOf format (records_of format taken.done) kept
+      → left ≡ line ∷ rest
+      → lines_of text ≡ all
+      → length text < 2 ^ 64
+      → kept.count + 1 < 2 ^ 64
+  order-fits all left rest line taken kept text is next are fits = omega (
+    arith,
+    is.counted,
+    records-few format taken.done,
+    ap length taken.joined,
+    length-append taken.done left,
+    ap length next,
+    ap length are,
+    lines-counted text,
+    fits,
+  )
+
+  -- with a record of the name it is the order of one more
+  pub order-record :
+      (records : List R) (found : Option R) (name : List ℕ) (before after : ByPlace)
+      → Some name ≡ option_map format.name found
       → IsOrderOf format records before
-      → ((other : List ℕ) → kept_places after other ≡ places_with name before other)
-      → after.count ≡ count_with name before.count
+      → IsNoted name before.count (told before.names) (told after.names)
+      → after.count ≡ before.count + 1
       → IsOrderOf format (records ++ option_to_list found) after
-  order-by records None None before after is so_far placed counted = record {
-    first = λ other. placed other ∙ so_far.first other
-        ∙ ap (λ records. first_places format records other) (sym (append-nil records));
-    counted = counted ∙ so_far.counted ∙ ap length (sym (append-nil records));
-  }
-  order-by records (Some r) (Some name) before after is so_far placed counted =
+  order-record records None name before after named is noted counted = absurd cc
+  order-record records (Some r) name before after named is noted counted =
       let same : name ≡ format.name r = cc in
-      let more = length-append records (r ∷ []) in
       record {
-        first = λ other. placed other
-            ∙ ap (λ found. or_at_last found (bytes_eq name other) before.count)
-            (so_far.first other)
-            ∙ ap (λ (name : List ℕ). or_at_last (first_places format records other)
-            (bytes_eq name other) before.count) same
-            ∙ ap (λ (count : ℕ). or_at_last (first_places format records other)
-            (bytes_eq (format.name r) other) count) so_far.counted
-            ∙ sym (first-more records r other);
-        counted = counted ∙ omega (arith, so_far.counted, more);
+        first = subst (λ names. Tells names (told after.names))
+            (sym (map-append (λ r. Some (format.name r)) records (r ∷ [])))
+            (told-record (names records) (told before.names) is.first (format.name r)
+            (told after.names)
+            (subst (λ name. IsNoted name (length (names records)) (told before.names)
+            (told after.names)) same
+            (subst (λ place. IsNoted name place (told before.names) (told after.names))
+            (many records before is) noted)));
+        counted = counted ∙ omega (arith, is.counted, length-append records (r ∷ []));
       }
-  order-by records None (Some name) before after is so_far placed counted = absurd cc
-  order-by records (Some r) None before after is so_far placed counted = absurd cc
 
-  -- the order of the lines so far, with the record of the next, is that up to it
-  pub order-more :
-      (done : List Line) (line : Line) (name : Option (List ℕ)) (before after : ByPlace)
-      → name ≡ option_map format.name (format.read line.text)
-      → IsOrderOf format (records_of format done) before
-      → ((other : List ℕ) → kept_places after other ≡ places_with name before other)
-      → after.count ≡ count_with name before.count
-      → IsOrderOf format (records_of format (done ++ line ∷ [])) after
-  order-more done line name before after named so_far placed counted =
-      subst (λ records. IsOrderOf format records after) (sym (records-more format done line))
-      (order-by (records_of format done) (format.read line.text) name before after named so_far
-      placed counted)
+  -- with other text it stays
+  pub order-other :
+      (records : List R) (found : Option R) (kept : ByPlace)
+      → None ≡ option_map format.name found
+      → IsOrderOf format records kept
+      → IsOrderOf format (records ++ option_to_list found) kept
+  order-other records None kept other is =
+      subst (λ records. IsOrderOf format records kept) (sym (append-nil records)) is
+  order-other records (Some r) kept other is = absurd cc
 
   -- what a name's place is, and where a search of the records stops
   pub place-or-count :
       (records : List R) (kept : ByPlace) (name : List ℕ)
       → IsOrderOf format records kept
-      → unwrap_or (kept_places kept name) kept.count
-      ≡ position_or_len (is_named format name) records
+      → kept_place kept name ≡ position_or_len (is_named format name) records
   place-or-count records kept name is =
-      ap (λ found. unwrap_or found kept.count) (is.first name)
-      ∙ ap (unwrap_or (first_places format records name)) (is.counted ∙ omega arith)
+      ap (λ found. unwrap_or (option_map (λ found. found.first) found) kept.count) (is.first name)
+      ∙ first-at (position_from (has_name name) 0 (names records))
+      (count_by (has_name name) (names records)) kept.count
+      ∙ ap (λ found. unwrap_or found kept.count) (place-named name 0 records)
+      ∙ ap (unwrap_or (position_from (is_named format name) 0 records)) (is.counted ∙ omega arith)
       ∙ position-or (is_named format name) 0 records
       ∙ omega arith

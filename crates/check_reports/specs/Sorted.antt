@@ -1,9 +1,8 @@
 -- The text of a record with its key as account_model has it: one of the program stands for one of
 -- these; where names stand among the records of a table; and what it is to sort a table and that of
 -- its hashes (pwck(8), grpck(8), `-s`).
-use Rattle.std.specs.Prelude.{◌≡◌, ℕ, List, [], ◌∷◌, Option, Some, None, bytes_eq, length, if◌then◌else◌}
-use Rattle.std.specs.HashMap as hash
-use Rattle.std.specs.List.{position_from, position_or_len}
+use Rattle.std.specs.Prelude.{◌≡◌, ℕ, List, [], ◌∷◌, Some, None, length, map, option_map, unwrap_or}
+use Rattle.std.specs.List.{position_or_len}
 use Rattle.acct_text.specs.declared.Tab.{Tab}
 use Rattle.acct_text.specs.declared.files.Files.{Files}
 use Rattle.acct_text.specs.ChangedTables.{changed_among, changed_tables}
@@ -13,6 +12,7 @@ use Rattle.account_formats.specs.Edits as model
 use Rattle.account_formats.specs.Edits.{Arrange}
 use Rattle.account_formats.specs.Tables.{Script, files_after, table_after, table_records}
 use Rattle.account_model.specs.Action.{multiple_entries}
+use Rattle.acct_tables.specs.NameIndex.{Tells, told}
 use Rattle.check_reports.specs.declared.sorting.ByPlace.{ByPlace}
 use Rattle.check_reports.specs.declared.sorting.Keyed.{Keyed}
 
@@ -20,29 +20,15 @@ use Rattle.check_reports.specs.declared.sorting.Keyed.{Keyed}
 abbrev pub seen_keyed : Keyed → model.Keyed
 seen_keyed keyed = record { key = keyed.key; text = keyed.text.now }
 
--- the place of each name, where it has one
-abbrev pub Places : Type 0
-Places = List ℕ → Option ℕ
+-- the place of the first record of the name that is kept, or how many records are
+abbrev pub kept_place : ByPlace → List ℕ → ℕ
+kept_place kept name =
+    unwrap_or (option_map (λ found. found.first) (told kept.names name)) kept.count
 
--- the places that are kept
-abbrev pub kept_places : ByPlace → Places
-kept_places kept name = hash.get_by (λ key. bytes_eq name key.now) kept.places
-
--- the places with that of one more name; a name that has one keeps it
-abbrev pub with_place : Places → List ℕ → ℕ → Places
-with_place places name place other = elim (places other) [
-  | Some first ↦ Some first
-  | None ↦ if bytes_eq name other then Some place else None
-]
-
--- the place of the first record of each name, counted from 0 over the records
-abbrev pub first_places : {R : Type 0} → Format R → List R → Places
-first_places format records name = position_from (is_named format name) 0 records
-
--- the places and the count that are kept are those of the records
+-- the places and the count that are kept are those of the records, counted from 0
 pub record IsOrderOf {R : Type 0} (format : Format R) (records : List R) (kept : ByPlace)
     : Type 0 where
-  pub first : (name : List ℕ) → kept_places kept name ≡ first_places format records name
+  pub first : Tells (map (λ r. Some (format.name r)) records) (told kept.names)
   pub counted : kept.count ≡ length records
 
 -- the place of the first of the records that has a record's name, or how many they are

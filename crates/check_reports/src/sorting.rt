@@ -4,15 +4,14 @@ ghost use Rattle.acct_text.specs.Lines.{Line, file_bytes, line_bytes, lines_of};
 ghost use Rattle.account_formats.specs.Edits.{Arrange, edited, in_places, keyed_text, keyed_texts, sorted_by_key};
 ghost use Rattle.account_formats.specs.Tables.{table_after, table_records};
 ghost use Rattle.acct_tables.specs.SeenLines.{seen_line};
-ghost use Rattle.check_reports.specs.Sorted.{IsOrderOf, kept_places, place_in, seen_keyed, with_place};
+ghost use Rattle.check_reports.specs.Sorted.{IsOrderOf, kept_place, place_in, seen_keyed};
 ghost use Rattle.std.specs.Option.{option_copied};
 
 use account_formats::{GroupRecord, PasswdRecord};
 use acct_lines::{GroupLine, PasswdLine, TableRecord};
-use acct_tables::{FileLine, Lines, is_record, name_of};
+use acct_tables::{FileLine, Lines, NameIndex, is_record, name_of};
 use acct_text::Bytes;
 use std::alloc::{AllocError, Global};
-use std::collections::HashMap;
 use table_lookups::text_of;
 
 /// What the records of a table are sorted by.
@@ -54,7 +53,8 @@ impl SortKey<GroupRecord> for ById {
 /// Names that it lacks come last.
 #[derive(Drop)]
 pub(crate) struct ByPlace<'a> {
-    places: HashMap<&'a [u8], usize>,
+    // the names, with the places of their records among the records
+    names: NameIndex<'a>,
     // how many records the other table has
     count: usize,
 }
@@ -64,53 +64,36 @@ impl<'a> ByPlace<'a> {
     fn of<M: TableRecord + Drop>(alloc: Global, main: &'a Option<Bytes>) -> Result<Self, AllocError>
         ensures { IfOk result (IsOrderOf M.format (table_records M.format main.now)) }
     {
-        let mut order = ByPlace {
-            places: HashMap::new(alloc),
-            count: 0,
-        };
+        let mut names = NameIndex::new(alloc);
+        let mut count = 0usize;
         let mut left = Lines::of(text_of(main));
         'lines: while let Some(line) = left.take() {
             if let Some(name) = name_of::<M>(line.text) {
-                order.add(name)?;
+                names.add(name, count)?;
+                count += 1;
             }
         }
-        Ok(order)
+        Ok(ByPlace { names, count })
     }
 
-    /// Adds one more record, of the name.
-    fn add(&mut self, name: &'a [u8]) -> Result<(), AllocError>
-        requires { self.old.count + 1 < 2 ^ 64 }
-        ensures first { OnOk result ((other : List ℕ) → kept_places self.new other
-            ≡ with_place (kept_places self.old) name.now self.old.count other) }
-        ensures counted { OnOk result (self.new.count ≡ self.old.count + 1) }
+    /// The place of the first record of the name; where none has it, how many records there are.
+    fn place(&self, name: &[u8]) -> usize
+        ensures { result ≡ kept_place self.now name.now }
     {
-        self.note(name)?;
-        self.count += 1;
-        Ok(())
-    }
-
-    /// Gives the name the place of the next record, where it has none.
-    fn note(&mut self, name: &'a [u8]) -> Result<(), AllocError>
-        ensures first { OnOk result ((other : List ℕ) → kept_places self.new other
-            ≡ with_place (kept_places self.old) name.now self.old.count other) }
-        ensures same { OnOk result (self.new.count ≡ self.old.count) }
-    {
-        if !self.places.contains_key(name) {
-            self.places.insert(name, self.count)?;
+        match self.names.get(name) {
+            Some(found) => found.first,
+            None => self.count,
         }
-        Ok(())
     }
 }
 
 impl<'a, R: TableRecord> SortKey<R> for ByPlace<'a> {
-    ghost use Rattle.std.specs.Prelude.{unwrap_or};
-    ghost use Rattle.check_reports.specs.Sorted.{kept_places};
+    ghost use Rattle.check_reports.specs.Sorted.{kept_place};
 
-    ghost key_of = { λ by r. unwrap_or (kept_places by (R.format.name r)) by.count };
+    ghost key_of = { λ by r. kept_place by (R.format.name r) };
 
     fn key_in(&self, line: &[u8]) -> Option<usize> {
-        let name = name_of::<R>(line)?;
-        Some(self.places.get(name).copied().unwrap_or(self.count))
+        Some(self.place(name_of::<R>(line)?))
     }
 }
 

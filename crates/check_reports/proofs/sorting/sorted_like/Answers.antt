@@ -1,10 +1,9 @@
 use Rattle.std.proofs.Common.{◌≡◌, ◌∙◌, [], ◌∷◌, ap}
-use Rattle.std.specs.Prelude.{unwrap_or}
 use Rattle.std.specs.Option.{option_copied}
 use Rattle.std.proofs.lemmas.Result.{IfOk-weaker}
 use Rattle.account_formats.specs.Edits.{Arrange}
 use Rattle.account_formats.specs.Tables.{table_after, table_records}
-use Rattle.check_reports.specs.Sorted.{kept_places, place_in}
+use Rattle.check_reports.specs.Sorted.{kept_place, place_in}
 use Rattle.check_reports.proofs.PlaceLemmas.{place-or-count}
 use Rattle.check_reports.proofs.sorting.sorted_like.Goals as goal
 
@@ -15,8 +14,7 @@ returns g c =
     let records = table_records main c.args.main.now in
     let order = c.in_ok-order.order in
     let key_is :
-    (λ r. unwrap_or (kept_places order (format.name r)) order.count)
-    ≡ place_in main records format =
+    (λ r. kept_place order (format.name r)) ≡ place_in main records format =
     λ i r. place-or-count main records order (format.name r) c.in_ok-order.ensures i in
     IfOk-weaker c.sorted_file.result _ _
     (λ sorted is. is

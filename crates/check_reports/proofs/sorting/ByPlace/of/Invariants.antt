@@ -11,7 +11,8 @@ invariant-lines g l =
     let format = g.M.TableRecord.format in
     record {
       taken : HaveTaken (lines_in l.main) l.left;
-      so_far : IsOrderOf format (records_of format taken.done) l.order;
+      so_far : IsOrderOf format (records_of format taken.done)
+          (record { names = l.names; count = l.count });
     }
 
 abbrev pub decreases-lines : goal.decreases-lines
