@@ -3,3 +3,5 @@ pub mod LeastStart
 pub mod TakenLemmas
 pub mod TellLemmas
 pub mod FileLines
+pub mod GatheredLemmas
+pub mod RangeIndexLemmas

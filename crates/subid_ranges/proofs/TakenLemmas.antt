@@ -1,68 +1,16 @@
--- Claims: the numbers of a table's ranges are gathered line by line (`added-line`), and numbers meet
--- the newest range (`newest-met`) or the last run that begins up to them, or are free (`met-by`). Way: a number of a run is taken, and behind the last run up to a number nothing is.
-use Rattle.std.proofs.Common.{◌≡◌, ℕ, ◌+◌, ◌<◌, ◌≤◌, Bool, true, false, List, [], ◌∷◌, refl, sym, ◌∙◌, ap, arith, inl, inr, lt_irrefl}
-use Rattle.std.specs.Prelude.{Option, Some, None, MatchOption, ◌||◌, nat_le}
-use Rattle.std.specs.List.{cons_option}
+-- Claim: numbers meet the newest range (`newest-met`) or the last run that begins up to them, or
+-- are free (`met-by`). Way: a number of a run is taken, and behind the last run up to a number
+-- nothing is.
+use Rattle.std.proofs.Common.{◌≡◌, ℕ, ◌≤◌, true, false, List, refl, ◌∙◌, ap, arith, inl, inr, lt_irrefl}
+use Rattle.std.specs.Prelude.{Option, Some, None, MatchOption, nat_le}
 use Rattle.std.proofs.lemmas.Bool.{and_from, and_left, and_right, cases_lt, le-leb, lt-leb, or_from, or_left, or_right}
 use Rattle.std.proofs.lemmas.Option.{MatchOption-at_some}
-use Rattle.acct_text.specs.Lines.{Line}
-use Rattle.account_formats.specs.declared.records.SubidRecord.{SubidRecord}
 use Rattle.account_words.specs.Ids.{is_used}
-use Rattle.account_formats.specs.Records.{subid_format}
 use Rattle.id_choice.specs.declared.runs.Run.{Run}
 use Rattle.id_choice.specs.Runs.{HasNothingUpTo, IsLastUpTo}
 use Rattle.subid_ranges.specs.declared.taken.Taken.{Taken}
-use Rattle.subid_ranges.specs.Numbers.{AddsFound, MeetsRun, MissesRun, is_of, is_ranged}
-use Rattle.subid_ranges.specs.RangeLines.{meets_at, ranges_of}
+use Rattle.subid_ranges.specs.Numbers.{MeetsRun, MissesRun, is_of}
 use Rattle.subid_ranges.specs.Taken.{AreFree, AreMet}
-
--- ---- The numbers of a table
-
--- three tests, of which the second comes first
-second-first : (a b c : Bool) → ((a || b) || c) ≡ (b || (a || c))
-second-first true true c = refl
-second-first true false c = refl
-second-first false b c = refl
-
--- the numbers of ranges with one more in front, by whether there is one
-ranged-found :
-    (found : Option SubidRecord) (rest : List SubidRecord) (number : ℕ)
-    → is_ranged (cons_option found rest) number
-    ≡ (meets_at number number found || is_ranged rest number)
-ranged-found None rest number = refl
-ranged-found (Some r) rest number = refl
-
--- a line's numbers go from those of the lines left to those gathered
-pub added-line :
-    (line : Line) (left rest : List Line) (old new : List ℕ) (total : ℕ → Bool)
-    → left ≡ line ∷ rest
-    → AddsFound (subid_format.read line.text) old new
-    → ((number : ℕ) → (is_used old number || is_ranged (ranges_of left) number) ≡ total number)
-    → (number : ℕ)
-    → (is_used new number || is_ranged (ranges_of rest) number) ≡ total number
-added-line line left rest old new total is added gathered number =
-    let found = subid_format.read line.text in
-    let behind = is_ranged (ranges_of rest) number in
-    let here = meets_at number number found in
-    ap (λ (used : Bool). used || behind) (added number)
-    ∙ second-first here (is_used old number) behind
-    ∙ ap (λ (left : Bool). is_used old number || left)
-    (sym (ap (λ lines. is_ranged (ranges_of lines) number) is
-    ∙ ranged-found found (ranges_of rest) number))
-    ∙ gathered number
-
--- behind the last line they are all
-pub added-all :
-    (left : List Line) (used : List ℕ) (total : ℕ → Bool)
-    → left ≡ []
-    → ((number : ℕ) → (is_used used number || is_ranged (ranges_of left) number) ≡ total number)
-    → (number : ℕ)
-    → (is_used used number || false) ≡ total number
-added-all left used total none gathered number =
-    ap (λ lines. is_used used number || is_ranged (ranges_of lines) number) (sym none)
-    ∙ gathered number
-
--- ---- What numbers meet
 
 -- a number of a run passes its test
 of-run :

@@ -1,35 +1,35 @@
--- Claim: the numbers taken with those of one more range are those of the text with the range
--- (`range-takes`). Way: the ranges of the new text are the old ones and the new one.
-use Rattle.std.proofs.Common.{◌≡◌, ℕ, ◌+◌, ◌-◌, Bool, true, false, List, [], ◌∷◌, ◌++◌, refl, sym, ◌∙◌, ap}
+-- Claim: the numbers taken with those of one more range are those of the ranges with it
+-- (`taken-more`), and of the text with it (`range-takes`). Way: the ranges of the new text are the
+-- old ones and the new one (`ranges-added`).
+use Rattle.std.proofs.Common.{◌≡◌, ℕ, ◌+◌, ◌-◌, Bool, true, false, List, [], ◌∷◌, ◌++◌, refl, sym, ◌∙◌, ap, subst}
 use Rattle.std.specs.Prelude.{◌||◌}
 use Rattle.std.proofs.lemmas.List.Folds.{list_any-append}
 use Rattle.acct_text.specs.Lines.{file_bytes, lines_of}
 use Rattle.acct_text.proofs.LinesLaws.{lines_of-are}
 use Rattle.account_formats.specs.declared.records.SubidRecord.{SubidRecord}
-use Rattle.account_formats.specs.Edits.{Add}
+use Rattle.account_formats.specs.Edits.{Add, with_line}
 use Rattle.account_words.specs.FreeRange.{meets}
 use Rattle.account_words.specs.Ids.{in_range}
-use Rattle.account_formats.specs.Records.{subid_format}
-use Rattle.account_formats.specs.Written.{IsSubid}
+use Rattle.account_formats.specs.Records.{last_id, subid_format}
+use Rattle.account_formats.specs.Written.{IsSubid, IsWritten}
 use Rattle.account_formats.proofs.EditLaws.{edit-is}
 use Rattle.account_formats.proofs.SameLaws.{subid-tells}
+use Rattle.acct_tables.proofs.EditedFiles.{edit-found}
 use Rattle.subid_ranges.specs.declared.taken.Taken.{Taken}
 use Rattle.subid_ranges.specs.Numbers.{is_ranged}
 use Rattle.subid_ranges.specs.RangeLines.{new_range, ranges_of, with_range}
 use Rattle.subid_ranges.specs.Taken.{TakesThoseOf, is_taken}
-use Rattle.subid_ranges.proofs.FileLines.{range-found, range-written}
+use Rattle.subid_ranges.proofs.FileLines.{range-written}
 
 -- the ranges of a text with one more
-ranges-added :
-    (owner : List ℕ) (first count : ℕ) (text new : List ℕ)
-    → IsSubid (new_range owner first count)
-    → new ≡ file_bytes (with_range owner first count (lines_of text))
-    → ranges_of (lines_of new) ≡ ranges_of (lines_of text) ++ new_range owner first count ∷ []
-ranges-added owner first count text new held is =
-    let r = new_range owner first count in
-    ap ranges_of (range-found owner first count text new held is)
-    ∙ edit-is subid_format subid-tells (Add r) (lines_of text) (lines_of-are text).apart
-    (range-written r held)
+pub ranges-added :
+    (r : SubidRecord) (text new : List ℕ)
+    → IsWritten subid_format r
+    → new ≡ file_bytes (with_line (subid_format.print r) (lines_of text))
+    → ranges_of (lines_of new) ≡ ranges_of (lines_of text) ++ r ∷ []
+ranges-added r text new written is =
+    ap ranges_of (edit-found subid_format refl (Add r) written text new is)
+    ∙ edit-is subid_format subid-tells (Add r) (lines_of text) (lines_of-are text).apart written
 
 -- a test of the last of two, without what is behind it
 or-last : (a b : Bool) → (a || (b || false)) ≡ (b || a)
@@ -46,7 +46,24 @@ ranged-added ranges r number =
     list_any-append (meets number number) ranges (r ∷ [])
     ∙ or-last (is_ranged ranges number) (meets number number r)
 
--- a text and numbers with one more range
+-- the numbers of ranges with one more
+pub taken-more :
+    (ranges : List SubidRecord) (r : SubidRecord) (last : ℕ) (before settled after : Taken)
+    → TakesThoseOf ranges before
+    → last ≡ last_id r
+    → ((number : ℕ) → is_taken settled number ≡ is_taken before number)
+    → ((number : ℕ) → is_taken after number
+    ≡ (in_range r.first last number || is_taken settled number))
+    → TakesThoseOf (ranges ++ r ∷ []) after
+taken-more ranges r last before settled after takes is stays put = record {
+  same = λ number.
+      put number
+      ∙ ap (λ end. in_range r.first end number || is_taken settled number) is
+      ∙ ap (λ (others : Bool). meets number number r || others) (stays number ∙ takes.same number)
+      ∙ sym (ranged-added ranges r number);
+}
+
+-- and those of the text with it
 pub range-takes :
     (owner : List ℕ) (first count last : ℕ) (text new : List ℕ) (before settled after : Taken)
     → TakesThoseOf (ranges_of (lines_of text)) before
@@ -58,15 +75,8 @@ pub range-takes :
     ≡ (in_range first last number || is_taken settled number))
     → TakesThoseOf (ranges_of (lines_of new)) after
 range-takes owner first count last text new before settled after takes held is stays added put =
-    let r = new_range owner first count in
-    let old = ranges_of (lines_of text) in
-    record {
-      same = λ number.
-          put number
-          ∙ ap (λ end. in_range first end number || is_taken settled number) is
-          ∙ ap (λ (others : Bool). meets number number r || others)
-          (stays number ∙ takes.same number)
-          ∙ sym (ap (λ ranges. is_ranged ranges number)
-          (ranges-added owner first count text new held added)
-          ∙ ranged-added old r number);
-    }
+    subst (λ ranges. TakesThoseOf ranges after)
+    (sym (ranges-added (new_range owner first count) text new
+    (range-written (new_range owner first count) held) added))
+    (taken-more (ranges_of (lines_of text)) (new_range owner first count) last before settled after
+    takes is stays put)

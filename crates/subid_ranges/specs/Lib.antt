@@ -3,3 +3,5 @@ pub mod Owned
 pub mod Numbers
 pub mod Taken
 pub mod Refusals
+pub mod Gathered
+pub mod RangeIndex

@@ -1,11 +1,10 @@
 -- The numbers of ranges and of runs, and those that they have in common (subuid(5), subgid(5)).
-use Rattle.std.specs.Prelude.{◌≡◌, ℕ, ◌<◌, ◌≤◌, Bool, false, ◌||◌, List, Option, Some, None}
+use Rattle.std.specs.Prelude.{◌≡◌, ℕ, ◌<◌, ◌≤◌, Bool, false, List, Option, Some, None}
 use Rattle.std.specs.List.{list_any}
 use Rattle.account_formats.specs.declared.records.SubidRecord.{SubidRecord}
 use Rattle.account_words.specs.FreeRange.{meets}
-use Rattle.account_words.specs.Ids.{in_range, is_used}
+use Rattle.account_words.specs.Ids.{in_range}
 use Rattle.id_choice.specs.declared.runs.Run.{Run}
-use Rattle.subid_ranges.specs.RangeLines.{meets_at}
 
 -- whether the number is one of the run, where there is a run
 abbrev pub is_of : Option Run → ℕ → Bool
@@ -15,11 +14,6 @@ is_of (Some run) number = in_range run.first run.last number
 -- whether one of the ranges has the number
 abbrev pub is_ranged : List SubidRecord → ℕ → Bool
 is_ranged ranges number = list_any (meets number number) ranges
-
--- the new numbers are the old ones and those of the range that was found, if there was one
-abbrev pub AddsFound : Option SubidRecord → List ℕ → List ℕ → Type 0
-AddsFound found old new =
-    (number : ℕ) → is_used new number ≡ (meets_at number number found || is_used old number)
 
 -- a run, where there is one, has none of the numbers from the first to the last
 abbrev pub MissesRun : Option Run → ℕ → ℕ → Type 0

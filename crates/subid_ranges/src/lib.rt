@@ -5,14 +5,21 @@
 //! found by these, and lines are searched only for the one that a refused range meets. Other text
 //! is never touched, and a line that loses no ID keeps its bytes. After a refusal and after want of
 //! memory all lines are as before the call.
+//!
+//! `RangeIndex` has these runs and the owners, without the lines: for a file behind whose lines one
+//! range comes after another.
 #![tactic(auto)]
 
 mod fault;
+mod gathered;
 mod owned;
+mod range_index;
 mod range_line;
 mod ranges;
 mod taken;
 
 pub use fault::RangeFault;
-pub use owned::OwnedRanges;
+pub use owned::{OwnedRanges, has_owner_in};
+pub use range_index::RangeIndex;
 pub use ranges::Ranges;
+pub use taken::free_gap_in;

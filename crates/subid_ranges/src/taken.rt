@@ -1,16 +1,16 @@
 // The numbers that the ranges of a file take, and the gaps between them (useradd(8), subuid(5),
 // subgid(5)).
-ghost use Rattle.std.specs.Prelude.{◌≡◌, ℕ, ◌+◌, ◌-◌, ◌<◌, ◌≤◌, ◌||◌, None, IfOk, MatchOption, OnOk};
+ghost use Rattle.std.specs.Prelude.{◌≡◌, ℕ, ◌+◌, ◌-◌, ◌<◌, ◌≤◌, ◌||◌, [], None, IfOk, MatchOption, OnOk};
 ghost use Rattle.std.specs.Option.{ForSome};
-ghost use Rattle.acct_text.specs.Bytes.{newline};
 ghost use Rattle.acct_text.specs.Lines.{lines_of};
-ghost use Rattle.acct_text.specs.Pieces.{Lacks};
+ghost use Rattle.account_words.specs.FreeRange.{free_range};
 ghost use Rattle.account_words.specs.Ids.{in_range};
-ghost use Rattle.account_formats.specs.Records.{subid_format};
-ghost use Rattle.subid_ranges.specs.Numbers.{AddsFound, MeetsRun, MissesRun};
+ghost use Rattle.subid_ranges.specs.Numbers.{MeetsRun, MissesRun};
+ghost use Rattle.subid_ranges.specs.RangeLines.{ranges_of};
 
-use crate::range_line::{end_of, range_in};
-use acct_tables::{FileLine, Lines};
+use crate::gathered::{Gathered, gather};
+use crate::range_line::end_of;
+use acct_lines::SubidLine;
 use id_choice::{Run, Runs};
 use std::alloc::{AllocError, Global};
 
@@ -28,19 +28,23 @@ pub(crate) struct Taken {
 
 impl Taken {
     ghost use Rattle.id_choice.specs.Used.{FindsLeast};
-    ghost use Rattle.subid_ranges.specs.RangeLines.{ranges_of};
     ghost use Rattle.subid_ranges.specs.Taken.{AreFree, AreMet, IsGap, TakesThoseOf, is_taken};
+
+    /// No number. It allocates nothing.
+    pub(crate) fn new(alloc: Global) -> Taken
+        ensures { TakesThoseOf [] result }
+    {
+        Taken {
+            runs: Runs::new(alloc),
+            newest: None,
+        }
+    }
 
     /// The numbers of the ranges of a file with these bytes.
     pub(crate) fn of(alloc: Global, text: &[u8]) -> Result<Taken, AllocError>
         ensures { IfOk result (TakesThoseOf (ranges_of (lines_of text.now))) }
     {
-        let mut runs = Runs::new(alloc);
-        let mut left = Lines::of(text);
-        'lines: while let Some(line) = left.take() {
-            add_line(&mut runs, &line)?;
-        }
-        Ok(Taken { runs, newest: None })
+        gather(alloc, Taken::new(alloc), text)
     }
 
     /// Takes the memory for one more range. The numbers stay the same, also at `AllocError`.
@@ -97,16 +101,33 @@ impl Taken {
     }
 }
 
-// Adds the numbers of the range that a line is, if it is one.
-fn add_line(runs: &mut Runs, line: &FileLine<'_>) -> Result<(), AllocError>
-    requires { Lacks newline line.now.text.now }
-    ensures { OnOk result
-        (AddsFound (subid_format.read line.now.text.now) runs.old runs.new) }
-{
-    match range_in(line.text) {
-        Some(range) => runs.add(range.first, end_of(&range)),
-        None => Ok(()),
+impl Gathered for Taken {
+    ghost use Rattle.subid_ranges.specs.Taken.{TakesThoseOf};
+
+    ghost is_of = { TakesThoseOf };
+
+    fn note(&mut self, _alloc: Global, range: &SubidLine<'_>) -> Result<(), AllocError> {
+        self.settle()?;
+        self.put(range.first, end_of(range));
+        Ok(())
     }
+}
+
+/// The least start, from `min` on, of `count` IDs of which none passes `max` and none lies in a
+/// range of a file with these bytes; none where there is no such start.
+pub fn free_gap_in(
+    alloc: Global,
+    text: &[u8],
+    min: u32,
+    max: u32,
+    count: u32,
+) -> Result<Option<u32>, AllocError>
+    requires { 0 < count }
+    ensures { IfOk result (λ start.
+        start ≡ free_range min max count (ranges_of (lines_of text.now))) }
+{
+    let taken = Taken::of(alloc, text)?;
+    Ok(taken.free_gap(min, max, count))
 }
 
 // Where the run ends, if there is one and it has one of the numbers from the first to the last.

@@ -1,7 +1,6 @@
-use Rattle.std.proofs.Common.{◌∙◌, sym, ap}
+use Rattle.std.proofs.Common.{sym}
 use Rattle.account_formats.proofs.HeldLaws.{subid-holds}
 use Rattle.acct_lines.specs.Shown.{subid_shown}
-use Rattle.std.specs.Prelude.{option_map}
 use Rattle.subid_ranges.proofs.ranges.meets_in.Goals as goal
 
 pub end_of-requires : goal.end_of-requires

@@ -1,7 +1,5 @@
 use Rattle.std.proofs.Common.{◌∙◌, length, sym, ap, arith}
-use Rattle.acct_tables.specs.SeenLines.{seen_line}
 use Rattle.subid_ranges.specs.Owned.{owned_ranges}
-use Rattle.subid_ranges.proofs.PlacedRanges.{owned-here, owned-behind}
 use Rattle.subid_ranges.proofs.owned.OwnedRangesIterator.next.Goals as goal
 
 pub lines-smaller : goal.lines-smaller

@@ -1,4 +1,4 @@
-use Rattle.std.proofs.Common.{◌≡◌, ◌∙◌, ◌+◌, length, sym, ap, arith}
+use Rattle.std.proofs.Common.{◌∙◌, ◌+◌, length, sym, ap, arith}
 use Rattle.acct_text.specs.Lines.{lines_of}
 use Rattle.acct_tables.specs.SeenLines.{seen_line}
 use Rattle.acct_tables.proofs.LinesCounted.{lines-counted}

@@ -1,6 +1,5 @@
 use Rattle.std.proofs.Common.{◌≡◌, ◌+◌, length}
 use Rattle.std.specs.List.{position_from}
-use Rattle.acct_text.specs.Lines.{lines_of}
 use Rattle.account_model.specs.UsermodRanges.{line_meets}
 use Rattle.subid_ranges.specs.RangeLines.{ids_from, meeting_line}
 use Rattle.subid_ranges.proofs.ranges.Ranges.meeting_line.Given as goal
