@@ -1,8 +1,8 @@
 // What a command does with carried tables, by the script of its tool, once none of the tool's refusals
 // is there.
-ghost use Rattle.std.specs.Prelude.{◌≡◌, IfOk, OnOk};
+ghost use Rattle.std.specs.Prelude.{◌≡◌, [], ◌∷◌, IfSome, OnOk};
 ghost use Rattle.std.specs.List.{AllByRecursion};
-ghost use Rattle.std.specs.Option.{option_or};
+ghost use Rattle.account_formats.specs.Edits.Edit.{Add};
 ghost use Rattle.account_formats.specs.RecordEdits.{IsWrittenEdit};
 ghost use Rattle.account_formats.specs.Records.{subid_format};
 ghost use Rattle.account_formats.specs.Tables.{files_after, table_after};
@@ -17,10 +17,9 @@ use crate::left_ranges::leave_all;
 use crate::multiple::multiple_carried;
 use crate::{Report, Script, SubidRecord, edited_ranges};
 use account_words::Tool;
-use acct_text::Bytes;
 use line_edits::{Edit, SubidChange};
 use std::alloc::{AllocError, Global};
-use table_lookups::CarriedTables;
+use table_lookups::{CarriedTables, RangeTable};
 use tool_answers::{Output, ToolFault};
 
 /// Carries out the script of a tool with this report on the tables, and gives what the tool prints.
@@ -51,33 +50,46 @@ fn edit_tables(alloc: Global, tables: &mut CarriedTables, script: &Script) -> Re
     requires { IsWrittenScript (seen_script script.now) }
     ensures { OnOk result (tables.new ≡ files_after (seen_script script.now) tables.old) }
 {
-    tables.edit_passwd(alloc, &script.passwd)?;
-    tables.edit_shadow(alloc, &script.shadow)?;
-    tables.edit_group(alloc, &script.group)?;
-    tables.edit_gshadow(alloc, &script.gshadow)?;
-    if let Some(text) = edited_file(alloc, tables.subuid_file(), &script.subuid)? {
-        tables.put_subuid(text);
+    tables.passwd.edit(alloc, &script.passwd)?;
+    tables.shadow.edit(alloc, &script.shadow)?;
+    tables.group.edit(alloc, &script.group)?;
+    tables.gshadow.edit(alloc, &script.gshadow)?;
+    edit_ranges(alloc, &mut tables.subuid, &script.subuid)?;
+    edit_ranges(alloc, &mut tables.subgid, &script.subgid)
+}
+
+/// Makes the edits of subuid or subgid. A range that is added alone takes no pass over the lines, nor do
+/// edits that leave all ranges.
+fn edit_ranges(
+    alloc: Global,
+    table: &mut RangeTable,
+    edits: &[Edit<SubidRecord, SubidChange>],
+) -> Result<(), AllocError>
+    requires { AllByRecursion (IsWrittenEdit subid_format) (seen_edits subid_becomes edits.now) }
+    ensures { OnOk result (table.new
+        ≡ table_after subid_format (seen_edits subid_becomes edits.now) table.old) }
+{
+    if let Some(range) = added_alone(edits) {
+        return table.add(alloc, range);
     }
-    if let Some(text) = edited_file(alloc, tables.subgid_file(), &script.subgid)? {
-        tables.put_subgid(text);
+    if leave_all(edits) {
+        return Ok(());
     }
+    let Some(text) = table.file() else {
+        return Ok(())
+    };
+    let text = edited_ranges(alloc, text.as_slice(), edits)?;
+    table.put(text);
     Ok(())
 }
 
-/// The bytes that edits give to a file of subordinate IDs; none where they leave it as it is: where it
-/// is absent, or they leave all ranges.
-fn edited_file(
-    alloc: Global,
-    file: &Option<Bytes>,
-    edits: &[Edit<SubidRecord, SubidChange>],
-) -> Result<Option<Bytes>, AllocError>
-    requires { AllByRecursion (IsWrittenEdit subid_format) (seen_edits subid_becomes edits.now) }
-    ensures { IfOk result (λ text. option_or text file.now
-        ≡ table_after subid_format (seen_edits subid_becomes edits.now) file.now) }
+/// The range that the edits add, where they do nothing else.
+fn added_alone(edits: &[Edit<SubidRecord, SubidChange>]) -> Option<&SubidRecord>
+    ensures { IfSome result (λ range.
+        seen_edits subid_becomes edits.now ≡ Add range.now ∷ []) }
 {
-    let Some(text) = file else { return Ok(None) };
-    if leave_all(edits) {
-        return Ok(None);
+    match edits {
+        [Edit::Add(range)] => Some(range),
+        _ => None,
     }
-    Ok(Some(edited_ranges(alloc, text.as_slice(), edits)?))
 }

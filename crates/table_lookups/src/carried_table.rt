@@ -1,6 +1,6 @@
 // A table that is carried from command to command: the lines of its file, which edits change where
 // they stand (passwd(5), shadow(5), group(5), gshadow(5)).
-ghost use Rattle.std.specs.Prelude.{◌≡◌, find, is_some, IfOk, OnOk};
+ghost use Rattle.std.specs.Prelude.{◌≡◌, None, find, is_some, IfOk, OnOk};
 ghost use Rattle.account_formats.specs.Format.{find_named};
 ghost use Rattle.account_formats.specs.Tables.{table_records};
 ghost use Rattle.table_lookups.specs.TableEdits.{AreWritten, multiple_by, table_by};
@@ -15,7 +15,7 @@ use std::marker::Model;
 /// A table of the records R. Look-ups and edits by name take no pass over its lines. Contracts see it
 /// as the bytes of its file, and none where the file is absent.
 #[derive(Drop)]
-pub(crate) struct CarriedTable<R: EditedRecord> {
+pub struct CarriedTable<R: EditedRecord> {
     // each line has its own bytes, so that the file needn't stay
     lines: Option<EditedLines<'static, R>>,
 }
@@ -33,6 +33,13 @@ impl<R: EditedRecord> Model for CarriedTable<R> {
 }
 
 impl<R: EditedRecord + Drop> CarriedTable<R> {
+    /// The table of no file.
+    pub(crate) fn absent() -> Self
+        ensures { result ≡ None }
+    {
+        CarriedTable { lines: None }
+    }
+
     /// The table of the file, in one pass.
     pub(crate) fn of(alloc: Global, file: &Option<Bytes>) -> Result<Self, AllocError>
         ensures { IfOk result (λ table. table ≡ file.now) }
@@ -42,7 +49,7 @@ impl<R: EditedRecord + Drop> CarriedTable<R> {
                 let lines = EditedLines::copied(alloc, text.as_slice())?;
                 Ok(CarriedTable { lines: Some(lines) })
             }
-            None => Ok(CarriedTable { lines: None }),
+            None => Ok(CarriedTable::absent()),
         }
     }
 
@@ -87,7 +94,7 @@ impl<R: EditedRecord + Drop> CarriedTable<R> {
     }
 
     /// The name of the first record that the edits touch and whose name has several records.
-    pub(crate) fn first_multiple(
+    pub fn first_multiple(
         &self,
         alloc: Global,
         edits: &[Edit<R, R::Change>],
@@ -103,11 +110,7 @@ impl<R: EditedRecord + Drop> CarriedTable<R> {
     }
 
     /// Carries the edits out, in their order. At `AllocError` the table is gone.
-    pub(crate) fn edit(
-        &mut self,
-        alloc: Global,
-        edits: &[Edit<R, R::Change>],
-    ) -> Result<(), AllocError>
+    pub fn edit(&mut self, alloc: Global, edits: &[Edit<R, R::Change>]) -> Result<(), AllocError>
         requires { AreWritten R.format R.becomes edits.now }
         ensures { OnOk result (self.new ≡ table_by R.format R.becomes edits.now self.old) }
     {

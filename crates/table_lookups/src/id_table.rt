@@ -1,5 +1,5 @@
 // A carried table whose records have IDs, beside which the used IDs are kept (passwd(5), group(5)).
-ghost use Rattle.std.specs.Prelude.{◌≡◌, [], ◌∷◌, false, true, map, IfOk, IfSome, OnOk};
+ghost use Rattle.std.specs.Prelude.{◌≡◌, [], ◌∷◌, None, false, true, map, IfOk, IfSome, OnOk};
 ghost use Rattle.account_formats.specs.Tables.{table_records};
 ghost use Rattle.account_words.specs.Ids.{is_used};
 ghost use Rattle.id_choice.specs.Used.{AreThoseOf};
@@ -19,7 +19,7 @@ use std::marker::Model;
 /// A table of the records R, and their IDs. Contracts see it as the bytes of its file, and none where
 /// the file is absent.
 #[derive(Drop)]
-pub(crate) struct IdTable<R: IdRecord> {
+pub struct IdTable<R: IdRecord> {
     table: CarriedTable<R>,
     // none only where memory was wanting while they changed
     ids: Option<UsedIds>,
@@ -39,6 +39,16 @@ impl<R: IdRecord> Model for IdTable<R> {
 }
 
 impl<R: IdRecord + Drop> IdTable<R> {
+    /// The table of no file.
+    pub(crate) fn absent() -> Self
+        ensures { result ≡ None }
+    {
+        IdTable {
+            table: CarriedTable::absent(),
+            ids: None,
+        }
+    }
+
     /// The table of the file, with its IDs.
     pub(crate) fn of(alloc: Global, file: &Option<Bytes>) -> Result<Self, AllocError>
         ensures { IfOk result (λ table. table ≡ file.now) }
@@ -52,7 +62,7 @@ impl<R: IdRecord + Drop> IdTable<R> {
     }
 
     /// The table, for what doesn't ask for IDs.
-    pub(crate) fn table(&self) -> &CarriedTable<R>
+    pub fn table(&self) -> &CarriedTable<R>
         ensures { result.now ≡ self.now }
     {
         &self.table
@@ -81,11 +91,7 @@ impl<R: IdRecord + Drop> IdTable<R> {
     }
 
     /// Carries the edits out, in their order. At `AllocError` some of them may be.
-    pub(crate) fn edit(
-        &mut self,
-        alloc: Global,
-        edits: &[Edit<R, R::Change>],
-    ) -> Result<(), AllocError>
+    pub fn edit(&mut self, alloc: Global, edits: &[Edit<R, R::Change>]) -> Result<(), AllocError>
         requires { AreWritten R.format R.becomes edits.now }
         ensures { OnOk result (self.new ≡ table_by R.format R.becomes edits.now self.old) }
     {

@@ -8,7 +8,8 @@
 //!
 //! `CarriedTables` stand in the place of the files for commands that follow one another: each table
 //! keeps its lines with an index of their names (`carried_table`), and the IDs that are used
-//! (`id_table`), and edits change them where they stand.
+//! (`id_table`), and edits change them where they stand. Subordinate ranges are asked for as a
+//! `range_file`, and of carried ones the index is kept (`range_table`).
 #![tactic(auto)]
 
 mod carried_table;
@@ -20,15 +21,21 @@ mod id_table;
 mod ids;
 mod in_use;
 mod lookups;
+mod range_file;
+mod range_table;
 mod search;
 mod tables;
 mod user_index;
 mod users;
 
+pub use carried_table::CarriedTable;
 pub use carried_tables::CarriedTables;
 pub use group_index::GroupIndex;
+pub use id_table::IdTable;
 pub use ids::IdRecord;
 pub use in_use::IdsInUse;
+pub use range_file::RangeFile;
+pub use range_table::RangeTable;
 pub use search::{RecordTest, text_of};
 pub use tables::Tables;
 pub use user_index::UserIndex;

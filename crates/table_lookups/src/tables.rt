@@ -2,7 +2,7 @@
 ghost use Rattle.std.specs.Prelude.{◌≡◌, is_some, IfSome};
 ghost use Rattle.table_lookups.specs.Sources.{files_in};
 
-use crate::CarriedTables;
+use crate::{CarriedTables, RangeFile};
 use acct_tables::MANY;
 use acct_text::{Bytes, Files};
 use std::marker::Model;
@@ -104,7 +104,7 @@ impl<'a> Tables<'a> {
     {
         match self.source() {
             Source::Files(files) => &files.subuid,
-            Source::Carried(tables) => tables.subuid_file(),
+            Source::Carried(tables) => tables.subuid.file(),
         }
     }
 
@@ -114,7 +114,27 @@ impl<'a> Tables<'a> {
     {
         match self.source() {
             Source::Files(files) => &files.subgid,
-            Source::Carried(tables) => tables.subgid_file(),
+            Source::Carried(tables) => tables.subgid.file(),
+        }
+    }
+
+    /// The file of subuid(5) as it is asked for ranges.
+    pub fn subuid_ranges(&self) -> RangeFile<'a>
+        ensures { result ≡ self.now.subuid }
+    {
+        match self.source() {
+            Source::Files(files) => RangeFile::of(&files.subuid, None),
+            Source::Carried(tables) => tables.subuid.ranges(),
+        }
+    }
+
+    /// The file of subgid(5) as it is asked for ranges.
+    pub fn subgid_ranges(&self) -> RangeFile<'a>
+        ensures { result ≡ self.now.subgid }
+    {
+        match self.source() {
+            Source::Files(files) => RangeFile::of(&files.subgid, None),
+            Source::Carried(tables) => tables.subgid.ranges(),
         }
     }
 }
