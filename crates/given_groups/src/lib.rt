@@ -2,12 +2,12 @@
 //! usermod(8)). A word of digits names the first group of that GID, any other the first group of
 //! that name.
 //!
-//! `find_group`, `given_group` and `group_words` look up, and `check_given_group` and
+//! `names_group`, `group_name`, `given_group` and `group_words` look up, and `check_given_group` and
 //! `check_given_groups` refuse what names no group.
 #![tactic(auto)]
 
 mod named;
 mod refusals;
 
-pub use named::{find_group, given_group, group_words};
+pub use named::{given_group, group_name, group_words, names_group};
 pub use refusals::{check_given_group, check_given_groups};

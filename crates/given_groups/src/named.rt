@@ -1,30 +1,61 @@
 // The groups that words name (useradd(8), usermod(8), `-g` and `-G`).
-ghost use Rattle.std.specs.Prelude.{◌≡◌, IfOk};
+ghost use Rattle.std.specs.Prelude.{◌≡◌, is_some, option_map, IfOk};
 ghost use Rattle.account_model.specs.GivenGroups.{find_group as named_by_word, given_group, group_words as words_of_groups};
 ghost use Rattle.account_formats.specs.Tables.{group_records};
+ghost use Rattle.account_model.specs.Users.{group_named as group_of_name};
 
 use account_formats::GroupRecord;
 use acct_lines::is_digits;
-use acct_text::Names;
+use acct_text::{Bytes, Names};
 use command_values::{Asked, list_value, read_id};
 use std::alloc::{AllocError, Global};
 use table_lookups::{GroupIndex, Tables};
 
-/// The first group that a word names: by its GID where the word is all digits, and else by its name.
-pub fn find_group(
+/// Whether a word names a group: by its GID where the word is all digits, and else by its name.
+pub fn names_group(alloc: Global, groups: &GroupIndex<'_>, word: &[u8]) -> Result<bool, AllocError>
+    ensures { IfOk result (λ names.
+        names ≡ is_some (named_by_word word.now (group_records groups.now))) }
+{
+    if !is_digits(word) {
+        return Ok(groups.has_group(word));
+    }
+    match read_id(word) {
+        Some(gid) => groups.has_gid(alloc, gid),
+        None => Ok(false),
+    }
+}
+
+/// The name of the first group that a word names; none where it names none.
+pub fn group_name(
     alloc: Global,
     groups: &GroupIndex<'_>,
     word: &[u8],
-) -> Result<Option<GroupRecord>, AllocError>
-    ensures { IfOk result (λ found.
-        found ≡ named_by_word word.now (group_records groups.now)) }
+) -> Result<Option<Bytes>, AllocError>
+    ensures { IfOk result (λ name. name ≡ option_map (λ group. group.name)
+        (named_by_word word.now (group_records groups.now))) }
 {
     if !is_digits(word) {
-        return groups.group_named(alloc, word);
+        return given_name(alloc, groups, word);
     }
     match read_id(word) {
-        Some(gid) => groups.group_of_gid(alloc, gid),
+        Some(gid) => groups.name_of_gid(alloc, gid),
         None => Ok(None),
+    }
+}
+
+// The name, where a group has it.
+fn given_name(
+    alloc: Global,
+    groups: &GroupIndex<'_>,
+    name: &[u8],
+) -> Result<Option<Bytes>, AllocError>
+    ensures { IfOk result (λ given.
+        given ≡ option_map (λ group. group.name) (group_of_name name.now groups.now)) }
+{
+    if groups.has_group(name) {
+        Ok(Some(Bytes::of(alloc, name)?))
+    } else {
+        Ok(None)
     }
 }
 
@@ -37,7 +68,25 @@ pub fn given_group(
     ensures { IfOk result (λ found. found ≡ given_group asked.now tables.now) }
 {
     match asked.value(b'g') {
-        Some(word) => find_group(alloc, &GroupIndex::of(alloc, tables, 1)?, word),
+        Some(word) => find_group(alloc, tables, word),
+        None => Ok(None),
+    }
+}
+
+// The first group that a word names, as `group_name` finds it.
+fn find_group(
+    alloc: Global,
+    tables: &Tables,
+    word: &[u8],
+) -> Result<Option<GroupRecord>, AllocError>
+    ensures { IfOk result (λ found.
+        found ≡ named_by_word word.now (group_records tables.now)) }
+{
+    if !is_digits(word) {
+        return tables.group_named(alloc, word);
+    }
+    match read_id(word) {
+        Some(gid) => tables.group_of_gid(alloc, gid),
         None => Ok(None),
     }
 }

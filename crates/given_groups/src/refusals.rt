@@ -4,7 +4,7 @@ ghost use Rattle.account_model.specs.GivenGroups.{is_unknown_group, unknown_grou
 ghost use Rattle.account_model.specs.Refusals.{refuse_if};
 ghost use Rattle.table_lookups.specs.Stopping.{StopsBy};
 
-use crate::named::{find_group, group_words};
+use crate::named::{group_words, names_group};
 use account_model::Refusal;
 use acct_text::Bytes;
 use command_values::{Asked, ToolFault};
@@ -46,7 +46,7 @@ fn check_word(alloc: Global, groups: &GroupIndex<'_>, word: &[u8]) -> Result<(),
     ensures { StopsBy
         (refuse_if (is_unknown_group groups.now word.now) (Refusal.NoGroup word.now)) result }
 {
-    if find_group(alloc, groups, word)?.is_some() {
+    if names_group(alloc, groups, word)? {
         return Ok(());
     }
     Err(ToolFault::Refused(Refusal::NoGroup(Bytes::of(alloc, word)?)))

@@ -1,17 +1,17 @@
 -- Claims: the IDs follow an edit that leaves all of them (`kept-follow`), and one edit before others
 -- (`first-follows`); those that follow the edits of a table are the used ones in the table after them
--- (`known-after`); and no group has a GID that isn't used (`none-of-gid`). Way: by the list of
--- records.
-use Rattle.std.proofs.Common.{◌≡◌, ◌∙◌, ℕ, Bool, true, false, List, [], ◌∷◌, ◌++◌, map, refl, sym, ap, subst}
-use Rattle.std.specs.Prelude.{Option, Some, None, IfSome, is_some, find, flat_map, ◌||◌, ◌==◌}
+-- (`known-after`); and an ID is used where a record with it is found (`used-found`). Way: by the list
+-- of records.
+use Rattle.std.proofs.Common.{◌≡◌, ◌∙◌, ℕ, true, List, [], ◌∷◌, ◌++◌, map, refl, sym, ap, subst, inl, inr}
+use Rattle.std.specs.Prelude.{Option, Some, None, IfSome, is_some, find, flat_map, ◌==◌}
 use Rattle.std.specs.List.{AllByRecursion}
+use Rattle.std.proofs.lemmas.Bool.{cases_Bool}
 use Rattle.std.proofs.lemmas.List.{map-append}
 use Rattle.account_formats.specs.Edits.{Edit}
 use Rattle.account_formats.specs.Edits.Edit.{Become}
 use Rattle.account_formats.specs.Format.{Format}
 use Rattle.account_formats.specs.RecordEdits.{IsWrittenEdit, TellsSame, records_edited}
 use Rattle.account_formats.specs.Tables.{table_after, table_records}
-use Rattle.account_formats.specs.declared.records.GroupRecord.{GroupRecord}
 use Rattle.account_formats.proofs.EditLines.{table-edited}
 use Rattle.account_words.specs.Ids.{is_used}
 use Rattle.id_choice.specs.Used.{AreThoseOf}
@@ -83,22 +83,12 @@ known-after format id_of edits (Some text) new (Some before) (Some after) tells 
     subst (λ found. AreThoseOf after (map id_of (table_records format found))) (sym is)
     (follow-table format id_of edits text before after tells none written are follow)
 
--- a group is passed over where its GID is another
-passed-over :
-    (gid : ℕ) (group : GroupRecord) (rest : List GroupRecord) (has : Bool)
-    → (group.gid == gid) ≡ has
-    → (has || is_used (map (λ group. group.gid) rest) gid) ≡ false
-    → (is_used (map (λ group. group.gid) rest) gid ≡ false
-    → find (λ group. group.gid == gid) rest ≡ None)
-    → find (λ group. group.gid == gid) (group ∷ rest) ≡ None
-passed-over gid group rest true is unused behind = absurd cc
-passed-over gid group rest false is unused behind = rw is (behind unused)
-
--- no group has a GID that isn't used
-pub none-of-gid :
-    (gid : ℕ) (groups : List GroupRecord)
-    → is_used (map (λ group. group.gid) groups) gid ≡ false
-    → find (λ group. group.gid == gid) groups ≡ None
-none-of-gid gid [] unused = refl
-none-of-gid gid (group ∷ rest) unused =
-    passed-over gid group rest (group.gid == gid) refl unused (none-of-gid gid rest)
+-- an ID is used exactly where a record with it is found
+pub used-found :
+    {R : Type 0} (id_of : R → ℕ) (id : ℕ) (records : List R)
+    → is_some (find (λ r. id_of r == id) records) ≡ is_used (map id_of records) id
+used-found id_of id [] = refl
+used-found id_of id (r ∷ records) = elim (cases_Bool (id_of r == id)) [
+  | inl same ↦ rw same refl
+  | inr other ↦ rw other (used-found id_of id records)
+]

@@ -1,5 +1,5 @@
--- Claim: what a test accepts is found from its number on as in all (`marked-passing`), and the GID
--- that is asked for is the number of such a test (`gid-of-user`, `gid-of-group`). Way: a line without
+-- Claim: what a test accepts is found from its number on as in all (`marked-passing`), and the ID that
+-- is asked for is the number of such a test (`uid-of-user` and its likes). Way: a line without
 -- the number isn't accepted, as the line of a record has the numbers of the record.
 use Rattle.std.proofs.Common.{◌≡◌, ◌∙◌, ℕ, ◌≤◌, Bool, true, false, inl, inr, List, [], ◌∷◌, ◌++◌, length, refl, sym, ap, subst, arith}
 use Rattle.std.specs.Prelude.{◌==◌, Option, Some, None, find}
@@ -11,7 +11,7 @@ use Rattle.acct_text.specs.Lines.{Line, lines_of}
 use Rattle.account_formats.specs.Format.{Format, records_of}
 use Rattle.account_formats.specs.Records.{group_format, passwd_format}
 use Rattle.acct_tables.specs.Marks.{Holds, IsFromMark, IsWithout}
-use Rattle.acct_tables.proofs.FieldMarks.{holds-gid, holds-primary}
+use Rattle.acct_tables.proofs.FieldMarks.{holds-gid, holds-primary, holds-uid}
 use Rattle.table_lookups.specs.Accepting.{IsNumberOf, is_accepted}
 use Rattle.table_lookups.proofs.RecordLemmas.{find-refused}
 
@@ -69,6 +69,11 @@ pub marked-fewer :
 marked-fewer mark text rest from =
     let size = ap length from.joined ∙ length-append from.front (lines_of rest) in
     omega (arith, size)
+
+-- the UID of users
+pub uid-of-user : (uid : ℕ) → IsNumberOf passwd_format (λ user. user.uid == uid) uid
+uid-of-user uid = number-of passwd_format (λ user. user.uid == uid) uid (λ user. user.uid)
+    holds-uid (λ user same. eqb-true user.uid uid same)
 
 -- the primary GID of users
 pub gid-of-user : (gid : ℕ) → IsNumberOf passwd_format (λ user. user.gid == gid) gid

@@ -1,7 +1,7 @@
 // A table that is carried from command to command: the lines of its file, which edits change where
 // they stand (passwd(5), shadow(5), group(5), gshadow(5)).
 ghost use Rattle.std.specs.Prelude.{◌≡◌, None, find, is_some, IfOk, OnOk};
-ghost use Rattle.account_formats.specs.Format.{find_named};
+ghost use Rattle.account_formats.specs.Format.{find_named, has_named};
 ghost use Rattle.account_formats.specs.Tables.{table_records};
 ghost use Rattle.table_lookups.specs.TableEdits.{AreWritten, multiple_by, table_by};
 
@@ -78,6 +78,16 @@ impl<R: EditedRecord + Drop> CarriedTable<R> {
         match &self.lines {
             Some(lines) => lines.find(alloc, name),
             None => Ok(None),
+        }
+    }
+
+    /// Whether a record has the name. It takes no memory and no pass over the lines.
+    pub(crate) fn has(&self, name: &[u8]) -> bool
+        ensures { result ≡ has_named R.format name.now (table_records R.format self.now) }
+    {
+        match &self.lines {
+            Some(lines) => lines.get(name).is_some(),
+            None => false,
         }
     }
 

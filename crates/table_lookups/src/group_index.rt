@@ -1,13 +1,14 @@
-// The groups of group, looked up by name and by GID: where many are asked for, without a pass over
-// the table for each.
-ghost use Rattle.std.specs.Prelude.{◌≡◌, List, [], IfOk, OnOk};
+// The groups of group, asked for by name and by GID: where they are many, without a pass over the
+// table for each.
+ghost use Rattle.std.specs.Prelude.{◌≡◌, List, [], is_some, option_map, IfOk, OnOk};
 ghost use Rattle.std.specs.List.{cons_option};
+ghost use Rattle.std.specs.Option.{option_copied};
 ghost use Rattle.acct_text.specs.Lines.{lines_of};
 ghost use Rattle.account_formats.specs.Format.{records_of};
 ghost use Rattle.account_model.specs.GivenGroups.{find_gid as first_of_gid};
 ghost use Rattle.account_formats.specs.Records.{group_format};
 ghost use Rattle.account_formats.specs.Tables.{group_records, table_records};
-ghost use Rattle.account_model.specs.Users.{group_named as group_of_name};
+ghost use Rattle.account_model.specs.Users.{has_group};
 ghost use Rattle.account_formats.specs.declared.records.GroupRecord.{GroupRecord};
 ghost use Rattle.table_lookups.specs.FirstLines.{AreGroups, Tells, has_gid, told_gids};
 
@@ -15,7 +16,7 @@ use crate::first_lines::FirstOfNames;
 use crate::ids::IdRecord;
 use crate::{Tables, text_of};
 use acct_lines::GroupRecord;
-use acct_tables::{Lines, read_record};
+use acct_tables::{Lines, name_of};
 use acct_text::Bytes;
 use indexmap::IndexMap;
 use std::alloc::{AllocError, Global};
@@ -30,7 +31,8 @@ pub(crate) struct GroupLines<'a> {
     pub gids: IndexMap<u32, &'a [u8]>,
 }
 
-/// The groups, of which each is found by its name and by its GID. Contracts see them as the files.
+/// The groups, of which each is told by its name and by its GID, and none is copied. Contracts see
+/// them as the files.
 #[derive(Drop)]
 pub struct GroupIndex<'a> {
     tables: Tables<'a>,
@@ -67,23 +69,39 @@ impl<'a> GroupIndex<'a> {
         })
     }
 
-    /// The first group that has the name.
-    pub fn group_named(&self, alloc: Global, name: &[u8]) -> Result<Option<GroupRecord>, AllocError>
-        ensures { IfOk result (λ found. found ≡ group_of_name name.now self.now) }
+    /// Whether a group has the name. It takes no memory.
+    pub fn has_group(&self, name: &[u8]) -> bool
+        ensures { result ≡ has_group name.now self.now }
     {
         match &self.groups {
-            Some(groups) => groups.names.find(alloc, name),
-            None => self.tables.group_named(alloc, name),
+            Some(groups) => groups.names.has::<GroupRecord>(name),
+            None => self.tables.has_group(name),
         }
     }
 
-    /// The first group with the GID.
-    pub fn group_of_gid(&self, alloc: Global, gid: u32) -> Result<Option<GroupRecord>, AllocError>
-        ensures { IfOk result (λ found. found ≡ first_of_gid gid (group_records self.now)) }
+    /// Whether a group has the GID.
+    pub fn has_gid(&self, alloc: Global, gid: u32) -> Result<bool, AllocError>
+        ensures { IfOk result (λ has.
+            has ≡ is_some (first_of_gid gid (group_records self.now))) }
     {
         match &self.groups {
-            Some(groups) => find_told(alloc, &groups.gids, gid),
-            None => self.tables.group_of_gid(alloc, gid),
+            Some(groups) => Ok(name_told(&groups.gids, gid).is_some()),
+            None => self.tables.is_gid_used(alloc, gid),
+        }
+    }
+
+    /// The name of the first group with the GID; none where no group has it.
+    pub fn name_of_gid(&self, alloc: Global, gid: u32) -> Result<Option<Bytes>, AllocError>
+        ensures { IfOk result (λ name.
+            name ≡ option_map (λ group. group.name) (first_of_gid gid (group_records self.now))) }
+    {
+        match &self.groups {
+            Some(groups) => copied(alloc, name_told(&groups.gids, gid)),
+            None => Ok(
+                self.tables
+                    .group_of_gid(alloc, gid)?
+                    .map(|group| group.name),
+            ),
         }
     }
 }
@@ -127,18 +145,24 @@ fn note_gid<'a>(gids: &mut IndexMap<u32, &'a [u8]>, line: &'a [u8]) -> Result<()
     Ok(())
 }
 
-// The first group with the GID, by what the map tells of it.
-fn find_told(
-    alloc: Global,
-    gids: &IndexMap<u32, &[u8]>,
-    gid: u32,
-) -> Result<Option<GroupRecord>, AllocError>
-    ensures { IfOk result (λ found. (records : List GroupRecord)
+// The name of the first group with the GID, by what the map tells of it.
+fn name_told<'a>(gids: &IndexMap<u32, &'a [u8]>, gid: u32) -> Option<&'a [u8]>
+    ensures { (records : List GroupRecord)
         → Tells group_format has_gid (told_gids gids.now) [] records
-        → found ≡ first_of_gid gid records) }
+        → option_copied result ≡ option_map (λ group. group.name) (first_of_gid gid records) }
 {
     match gids.get(&gid) {
-        Some(line) => read_record(alloc, line),
+        Some(line) => name_of::<GroupRecord>(line),
+        None => None,
+    }
+}
+
+// A copy of the name, where there is one.
+fn copied(alloc: Global, name: Option<&[u8]>) -> Result<Option<Bytes>, AllocError>
+    ensures { IfOk result (λ copy. copy ≡ option_copied name.entry) }
+{
+    match name {
+        Some(name) => Ok(Some(Bytes::of(alloc, name)?)),
         None => Ok(None),
     }
 }

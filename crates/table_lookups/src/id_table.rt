@@ -79,6 +79,14 @@ impl<R: IdRecord + Drop> IdTable<R> {
         }
     }
 
+    /// Whether a record has the ID.
+    pub(crate) fn has_id(&self, alloc: Global, id: u32) -> Result<bool, AllocError>
+        ensures { IfOk result (λ has.
+            has ≡ is_used (map R.id_of (table_records R.format self.now)) id) }
+    {
+        Ok(self.used(alloc)?.ids().holds(id))
+    }
+
     /// Whether it is known that no record has the ID.
     pub(crate) fn lacks(&self, id: u32) -> bool
         ensures { result ≡ true

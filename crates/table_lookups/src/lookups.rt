@@ -2,14 +2,14 @@
 // stands twice the first record counts.
 ghost use Rattle.std.specs.Prelude.{◌≡◌, IfOk};
 ghost use Rattle.account_model.specs.Refusals.{missing_group};
-ghost use Rattle.account_model.specs.Users.{find_user, find_shadow, group_named as group_of_name, gshadow_named as gshadow_of_name};
+ghost use Rattle.account_model.specs.Users.{find_user, find_shadow, group_named as group_of_name, gshadow_named as gshadow_of_name, has_group, has_gshadow, has_shadow, has_user};
 ghost use Rattle.table_lookups.specs.Stopping.{StopsBy};
 
 use crate::tables::Source;
 use crate::{Tables, text_of};
 use account_model::Refusal;
 use acct_lines::{GroupRecord, GshadowRecord, PasswdRecord, ShadowRecord};
-use acct_tables::find_record;
+use acct_tables::{find_record, has_record};
 use acct_text::Bytes;
 use std::alloc::{AllocError, Global};
 use tool_answers::ToolFault;
@@ -21,7 +21,7 @@ impl Tables<'_> {
     {
         match self.source() {
             Source::Files(files) => find_record(alloc, text_of(&files.passwd), name),
-            Source::Carried(tables) => tables.user_named(alloc, name),
+            Source::Carried(tables) => tables.passwd().table().find(alloc, name),
         }
     }
 
@@ -35,7 +35,7 @@ impl Tables<'_> {
     {
         match self.source() {
             Source::Files(files) => find_record(alloc, text_of(&files.shadow), name),
-            Source::Carried(tables) => tables.shadow_named(alloc, name),
+            Source::Carried(tables) => tables.shadow().find(alloc, name),
         }
     }
 
@@ -45,7 +45,7 @@ impl Tables<'_> {
     {
         match self.source() {
             Source::Files(files) => find_record(alloc, text_of(&files.group), name),
-            Source::Carried(tables) => tables.group_named(alloc, name),
+            Source::Carried(tables) => tables.group().table().find(alloc, name),
         }
     }
 
@@ -59,7 +59,47 @@ impl Tables<'_> {
     {
         match self.source() {
             Source::Files(files) => find_record(alloc, text_of(&files.gshadow), name),
-            Source::Carried(tables) => tables.gshadow_named(alloc, name),
+            Source::Carried(tables) => tables.gshadow().find(alloc, name),
+        }
+    }
+
+    /// Whether a record of passwd has the name. It takes no memory.
+    pub fn has_user(&self, name: &[u8]) -> bool
+        ensures { result ≡ has_user name.now self.now }
+    {
+        match self.source() {
+            Source::Files(files) => has_record::<PasswdRecord>(text_of(&files.passwd), name),
+            Source::Carried(tables) => tables.passwd().table().has(name),
+        }
+    }
+
+    /// Whether a record of shadow has the name. It takes no memory.
+    pub fn has_shadow(&self, name: &[u8]) -> bool
+        ensures { result ≡ has_shadow name.now self.now }
+    {
+        match self.source() {
+            Source::Files(files) => has_record::<ShadowRecord>(text_of(&files.shadow), name),
+            Source::Carried(tables) => tables.shadow().has(name),
+        }
+    }
+
+    /// Whether a record of group has the name. It takes no memory.
+    pub fn has_group(&self, name: &[u8]) -> bool
+        ensures { result ≡ has_group name.now self.now }
+    {
+        match self.source() {
+            Source::Files(files) => has_record::<GroupRecord>(text_of(&files.group), name),
+            Source::Carried(tables) => tables.group().table().has(name),
+        }
+    }
+
+    /// Whether a record of gshadow has the name. It takes no memory.
+    pub fn has_gshadow(&self, name: &[u8]) -> bool
+        ensures { result ≡ has_gshadow name.now self.now }
+    {
+        match self.source() {
+            Source::Files(files) => has_record::<GshadowRecord>(text_of(&files.gshadow), name),
+            Source::Carried(tables) => tables.gshadow().has(name),
         }
     }
 
@@ -67,7 +107,7 @@ impl Tables<'_> {
     pub fn check_group(&self, alloc: Global, name: &[u8]) -> Result<(), ToolFault>
         ensures { StopsBy (missing_group name.now self.now) result }
     {
-        if self.group_named(alloc, name)?.is_some() {
+        if self.has_group(name) {
             return Ok(());
         }
         Err(ToolFault::Refused(Refusal::NoGroup(Bytes::of(alloc, name)?)))

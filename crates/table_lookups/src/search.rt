@@ -5,6 +5,7 @@ ghost use Rattle.account_formats.specs.Tables.{table_records};
 ghost use Rattle.table_lookups.specs.Accepting.{IsNumberOf, is_accepted};
 ghost use Rattle.table_lookups.specs.TablesOfLines.{lines_in};
 
+use crate::IdRecord;
 use acct_lines::{GroupLine, GroupRecord, PasswdLine, PasswdRecord, TableRecord};
 use acct_tables::{Lines, from_mark, read_record};
 use acct_text::Bytes;
@@ -23,6 +24,26 @@ pub trait RecordTest<R: TableRecord> {
     /// Whether the line is a record that passes. It takes no memory.
     fn passes(&self, line: &[u8]) -> bool
         ensures { result ≡ is_accepted (accepts self.now) (R.format.read line.now) };
+}
+
+/// That a user has the UID.
+#[derive(Clone, Copy)]
+pub(crate) struct OfUid {
+    pub uid: u32,
+}
+
+impl RecordTest<PasswdRecord> for OfUid {
+    ghost use Rattle.std.specs.Prelude.{◌==◌};
+
+    ghost accepts = { λ test user. user.uid == test.uid };
+
+    fn number(&self) -> u32 {
+        self.uid
+    }
+
+    fn passes(&self, line: &[u8]) -> bool {
+        PasswdRecord::id_in(line) == Some(self.uid)
+    }
 }
 
 /// That a user or a group has the GID.

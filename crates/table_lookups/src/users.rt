@@ -1,6 +1,6 @@
 // Users that a command looks for in passwd(5). An absent table has none.
 ghost use Rattle.std.specs.Prelude.{◌≡◌, ◌==◌, find, IfOk, IfSome};
-ghost use Rattle.account_words.specs.Ids.{used_uids as uids_of};
+ghost use Rattle.account_words.specs.Ids.{is_used, used_uids as uids_of};
 ghost use Rattle.account_formats.specs.Records.{passwd_format};
 ghost use Rattle.account_model.specs.Refusals.{missing_user, missing_users};
 ghost use Rattle.account_formats.specs.Tables.{passwd_records};
@@ -11,7 +11,7 @@ ghost use Rattle.table_lookups.specs.Stopping.{StopsBy};
 
 use crate::first_lines::FirstOfNames;
 use crate::ids::used_ids;
-use crate::search::{OfGid, first_passing};
+use crate::search::{OfGid, OfUid, first_passing};
 use crate::tables::Source;
 use crate::{IdsInUse, RecordTest, Tables};
 use account_model::Refusal;
@@ -40,7 +40,17 @@ impl<'a> Tables<'a> {
     {
         match self.source() {
             Source::Files(files) => first_passing(alloc, &files.passwd, test),
-            Source::Carried(tables) => tables.first_user(alloc, test),
+            Source::Carried(tables) => tables.passwd().table().first_passing(alloc, test),
+        }
+    }
+
+    /// Whether a user has the UID. It gathers no UIDs.
+    pub fn is_uid_used(&self, alloc: Global, uid: u32) -> Result<bool, AllocError>
+        ensures { IfOk result (λ used. used ≡ is_used (uids_of self.now) uid) }
+    {
+        match self.source() {
+            Source::Files(_) => Ok(self.first_user(alloc, &OfUid { uid })?.is_some()),
+            Source::Carried(tables) => tables.passwd().has_id(alloc, uid),
         }
     }
 
@@ -53,7 +63,7 @@ impl<'a> Tables<'a> {
                 let ids = used_ids::<PasswdRecord>(alloc, &files.passwd)?;
                 Ok(IdsInUse::gathered(ids))
             }
-            Source::Carried(tables) => tables.used_uids(alloc),
+            Source::Carried(tables) => tables.passwd().used(alloc),
         }
     }
 
@@ -101,24 +111,19 @@ fn check_in(
     requires { IfSome users.now (TellsNames passwd_format (passwd_records tables.now)) }
     ensures { StopsBy (missing_user name.now tables.now) result }
 {
-    if has_user(alloc, tables, users, name)? {
+    if has_user(tables, users, name) {
         return Ok(());
     }
     Err(ToolFault::Refused(Refusal::NoUser(Bytes::of(alloc, name)?)))
 }
 
 // Whether a user has the name, by the index where there is one.
-fn has_user(
-    alloc: Global,
-    tables: &Tables,
-    users: &Option<FirstOfNames<'_>>,
-    name: &[u8],
-) -> Result<bool, AllocError>
+fn has_user(tables: &Tables, users: &Option<FirstOfNames<'_>>, name: &[u8]) -> bool
     requires { IfSome users.now (TellsNames passwd_format (passwd_records tables.now)) }
-    ensures { IfOk result (λ has. has ≡ has_user name.now tables.now) }
+    ensures { result ≡ has_user name.now tables.now }
 {
     match users {
-        Some(users) => Ok(users.has::<PasswdRecord>(name)),
-        None => Ok(tables.user_named(alloc, name)?.is_some()),
+        Some(users) => users.has::<PasswdRecord>(name),
+        None => tables.has_user(name),
     }
 }

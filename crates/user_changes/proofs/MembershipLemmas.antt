@@ -9,15 +9,10 @@ use Rattle.account_model.specs.Members.{renamed_in, with_name, without_name}
 use Rattle.account_words.specs.Request.{Request, has_option, operand}
 use Rattle.account_formats.specs.Text.{is_listed}
 use Rattle.account_model.specs.Usermod.{changed_group, changed_gshadow, members_after, new_name}
-use Rattle.line_edits.specs.GroupChanges.{group_becomes}
-use Rattle.line_edits.specs.GshadowChanges.{gshadow_becomes}
 use Rattle.line_edits.specs.Memberships.{members_by, members_with}
-use Rattle.line_edits.specs.declared.group_changes.GroupAct.TheVariants.{SetMembership}
-use Rattle.line_edits.specs.declared.group_changes.GroupChange.TheVariants.{All}
-use Rattle.line_edits.specs.declared.gshadow_changes.GshadowAct.TheVariants as gshadow_act
-use Rattle.line_edits.specs.declared.gshadow_changes.GshadowChange.TheVariants as gshadow_change
+use Rattle.line_edits.specs.declared.memberships.Membership.{Membership}
 use Rattle.line_edits.specs.declared.memberships.UserGroups.TheVariants.{Kept, Also, Only}
-use Rattle.user_changes.specs.Memberships.{group_names, membership}
+use Rattle.user_changes.specs.Memberships.{group_edit, group_names, gshadow_edit, membership}
 
 -- the members of a group, by whether `-G` and `-a` are given
 members-given :
@@ -32,26 +27,24 @@ members-given true true groups user group members = refl
 members-given true false groups user group members = refl
 
 module _ (request : Request) (files : Files) where
+  -- what becomes of the user
+  abbrev change : Membership
+  change = membership request (group_names request files)
+
   -- the members of a group
   members-are :
       (group : List ℕ) (members : List (List ℕ))
-      → members_by (membership request files) group members
-      ≡ members_after request files group members
+      → members_by change group members ≡ members_after request files group members
   members-are group members = λ i. renamed_in (operand request) (new_name request)
       (members-given (has_option (codes "G") request) (has_option (codes "a") request)
       (group_names request files) (operand request) group members i)
 
   -- the edit of group
-  pub group-edit :
-      Become (group_becomes (All (SetMembership (membership request files))))
-      ≡ each (changed_group request files)
+  pub group-edit : group_edit change ≡ each (changed_group request files)
   group-edit = λ i. Become (λ r. record r { members = members-are r.name r.members i } ∷ [])
 
   -- the edit of gshadow
-  pub gshadow-edit :
-      Become (gshadow_becomes
-      (gshadow_change.All (gshadow_act.SetMembership (membership request files))))
-      ≡ each (changed_gshadow request files)
+  pub gshadow-edit : gshadow_edit change ≡ each (changed_gshadow request files)
   gshadow-edit = λ i. Become (λ r. record r {
     administrators = renamed_in (operand request) (new_name request) r.administrators;
     members = members-are r.name r.members i;

@@ -1,13 +1,10 @@
 // What usermod(8) refuses by the tables: what is missing, and what is taken.
-ghost use Rattle.std.specs.Prelude.{◌≡◌, ◌||◌, None, IfOk, codes};
-ghost use Rattle.account_words.specs.Ids.{used_uids};
+ghost use Rattle.std.specs.Prelude.{◌≡◌, None, IfOk, codes};
 ghost use Rattle.account_formats.specs.Names.{is_valid_name};
 ghost use Rattle.account_model.specs.Refusals.{bad_value};
 ghost use Rattle.account_formats.specs.Text.{first_some};
 ghost use Rattle.account_model.specs.Usermod.{empty_hash, is_own_uid, is_uid_taken, no_shadow, taken_name, taken_uid, unlistable_name, usermod_conflicts};
-ghost use Rattle.account_model.specs.Users.{has_user, has_shadow};
 ghost use Rattle.tool_answers.specs.Refusing.{RefusesBy};
-ghost use Rattle.id_choice.specs.Used.{AreThoseOf};
 ghost use Rattle.table_lookups.specs.Stopping.{StopsBy};
 
 use crate::changes::new_name;
@@ -19,7 +16,6 @@ use account_words::IdSort;
 use acct_text::Bytes;
 use command_values::{Asked, ToolFault, check_list_name};
 use given_groups::{check_given_group, check_given_groups};
-use id_choice::UsedIds;
 use std::alloc::{AllocError, Global};
 use table_lookups::Tables;
 
@@ -49,21 +45,10 @@ fn check_new_name(alloc: Global, asked: &Asked, tables: &Tables) -> Result<(), T
     ensures { StopsBy (taken_name asked.now tables.now) result }
 {
     let name = new_name(asked);
-    if name == asked.operand() || !is_name_taken(alloc, tables, name)? {
+    if name == asked.operand() || !(tables.has_user(name) || tables.has_shadow(name)) {
         return Ok(());
     }
     Err(ToolFault::Refused(Refusal::UserExists(Bytes::of(alloc, name)?)))
-}
-
-// Whether a record of passwd or shadow has the name.
-fn is_name_taken(alloc: Global, tables: &Tables, name: &[u8]) -> Result<bool, AllocError>
-    ensures { IfOk result (λ taken.
-        taken ≡ (has_user name.now tables.now || has_shadow name.now tables.now)) }
-{
-    if tables.user_named(alloc, name)?.is_some() {
-        return Ok(true);
-    }
-    Ok(tables.shadow_named(alloc, name)?.is_some())
 }
 
 // Refuses a UID of `-u` that is another user's where `-o` isn't given: `UidInUse`.
@@ -73,25 +58,17 @@ fn check_new_uid(alloc: Global, asked: &Asked, tables: &Tables) -> Result<(), To
     let Some(uid) = asked.id(b'u') else {
         return Ok(());
     };
-    let used = tables.used_uids(alloc)?;
-    if is_uid_taken(alloc, asked, tables, used.ids(), uid)? {
+    if is_uid_taken(alloc, asked, tables, uid)? {
         return Err(ToolFault::Refused(Refusal::UidInUse(uid)));
     }
     Ok(())
 }
 
 // Whether the UID is used by another user, and `-o` isn't given.
-fn is_uid_taken(
-    alloc: Global,
-    asked: &Asked,
-    tables: &Tables,
-    used: &UsedIds,
-    uid: u32,
-) -> Result<bool, AllocError>
-    requires { AreThoseOf used.now (used_uids tables.now) }
+fn is_uid_taken(alloc: Global, asked: &Asked, tables: &Tables, uid: u32) -> Result<bool, AllocError>
     ensures { IfOk result (λ taken. taken ≡ is_uid_taken asked.now tables.now uid) }
 {
-    if !used.holds(uid) || asked.has(b'o') {
+    if asked.has(b'o') || !tables.is_uid_used(alloc, uid)? {
         return Ok(false);
     }
     Ok(!is_own_uid(alloc, asked, tables, uid)?)

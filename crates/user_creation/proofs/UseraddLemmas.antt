@@ -2,17 +2,14 @@
 -- the first refusal of its words (`refused-by_words`), then that of its conflicts
 -- (`refused-by_conflict`), and else its edits (`made-user`). Way: what it does by its plan is what it
 -- has to do under the settings, as the plan is that of the settings.
-use Rattle.std.proofs.Common.{◌≡◌, ℕ, Bool, true, false, inl, inr, List, [], ◌∷◌, map, refl, sym, ap, ◌∙◌}
-use Rattle.std.specs.Prelude.{◌==◌, Option, Some, None, Err, is_some, option_and_then, option_map, unwrap_or, if◌then◌else◌}
-use Rattle.std.proofs.lemmas.Bool.{cases_Bool}
+use Rattle.std.proofs.Common.{◌≡◌, ℕ, Bool, true, false, List, sym, ap, ◌∙◌}
+use Rattle.std.specs.Prelude.{Option, Some, None, Err, option_and_then, option_map, unwrap_or, if◌then◌else◌}
 use Rattle.acct_text.specs.declared.files.Files.{Files}
 use Rattle.account_model.specs.declared.new_user.Plan.{Plan}
 use Rattle.account_formats.specs.declared.records.ShadowRecord.{ShadowRecord}
-use Rattle.account_model.specs.GivenGroups.{find_gid, given_group}
+use Rattle.account_model.specs.GivenGroups.{given_group}
 use Rattle.account_model.specs.NewAccount.{free_gid, kind_of}
-use Rattle.account_formats.specs.Tables.{group_records}
-use Rattle.account_formats.specs.declared.records.GroupRecord.{GroupRecord}
-use Rattle.account_words.specs.Ids.{is_used}
+use Rattle.account_words.specs.Ids.{is_used, used_gids}
 use Rattle.account_words.specs.Request.{Request}
 use Rattle.account_words.specs.Settings.{Setting}
 use Rattle.account_formats.specs.Text.{first_some}
@@ -30,38 +27,13 @@ use Rattle.user_creation.specs.declared.plan.NewIds.{NewIds}
 
 -- ---- The primary GID
 
--- where a search finds nothing, there is none
-pub none-found :
-    {X : Type 0} (found sought : Option X)
-    → found ≡ sought
-    → is_some found ≡ false
-    → sought ≡ None
-none-found None sought is none = sym is
-none-found (Some x) sought is none = absurd cc
-
--- a GID by which no group is found is unused
-pub find-unused :
-    (gid : ℕ) (groups : List GroupRecord)
-    → find_gid gid groups ≡ None
-    → is_used (map (λ group. group.gid) groups) gid ≡ false
-find-unused gid [] none = refl
-find-unused gid (group ∷ groups) none = elim (cases_Bool (group.gid == gid)) [
-  | inl same ↦
-      let wrong : Some group ≡ None =
-      sym (ap (λ test. if test then Some group else find_gid gid groups) same) ∙ none in
-      absurd cc
-  | inr other ↦ rw other (find-unused gid groups
-      (sym (ap (λ test. if test then Some group else find_gid gid groups) other) ∙ none))
-]
-
--- so a group can have it
+-- a group can have a GID that isn't used
 pub free-beside :
     (request : Request) (files : Files) (settings : List Setting) (uid : ℕ)
-    → find_gid uid (group_records files) ≡ None
+    → is_used (used_gids files) uid ≡ false
     → Some uid ≡ gid_beside request files settings uid
-free-beside request files settings uid none =
-    sym (ap (λ used. if used then free_gid (kind_of request) files settings else Some uid)
-    (find-unused uid (group_records files) none))
+free-beside request files settings uid unused =
+    sym (ap (λ used. if used then free_gid (kind_of request) files settings else Some uid) unused)
 
 -- where the user has a group of its own, it is that of the group
 pub own-gid :

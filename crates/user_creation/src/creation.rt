@@ -1,5 +1,5 @@
 // useradd LOGIN (useradd(8)): makes a user.
-ghost use Rattle.std.specs.Prelude.{◌≡◌, ◌&&◌, List, IfOk};
+ghost use Rattle.std.specs.Prelude.{◌&&◌, List, IfOk};
 ghost use Rattle.account_model.specs.NewAccount.{settings_for};
 ghost use Rattle.account_model.specs.NewRanges.{no_gap};
 ghost use Rattle.account_model.specs.Refusals.{refuse_if};
@@ -23,7 +23,7 @@ use acct_text::{Bytes, Tab};
 use command_values::{Asked, Form, ToolFault, check_name};
 use given_groups::{check_given_group, check_given_groups};
 use login_defs::Defs;
-use std::alloc::{AllocError, Global};
+use std::alloc::Global;
 use table_edits::Script;
 use table_lookups::Tables;
 
@@ -92,17 +92,10 @@ fn check_login(alloc: Global, asked: &Asked, tables: &Tables) -> Result<(), Tool
         (Refusal.UserExists (operand asked.now))) result }
 {
     let login = asked.operand();
-    if !has_user(alloc, tables, login)? {
+    if !tables.has_user(login) {
         return Ok(());
     }
     Err(ToolFault::Refused(Refusal::UserExists(Bytes::of(alloc, login)?)))
-}
-
-// Whether a user has the name.
-fn has_user(alloc: Global, tables: &Tables, name: &[u8]) -> Result<bool, AllocError>
-    ensures { IfOk result (λ has. has ≡ has_user name.now tables.now) }
-{
-    Ok(tables.user_named(alloc, name)?.is_some())
 }
 
 // Refuses a group of the user's own where one has the name: `GroupExists`.
@@ -116,17 +109,10 @@ fn check_own_group(
         (Refusal.GroupExists (operand asked.now))) result }
 {
     let login = asked.operand();
-    if !own_group || !has_group(alloc, tables, login)? {
+    if !own_group || !tables.has_group(login) {
         return Ok(());
     }
     Err(ToolFault::Refused(Refusal::GroupExists(Bytes::of(alloc, login)?)))
-}
-
-// Whether a group has the name.
-fn has_group(alloc: Global, tables: &Tables, name: &[u8]) -> Result<bool, AllocError>
-    ensures { IfOk result (λ has. has ≡ has_group name.now tables.now) }
-{
-    Ok(tables.group_named(alloc, name)?.is_some())
 }
 
 // Refuses a UID of `-u` that a user has where `-o` isn't given: `UidInUse`.
@@ -139,8 +125,7 @@ fn check_given_uid(alloc: Global, asked: &Asked, tables: &Tables) -> Result<(), 
     let Some(uid) = asked.id(b'u') else {
         return Ok(());
     };
-    let used = tables.used_uids(alloc)?;
-    if used.ids().holds(uid) {
+    if tables.is_uid_used(alloc, uid)? {
         return Err(ToolFault::Refused(Refusal::UidInUse(uid)));
     }
     Ok(())

@@ -113,7 +113,7 @@ fn own_gid(
     ensures { IfOk result (Gives settings.now
         (λ under. gid_beside asked.now tables.now under uid)) }
 {
-    if tables.group_of_gid(alloc, uid)?.is_none() {
+    if !tables.is_gid_used(alloc, uid)? {
         return Ok(Some(uid));
     }
     let used = tables.used_gids(alloc)?;

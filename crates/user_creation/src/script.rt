@@ -16,7 +16,7 @@ use account_formats::{ShadowRecord, SubidRecord};
 use account_model::{Allotment, Plan};
 use acct_text::Bytes;
 use command_values::Asked;
-use given_groups::{find_group, group_words};
+use given_groups::{group_name, group_words};
 use line_edits::{Edit, SubidChange};
 use std::alloc::{AllocError, Global};
 use table_edits::Script;
@@ -124,8 +124,8 @@ fn join(
 ) -> Result<(), AllocError>
     ensures { OnOk result (HasAlso (joining groups.now user.now word.now) script.old script.new) }
 {
-    match find_group(alloc, groups, word)? {
-        Some(group) => script.add_to_group(alloc, group.name.as_slice(), user),
+    match group_name(alloc, groups, word)? {
+        Some(group) => script.add_to_group(alloc, group.as_slice(), user),
         None => Ok(()),
     }
 }

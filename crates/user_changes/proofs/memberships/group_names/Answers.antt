@@ -1,7 +1,7 @@
 use Rattle.std.proofs.Common.{[], ◌∷◌, ◌++◌, ◌+◌, ◌∙◌, drop, sym, ap}
 use Rattle.account_model.specs.GivenGroups.{find_group}
 use Rattle.account_formats.specs.Tables.{group_records}
-use Rattle.user_changes.proofs.GroupNames.{names_of, names-found, names-missing}
+use Rattle.user_changes.proofs.GroupNames.{name_of, names_of, names-found, names-missing}
 use Rattle.user_changes.proofs.memberships.group_names.Goals as goal
 use Rattle.user_changes.proofs.memberships.group_names.Goals.{in-Some+in_ok-push, in_default}
 
@@ -12,10 +12,11 @@ loop-word-preserved c =
     let names = c.loop-word.names in
     let place = c.loop-word.word-index in
     let word = c.word-item.result in
-    let named = ap (λ w. find_group w groups) (sym c.as_slice.ensures)
-    ∙ sym (c.in_ok-group.ensures {u = tt}
-    ∙ ap (λ files. find_group c.as_slice.result.now (group_records files))
-    (c.in_ok-groups.ensures {u = tt})) in
+    let named =
+    c.in_ok-name.ensures {u = tt}
+    ∙ ap (λ files. name_of (find_group c.as_slice.result.now (group_records files)))
+    (c.in_ok-groups.ensures {u = tt})
+    ∙ ap (λ word. name_of (find_group word groups)) c.as_slice.ensures in
     let rest = names_of groups (drop (place + 1) words) in
     elim c.match-branch-4.branch [
       | in-Some+in_ok-push w ↦
@@ -23,11 +24,11 @@ loop-word-preserved c =
           (w.names-is ∙ w.in_ok-push.ensures.ok
           ∙ ap (λ name. names ++ name ∷ []) w.as_slice-in-Some.ensures)
           ∙ names-found groups words names place word c.loop-word-test.true c.word-item.is
-          w.in-Some.group (named ∙ w.in-Some.is)
+          w.in-Some.name (sym w.in-Some.is ∙ named)
           ∙ c.loop-word.invariant
       | in_default w ↦
           ap (λ names. names ++ rest) w.names-is
           ∙ names-missing groups words names place word c.loop-word-test.true c.word-item.is
-          (named ∙ w.in_default.is)
+          (sym w.in_default.is ∙ named)
           ∙ c.loop-word.invariant
     ]

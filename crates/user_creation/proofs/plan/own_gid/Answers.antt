@@ -1,8 +1,8 @@
-use Rattle.std.proofs.Common.{◌∙◌, ap, not}
-use Rattle.user_creation.proofs.UseraddLemmas.{free-beside, none-found}
+use Rattle.std.proofs.Common.{◌∙◌, sym}
+use Rattle.user_creation.proofs.UseraddLemmas.{free-beside}
 use Rattle.user_creation.proofs.plan.own_gid.Goals as goal
 
-pub returns-then-is_none : goal.returns-then-is_none
-returns-then-is_none c = λ settings has.
+pub returns-then-not-branch : goal.returns-then-not-branch
+returns-then-not-branch c = λ settings has.
     free-beside c.args.asked.now c.args.tables.now settings c.args.uid
-    (none-found _ _ c.in_ok-group_of_gid.ensures (c.is_none.ensures ∙ ap not c.if-is_none.true))
+    (sym (c.in_ok-is_gid_used.ensures {u = tt}) ∙ c.if-not-branch.true)
