@@ -2,8 +2,6 @@
 // subuid(5), subgid(5)).
 ghost use Rattle.std.specs.Prelude.{◌≡◌, IfOk, OnOk};
 
-mod lookups;
-
 use crate::range_table::copy_of;
 use crate::{CarriedTable, IdTable, RangeTable};
 use acct_lines::{GroupRecord, GshadowRecord, PasswdRecord, ShadowRecord};

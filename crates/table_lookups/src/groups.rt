@@ -21,8 +21,8 @@ impl<'a> Tables<'a> {
         let test = &OfGid { gid };
         match self.source() {
             Source::Files(files) => first_passing(alloc, &files.group, test),
-            Source::Carried(tables) if tables.group().lacks(gid) => Ok(None),
-            Source::Carried(tables) => tables.group().table().first_passing(alloc, test),
+            Source::Carried(tables) if tables.group.lacks(gid) => Ok(None),
+            Source::Carried(tables) => tables.group.table().first_passing(alloc, test),
         }
     }
 
@@ -32,7 +32,7 @@ impl<'a> Tables<'a> {
     {
         match self.source() {
             Source::Files(_) => Ok(self.group_of_gid(alloc, gid)?.is_some()),
-            Source::Carried(tables) => tables.group().has_id(alloc, gid),
+            Source::Carried(tables) => tables.group.has_id(alloc, gid),
         }
     }
 
@@ -45,7 +45,7 @@ impl<'a> Tables<'a> {
                 let ids = used_ids::<GroupRecord>(alloc, &files.group)?;
                 Ok(IdsInUse::gathered(ids))
             }
-            Source::Carried(tables) => tables.group().used(alloc),
+            Source::Carried(tables) => tables.group.used(alloc),
         }
     }
 }

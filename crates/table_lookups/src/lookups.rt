@@ -21,7 +21,7 @@ impl Tables<'_> {
     {
         match self.source() {
             Source::Files(files) => find_record(alloc, text_of(&files.passwd), name),
-            Source::Carried(tables) => tables.passwd().table().find(alloc, name),
+            Source::Carried(tables) => tables.passwd.table().find(alloc, name),
         }
     }
 
@@ -35,7 +35,7 @@ impl Tables<'_> {
     {
         match self.source() {
             Source::Files(files) => find_record(alloc, text_of(&files.shadow), name),
-            Source::Carried(tables) => tables.shadow().find(alloc, name),
+            Source::Carried(tables) => tables.shadow.find(alloc, name),
         }
     }
 
@@ -45,7 +45,7 @@ impl Tables<'_> {
     {
         match self.source() {
             Source::Files(files) => find_record(alloc, text_of(&files.group), name),
-            Source::Carried(tables) => tables.group().table().find(alloc, name),
+            Source::Carried(tables) => tables.group.table().find(alloc, name),
         }
     }
 
@@ -59,7 +59,7 @@ impl Tables<'_> {
     {
         match self.source() {
             Source::Files(files) => find_record(alloc, text_of(&files.gshadow), name),
-            Source::Carried(tables) => tables.gshadow().find(alloc, name),
+            Source::Carried(tables) => tables.gshadow.find(alloc, name),
         }
     }
 
@@ -69,7 +69,7 @@ impl Tables<'_> {
     {
         match self.source() {
             Source::Files(files) => has_record::<PasswdRecord>(text_of(&files.passwd), name),
-            Source::Carried(tables) => tables.passwd().table().has(name),
+            Source::Carried(tables) => tables.passwd.table().has(name),
         }
     }
 
@@ -79,7 +79,7 @@ impl Tables<'_> {
     {
         match self.source() {
             Source::Files(files) => has_record::<ShadowRecord>(text_of(&files.shadow), name),
-            Source::Carried(tables) => tables.shadow().has(name),
+            Source::Carried(tables) => tables.shadow.has(name),
         }
     }
 
@@ -89,7 +89,7 @@ impl Tables<'_> {
     {
         match self.source() {
             Source::Files(files) => has_record::<GroupRecord>(text_of(&files.group), name),
-            Source::Carried(tables) => tables.group().table().has(name),
+            Source::Carried(tables) => tables.group.table().has(name),
         }
     }
 
@@ -99,7 +99,7 @@ impl Tables<'_> {
     {
         match self.source() {
             Source::Files(files) => has_record::<GshadowRecord>(text_of(&files.gshadow), name),
-            Source::Carried(tables) => tables.gshadow().has(name),
+            Source::Carried(tables) => tables.gshadow.has(name),
         }
     }
 

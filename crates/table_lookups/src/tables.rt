@@ -84,7 +84,7 @@ impl<'a> Tables<'a> {
     {
         match self.source() {
             Source::Files(files) => files.shadow.is_some(),
-            Source::Carried(tables) => tables.has_shadow_file(),
+            Source::Carried(tables) => tables.shadow.is_there(),
         }
     }
 
@@ -94,7 +94,7 @@ impl<'a> Tables<'a> {
     {
         match self.source() {
             Source::Files(files) => files.gshadow.is_some(),
-            Source::Carried(tables) => tables.has_gshadow_file(),
+            Source::Carried(tables) => tables.gshadow.is_there(),
         }
     }
 

@@ -40,7 +40,7 @@ impl<'a> Tables<'a> {
     {
         match self.source() {
             Source::Files(files) => first_passing(alloc, &files.passwd, test),
-            Source::Carried(tables) => tables.passwd().table().first_passing(alloc, test),
+            Source::Carried(tables) => tables.passwd.table().first_passing(alloc, test),
         }
     }
 
@@ -50,7 +50,7 @@ impl<'a> Tables<'a> {
     {
         match self.source() {
             Source::Files(_) => Ok(self.first_user(alloc, &OfUid { uid })?.is_some()),
-            Source::Carried(tables) => tables.passwd().has_id(alloc, uid),
+            Source::Carried(tables) => tables.passwd.has_id(alloc, uid),
         }
     }
 
@@ -63,7 +63,7 @@ impl<'a> Tables<'a> {
                 let ids = used_ids::<PasswdRecord>(alloc, &files.passwd)?;
                 Ok(IdsInUse::gathered(ids))
             }
-            Source::Carried(tables) => tables.passwd().used(alloc),
+            Source::Carried(tables) => tables.passwd.used(alloc),
         }
     }
 

@@ -11,8 +11,8 @@ use Rattle.table_lookups.proofs.tables.Tables.group_of_gid.Goals as goal
 pub returns-in-Carried : goal.returns-in-Carried
 returns-in-Carried c =
     let gid = c.args.gid in
-    let groups = table_records group_format c.group.result.now in
+    let groups = table_records group_format c.tables.inside.group in
     sym (is-none (find_gid gid groups)
     (used-found (λ (group : GroupRecord). group.gid) gid groups ∙ c.lacks.ensures c.if-lacks.true))
     ∙ ap (λ file. find_gid gid (table_records group_format file))
-    (c.group.ensures ∙ ap (λ (files : Files). files.group) c.in-Carried.ensures)
+    (ap (λ (files : Files). files.group) (c.tables.view_is ∙ c.in-Carried.ensures))
