@@ -1,23 +1,22 @@
 // groupadd NAME (groupadd(8)): makes a group.
 ghost use Rattle.std.specs.Prelude.{◌≡◌, List, IfOk};
 ghost use Rattle.account_model.specs.Groupadd.{groupadd, groupadd_checks, groupadd_used_gid, is_content, is_gid_taken, new_gid};
-ghost use Rattle.account_words.specs.Ids.{used_gids as gids_of};
 ghost use Rattle.account_model.specs.NewAccount.{settings_for};
+ghost use Rattle.account_model.specs.Refusals.{refuse_if};
 ghost use Rattle.account_words.specs.Request.{operand};
 ghost use Rattle.account_words.specs.Settings.{Setting};
 ghost use Rattle.account_formats.specs.Text.{first_some};
 ghost use Rattle.tool_answers.specs.Refusing.{RefusesBy};
 ghost use Rattle.command_values.specs.Chosen.{AddsSettings};
-ghost use Rattle.id_choice.specs.Used.{AreThoseOf};
 ghost use Rattle.login_defs.specs.Held.{HasSettings};
 ghost use Rattle.table_edits.specs.Acting.{ActsBy};
+ghost use Rattle.table_lookups.specs.Stopping.{StopsBy};
 ghost use Rattle.group_commands.specs.GroupaddGid.{GivesGid};
 
 use account_model::Refusal;
 use account_words::IdSort;
 use acct_text::Bytes;
 use command_values::{Asked, Form, ToolFault, check_name, free_id};
-use id_choice::UsedIds;
 use login_defs::Defs;
 use std::alloc::{AllocError, Global};
 use table_edits::Script;
@@ -38,7 +37,7 @@ pub fn groupadd(
         → ActsBy (groupadd asked.now tables.now settings) result }
 {
     let settings = check_words(alloc, asked, defs)?;
-    if is_content(alloc, asked, tables)? {
+    if is_content(asked, tables) {
         return Ok(Script::new(alloc));
     }
     let gid = gid_without_conflict(alloc, asked, tables, &settings)?;
@@ -62,11 +61,10 @@ fn check_words(alloc: Global, asked: &Asked, defs: &Defs) -> Result<Defs, ToolFa
 }
 
 /// Whether `-f` is given and the group exists.
-fn is_content(alloc: Global, asked: &Asked, tables: &Tables) -> Result<bool, AllocError>
-    ensures { IfOk result (λ content.
-        content ≡ is_content (operand asked.now) asked.now tables.now) }
+fn is_content(asked: &Asked, tables: &Tables) -> bool
+    ensures { result ≡ is_content (operand asked.now) asked.now tables.now }
 {
-    Ok(asked.has(b'f') && tables.group_named(alloc, asked.operand())?.is_some())
+    asked.has(b'f') && tables.has_group(asked.operand())
 }
 
 /// The GID of the new group, where neither its name nor its GID is taken.
@@ -79,43 +77,63 @@ fn gid_without_conflict(
     ensures { GivesGid asked.now tables.now settings.now result }
 {
     let name = asked.operand();
-    if tables.group_named(alloc, name)?.is_some() {
+    if tables.has_group(name) {
         return Err(ToolFault::Refused(Refusal::GroupExists(Bytes::of(alloc, name)?)));
     }
-    let used = tables.used_gids(alloc)?;
-    check_given_gid(asked, tables, used.ids())?;
-    new_gid(asked, tables, settings, used.ids()).ok_or(ToolFault::Refused(Refusal::NoFreeGid))
+    check_given_gid(alloc, asked, tables)?;
+    new_gid(alloc, asked, tables, settings)?.ok_or(ToolFault::Refused(Refusal::NoFreeGid))
 }
 
 /// Refuses the GID of `-g` where it is taken: `GidInUse`. With `-f` another one is chosen.
-fn check_given_gid(asked: &Asked, tables: &Tables, used: &UsedIds) -> Result<(), ToolFault>
-    requires { AreThoseOf used.now (gids_of tables.now) }
-    ensures { RefusesBy (groupadd_used_gid asked.now tables.now) result }
+fn check_given_gid(alloc: Global, asked: &Asked, tables: &Tables) -> Result<(), ToolFault>
+    ensures { StopsBy (groupadd_used_gid asked.now tables.now) result }
 {
-    match asked.id(b'g') {
-        Some(gid) if !asked.has(b'f') && is_gid_taken(asked, tables, used, gid) => {
-            Err(ToolFault::Refused(Refusal::GidInUse(gid)))
-        }
-        _ => Ok(()),
+    if asked.has(b'f') {
+        return Ok(());
     }
+    match asked.id(b'g') {
+        Some(gid) => check_gid_free(alloc, asked, tables, gid),
+        None => Ok(()),
+    }
+}
+
+/// Refuses a GID that is taken: `GidInUse`.
+fn check_gid_free(alloc: Global, asked: &Asked, tables: &Tables, gid: u32) -> Result<(), ToolFault>
+    ensures { StopsBy (refuse_if (is_gid_taken asked.now tables.now gid) (Refusal.GidInUse gid))
+        result }
+{
+    if is_gid_taken(alloc, asked, tables, gid)? {
+        return Err(ToolFault::Refused(Refusal::GidInUse(gid)));
+    }
+    Ok(())
 }
 
 /// Whether a group has the GID, and `-o` isn't given.
-fn is_gid_taken(asked: &Asked, tables: &Tables, used: &UsedIds, gid: u32) -> bool
-    requires { AreThoseOf used.now (gids_of tables.now) }
-    ensures { result ≡ is_gid_taken asked.now tables.now gid }
+fn is_gid_taken(alloc: Global, asked: &Asked, tables: &Tables, gid: u32) -> Result<bool, AllocError>
+    ensures { IfOk result (λ taken. taken ≡ is_gid_taken asked.now tables.now gid) }
 {
-    used.holds(gid) && !asked.has(b'o')
+    if asked.has(b'o') {
+        return Ok(false);
+    }
+    tables.is_gid_used(alloc, gid)
 }
 
 /// The GID of `-g`, and a chosen one where `-g` isn't given, or where with `-f` its GID is taken.
-fn new_gid(asked: &Asked, tables: &Tables, settings: &Defs, used: &UsedIds) -> Option<u32>
-    requires { AreThoseOf used.now (gids_of tables.now) }
-    ensures { (old : List Setting) → HasSettings settings.now (settings_for asked.now old)
-        → result ≡ new_gid asked.now tables.now old }
+fn new_gid(
+    alloc: Global,
+    asked: &Asked,
+    tables: &Tables,
+    settings: &Defs,
+) -> Result<Option<u32>, AllocError>
+    ensures { IfOk result (λ chosen. (old : List Setting)
+        → HasSettings settings.now (settings_for asked.now old)
+        → chosen ≡ new_gid asked.now tables.now old) }
 {
-    match asked.id(b'g') {
-        Some(gid) if !(asked.has(b'f') && is_gid_taken(asked, tables, used, gid)) => Some(gid),
-        _ => free_id(IdSort::Gid, asked.kind(), settings, used),
+    if let Some(gid) = asked.id(b'g') {
+        if !asked.has(b'f') || !is_gid_taken(alloc, asked, tables, gid)? {
+            return Ok(Some(gid));
+        }
     }
+    let used = tables.used_gids(alloc)?;
+    Ok(free_id(IdSort::Gid, asked.kind(), settings, used.ids()))
 }

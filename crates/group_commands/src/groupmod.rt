@@ -1,10 +1,10 @@
 // groupmod GROUP (groupmod(8)): changes a group's GID, name or password.
-ghost use Rattle.std.specs.Prelude.{◌≡◌, ◌||◌, codes, Some, IfOk, OnOk};
+ghost use Rattle.std.specs.Prelude.{◌≡◌, codes, Some, IfOk, OnOk};
 ghost use Rattle.account_model.specs.Action.{with_option};
 ghost use Rattle.account_model.specs.Hashes.{set_group_hash};
 ghost use Rattle.account_model.specs.Groupmod.{groupmod, groupmod_used_gid, groupmod_script, taken_gid, taken_group_name, gid_script, set_gid, rename_group};
 ghost use Rattle.account_model.specs.Refusals.{missing_group, refuse_value};
-ghost use Rattle.account_model.specs.Users.{group_named as group_of_name, has_group, has_gshadow};
+ghost use Rattle.account_model.specs.Users.{group_named as group_of_name};
 ghost use Rattle.table_edits.specs.SeenScript.{seen_script};
 ghost use Rattle.table_edits.specs.Acting.{ActsBy};
 ghost use Rattle.table_edits.specs.Additions.{HasAlso};
@@ -73,18 +73,10 @@ fn check_name_free(
 ) -> Result<(), ToolFault>
     ensures { StopsBy (taken_group_name group.now tables.now name.now) result }
 {
-    if name == group || !is_taken(alloc, tables, name)? {
+    if name == group || !(tables.has_group(name) || tables.has_gshadow(name)) {
         return Ok(());
     }
     Err(ToolFault::Refused(Refusal::GroupExists(Bytes::of(alloc, name)?)))
-}
-
-/// Whether a record of group or gshadow has the name.
-fn is_taken(alloc: Global, tables: &Tables, name: &[u8]) -> Result<bool, AllocError>
-    ensures { IfOk result (λ taken.
-        taken ≡ (has_group name.now tables.now || has_gshadow name.now tables.now)) }
-{
-    Ok(tables.group_named(alloc, name)?.is_some() || tables.gshadow_named(alloc, name)?.is_some())
 }
 
 /// Refuses a GID of `-g` that is another group's where `-o` isn't given: `GidInUse`.
@@ -116,7 +108,7 @@ fn check_gid_free(
 ) -> Result<(), ToolFault>
     ensures { StopsBy (taken_gid tables.now gid old.now) result }
 {
-    if gid == old.gid || !tables.used_gids(alloc)?.ids().holds(gid) {
+    if gid == old.gid || !tables.is_gid_used(alloc, gid)? {
         return Ok(());
     }
     Err(ToolFault::Refused(Refusal::GidInUse(gid)))

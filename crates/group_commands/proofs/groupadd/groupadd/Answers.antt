@@ -25,7 +25,7 @@ returns-in_err-gid c = λ settings has.
     acts-handed _ c.from_residual-in_err-gid.result fault c.from_residual-in_err-gid.ensures.1
     (refused-by_conflict (operand asked) asked files settings
     (is_content (operand asked) asked files) fault
-    (sym (c.in_ok-is_content.ensures {u = tt}) ∙ c.if-branch.false)
+    (sym c.is_content.ensures ∙ c.if-is_content.false)
     words.refused (c.in_err-gid.ensures {u = tt} settings (words.settings settings has)).0)
 
 pub returns : goal.returns
@@ -43,5 +43,5 @@ returns c = λ settings has.
     ∙ ap (λ name. add_group name hash gid files) c.operand.ensures
     ∙ ap (λ hash. add_group (operand asked) hash gid files) c.value_or-hash.ensures in
     made-group (operand asked) asked files settings (is_content (operand asked) asked files) gid
-    c.add_group.new.self (sym (c.in_ok-is_content.ensures {u = tt}) ∙ c.if-branch.false)
+    c.add_group.new.self (sym c.is_content.ensures ∙ c.if-is_content.false)
     words.refused chosen.0 chosen.1 seen
