@@ -1,10 +1,13 @@
 -- The table of subordinate IDs that a new user gets a range of, by its file and the bounds of the settings (useradd(8);
 -- subuid(5), subgid(5); SUB_UID_MIN, SUB_UID_MAX and SUB_UID_COUNT of login.defs(5), and the same of GIDs).
-use Rattle.std.specs.Prelude.{ℕ, List, Option}
+use Rattle.std.specs.Prelude.{ℕ, Bool, ◌&&◌, not, is_some, List, Option}
+use Rattle.std.specs.List.{list_any}
 use Rattle.account_words.specs.declared.settings.Key.TheVariants.{SubUidMin, SubGidMin, SubUidMax, SubGidMax, SubUidCount, SubGidCount}
-use Rattle.account_model.specs.NewRanges.{Subordinate, id_number}
+use Rattle.account_model.specs.NewRanges.{Subordinate, id_number, may_have_ranges}
 use Rattle.account_formats.specs.Records.{subid_format}
+use Rattle.account_words.specs.Request.{Request, operand}
 use Rattle.account_words.specs.Settings.{Setting}
+use Rattle.account_words.specs.SubidOwner.{is_owned}
 use Rattle.account_formats.specs.Tables.{table_records}
 use Rattle.user_creation.specs.declared.ranges.Bounds.{Bounds}
 
@@ -17,6 +20,12 @@ subordinate_of file bounds = record {
   maximum = bounds.maximum;
   count = bounds.count;
 }
+
+-- whether there is a file in which the user may have ranges, and has none yet
+abbrev pub is_open : Request → Option ℕ → Option (List ℕ) → Bool
+is_open request uid file = is_some file
+    && not (list_any (is_owned (operand request) uid) (table_records subid_format file))
+    && may_have_ranges request
 
 -- the bounds of subordinate UIDs under the settings
 abbrev pub uid_bounds_under : List Setting → Bounds

@@ -43,14 +43,14 @@ pub(crate) fn plan_of(
         subuid: allotment_of(
             alloc,
             asked,
-            tables.subuid_file(),
+            &tables.subuid_ranges(),
             uid,
             uid_bounds(settings),
         )?,
         subgid: allotment_of(
             alloc,
             asked,
-            tables.subgid_file(),
+            &tables.subgid_ranges(),
             uid,
             gid_bounds(settings),
         )?,
