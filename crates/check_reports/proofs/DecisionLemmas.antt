@@ -3,7 +3,7 @@
 -- `groups-sorted`). Way: without edits no name has multiple entries, and the files stay; a sort
 -- touches no record.
 use Rattle.std.proofs.Common.{◌≡◌, ◌∙◌, ◌++◌, ℕ, true, List, [], ◌∷◌, refl, sym, ap, ap₂}
-use Rattle.std.specs.Prelude.{Option, Some, None, Ok, is_some}
+use Rattle.std.specs.Prelude.{Option, Some, None, Ok}
 use Rattle.acct_text.specs.declared.files.Files.{Files}
 use Rattle.account_model.specs.declared.refusal.Refusal.{Refusal}
 use Rattle.account_words.specs.declared.tool.Tool.{Tool}
@@ -148,13 +148,6 @@ groups-sorted files = record {
         (gshadow_records files),
   ) refl;
 }
-
--- a table stands once it is sorted where it stood
-pub sorted-stands :
-    {R : Type 0} (format : Format R) (key : R → ℕ) (bytes : Option (List ℕ))
-    → is_some (table_after format (Arrange key ∷ []) bytes) ≡ is_some bytes
-sorted-stands format key None = refl
-sorted-stands format key (Some bytes) = refl
 
 -- one table behind another is listed as both are at once
 pub both-listed :

@@ -2,7 +2,6 @@ pub mod DecisionLemmas
 pub mod RangeLines
 pub mod RecordWalk
 pub mod KnownLemmas
-pub mod UnknownLemmas
 pub mod PlaceLemmas
 pub mod ReportWalk
 pub mod ReportLemmas

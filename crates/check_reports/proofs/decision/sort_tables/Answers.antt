@@ -1,15 +1,5 @@
-use Rattle.std.proofs.Common.{◌∙◌, ap}
-use Rattle.std.specs.Prelude.{is_some}
-use Rattle.check_reports.proofs.DecisionLemmas.{sorted-stands, tables-sorted}
+use Rattle.check_reports.proofs.DecisionLemmas.{tables-sorted}
 use Rattle.check_reports.proofs.decision.sort_tables.Goals as goal
-
-pub push_sorted-requires : goal.push_sorted-requires
-push_sorted-requires g c =
-    ap is_some c.in_ok-sorted.ensures ∙ sorted-stands g.M.TableRecord.format _ _
-
-pub push_sorted-requires-2 : goal.push_sorted-requires-2
-push_sorted-requires-2 g c =
-    ap is_some c.in_ok-alike.ensures ∙ sorted-stands g.H.TableRecord.format _ _
 
 pub returns : goal.returns
 returns g c = λ tool script sorts.
