@@ -1,7 +1,8 @@
 -- Claims: what a call of a staged folder tells, in the words of the trait: after the events of its
 -- sessions (`calls-so`, `lists-so`, `reads-so`, `begins-so`), or where these found no
 -- memory (`want-of` and its likes); that they take part still (`part-so`, `begin-part`); and that the
--- next list is taken before the call (`calls-next`), or breaks off (`breaks-off`).
+-- next list is taken before the call (`calls-next`), or breaks off (`breaks-off`): both in one for a
+-- call with an event of its own (`call-made`, `call-wanted`).
 -- Way: StagedLemmas. The staged folder is `start` before and `between` after the steps of its sessions;
 -- `folder` is the folder in memory after its own call.
 use Rattle.std.proofs.Common.{◌≡◌, inl, inr, refl, sym, ap, subst, ℕ, ◌≤◌, Some, Result, Ok, Err, arith}
@@ -348,6 +349,42 @@ module _ (start value between : Stage) (is : start ≡ value)
   breaks-off {T = T} front Told (Err fault) is_memory = subst
       (λ (before : Stage). CallsNext {T = T} before between Told (Err fault)) is
       (inr (record { left = left; taken = front }, ap (λ (one : FolderFault). Err one) is_memory.1))
+
+-- what a call with an event tells: in the words of the trait, and that the next list came first
+abbrev pub TellsNext : Stage → Stage → Token → (made : Call) → Result (Answer made) FolderFault
+    → Type 0
+TellsNext value now token made result = record {
+  call : CallsFolder (staged_moment value) (staged_moment now) token made result;
+  next : CallsNext value now (λ before after. CallsFolder before after token made result) result;
+}
+
+module _ (start value between : Stage) (is : start ≡ value)
+    (advances : Advances (scene_in start) (scene_in between))
+    (left : between.left ≡ lists_behind start.left) where
+  -- the list broke off, and the call wasn't made
+  pub call-wanted : TakesFront (next_list start.left) (scene_in start) (scene_in between) →
+      (token : Token) (call : Call) (result : Result (Answer call) FolderFault) →
+      IsErr result × IsErrAnd result (λ fault. fault ≡ Memory) →
+      TellsNext value between token call result
+  call-wanted front token call result none = record {
+    call = want-told start value between is advances token call result none;
+    next = breaks-off start value between is left front
+        (λ before now. CallsFolder before now token call result) result none;
+  }
+
+  -- the call was made
+  pub call-made : (folder : MemoryFolder) →
+      TakesSteps (next_list start.left) (scene_in start) (scene_in between) →
+      (token : Token) (call : Call) (result : Result (Answer call) FolderFault) →
+      TellsIn between.files folder token call result →
+      CountsFailure Failed (faults_of between.files) (faults_of folder) result →
+      TellsNext value (with_files folder between) token call result
+  call-made folder whole token call result told counts = record {
+    call = calls-told start value between folder is advances token call result told counts;
+    next = calls-next start value between is left folder whole
+        (λ before now. CallsFolder before now token call result) result
+        (in-memory between.files folder _ told result counts);
+  }
 
 -- who may answer is an outsider, so the sessions take part still, and the answer is told
 module _ (start value : Stage) (folder : MemoryFolder) (is : start ≡ value)
