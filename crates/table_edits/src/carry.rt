@@ -50,12 +50,17 @@ fn edit_tables(alloc: Global, tables: &mut CarriedTables, script: &Script) -> Re
     requires { IsWrittenScript (seen_script script.now) }
     ensures { OnOk result (tables.new ≡ files_after (seen_script script.now) tables.old) }
 {
-    tables.passwd.edit(alloc, &script.passwd)?;
-    tables.shadow.edit(alloc, &script.shadow)?;
-    tables.group.edit(alloc, &script.group)?;
-    tables.gshadow.edit(alloc, &script.gshadow)?;
-    edit_ranges(alloc, &mut tables.subuid, &script.subuid)?;
-    edit_ranges(alloc, &mut tables.subgid, &script.subgid)
+    tables.edit_passwd(alloc, &script.passwd)?;
+    tables.edit_shadow(alloc, &script.shadow)?;
+    tables.edit_group(alloc, &script.group)?;
+    tables.edit_gshadow(alloc, &script.gshadow)?;
+    let mut subuid = tables.take_subuid();
+    edit_ranges(alloc, &mut subuid, &script.subuid)?;
+    tables.put_subuid(subuid);
+    let mut subgid = tables.take_subgid();
+    edit_ranges(alloc, &mut subgid, &script.subgid)?;
+    tables.put_subgid(subgid);
+    Ok(())
 }
 
 /// Makes the edits of subuid or subgid. A range that is added alone takes no pass over the lines, nor do

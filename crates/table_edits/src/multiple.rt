@@ -53,16 +53,20 @@ pub(crate) fn multiple_carried(
     ensures { IfOk result (λ refusal. refusal ≡
         multiple_entries (seen_script script.now) tables.now) }
 {
-    if let Some(name) = tables.passwd.table().first_multiple(alloc, &script.passwd)? {
+    if let Some(name) = tables
+        .passwd()
+        .table()
+        .first_multiple(alloc, &script.passwd)?
+    {
         return Ok(Some(Refusal::Multiple(Tab::Passwd, name)));
     }
-    if let Some(name) = tables.shadow.first_multiple(alloc, &script.shadow)? {
+    if let Some(name) = tables.shadow().first_multiple(alloc, &script.shadow)? {
         return Ok(Some(Refusal::Multiple(Tab::Shadow, name)));
     }
-    if let Some(name) = tables.group.table().first_multiple(alloc, &script.group)? {
+    if let Some(name) = tables.group().table().first_multiple(alloc, &script.group)? {
         return Ok(Some(Refusal::Multiple(Tab::Group, name)));
     }
-    if let Some(name) = tables.gshadow.first_multiple(alloc, &script.gshadow)? {
+    if let Some(name) = tables.gshadow().first_multiple(alloc, &script.gshadow)? {
         return Ok(Some(Refusal::Multiple(Tab::Gshadow, name)));
     }
     Ok(None)

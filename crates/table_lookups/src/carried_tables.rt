@@ -1,31 +1,33 @@
 // The tables that commands carry from one to the next (passwd(5), shadow(5), group(5), gshadow(5),
 // subuid(5), subgid(5)).
-ghost use Rattle.std.specs.Prelude.{◌≡◌, IfOk, OnOk};
+ghost use Rattle.std.specs.Prelude.{◌≡◌, None, IfOk, OnOk};
+ghost use Rattle.account_formats.specs.Records.{group_format, gshadow_format, passwd_format, shadow_format};
+ghost use Rattle.line_edits.specs.GroupChanges.{group_becomes};
+ghost use Rattle.line_edits.specs.GshadowChanges.{gshadow_becomes};
+ghost use Rattle.line_edits.specs.PasswdChanges.{passwd_becomes};
+ghost use Rattle.line_edits.specs.ShadowChanges.{shadow_becomes};
+ghost use Rattle.table_lookups.specs.TableEdits.{AreWritten, table_by};
 
 use crate::range_table::copy_of;
 use crate::{CarriedTable, IdTable, RangeTable};
 use acct_lines::{GroupRecord, GshadowRecord, PasswdRecord, ShadowRecord};
 use acct_text::Files;
+use line_edits::{Edit, GroupChange, GshadowChange, PasswdChange, ShadowChange};
 use std::alloc::{AllocError, Global};
 use std::marker::Model;
+use std::mem::replace;
 
 /// The six tables, which edits change where they stand: a command takes no pass over all records for
 /// what it looks up by name, for the IDs that are used, and for edits of records that it names.
 /// Contracts see them as the files.
 #[derive(Drop)]
 pub struct CarriedTables {
-    /// That of passwd(5).
-    pub passwd: IdTable<PasswdRecord>,
-    /// That of shadow(5).
-    pub shadow: CarriedTable<ShadowRecord>,
-    /// That of group(5).
-    pub group: IdTable<GroupRecord>,
-    /// That of gshadow(5).
-    pub gshadow: CarriedTable<GshadowRecord>,
-    /// That of subuid(5).
-    pub subuid: RangeTable,
-    /// That of subgid(5).
-    pub subgid: RangeTable,
+    pub(crate) passwd: IdTable<PasswdRecord>,
+    pub(crate) shadow: CarriedTable<ShadowRecord>,
+    pub(crate) group: IdTable<GroupRecord>,
+    pub(crate) gshadow: CarriedTable<GshadowRecord>,
+    pub(crate) subuid: RangeTable,
+    pub(crate) subgid: RangeTable,
 }
 
 impl Model for CarriedTables {
@@ -72,6 +74,120 @@ impl CarriedTables {
         self.subuid = RangeTable::of(&files.subuid)?;
         self.subgid = RangeTable::of(&files.subgid)?;
         Ok(())
+    }
+
+    /// The table passwd(5), with its UIDs.
+    pub fn passwd(&self) -> &IdTable<PasswdRecord>
+        ensures { result.now ≡ self.now.passwd }
+    {
+        &self.passwd
+    }
+
+    /// The table shadow(5).
+    pub fn shadow(&self) -> &CarriedTable<ShadowRecord>
+        ensures { result.now ≡ self.now.shadow }
+    {
+        &self.shadow
+    }
+
+    /// The table group(5), with its GIDs.
+    pub fn group(&self) -> &IdTable<GroupRecord>
+        ensures { result.now ≡ self.now.group }
+    {
+        &self.group
+    }
+
+    /// The table gshadow(5).
+    pub fn gshadow(&self) -> &CarriedTable<GshadowRecord>
+        ensures { result.now ≡ self.now.gshadow }
+    {
+        &self.gshadow
+    }
+
+    /// Carries out the edits of passwd(5), in their order. At `AllocError` some of them may be.
+    pub fn edit_passwd(
+        &mut self,
+        alloc: Global,
+        edits: &[Edit<PasswdRecord, PasswdChange>],
+    ) -> Result<(), AllocError>
+        requires { AreWritten passwd_format passwd_becomes edits.now }
+        ensures { OnOk result (self.new ≡ record self.old {
+          passwd = table_by passwd_format passwd_becomes edits.now self.old.passwd;
+        }) }
+    {
+        self.passwd.edit(alloc, edits)
+    }
+
+    /// Carries out the edits of shadow(5), in their order. At `AllocError` some of them may be.
+    pub fn edit_shadow(
+        &mut self,
+        alloc: Global,
+        edits: &[Edit<ShadowRecord, ShadowChange>],
+    ) -> Result<(), AllocError>
+        requires { AreWritten shadow_format shadow_becomes edits.now }
+        ensures { OnOk result (self.new ≡ record self.old {
+          shadow = table_by shadow_format shadow_becomes edits.now self.old.shadow;
+        }) }
+    {
+        self.shadow.edit(alloc, edits)
+    }
+
+    /// Carries out the edits of group(5), in their order. At `AllocError` some of them may be.
+    pub fn edit_group(
+        &mut self,
+        alloc: Global,
+        edits: &[Edit<GroupRecord, GroupChange>],
+    ) -> Result<(), AllocError>
+        requires { AreWritten group_format group_becomes edits.now }
+        ensures { OnOk result (self.new ≡ record self.old {
+          group = table_by group_format group_becomes edits.now self.old.group;
+        }) }
+    {
+        self.group.edit(alloc, edits)
+    }
+
+    /// Carries out the edits of gshadow(5), in their order. At `AllocError` some of them may be.
+    pub fn edit_gshadow(
+        &mut self,
+        alloc: Global,
+        edits: &[Edit<GshadowRecord, GshadowChange>],
+    ) -> Result<(), AllocError>
+        requires { AreWritten gshadow_format gshadow_becomes edits.now }
+        ensures { OnOk result (self.new ≡ record self.old {
+          gshadow = table_by gshadow_format gshadow_becomes edits.now self.old.gshadow;
+        }) }
+    {
+        self.gshadow.edit(alloc, edits)
+    }
+
+    /// Takes the table subuid(5) out, for edits: there is no such file until it is put back.
+    pub fn take_subuid(&mut self) -> RangeTable
+        ensures taken { result ≡ self.old.subuid }
+        ensures left { self.new ≡ record self.old { subuid = None } }
+    {
+        replace(&mut self.subuid, RangeTable::absent())
+    }
+
+    /// Puts the table in the place of subuid(5).
+    pub fn put_subuid(&mut self, table: RangeTable)
+        ensures { self.new ≡ record self.old { subuid = table } }
+    {
+        self.subuid = table;
+    }
+
+    /// Takes the table subgid(5) out, as `take_subuid` does that of subuid(5).
+    pub fn take_subgid(&mut self) -> RangeTable
+        ensures taken { result ≡ self.old.subgid }
+        ensures left { self.new ≡ record self.old { subgid = None } }
+    {
+        replace(&mut self.subgid, RangeTable::absent())
+    }
+
+    /// Puts the table in the place of subgid(5).
+    pub fn put_subgid(&mut self, table: RangeTable)
+        ensures { self.new ≡ record self.old { subgid = table } }
+    {
+        self.subgid = table;
     }
 
     /// The files that the tables make now, in a pass over each.
