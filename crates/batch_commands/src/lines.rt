@@ -34,5 +34,5 @@ pub fn decide_lines(
             return refuse_line(alloc, line.number, line.parsed.tool, refusal);
         }
     }
-    written.into_decision(alloc, files)
+    written.decision(alloc, files)
 }

@@ -98,19 +98,17 @@ impl Written {
 
     /// What is decided where no line follows: the tables that differ from the first files get their
     /// bytes.
-    pub(crate) fn into_decision(self, alloc: Global, first: &Files) -> Result<Decision, AllocError>
-        requires { StandWhere first.now self.files }
+    pub(crate) fn decision(&self, alloc: Global, first: &Files) -> Result<Decision, AllocError>
+        requires { StandWhere first.now self.now.files }
         ensures { IfOk result (λ decision. decision ≡ decision_by
-            (changed_tables (table_of first.now) (table_of self.files))
-            (record { status = 0; out = self.output; err = self.error })) }
+            (changed_tables (table_of first.now) (table_of self.now.files))
+            (record { status = 0; out = self.now.output; err = self.now.error })) }
     {
+        let out = self.out.copy()?;
+        let err = self.err.copy()?;
         let tables = differing(alloc, first, self.tables.files()?)?;
-        let output = Output {
-            status: CARRIED_OUT,
-            out: self.out,
-            err: self.err,
-        };
-        Ok(decision_by(tables, output))
+        let status = CARRIED_OUT;
+        Ok(decision_by(tables, Output { status, out, err }))
     }
 }
 

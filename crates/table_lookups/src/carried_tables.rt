@@ -20,7 +20,6 @@ use std::mem::replace;
 /// The six tables, which edits change where they stand: a command takes no pass over all records for
 /// what it looks up by name, for the IDs that are used, and for edits of records that it names.
 /// Contracts see them as the files.
-#[derive(Drop)]
 pub struct CarriedTables {
     pub(crate) passwd: IdTable<PasswdRecord>,
     pub(crate) shadow: CarriedTable<ShadowRecord>,
@@ -28,6 +27,20 @@ pub struct CarriedTables {
     pub(crate) gshadow: CarriedTable<GshadowRecord>,
     pub(crate) subuid: RangeTable,
     pub(crate) subgid: RangeTable,
+}
+
+// One call, so that who holds the tables has no walk through all that they own on each way out.
+impl Drop for CarriedTables {
+    fn drop(self) {
+        let CarriedTables {
+            passwd: _,
+            shadow: _,
+            group: _,
+            gshadow: _,
+            subuid: _,
+            subgid: _,
+        } = self;
+    }
 }
 
 impl Model for CarriedTables {

@@ -20,11 +20,17 @@ use subid_ranges::RangeIndex;
 
 /// A table of subordinate IDs, and the index of its ranges. Contracts see it as the bytes of its file,
 /// and none where the file is absent.
-#[derive(Drop)]
 pub struct RangeTable {
     file: Option<Bytes>,
     // none until a range is added, and after any other edit
     index: Option<RangeIndex>,
+}
+
+// One call for the two that may be there, so that who holds several tables has few ways through them.
+impl Drop for RangeTable {
+    fn drop(self) {
+        let RangeTable { file: _, index: _ } = self;
+    }
 }
 
 impl Model for RangeTable {

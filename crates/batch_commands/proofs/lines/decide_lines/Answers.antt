@@ -62,8 +62,8 @@ returns-in-Some-2 c = IfOk-weaker c.refuse_line.result _ _ (λ decision is setti
     (outcome_on day settings line old.files) refl refused)))))
     c.refuse_line.ensures
 
-pub into_decision-requires : goal.into_decision-requires
-into_decision-requires c =
+pub decision-requires : goal.decision-requires
+decision-requires c =
     let settings = c.requires.held.settings in
     let lines = line_requests c.args.input.now in
     let files = c.args.files.now in
