@@ -50,7 +50,7 @@ pub fn chage_report(alloc: Global, asked: &Asked, tables: &Tables) -> Result<Rep
     })
 }
 
-/// Tests the refusals in their order.
+// Tests the refusals in their order.
 fn check_chage(alloc: Global, asked: &Asked, tables: &Tables) -> Result<(), ToolFault>
     ensures { StopsBy (first_some (chage_refusals asked.now tables.now)) result }
 {
@@ -64,7 +64,7 @@ fn check_chage(alloc: Global, asked: &Asked, tables: &Tables) -> Result<(), Tool
     tables.check_user(alloc, asked.operand())
 }
 
-/// Refuses tables without shadow: `NoShadow`.
+// Refuses tables without shadow: `NoShadow`.
 fn check_shadow(tables: &Tables) -> Result<(), ToolFault>
     ensures { RefusesBy (refuse_if (is_none tables.now.shadow) Refusal.NoShadow) result }
 {
@@ -74,7 +74,7 @@ fn check_shadow(tables: &Tables) -> Result<(), ToolFault>
     Err(ToolFault::Refused(Refusal::NoShadow))
 }
 
-/// The edits of a user that can be changed so.
+// The edits of a user that can be changed so.
 fn changed_aging(alloc: Global, asked: &Asked, tables: &Tables) -> Result<Script, AllocError>
     ensures { IfOk result (λ script. seen_script script ≡ chage_script asked.now tables.now) }
 {
@@ -85,7 +85,7 @@ fn changed_aging(alloc: Global, asked: &Asked, tables: &Tables) -> Result<Script
     Ok(script)
 }
 
-/// The fields of shadow that the options set.
+// The fields of shadow that the options set.
 fn aging_fields(asked: &Asked) -> ShadowFields
     ensures { SetsAging asked.now result }
 {
@@ -100,7 +100,7 @@ fn aging_fields(asked: &Asked) -> ShadowFields
     }
 }
 
-/// The day that the option gives; `-1` empties the field.
+// The day that the option gives; `-1` empties the field.
 fn date(asked: &Asked, letter: u8) -> DaysChange
     ensures { given_days result ≡ option_and_then date_value (value_of (letter ∷ []) asked.now) }
 {
@@ -110,7 +110,7 @@ fn date(asked: &Asked, letter: u8) -> DaysChange
     }
 }
 
-/// The number of days that the option gives; `-1` empties the field.
+// The number of days that the option gives; `-1` empties the field.
 fn days(asked: &Asked, letter: u8) -> DaysChange
     ensures { given_days result ≡ option_and_then days_value (value_of (letter ∷ []) asked.now) }
 {
@@ -120,7 +120,7 @@ fn days(asked: &Asked, letter: u8) -> DaysChange
     }
 }
 
-/// What is printed of the user; one that shadow lacks has no aging.
+// What is printed of the user; one that shadow lacks has no aging.
 fn aging_of(alloc: Global, tables: &Tables, user: &[u8]) -> Result<Bytes, AllocError>
     ensures { IfOk result (λ text. text ≡ report_of (aging_of user.now tables.now)) }
 {

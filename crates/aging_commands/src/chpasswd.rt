@@ -30,7 +30,7 @@ pub fn chpasswd(alloc: Global, input: &[u8], tables: &Tables, day: u32) -> Resul
     Ok(new_hashes(alloc, &hashes, &users, day)?)
 }
 
-/// The edits of the lines, in their order.
+// The edits of the lines, in their order.
 fn new_hashes(
     alloc: Global,
     hashes: &[NewHash],
@@ -47,7 +47,7 @@ fn new_hashes(
     Ok(script)
 }
 
-/// The line of shadow on demand, then the hash, then the last change.
+// The line of shadow on demand, then the hash, then the last change.
 fn set_hash(
     alloc: Global,
     script: &mut Script,

@@ -46,7 +46,7 @@ pub(crate) fn read_hashes<'a>(
     Ok(hashes)
 }
 
-/// Adds a line behind the others.
+// Adds a line behind the others.
 fn push_hash<'a>(hashes: &mut Vec<NewHash<'a>>, hash: NewHash<'a>) -> Result<(), AllocError>
     ensures { OnOk result (map seen_line hashes.new.items
         ≡ map seen_line hashes.old.items ++ seen_line hash.entry ∷ []) }
@@ -55,7 +55,7 @@ fn push_hash<'a>(hashes: &mut Vec<NewHash<'a>>, hash: NewHash<'a>) -> Result<(),
     Ok(())
 }
 
-/// The user and the hash of the line of this number; `BadLine` refuses a bad one.
+// The user and the hash of the line of this number; `BadLine` refuses a bad one.
 fn read_hash<'a>(
     alloc: Global,
     line: &'a [u8],
@@ -78,14 +78,14 @@ fn read_hash<'a>(
     Ok(new)
 }
 
-/// The fault that names a bad line.
+// The fault that names a bad line.
 fn bad_line(number: u32, problem: LineProblem) -> ToolFault
     ensures { result ≡ ToolFault.Refused (Refusal.BadLine number problem) }
 {
     ToolFault::Refused(Refusal::BadLine(number, problem))
 }
 
-/// The user and the hash that stand around the first `:`; none where there is none.
+// The user and the hash that stand around the first `:`; none where there is none.
 fn cut_at_colon<'a>(line: &'a [u8]) -> Option<NewHash<'a>>
     ensures { IsCut line.now result }
 {

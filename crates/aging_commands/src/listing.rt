@@ -25,7 +25,7 @@ pub(crate) fn aging_report(alloc: Global, user: &ShadowRecord) -> Result<Bytes, 
     Ok(lines)
 }
 
-/// Adds a line with the day of the last change.
+// Adds a line with the day of the last change.
 fn push_last_change(
     alloc: Global,
     lines: &mut Bytes,
@@ -39,7 +39,7 @@ fn push_last_change(
     push_line(lines, heading, &value)
 }
 
-/// Adds a line with the day when the password expires.
+// Adds a line with the day when the password expires.
 fn push_expiry(
     alloc: Global,
     lines: &mut Bytes,
@@ -53,7 +53,7 @@ fn push_expiry(
     push_line(lines, heading, &value)
 }
 
-/// Adds a line with a number of days.
+// Adds a line with a number of days.
 fn push_days(
     alloc: Global,
     lines: &mut Bytes,
@@ -66,7 +66,7 @@ fn push_days(
     push_line(lines, heading, &value)
 }
 
-/// Adds a line with a date.
+// Adds a line with a date.
 fn push_date(
     alloc: Global,
     lines: &mut Bytes,
@@ -79,7 +79,7 @@ fn push_date(
     push_line(lines, heading, &value)
 }
 
-/// Adds a line `HEADING: VALUE`.
+// Adds a line `HEADING: VALUE`.
 fn push_line(lines: &mut Bytes, heading: &[u8], value: &Bytes) -> Result<(), AllocError>
     ensures { OnOk result (lines.new ≡ lines.old ++ shown_line heading.now value.now) }
 {
@@ -89,7 +89,7 @@ fn push_line(lines: &mut Bytes, heading: &[u8], value: &Bytes) -> Result<(), All
     lines.push(b"\n")
 }
 
-/// A number of days.
+// A number of days.
 fn shown_days(alloc: Global, days: Option<u32>) -> Result<Bytes, AllocError>
     ensures { IfOk result (λ text. text ≡ text_of_days days) }
 {
@@ -101,7 +101,7 @@ fn shown_days(alloc: Global, days: Option<u32>) -> Result<Bytes, AllocError>
     Ok(text)
 }
 
-/// A date.
+// A date.
 fn shown_date(alloc: Global, day: Option<u32>) -> Result<Bytes, AllocError>
     ensures { IfOk result (λ text. text ≡ text_of_date day) }
 {
@@ -111,7 +111,7 @@ fn shown_date(alloc: Global, day: Option<u32>) -> Result<Bytes, AllocError>
     }
 }
 
-/// The last change: on day 0 the password must be changed.
+// The last change: on day 0 the password must be changed.
 fn shown_last_change(alloc: Global, day: Option<u32>) -> Result<Bytes, AllocError>
     ensures { IfOk result (λ text. text ≡ text_of_last_change day) }
 {
@@ -121,7 +121,7 @@ fn shown_last_change(alloc: Global, day: Option<u32>) -> Result<Bytes, AllocErro
     shown_date(alloc, day)
 }
 
-/// When the password expires, by the last change and the maximum.
+// When the password expires, by the last change and the maximum.
 fn shown_expiry(
     alloc: Global,
     last_change: Option<u32>,
@@ -136,7 +136,7 @@ fn shown_expiry(
     }
 }
 
-/// The day that lies the maximum behind the last change.
+// The day that lies the maximum behind the last change.
 fn shown_end(alloc: Global, day: u32, maximum: Option<u32>) -> Result<Bytes, AllocError>
     ensures { IfOk result (λ text. text ≡ text_of_end day maximum) }
 {

@@ -37,7 +37,7 @@ pub fn decide(
     }
 }
 
-/// What a command decides that is no batch.
+// What a command decides that is no batch.
 fn decide_tool(
     alloc: Global,
     parsed: &Parsed,

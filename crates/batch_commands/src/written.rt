@@ -88,7 +88,7 @@ impl Written {
         }
     }
 
-    /// Prints what a line prints, behind the others. At `AllocError` a part of it may be there.
+    // Prints what a line prints, behind the others. At `AllocError` a part of it may be there.
     fn print(&mut self, output: &Output) -> Result<(), AllocError>
         ensures { OnOk result (self.new ≡ with_output output.now self.old) }
     {
@@ -112,7 +112,7 @@ impl Written {
     }
 }
 
-/// The tables that differ from the first, in the fixed order.
+// The tables that differ from the first, in the fixed order.
 fn differing(alloc: Global, first: &Files, last: Files) -> Result<NewTables, AllocError>
     requires { StandWhere first.now last }
     ensures { IfOk result (λ tables.
@@ -128,7 +128,7 @@ fn differing(alloc: Global, first: &Files, last: Files) -> Result<NewTables, All
     Ok(tables)
 }
 
-/// Adds the table where it differs from the first. None is made, and none goes.
+// Adds the table where it differs from the first. None is made, and none goes.
 fn push_new(
     tables: &mut NewTables,
     table: Tab,

@@ -27,7 +27,7 @@ pub(crate) fn told(alloc: Global, status: u8, out: Bytes) -> Decision
     Decision::Same(output(alloc, status, out))
 }
 
-/// The decision of a tool that prints nothing, by the tables that differ.
+// The decision of a tool that prints nothing, by the tables that differ.
 fn changed(alloc: Global, tables: NewTables) -> Decision
     ensures { (tool : Tool) (script : Script) (files : Files)
         → multiple_entries script files ≡ None
@@ -60,7 +60,7 @@ pub(crate) fn sort_tables<M: TableRecord + Drop, H: TableRecord, K: SortKey<M>>(
     Ok(changed(alloc, tables))
 }
 
-/// Adds the table in order where that differs from how it was. An absent one stays so.
+// Adds the table in order where that differs from how it was. An absent one stays so.
 fn push_sorted(
     changed: &mut NewTables,
     table: Tab,
@@ -77,7 +77,7 @@ fn push_sorted(
     }
 }
 
-/// What is printed with a status, and nothing on the error stream.
+// What is printed with a status, and nothing on the error stream.
 fn output(alloc: Global, status: u8, out: Bytes) -> Output
     ensures { result ≡ record { status = status; out = out; err = [] } }
 {

@@ -40,7 +40,7 @@ pub fn getsubids(alloc: Global, asked: &Asked, files: &Files) -> Result<Decision
     Ok(told(alloc, 0, lines))
 }
 
-/// The file that is listed.
+// The file that is listed.
 fn listed_file<'a>(asked: &Asked, files: &'a Files) -> &'a Option<Bytes>
     ensures { result.now ≡ listed_file asked.now files.now }
 {
@@ -51,7 +51,7 @@ fn listed_file<'a>(asked: &Asked, files: &'a Files) -> &'a Option<Bytes>
     }
 }
 
-/// The UID of the user, where passwd has one.
+// The UID of the user, where passwd has one.
 fn uid_of(alloc: Global, files: &Files, name: &[u8]) -> Result<Option<u32>, AllocError>
     ensures { IfOk result (λ uid. uid ≡ uid_of name.now files.now) }
 {
@@ -59,8 +59,8 @@ fn uid_of(alloc: Global, files: &Files, name: &[u8]) -> Result<Option<u32>, Allo
     Ok(user.map(|user| user.uid))
 }
 
-/// The ranges of the file that are the user's, by the name or the UID: the first ID and the count of
-/// each.
+// The ranges of the file that are the user's, by the name or the UID: the first ID and the count of
+// each.
 fn ranges_of(
     alloc: Global,
     file: &Option<Bytes>,
@@ -73,7 +73,7 @@ fn ranges_of(
     OwnedRanges::new(text_of(file), user, uid).collect(alloc)
 }
 
-/// A line for each range, numbered from 0.
+// A line for each range, numbered from 0.
 fn range_lines(alloc: Global, user: &[u8], ranges: &[(u32, u32)]) -> Result<Bytes, AllocError>
     ensures { IfOk result (λ lines. lines ≡ range_lines_from 0 user.now (map (range_for user.now) ranges.now)) }
 {
@@ -84,7 +84,7 @@ fn range_lines(alloc: Global, user: &[u8], ranges: &[(u32, u32)]) -> Result<Byte
     Ok(lines)
 }
 
-/// Adds the line of a range.
+// Adds the line of a range.
 fn push_range(
     lines: &mut Bytes,
     number: usize,

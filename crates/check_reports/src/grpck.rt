@@ -36,7 +36,7 @@ pub fn grpck(alloc: Global, asked: &Asked, files: &Files) -> Result<Decision, Al
     report_groups(alloc, asked, &known)
 }
 
-/// Reports the problems of group and gshadow, in the order of lines.
+// Reports the problems of group and gshadow, in the order of lines.
 fn report_groups(alloc: Global, asked: &Asked, known: &KnownGroups) -> Result<Decision, AllocError>
     ensures { IfOk result (λ decision. (files : Files)
         → DecidesBy asked.now.tool (grpck_report (groups_seen known.now)) files decision) }
@@ -98,8 +98,8 @@ impl<'a> Checks<GshadowRecord> for KnownGroups<'a> {
     ghost tells_repeated = { Prim.search (rules, append_assoc) };
 }
 
-/// Adds a problem for each user in the group's list who isn't in passwd. The users have commas
-/// between them.
+// Adds a problem for each user in the group's list who isn't in passwd. The users have commas
+// between them.
 fn note_unknown<'t>(
     problems: &mut Problems<'t>,
     known: &KnownGroups,
@@ -118,8 +118,8 @@ fn note_unknown<'t>(
     note_user(problems, known, group, listing, rest)
 }
 
-/// Adds a problem for the user in the group's list where passwd lacks it. Nothing between two
-/// commas is no user.
+// Adds a problem for the user in the group's list where passwd lacks it. Nothing between two
+// commas is no user.
 fn note_user<'t>(
     problems: &mut Problems<'t>,
     known: &KnownGroups,

@@ -103,7 +103,7 @@ impl<'a> Problem<'a> {
     }
 }
 
-/// No group has the primary GID of the user.
+// No group has the primary GID of the user.
 fn no_primary_group(alloc: Global, name: &[u8], gid: u32) -> Result<Bytes, AllocError>
     ensures { IfOk result (λ text. text ≡
         codes "user " ++ name.now ++ codes " has no primary group " ++ decimal gid) }
@@ -119,7 +119,7 @@ fn no_primary_group(alloc: Global, name: &[u8], gid: u32) -> Result<Bytes, Alloc
     )
 }
 
-/// What is told of a group and of a user whom it lists.
+// What is told of a group and of a user whom it lists.
 fn listed<'x>(
     alloc: Global,
     group: &'x [u8],

@@ -39,8 +39,8 @@ pub fn pwck(alloc: Global, asked: &Asked, files: &Files, today: u32) -> Result<D
     report_users(alloc, asked, &known)
 }
 
-/// Reports the problems of passwd and shadow, in the order of lines. Notices are left out with
-/// `-q`, and count for the status all the same.
+// Reports the problems of passwd and shadow, in the order of lines. Notices are left out with
+// `-q`, and count for the status all the same.
 fn report_users(alloc: Global, asked: &Asked, known: &KnownUsers) -> Result<Decision, AllocError>
     ensures { IfOk result (λ decision. (files : Files) → DecidesBy asked.now.tool
         (pwck_report asked.now (users_seen known.now) known.now.today) files decision) }
@@ -105,7 +105,7 @@ impl<'a> Checks<ShadowRecord> for KnownUsers<'a> {
     ghost tells_repeated = { Prim.search (rules, append_assoc) };
 }
 
-/// Whether a day lies after today, both in days since 1970-01-01.
+// Whether a day lies after today, both in days since 1970-01-01.
 fn is_after(today: u32, day: Option<u32>) -> bool
     ensures { result ≡ is_after today day }
 {

@@ -90,7 +90,7 @@ impl Report {
         Ok(())
     }
 
-    /// Adds the problems of the line with this text at a place, counted from 0.
+    // Adds the problems of the line with this text at a place, counted from 0.
     fn check_line<R: TableRecord, K: Checks<R>>(
         &mut self,
         alloc: Global,
@@ -110,7 +110,7 @@ impl Report {
         self.push_line(alloc, tab, place + 1, &problems)
     }
 
-    /// Adds the problems of a line, counted from 1.
+    // Adds the problems of a line, counted from 1.
     fn push_line(
         &mut self,
         alloc: Global,
@@ -126,7 +126,7 @@ impl Report {
         Ok(())
     }
 
-    /// Adds a problem of a line, counted from 1.
+    // Adds a problem of a line, counted from 1.
     fn push(
         &mut self,
         alloc: Global,
@@ -154,7 +154,7 @@ impl Report {
         told(alloc, status, self.lines)
     }
 
-    /// The status.
+    // The status.
     fn status(&self) -> u8
         ensures { result ≡ status_of self.now }
     {
@@ -162,7 +162,7 @@ impl Report {
     }
 }
 
-/// Adds the line that tells of the problem of a line, counted from 1.
+// Adds the line that tells of the problem of a line, counted from 1.
 fn push_problem(
     alloc: Global,
     out: &mut Bytes,
@@ -182,7 +182,7 @@ fn push_problem(
     out.push(b"\n")
 }
 
-/// The problems of the line with this text at a place; a line of NIS has none.
+// The problems of the line with this text at a place; a line of NIS has none.
 fn line_problems<'t, R: TableRecord, K: Checks<R>>(
     alloc: Global,
     known: &K,
@@ -207,7 +207,7 @@ fn line_problems<'t, R: TableRecord, K: Checks<R>>(
     }
 }
 
-/// Whether the line belongs to NIS: it begins with `+` or `-`.
+// Whether the line belongs to NIS: it begins with `+` or `-`.
 fn is_nis(line: &[u8]) -> bool
     ensures { result ≡ is_nis line.now }
 {

@@ -60,7 +60,7 @@ pub(crate) struct ByPlace<'a> {
 }
 
 impl<'a> ByPlace<'a> {
-    /// The order of the records of a file; an absent one has none.
+    // The order of the records of a file; an absent one has none.
     fn of<M: TableRecord + Drop>(alloc: Global, main: &'a Option<Bytes>) -> Result<Self, AllocError>
         ensures { IfOk result (IsOrderOf M.format (table_records M.format main.now)) }
     {
@@ -76,7 +76,7 @@ impl<'a> ByPlace<'a> {
         Ok(ByPlace { names, count })
     }
 
-    /// The place of the first record of the name; where none has it, how many records there are.
+    // The place of the first record of the name; where none has it, how many records there are.
     fn place(&self, name: &[u8]) -> usize
         ensures { result ≡ kept_place self.now name.now }
     {
@@ -135,7 +135,7 @@ pub(crate) fn sorted_like<M: TableRecord + Drop, R: TableRecord>(
     sorted_file::<R, ByPlace>(alloc, file, &order)
 }
 
-/// The text with its records sorted by the key.
+// The text with its records sorted by the key.
 fn sorted_text<R: TableRecord, K: SortKey<R>>(
     alloc: Global,
     text: &[u8],
@@ -149,7 +149,7 @@ fn sorted_text<R: TableRecord, K: SortKey<R>>(
     in_places::<R>(alloc, text, keyed.as_slice())
 }
 
-/// The texts of all records with their keys, in the order of lines.
+// The texts of all records with their keys, in the order of lines.
 fn keyed_texts<'t, R: TableRecord, K: SortKey<R>>(
     alloc: Global,
     text: &'t [u8],
@@ -166,7 +166,7 @@ fn keyed_texts<'t, R: TableRecord, K: SortKey<R>>(
     Ok(keyed)
 }
 
-/// Adds the text of a line with the key of its record; other text has none.
+// Adds the text of a line with the key of its record; other text has none.
 fn push_keyed<'t, R: TableRecord, K: SortKey<R>>(
     keyed: &mut Vec<Keyed<'t>>,
     text: &'t [u8],
@@ -183,7 +183,7 @@ fn push_keyed<'t, R: TableRecord, K: SortKey<R>>(
     Ok(())
 }
 
-/// Sorts the texts by their keys; of equal keys the earlier stays the earlier.
+// Sorts the texts by their keys; of equal keys the earlier stays the earlier.
 fn sort_keyed(keyed: &mut Vec<Keyed<'_>>) -> Result<(), AllocError>
     ensures { OnOk result (map seen_keyed keyed.new.items
         ≡ sorted_by_key (map seen_keyed keyed.old.items)) }
@@ -191,7 +191,7 @@ fn sort_keyed(keyed: &mut Vec<Keyed<'_>>) -> Result<(), AllocError>
     keyed.sort_by_key(|record| record.key)
 }
 
-/// The file's bytes with these texts, one after another, in the places of records.
+// The file's bytes with these texts, one after another, in the places of records.
 fn in_places<R: TableRecord>(
     alloc: Global,
     text: &[u8],
@@ -209,8 +209,8 @@ fn in_places<R: TableRecord>(
     Ok(made)
 }
 
-/// Adds a line; a record's gets the text that is next. Gives the place of the text that is next then,
-/// counted from 0.
+// Adds a line; a record's gets the text that is next. Gives the place of the text that is next then,
+// counted from 0.
 fn push_next<R: TableRecord>(
     made: &mut Bytes,
     line: &FileLine<'_>,
@@ -236,7 +236,7 @@ fn push_next<R: TableRecord>(
     Ok(next + 1)
 }
 
-/// Adds the text in the place of a line, which keeps its end.
+// Adds the text in the place of a line, which keeps its end.
 fn push_in_place(made: &mut Bytes, keyed: &Keyed<'_>, line: &FileLine<'_>) -> Result<(), AllocError>
     ensures { OnOk result (made.new ≡ made.old
         ++ line_bytes (record { text = keyed.now.text.now; ended = line.now.ended })) }

@@ -15,7 +15,7 @@ const BATCHES: u64 = 200;
 /// How many lines are tried for a batch; it has those that don't refuse.
 const LINES: u64 = 20;
 
-/// What a line may be, with `@` in the place of a user and `%` in that of a group.
+// What a line may be, with `@` in the place of a user and `%` in that of a group.
 fn form(number: u64) -> &'static [u8] {
     match number % 22 {
         0 => b"useradd @",
@@ -43,7 +43,7 @@ fn form(number: u64) -> &'static [u8] {
     }
 }
 
-/// A user that may stand, or not.
+// A user that may stand, or not.
 fn user(number: u64) -> &'static [u8] {
     match number % 6 {
         0 => b"bob",
@@ -55,7 +55,7 @@ fn user(number: u64) -> &'static [u8] {
     }
 }
 
-/// A group that may stand, or not.
+// A group that may stand, or not.
 fn group(number: u64) -> &'static [u8] {
     match number % 6 {
         0 => b"sudo",
@@ -67,7 +67,7 @@ fn group(number: u64) -> &'static [u8] {
     }
 }
 
-/// The next of the pseudo-random numbers.
+// The next of the pseudo-random numbers.
 fn drawn(state: &mut u64) -> u64 {
     *state = state
         .wrapping_mul(6_364_136_223_846_793_005)
@@ -75,7 +75,7 @@ fn drawn(state: &mut u64) -> u64 {
     *state >> 33
 }
 
-/// A line without its end.
+// A line without its end.
 fn line_of(alloc: Global, state: &mut u64) -> Result<Bytes, AllocError> {
     let mut line = Bytes::new(alloc);
     for byte in form(drawn(state)) {
@@ -88,7 +88,7 @@ fn line_of(alloc: Global, state: &mut u64) -> Result<Bytes, AllocError> {
     Ok(line)
 }
 
-/// The files of a small system.
+// The files of a small system.
 fn image_files(alloc: Global) -> Result<Contents, AllocError>
     ensures { IfOk result (λ files. All (λ file. IsName file.0) files.items) }
 {
@@ -100,7 +100,7 @@ fn image_files(alloc: Global) -> Result<Contents, AllocError>
     Ok(files)
 }
 
-/// A folder with these.
+// A folder with these.
 fn image(alloc: Global) -> Result<MemoryFolder, AllocError> {
     sound_folder(alloc, image_files(alloc)?)
 }
@@ -115,7 +115,7 @@ struct Wanted {
 }
 
 impl Wanted {
-    /// What a batch without lines comes to on the image.
+    // What a batch without lines comes to on the image.
     fn nothing(alloc: Global) -> Result<Self, AllocError> {
         Ok(Wanted {
             folder: image(alloc)?,
@@ -125,7 +125,7 @@ impl Wanted {
         })
     }
 
-    /// What a batch comes to in which the line of this number refuses, with this status, and tells this.
+    // What a batch comes to in which the line of this number refuses, with this status, and tells this.
     fn refusal(alloc: Global, number: u64, status: u8, told: &Bytes) -> Result<Self, AllocError> {
         let mut wanted = Wanted::nothing(alloc)?;
         wanted.status = status;
@@ -136,7 +136,7 @@ impl Wanted {
         Ok(wanted)
     }
 
-    /// Whether a batch of the lines comes to this.
+    // Whether a batch of the lines comes to this.
     fn is_of(&self, alloc: Global, lines: &Bytes) -> Result<bool, AllocError> {
         let mut folder = image(alloc)?;
         let mut streams = Streams::new(alloc, lines.as_slice(), None)?;
@@ -150,7 +150,7 @@ impl Wanted {
     }
 }
 
-/// Whether the six tables of both folders are the same.
+// Whether the six tables of both folders are the same.
 fn have_same_tables(folder: &MemoryFolder, other: &MemoryFolder) -> bool {
     Tab::all().iter().all(|table| text_at(folder, Name::Table(*table))
         == text_at(other, Name::Table(*table)))
@@ -164,7 +164,7 @@ struct Singly {
 }
 
 impl Singly {
-    /// No lines.
+    // No lines.
     fn none(alloc: Global) -> Result<Self, AllocError> {
         Ok(Singly {
             lines: Bytes::new(alloc),
@@ -172,8 +172,8 @@ impl Singly {
         })
     }
 
-    /// Runs the line of this number as a command of its own, and keeps it. Tells whether a batch with
-    /// it is refused as it is, where it refuses.
+    // Runs the line of this number as a command of its own, and keeps it. Tells whether a batch with
+    // it is refused as it is, where it refuses.
     fn run_line(&mut self, alloc: Global, number: u64, line: &Bytes) -> Result<bool, AllocError> {
         let command = pair(alloc, line.as_slice(), b" -P R")?;
         let mut streams = Streams::new(alloc, b"", None)?;
@@ -187,7 +187,7 @@ impl Singly {
         self.is_refused(alloc, line, &wanted)
     }
 
-    /// Keeps the line, with what it printed.
+    // Keeps the line, with what it printed.
     fn keep(&mut self, line: &Bytes, streams: &Streams) -> Result<(), AllocError> {
         self.lines.push(line.as_slice())?;
         self.lines.push(b"\n")?;
@@ -195,8 +195,8 @@ impl Singly {
         self.wanted.err.push(streams.err.held().as_slice())
     }
 
-    /// Whether a batch with the line behind the others comes to this. A comment stands in its place
-    /// from then on.
+    // Whether a batch with the line behind the others comes to this. A comment stands in its place
+    // from then on.
     fn is_refused(
         &mut self,
         alloc: Global,
@@ -209,7 +209,7 @@ impl Singly {
     }
 }
 
-/// Whether the lines that a seed draws are the same as a batch.
+// Whether the lines that a seed draws are the same as a batch.
 fn is_same(alloc: Global, seed: u64) -> Result<bool, AllocError> {
     let mut state = seed;
     let mut singly = Singly::none(alloc)?;
@@ -222,7 +222,7 @@ fn is_same(alloc: Global, seed: u64) -> Result<bool, AllocError> {
     singly.wanted.is_of(alloc, &singly.lines)
 }
 
-/// The first seed whose lines aren't.
+// The first seed whose lines aren't.
 fn first_other(alloc: Global) -> Result<Option<u64>, AllocError> {
     for seed in 0..BATCHES {
         if !is_same(alloc, seed)? {

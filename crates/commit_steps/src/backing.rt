@@ -68,7 +68,7 @@ impl Backing {
         pieces_left(self.walking.staged(), self.old())
     }
 
-    /// The old bytes of the next table.
+    // The old bytes of the next table.
     fn old(&self) -> &[u8]
         requires { 0 < steps_left self.now }
         ensures { IsSomeAnd (next_table self.now)
@@ -93,7 +93,7 @@ impl Backing {
         self.backup_call(alloc)
     }
 
-    /// The write of the intent's first piece.
+    // The write of the intent's first piece.
     fn intent_call(&self, alloc: Global) -> Result<Call, AllocError>
         requires { steps_left self.now ≡ 0 }
         ensures { IfOk result (IsNextCall (BacksUp self.now) (backing_call self.now)) }
@@ -102,7 +102,7 @@ impl Backing {
         Ok(Call::Write(Name::IntentStage, piece))
     }
 
-    /// The append of the next piece of the next table's old bytes.
+    // The append of the next piece of the next table's old bytes.
     fn append_call(&self, alloc: Global) -> Result<Call, AllocError>
         requires left { 0 < steps_left self.now }
         requires pieces { 0 < backup_pieces self.now }
@@ -112,7 +112,7 @@ impl Backing {
         Ok(Call::Append(Name::BackupStage, piece))
     }
 
-    /// The step for the backup of the next table.
+    // The step for the backup of the next table.
     fn backup_call(&self, alloc: Global) -> Result<Call, AllocError>
         requires left { 0 < steps_left self.now }
         requires whole { backup_pieces self.now ≡ 0 }
@@ -143,7 +143,7 @@ impl Backing {
         leads(self.append_on(count), appended, CommitStage::Before)
     }
 
-    /// One piece more is staged, of so many.
+    // One piece more is staged, of so many.
     fn append_on(self, count: usize) -> Self
         requires begun { has_staged self ≡ true }
         requires within { self.staged < count }
@@ -170,7 +170,7 @@ impl Backing {
         leads(self.step_on(), called, CommitStage::Before)
     }
 
-    /// One step further.
+    // One step further.
     fn step_on(self) -> Self
         requires { 0 < steps_left self }
         ensures { result ≡ step_on self }
@@ -199,8 +199,8 @@ impl Backing {
     }
 }
 
-/// Makes the next step for the backup of a table: the first piece of its old bytes is staged, and once all
-/// are, they are moved.
+// Makes the next step for the backup of a table: the first piece of its old bytes is staged, and once all
+// are, they are moved.
 fn back_up<F: Folder>(
     prepared: &Prepared,
     table: Tab,

@@ -88,7 +88,7 @@ impl IntentStaged {
         leads(self.append_on(count), appended, CommitStage::Before)
     }
 
-    /// One piece more is staged, of so many.
+    // One piece more is staged, of so many.
     fn append_on(mut self, count: usize) -> Self
         requires { self.staged < count }
         ensures { result ≡ append_intent self }

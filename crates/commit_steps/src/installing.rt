@@ -100,7 +100,7 @@ impl Installing {
         self.install_call(alloc)
     }
 
-    /// The call for the next table.
+    // The call for the next table.
     fn install_call(&self, alloc: Global) -> Result<Call, AllocError>
         requires left { 0 < steps_left self.now }
         requires whole { install_pieces self.now ≡ 0 }
@@ -130,7 +130,7 @@ impl Installing {
         leads(self.append_on(count), appended, CommitStage::Committed)
     }
 
-    /// One piece more is staged, of so many.
+    // One piece more is staged, of so many.
     fn append_on(self, count: usize) -> Self
         requires begun { has_staged self ≡ true }
         requires within { self.staged < count }
@@ -157,7 +157,7 @@ impl Installing {
         leads(self.step_on(), called, CommitStage::Committed)
     }
 
-    /// One step further.
+    // One step further.
     fn step_on(self) -> Self
         requires { 0 < steps_left self }
         ensures { result ≡ step_on self }
@@ -194,8 +194,8 @@ impl Cleared {
     }
 }
 
-/// Makes the next step for a table: the first piece of its new bytes is staged, and once all are, they are
-/// moved.
+// Makes the next step for a table: the first piece of its new bytes is staged, and once all are, they are
+// moved.
 fn install<F: Folder>(
     by: &Token,
     new: &NewTable,

@@ -118,7 +118,7 @@ impl Loader {
         Call::Read(self.next_name())
     }
 
-    /// The name that is read next.
+    // The name that is read next.
     fn next_name(&self) -> Name
         ensures { result ≡ next_name self.now.next }
     {
@@ -128,7 +128,7 @@ impl Loader {
         }
     }
 
-    /// What the read of the next name leads to.
+    // What the read of the next name leads to.
     fn after_read(self, name: Name, found: Result<Found, FolderFault>) -> Result<Loading, LoadEnd>
         requires name { name ≡ next_name self.next }
         requires limit { IfOk found (IsWithinLimit table_limit) }
@@ -147,7 +147,7 @@ impl Loader {
         }
     }
 
-    /// What the content of the next name leads to, None where it is absent.
+    // What the content of the next name leads to, None where it is absent.
     fn after_content(self, content: Option<Bytes>) -> Result<Loading, LoadEnd>
         requires { IfSome content (λ bytes. length bytes ≤ table_limit) }
         ensures shown { LoadsContent self self.next content result }
@@ -163,7 +163,7 @@ impl Loader {
         }
     }
 
-    /// What the content of the next table leads to, None where it is absent.
+    // What the content of the next table leads to, None where it is absent.
     fn after_table(mut self, table: Tab, content: Option<Bytes>) -> Result<Loading, LoadEnd>
         requires next { self.next ≡ Some table }
         requires limit { IfSome content (λ bytes. length bytes ≤ table_limit) }
@@ -179,7 +179,7 @@ impl Loader {
     }
 }
 
-/// Whether the table is absent, and one without which no tool runs.
+// Whether the table is absent, and one without which no tool runs.
 fn is_missing(table: Tab, content: &Option<Bytes>) -> bool
     ensures { result ≡ is_missing table content.now }
 {
@@ -189,7 +189,7 @@ fn is_missing(table: Tab, content: &Option<Bytes>) -> bool
     }
 }
 
-/// The table that is read after this one, and none after the last.
+// The table that is read after this one, and none after the last.
 fn table_after(table: Tab) -> Option<Tab>
     ensures { result ≡ table_after table }
 {

@@ -49,7 +49,7 @@ impl Env for Stopped {
     }
 }
 
-/// The clock of such a system.
+// The clock of such a system.
 fn clock(
     rt: &HostRuntime,
     seconds: u64,

@@ -12,7 +12,7 @@ use std::{fs, str};
 /// A token of another boot and another namespace, whose holder locked its file in the kernel.
 const ELSEWHERE: &str = "00000000-0000-4000-8000-000000000000.1.1.1.flock";
 
-/// Reads lock 1 and asks for the verdict on its holder.
+// Reads lock 1 and asks for the verdict on its holder.
 fn judged(
     rt: &HostRuntime,
     folder: &mut RealFolder<HostRuntime>,
@@ -21,7 +21,7 @@ fn judged(
     judged_by(rt, folder, "me", holder)
 }
 
-/// The same, as the session of a token.
+// The same, as the session of a token.
 fn judged_by(
     rt: &HostRuntime,
     folder: &mut RealFolder<HostRuntime>,
@@ -33,14 +33,14 @@ fn judged_by(
     Ok(folder.verdict(&by, &token(rt, holder)?)?)
 }
 
-/// Writes the text of a lock that the session of a token holds.
+// Writes the text of a lock that the session of a token holds.
 fn write_lock(rt: &HostRuntime, path: &str, holder: &str) -> Result<(), Fail> {
     let text = format!(in rt.alloc(); "held {holder}\n")?;
     fs::write(rt, path, text.as_str())?;
     Ok(())
 }
 
-/// The text of a token of this process, but for the mark of the kernel's lock.
+// The text of a token of this process, but for the mark of the kernel's lock.
 fn own_text(rt: &HostRuntime, dir: &str) -> Result<String, Fail> {
     let mut folder = image(rt, dir)?;
     let token = begun(rt, &mut folder)?;
@@ -50,7 +50,7 @@ fn own_text(rt: &HostRuntime, dir: &str) -> Result<String, Fail> {
     Ok(String::from_str(rt.alloc(), identity)?)
 }
 
-/// Begins and makes a lock of another boot and namespace, which holds it until the folder is dropped.
+// Begins and makes a lock of another boot and namespace, which holds it until the folder is dropped.
 fn holds_elsewhere<R: Files<File = File> + AllocGlobal + Clone + Drop>(
     rt: &HostRuntime,
     mut holder: RealFolder<R>,
@@ -93,7 +93,7 @@ fn a_holder_that_moved_on_is_told_alive(rt: HostRuntime) -> Result<(), Fail> {
     Ok(())
 }
 
-/// What is told of the holder of lock 1, once it has the text of this token.
+// What is told of the holder of lock 1, once it has the text of this token.
 fn told_of(
     rt: &HostRuntime,
     folder: &mut RealFolder<HostRuntime>,

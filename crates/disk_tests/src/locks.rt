@@ -26,7 +26,7 @@ pub(crate) fn created<R: Files<File = File> + AllocGlobal + Clone + Drop>(
     Ok(folder.create(&token(rt, by)?, 1)?)
 }
 
-/// How many files sessions have under names of their own.
+// How many files sessions have under names of their own.
 fn own_files(rt: &HostRuntime, etc: &str) -> Result<u32, Fail> {
     let mut count = 0u32;
     for entry in fs::read_dir(rt, etc)? {
@@ -37,7 +37,7 @@ fn own_files(rt: &HostRuntime, etc: &str) -> Result<u32, Fail> {
     Ok(count)
 }
 
-/// Begins and makes lock 1 in the one folder, and then in the other, which is the same on the disk.
+// Begins and makes lock 1 in the one folder, and then in the other, which is the same on the disk.
 fn creates_once<R: Files<File = File> + AllocGlobal + Clone + Drop>(
     rt: &HostRuntime,
     mine: &mut RealFolder<R>,
@@ -87,7 +87,7 @@ fn creates_for_all(rt: &HostRuntime, folder: &mut RealFolder<HostRuntime>) -> Re
     Ok(())
 }
 
-/// Takes lock 1 and frees it.
+// Takes lock 1 and frees it.
 fn pass_through(rt: &HostRuntime, dir: &str) -> Result<(), Fail> {
     let mut keeper = entered(rt, dir)?;
     frees(rt, &mut keeper, &token(rt, "keeper")?)

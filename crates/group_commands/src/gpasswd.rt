@@ -30,7 +30,7 @@ pub fn gpasswd(alloc: Global, asked: &Asked, tables: &Tables) -> Result<Script, 
     Ok(script_of(alloc, asked, tables)?)
 }
 
-/// Refuses the group and the users that aren't there.
+// Refuses the group and the users that aren't there.
 fn check_names(alloc: Global, asked: &Asked, tables: &Tables) -> Result<(), ToolFault>
     ensures { StopsBy
         (first_some (gpasswd_refusals (operand asked.now) asked.now tables.now)) result }
@@ -43,7 +43,7 @@ fn check_names(alloc: Global, asked: &Asked, tables: &Tables) -> Result<(), Tool
     check_comma(alloc, asked)
 }
 
-/// Refuses a user of `-a` that isn't there.
+// Refuses a user of `-a` that isn't there.
 fn check_added(alloc: Global, asked: &Asked, tables: &Tables) -> Result<(), ToolFault>
     ensures { StopsBy
         (refuse_value (codes "a") asked.now (λ user. missing_user user tables.now)) result }
@@ -54,7 +54,7 @@ fn check_added(alloc: Global, asked: &Asked, tables: &Tables) -> Result<(), Tool
     }
 }
 
-/// Refuses a user of `-d` that is no member.
+// Refuses a user of `-d` that is no member.
 fn check_removed(alloc: Global, asked: &Asked, tables: &Tables) -> Result<(), ToolFault>
     ensures { StopsBy
         (refuse_value (codes "d") asked.now (not_member (operand asked.now) tables.now)) result }
@@ -65,7 +65,7 @@ fn check_removed(alloc: Global, asked: &Asked, tables: &Tables) -> Result<(), To
     }
 }
 
-/// Refuses a user who isn't a member of the group: `NotMember`.
+// Refuses a user who isn't a member of the group: `NotMember`.
 fn check_member(alloc: Global, tables: &Tables, user: &[u8], group: &[u8]) -> Result<(), ToolFault>
     ensures { StopsBy (not_member group.now tables.now user.now) result }
 {
@@ -76,7 +76,7 @@ fn check_member(alloc: Global, tables: &Tables, user: &[u8], group: &[u8]) -> Re
     Err(ToolFault::Refused(Refusal::NotMember(user, group)))
 }
 
-/// Whether the user is a member of the group, in group or in gshadow.
+// Whether the user is a member of the group, in group or in gshadow.
 fn is_member(alloc: Global, tables: &Tables, user: &[u8], group: &[u8]) -> Result<bool, AllocError>
     ensures { IfOk result (λ is. is ≡ is_member user.now group.now tables.now) }
 {
@@ -84,7 +84,7 @@ fn is_member(alloc: Global, tables: &Tables, user: &[u8], group: &[u8]) -> Resul
     Ok(in_group || is_gshadow_member(alloc, tables, user, group)?)
 }
 
-/// Whether the user is a member of the group in group.
+// Whether the user is a member of the group in group.
 fn is_group_member(
     alloc: Global,
     tables: &Tables,
@@ -99,7 +99,7 @@ fn is_group_member(
     }
 }
 
-/// Whether the user is a member of the group in gshadow.
+// Whether the user is a member of the group in gshadow.
 fn is_gshadow_member(
     alloc: Global,
     tables: &Tables,
@@ -115,7 +115,7 @@ fn is_gshadow_member(
     }
 }
 
-/// Refuses the first user of an option's list that isn't there.
+// Refuses the first user of an option's list that isn't there.
 fn check_list(alloc: Global, asked: &Asked, tables: &Tables, letter: u8) -> Result<(), ToolFault>
     ensures { StopsBy (refuse_value (letter ∷ []) asked.now
         (λ users. missing_users (names_of_list users) tables.now)) result }
@@ -126,7 +126,7 @@ fn check_list(alloc: Global, asked: &Asked, tables: &Tables, letter: u8) -> Resu
     }
 }
 
-/// Refuses the first user between the commas of a text that isn't there.
+// Refuses the first user between the commas of a text that isn't there.
 fn check_listed(alloc: Global, tables: &Tables, users: &[u8]) -> Result<(), ToolFault>
     ensures { StopsBy (missing_users (names_of_list users.now) tables.now) result }
 {
@@ -134,7 +134,7 @@ fn check_listed(alloc: Global, tables: &Tables, users: &[u8]) -> Result<(), Tool
     tables.check_users(alloc, names.as_slice())
 }
 
-/// Refuses a user of `-a` who can't stand in a list.
+// Refuses a user of `-a` who can't stand in a list.
 fn check_comma(alloc: Global, asked: &Asked) -> Result<(), ToolFault>
     ensures { RefusesBy (refuse_value (codes "a") asked.now bad_list_name) result }
 {

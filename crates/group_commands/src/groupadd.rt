@@ -47,7 +47,7 @@ pub fn groupadd(
     Ok(script)
 }
 
-/// Refuses a bad name and bad values, and gives the settings with those of the `-K` words.
+// Refuses a bad name and bad values, and gives the settings with those of the `-K` words.
 fn check_words(alloc: Global, asked: &Asked, defs: &Defs) -> Result<Defs, ToolFault>
     ensures refused { RefusesBy
         (first_some (groupadd_checks (operand asked.now) asked.now)) result }
@@ -60,14 +60,14 @@ fn check_words(alloc: Global, asked: &Asked, defs: &Defs) -> Result<Defs, ToolFa
     Ok(settings)
 }
 
-/// Whether `-f` is given and the group exists.
+// Whether `-f` is given and the group exists.
 fn is_content(asked: &Asked, tables: &Tables) -> bool
     ensures { result ≡ is_content (operand asked.now) asked.now tables.now }
 {
     asked.has(b'f') && tables.has_group(asked.operand())
 }
 
-/// The GID of the new group, where neither its name nor its GID is taken.
+// The GID of the new group, where neither its name nor its GID is taken.
 fn gid_without_conflict(
     alloc: Global,
     asked: &Asked,
@@ -84,7 +84,7 @@ fn gid_without_conflict(
     new_gid(alloc, asked, tables, settings)?.ok_or(ToolFault::Refused(Refusal::NoFreeGid))
 }
 
-/// Refuses the GID of `-g` where it is taken: `GidInUse`. With `-f` another one is chosen.
+// Refuses the GID of `-g` where it is taken: `GidInUse`. With `-f` another one is chosen.
 fn check_given_gid(alloc: Global, asked: &Asked, tables: &Tables) -> Result<(), ToolFault>
     ensures { StopsBy (groupadd_used_gid asked.now tables.now) result }
 {
@@ -97,7 +97,7 @@ fn check_given_gid(alloc: Global, asked: &Asked, tables: &Tables) -> Result<(), 
     }
 }
 
-/// Refuses a GID that is taken: `GidInUse`.
+// Refuses a GID that is taken: `GidInUse`.
 fn check_gid_free(alloc: Global, asked: &Asked, tables: &Tables, gid: u32) -> Result<(), ToolFault>
     ensures { StopsBy (refuse_if (is_gid_taken asked.now tables.now gid) (Refusal.GidInUse gid))
         result }
@@ -108,7 +108,7 @@ fn check_gid_free(alloc: Global, asked: &Asked, tables: &Tables, gid: u32) -> Re
     Ok(())
 }
 
-/// Whether a group has the GID, and `-o` isn't given.
+// Whether a group has the GID, and `-o` isn't given.
 fn is_gid_taken(alloc: Global, asked: &Asked, tables: &Tables, gid: u32) -> Result<bool, AllocError>
     ensures { IfOk result (λ taken. taken ≡ is_gid_taken asked.now tables.now gid) }
 {
@@ -118,7 +118,7 @@ fn is_gid_taken(alloc: Global, asked: &Asked, tables: &Tables, gid: u32) -> Resu
     tables.is_gid_used(alloc, gid)
 }
 
-/// The GID of `-g`, and a chosen one where `-g` isn't given, or where with `-f` its GID is taken.
+// The GID of `-g`, and a chosen one where `-g` isn't given, or where with `-f` its GID is taken.
 fn new_gid(
     alloc: Global,
     asked: &Asked,

@@ -30,7 +30,7 @@ pub fn groupdel(alloc: Global, asked: &Asked, tables: &Tables) -> Result<Script,
     Ok(script)
 }
 
-/// Refuses a group that is the primary group of a user: `PrimaryGroup`, with the first such one.
+// Refuses a group that is the primary group of a user: `PrimaryGroup`, with the first such one.
 fn check_unused(alloc: Global, tables: &Tables, name: &[u8]) -> Result<(), ToolFault>
     ensures { StopsBy (still_primary name.now tables.now) result }
 {
@@ -40,8 +40,8 @@ fn check_unused(alloc: Global, tables: &Tables, name: &[u8]) -> Result<(), ToolF
     }
 }
 
-/// Refuses a group whose GID is that of a user's primary group: `PrimaryGroup`, with the first such
-/// user.
+// Refuses a group whose GID is that of a user's primary group: `PrimaryGroup`, with the first such
+// user.
 fn check_gid_unused(alloc: Global, tables: &Tables, group: &[u8], gid: u32) -> Result<(), ToolFault>
     ensures { StopsBy (option_map (λ user. PrimaryGroup group.now user.name)
         (find (λ user. user.gid == gid) (passwd_records tables.now))) result }
@@ -52,7 +52,7 @@ fn check_gid_unused(alloc: Global, tables: &Tables, group: &[u8], gid: u32) -> R
     }
 }
 
-/// Refuses the primary group of the user: `PrimaryGroup`.
+// Refuses the primary group of the user: `PrimaryGroup`.
 fn refuse_primary(alloc: Global, group: &[u8], user: &[u8]) -> Result<(), ToolFault>
     ensures { StopsBy (Some (PrimaryGroup group.now user.now)) result }
 {

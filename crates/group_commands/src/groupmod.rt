@@ -37,7 +37,7 @@ pub fn groupmod(alloc: Global, asked: &Asked, tables: &Tables) -> Result<Script,
     Ok(changed_group(alloc, asked, tables, group, &old)?)
 }
 
-/// The group of the name, by its first record; `NoGroup` refuses one that isn't there.
+// The group of the name, by its first record; `NoGroup` refuses one that isn't there.
 fn group_to_change(alloc: Global, tables: &Tables, group: &[u8]) -> Result<GroupRecord, ToolFault>
     ensures refused { StopsBy (missing_group group.now tables.now) result }
     ensures found { IfOk result (λ old. group_of_name group.now tables.now ≡ Some old) }
@@ -48,7 +48,7 @@ fn group_to_change(alloc: Global, tables: &Tables, group: &[u8]) -> Result<Group
     }
 }
 
-/// Refuses a name of `-n` that differs from the group's and is taken: `GroupExists`.
+// Refuses a name of `-n` that differs from the group's and is taken: `GroupExists`.
 fn check_new_name(
     alloc: Global,
     asked: &Asked,
@@ -64,7 +64,7 @@ fn check_new_name(
     }
 }
 
-/// Refuses a name that differs from the group's and is taken in group or gshadow: `GroupExists`.
+// Refuses a name that differs from the group's and is taken in group or gshadow: `GroupExists`.
 fn check_name_free(
     alloc: Global,
     tables: &Tables,
@@ -79,7 +79,7 @@ fn check_name_free(
     Err(ToolFault::Refused(Refusal::GroupExists(Bytes::of(alloc, name)?)))
 }
 
-/// Refuses a GID of `-g` that is another group's where `-o` isn't given: `GidInUse`.
+// Refuses a GID of `-g` that is another group's where `-o` isn't given: `GidInUse`.
 fn check_new_gid(
     alloc: Global,
     asked: &Asked,
@@ -99,7 +99,7 @@ fn check_new_gid(
     }
 }
 
-/// Refuses a GID that differs from the group's and is in use: `GidInUse`.
+// Refuses a GID that differs from the group's and is in use: `GidInUse`.
 fn check_gid_free(
     alloc: Global,
     tables: &Tables,
@@ -114,7 +114,7 @@ fn check_gid_free(
     Err(ToolFault::Refused(Refusal::GidInUse(gid)))
 }
 
-/// The edits of a group that can be changed so.
+// The edits of a group that can be changed so.
 fn changed_group(
     alloc: Global,
     asked: &Asked,
@@ -133,7 +133,7 @@ fn changed_group(
     Ok(script)
 }
 
-/// Sets the hash of `-p`.
+// Sets the hash of `-p`.
 fn write_hash(
     alloc: Global,
     script: &mut Script,
@@ -151,7 +151,7 @@ fn write_hash(
     }
 }
 
-/// Sets the GID of `-g`.
+// Sets the GID of `-g`.
 fn write_gid(
     alloc: Global,
     script: &mut Script,
@@ -170,7 +170,7 @@ fn write_gid(
     }
 }
 
-/// Sets the name of `-n`.
+// Sets the name of `-n`.
 fn write_name(
     alloc: Global,
     script: &mut Script,
@@ -186,7 +186,7 @@ fn write_name(
     }
 }
 
-/// Gives the group the GID, and so every user whose primary group had the old one.
+// Gives the group the GID, and so every user whose primary group had the old one.
 fn set_gid(
     alloc: Global,
     script: &mut Script,
@@ -202,7 +202,7 @@ fn set_gid(
     Ok(())
 }
 
-/// Gives the group the name, in group and gshadow.
+// Gives the group the name, in group and gshadow.
 fn rename_group(
     alloc: Global,
     script: &mut Script,

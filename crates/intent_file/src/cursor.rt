@@ -76,7 +76,7 @@ impl<'text> Cursor<'text> {
         Cursor { rest: text }
     }
 
-    /// Takes the bytes before the first `end`, and the end.
+    // Takes the bytes before the first `end`, and the end.
     fn word(&mut self, end: u8) -> Option<&'text [u8]>
         ensures { Takes (Lacks end) (word_part end) self.old (option_copied result) self.new }
     {
@@ -85,7 +85,7 @@ impl<'text> Cursor<'text> {
         Some(cut.before)
     }
 
-    /// Takes these bytes.
+    // Takes these bytes.
     fn literal(&mut self, text: &[u8]) -> Option<()>
         ensures { Takes (λ _. ⊤) (λ _. text.now) self.old result self.new }
     {
@@ -93,7 +93,7 @@ impl<'text> Cursor<'text> {
         Some(())
     }
 
-    /// Takes so many bytes.
+    // Takes so many bytes.
     fn bytes(&mut self, size: usize) -> Option<&'text [u8]>
         ensures { Takes (HasLength size) (λ bytes. bytes) self.old (option_copied result) self.new }
     {
@@ -102,7 +102,7 @@ impl<'text> Cursor<'text> {
         Some(bytes)
     }
 
-    /// Takes a number within the bounds, in decimal without leading zeros, and the end behind it.
+    // Takes a number within the bounds, in decimal without leading zeros, and the end behind it.
     fn number(&mut self, end: u8, least: u64, greatest: u64) -> Option<u64>
         requires { end < zero_digit }
         ensures { Takes (IsBetween least greatest) (number_part end) self.old result self.new }
@@ -111,7 +111,7 @@ impl<'text> Cursor<'text> {
         number_written(digits, least, greatest)
     }
 
-    /// Takes the name of a table, and a blank.
+    // Takes the name of a table, and a blank.
     fn table(&mut self) -> Option<Tab>
         ensures { Takes (λ _. ⊤) name_part self.old result self.new }
     {
@@ -119,7 +119,7 @@ impl<'text> Cursor<'text> {
         table_named(name)
     }
 
-    /// Takes the first words of a header, up to its version.
+    // Takes the first words of a header, up to its version.
     fn version(&mut self) -> Option<Version>
         ensures { Takes (λ _. ⊤) version_part self.old result self.new }
     {
@@ -128,7 +128,7 @@ impl<'text> Cursor<'text> {
         Some(version_of(number))
     }
 
-    /// Takes the number of the bytes that follow it, and a newline.
+    // Takes the number of the bytes that follow it, and a newline.
     fn total(&mut self) -> Option<()>
         ensures { TakesBefore (λ _. ⊤) (λ total _. number_part newline total)
             self.old result self.new }
@@ -139,7 +139,7 @@ impl<'text> Cursor<'text> {
         Some(())
     }
 
-    /// Takes the number of the tables, and what ends the header in the version.
+    // Takes the number of the tables, and what ends the header in the version.
     fn count(&mut self, version: Version) -> Option<u64>
         ensures { TakesBefore (IsBetween 1 6) (count_part version) self.old result self.new }
     {
@@ -208,7 +208,7 @@ impl<'text> Cursor<'text> {
     }
 }
 
-/// The version of this number, and version 2 for another number.
+// The version of this number, and version 2 for another number.
 fn version_of(number: u64) -> Version
     ensures { result ≡ version_of number }
 {
@@ -219,7 +219,7 @@ fn version_of(number: u64) -> Version
     }
 }
 
-/// The number within the bounds that the digits write without leading zeros.
+// The number within the bounds that the digits write without leading zeros.
 fn number_written(digits: &[u8], least: u64, greatest: u64) -> Option<u64>
     ensures { ReadsAs (IsBetween least greatest) decimal digits.now result }
 {
@@ -230,14 +230,14 @@ fn number_written(digits: &[u8], least: u64, greatest: u64) -> Option<u64>
     if number < least { None } else { Some(number) }
 }
 
-/// Whether there are more digits than one, and the first is `0`.
+// Whether there are more digits than one, and the first is `0`.
 fn has_leading_zero(digits: &[u8]) -> bool
     ensures { IsTrue result ↔ HasLeadingZero digits.now }
 {
     digits.len() > 1 && digits[0] == b'0'
 }
 
-/// The table with this name.
+// The table with this name.
 fn table_named(name: &[u8]) -> Option<Tab>
     ensures { result ≡ find (λ table. bytes_eq (table_name table) name.now) all_tables }
 {
@@ -247,7 +247,7 @@ fn table_named(name: &[u8]) -> Option<Tab>
         .find(|table| table.name().as_bytes() == name)
 }
 
-/// Whether the table comes later in the fixed order than the last of these.
+// Whether the table comes later in the fixed order than the last of these.
 fn comes_behind(table: Tab, before: &[NewTable]) -> bool
     ensures { result ≡ comes_behind table before.now }
 {

@@ -8,7 +8,7 @@ use acct_text::{Bytes, NewTable, push_decimal};
 use std::alloc::{AllocError, Global};
 
 impl Version {
-    /// The number of the version in the header.
+    // The number of the version in the header.
     fn number(self) -> u64
         ensures { result ≡ version_number self }
     {
@@ -41,7 +41,7 @@ pub fn header_of(
     Ok(text)
 }
 
-/// Adds what the version says of the bytes that follow the header.
+// Adds what the version says of the bytes that follow the header.
 fn push_total(
     alloc: Global,
     text: &mut Bytes,
@@ -62,7 +62,7 @@ fn push_total(
     }
 }
 
-/// How many bytes follow the header.
+// How many bytes follow the header.
 fn total_of(alloc: Global, tables: &[NewTable]) -> Result<u64, AllocError>
     requires in_order { is_in_order tables.now ≡ true }
     requires within_limit { is_within_limit tables.now ≡ true }
@@ -75,7 +75,7 @@ fn total_of(alloc: Global, tables: &[NewTable]) -> Result<u64, AllocError>
     Ok(total)
 }
 
-/// How many bytes the part of a table has.
+// How many bytes the part of a table has.
 fn part_length(alloc: Global, table: &NewTable) -> Result<u64, AllocError>
     ensures { IfOk result (λ total. total ≡ length (table_part table.now)) }
 {

@@ -87,7 +87,7 @@ impl Intent {
         Intent::in_version(alloc, Version::Two, number, tables)
     }
 
-    /// The same in a version.
+    // The same in a version.
     fn in_version(
         alloc: Global,
         version: Version,
@@ -200,14 +200,14 @@ impl Intent {
     }
 }
 
-/// The table among these that is the wanted one.
+// The table among these that is the wanted one.
 fn find_listed(tables: &[NewTable], of: Tab) -> Option<&NewTable>
     ensures { option_copied result ≡ find (λ listed. same_table listed.table of) tables.now }
 {
     tables.iter().find(|listed| listed.is_for(of))
 }
 
-/// The new bytes of the table, where they differ from the old.
+// The new bytes of the table, where they differ from the old.
 fn changed_bytes<'new>(table: Tab, old: &Files, new: &'new Files) -> Option<&'new Bytes>
     ensures { option_copied result
         ≡ changed_bytes (table_of old.now table) (table_of new.now table) }
@@ -219,7 +219,7 @@ fn changed_bytes<'new>(table: Tab, old: &Files, new: &'new Files) -> Option<&'ne
     }
 }
 
-/// The texts around the bytes of the tables, behind the header in front of the first.
+// The texts around the bytes of the tables, behind the header in front of the first.
 fn lines_of(alloc: Global, header: Bytes, tables: &[NewTable]) -> Result<Vec<Bytes>, AllocError>
     ensures { IfOk result (λ lines. lines.items ≡ lines_around header tables.now) }
 {
@@ -235,7 +235,7 @@ fn lines_of(alloc: Global, header: Bytes, tables: &[NewTable]) -> Result<Vec<Byt
     Ok(lines)
 }
 
-/// Adds the part of a table.
+// Adds the part of a table.
 fn push_table(text: &mut Bytes, table: &NewTable) -> Result<(), AllocError>
     ensures { OnOk result (text.new ≡ text.old ++ table_part table.now) }
 {
@@ -244,7 +244,7 @@ fn push_table(text: &mut Bytes, table: &NewTable) -> Result<(), AllocError>
     text.push(b"\n")
 }
 
-/// The piece of the text at the place, or the place behind all of its pieces.
+// The piece of the text at the place, or the place behind all of its pieces.
 fn piece_or_rest(text: &[u8], place: usize) -> Result<&[u8], usize>
     ensures piece { IfOk result (λ piece.
         slice_get (pieces_of text.now) place ≡ Some piece.now) }

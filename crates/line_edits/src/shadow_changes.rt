@@ -45,7 +45,7 @@ impl DaysChange {
         }
     }
 
-    /// What the field holds after the change.
+    // What the field holds after the change.
     fn after(self, old: Option<u32>) -> Option<u32>
         ensures { result ≡ unwrap_or (given_days self) old }
     {

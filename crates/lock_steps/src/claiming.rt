@@ -128,7 +128,7 @@ impl Judged {
         self.after_create(created)
     }
 
-    /// What the create leads to.
+    // What the create leads to.
     fn after_create(self, created: Result<Created, FolderFault>) -> Result<Claimed, LockEnd>
         ensures shown { Claims self created result }
         ensures failed { IsErrOf result folder_failed → IsErrOf created FolderFault.Failed }
@@ -164,7 +164,7 @@ impl Claimed {
         self.after_listing(listed)
     }
 
-    /// What the second listing leads to.
+    // What the second listing leads to.
     fn after_listing(self, listed: Result<Vec<u64>, FolderFault>) -> Result<Confirmed, LockEnd>
         requires { IfOk listed (λ numbers. All IsLockNumber numbers.items) }
         ensures shown { Confirms self (locks_result listed) result }
@@ -207,7 +207,7 @@ impl Loser {
         self.after_removal(removed)
     }
 
-    /// What the removal leads to.
+    // What the removal leads to.
     fn after_removal(self, removed: Result<(), FolderFault>) -> LockEnd
         ensures shown { Withdraws self removed result }
         ensures failed { result ≡ folder_failed → IsErrOf removed FolderFault.Failed }

@@ -79,14 +79,14 @@ impl Gathered {
         Ok(names)
     }
 
-    /// Whether it is to be read behind the intent.
+    // Whether it is to be read behind the intent.
     fn awaits(&self, name: Name) -> bool
         ensures { result ≡ awaits self.now name }
     {
         self.is_readable() && self.lacks(name)
     }
 
-    /// Whether the intent is absent or reads, so that the tables behind it are known.
+    // Whether the intent is absent or reads, so that the tables behind it are known.
     fn is_readable(&self) -> bool
         ensures { result ≡ is_readable self.now.intent }
     {
@@ -96,7 +96,7 @@ impl Gathered {
         }
     }
 
-    /// Whether it isn't a table that is there already.
+    // Whether it isn't a table that is there already.
     fn lacks(&self, name: Name) -> bool
         ensures { result ≡ lacks self.now.files name }
     {
@@ -124,7 +124,7 @@ impl Gathered {
         Ok(())
     }
 
-    /// Keeps these bytes of a table or of login.defs, None where it has none.
+    // Keeps these bytes of a table or of login.defs, None where it has none.
     fn put_content(&mut self, name: Name, content: Option<Bytes>)
         requires { IfSome content (λ bytes. length bytes ≤ table_limit) }
         ensures { self.new ≡ with_content name content self.old }
@@ -157,7 +157,7 @@ impl Gathered {
     }
 }
 
-/// The files of these tables; the others are absent.
+// The files of these tables; the others are absent.
 fn files_of(mut tables: Vec<NewTable>) -> Files
     ensures { result ≡ with_listed tables.items no_files }
 {
@@ -169,7 +169,7 @@ fn files_of(mut tables: Vec<NewTable>) -> Files
     files
 }
 
-/// The six tables in the fixed order, and login.defs.
+// The six tables in the fixed order, and login.defs.
 fn inputs() -> [Name; 7]
     ensures { result ≡ inputs }
 {

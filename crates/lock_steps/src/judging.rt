@@ -123,7 +123,7 @@ impl Looking {
         self.after_listing(listed)
     }
 
-    /// What the listing leads to.
+    // What the listing leads to.
     fn after_listing(self, listed: Result<Vec<u64>, FolderFault>) -> Result<Seen, LockEnd>
         requires { IfOk listed (λ numbers. All IsLockNumber numbers.items) }
         ensures shown { Looks self (locks_result listed) result }
@@ -181,7 +181,7 @@ impl Seen {
         self.after_read(alloc, found)
     }
 
-    /// What the read of the greatest lock leads to.
+    // What the read of the greatest lock leads to.
     fn after_read(self, alloc: Global, found: Result<Found, FolderFault>) -> Result<Told, LockEnd>
         ensures shown { Reads self (found_result found) result }
         ensures failed { IsErrOf result folder_failed → IsErrOf found FolderFault.Failed }
@@ -193,7 +193,7 @@ impl Seen {
         }
     }
 
-    /// What the text of the greatest lock leads to.
+    // What the text of the greatest lock leads to.
     fn after_text(self, alloc: Global, text: &[u8]) -> Result<Told, LockEnd>
         ensures shown { ReadsText self text.now result }
         ensures failed { ¬ (IsErrOf result folder_failed) }
@@ -230,7 +230,7 @@ impl Asking {
         self.after_verdict(verdict)
     }
 
-    /// What the verdict leads to.
+    // What the verdict leads to.
     fn after_verdict(self, verdict: Result<Verdict, FolderFault>) -> Result<Judged, LockEnd>
         ensures shown { Asks self verdict result }
         ensures failed { IsErrOf result folder_failed → IsErrOf verdict FolderFault.Failed }

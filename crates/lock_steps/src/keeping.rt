@@ -192,7 +192,7 @@ impl<K: Knowing> Keeper<K> {
         self.after_removal(removed)
     }
 
-    /// What the removal of the first lower lock leads to.
+    // What the removal of the first lower lock leads to.
     fn after_removal(mut self, removed: Result<(), FolderFault>) -> Result<Self, FolderFault>
         ensures shown { LeadsTo (cleaned_once self) removed result }
         ensures failed { IsErrOf result FolderFault.Failed → IsErrOf removed FolderFault.Failed }
@@ -216,7 +216,7 @@ impl<K: Knowing> Keeper<K> {
         self.after_write(written)
     }
 
-    /// What the write of the free text leads to.
+    // What the write of the free text leads to.
     fn after_write(self, written: Result<(), FolderFault>) -> Result<Freeing, FolderFault>
         ensures shown { LeadsTo (freeing_of self) written result }
         ensures failed { IsErrOf result FolderFault.Failed → IsErrOf written FolderFault.Failed }
@@ -250,7 +250,7 @@ impl Freeing {
         self.after_move(moved)
     }
 
-    /// What the move of the free text leads to.
+    // What the move of the free text leads to.
     fn after_move(self, moved: Result<(), FolderFault>) -> Result<Ended, FolderFault>
         ensures shown { LeadsTo the_end moved result }
         ensures failed { IsErrOf result FolderFault.Failed → IsErrOf moved FolderFault.Failed }

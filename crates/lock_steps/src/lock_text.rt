@@ -35,7 +35,7 @@ impl LockText {
     }
 }
 
-/// What stands between `held ` and the newline, and none where the text has another form.
+// What stands between `held ` and the newline, and none where the text has another form.
 fn named_session(text: &[u8]) -> Option<&[u8]>
     ensures { MatchOption result ((token : TokenText) → text.now ≢ held_text token)
         (λ named. text.now ≡ held_text named.now) }

@@ -119,7 +119,7 @@ impl Watcher {
         self.after_intent(alloc, found)
     }
 
-    /// What the read of the intent leads to.
+    // What the read of the intent leads to.
     fn after_intent(
         self,
         alloc: Global,
@@ -135,7 +135,7 @@ impl Watcher {
         }
     }
 
-    /// What the bytes of an intent lead to.
+    // What the bytes of an intent lead to.
     fn after_text(self, alloc: Global, text: &[u8]) -> Result<Reading, FolderFault>
         ensures shown { ReadsIntentFirst self (Ok (found_bytes text.now)) result }
         ensures failed { ¬ (IsErrOf result FolderFault.Failed) }
@@ -149,7 +149,7 @@ impl Watcher {
         }
     }
 
-    /// Before any other read, where this stands at the intent and it lists these tables.
+    // Before any other read, where this stands at the intent and it lists these tables.
     fn begin(
         self,
         alloc: Global,
@@ -213,7 +213,7 @@ impl Reading {
         self.after_read(found)
     }
 
-    /// What the read of the next name leads to.
+    // What the read of the next name leads to.
     fn after_read(mut self, found: Result<Found, FolderFault>) -> Result<Reading, FolderFault>
         requires left { 0 < length self.left }
         requires limit { IfOk found (IsWithinLimit table_limit) }
@@ -239,7 +239,7 @@ impl Reading {
         self.after_listing(listed)
     }
 
-    /// What the second listing leads to.
+    // What the second listing leads to.
     fn after_listing(self, listed: Result<Vec<u64>, FolderFault>) -> Result<Shown, LockEnd>
         requires { IfOk listed (λ numbers. All IsLockNumber numbers.items) }
         ensures shown { ConfirmsFound self (locks_result listed) result }

@@ -160,7 +160,7 @@ pub fn first_faulty(alloc: Global, input: &Bytes) -> Result<Option<FaultyLine>, 
     Ok(None)
 }
 
-/// The first fault of the words of a line, if they have one.
+// The first fault of the words of a line, if they have one.
 fn fault_of(alloc: Global, words: &[Word]) -> Result<Option<WordFault>, AllocError>
     ensures { IfOk result (λ fault. fault ≡ fault_line words.now) }
 {
@@ -170,7 +170,7 @@ fn fault_of(alloc: Global, words: &[Word]) -> Result<Option<WordFault>, AllocErr
     }
 }
 
-/// The fault, where it is one of the words; the error says that it was want of memory.
+// The fault, where it is one of the words; the error says that it was want of memory.
 fn told(fault: WordFault) -> Result<WordFault, AllocError>
     ensures { IfOk result (λ found. (found ≡ fault) × (fault ≢ WordFault.Memory)) }
 {
@@ -180,7 +180,7 @@ fn told(fault: WordFault) -> Result<WordFault, AllocError>
     }
 }
 
-/// The first line of a text, without its newline, and what stands behind that.
+// The first line of a text, without its newline, and what stands behind that.
 fn first_line(text: &[u8]) -> Sides<'_>
     requires { 0 < length text.now }
     ensures line { (number : ℕ) → all_from number text.now

@@ -41,7 +41,7 @@ impl<R: SystemClock + Env + AllocGlobal + Drop> RealClock<R> {
         self.faults.last.as_ref()
     }
 
-    /// Today, and an error where it isn't a day of the years 1970 to 9999.
+    // Today, and an error where it isn't a day of the years 1970 to 9999.
     fn today(&self) -> Result<u32, SystemError>
         ensures { IfOk result (λ day. day ≤ last_day) }
     {
@@ -55,7 +55,7 @@ impl<R: SystemClock + Env + AllocGlobal + Drop> RealClock<R> {
         }
     }
 
-    /// The day of the system's time.
+    // The day of the system's time.
     fn day_of_system(&self) -> Result<u32, SystemError>
         ensures { IfOk result (λ day. day ≤ last_day) }
     {
@@ -66,7 +66,7 @@ impl<R: SystemClock + Env + AllocGlobal + Drop> RealClock<R> {
     }
 }
 
-/// The day of a moment in seconds since 1970-01-01, and none where it is past 9999-12-31.
+// The day of a moment in seconds since 1970-01-01, and none where it is past 9999-12-31.
 fn day_of(seconds: u64) -> Option<u32>
     ensures { IfSome result (λ day. day ≤ last_day) }
 {
@@ -77,7 +77,7 @@ fn day_of(seconds: u64) -> Option<u32>
     Some(day as u32)
 }
 
-/// The day of a moment that is written in decimal digits.
+// The day of a moment that is written in decimal digits.
 fn day_of_text(seconds: &str) -> Result<u32, SystemError>
     ensures { IfOk result (λ day. day ≤ last_day) }
 {
@@ -90,7 +90,7 @@ fn day_of_text(seconds: &str) -> Result<u32, SystemError>
     }
 }
 
-/// The error of a variable that gives no moment.
+// The error of a variable that gives no moment.
 fn no_time() -> SystemError {
     SystemError::from(io::Error::other("SOURCE_DATE_EPOCH is no time"))
 }

@@ -39,7 +39,7 @@ impl SystemError {
     }
 }
 
-/// The words of a reason, without the number of the error behind them.
+// The words of a reason, without the number of the error behind them.
 fn words_of(reason: &str) -> &str {
     reason
         .split_once(" (os error ")

@@ -20,8 +20,8 @@ pub(crate) enum Links {
     Refused,
 }
 
-/// What stands at the path, which is to be a regular file: a folder, a device, a pipe or a refused
-/// link is an error, as no rename may replace it.
+// What stands at the path, which is to be a regular file: a folder, a device, a pipe or a refused
+// link is an error, as no rename may replace it.
 fn regular<R: Files>(rt: &R, path: &str, links: Links) -> io::Result<Metadata> {
     let standing = match links {
         Links::Followed => fs::metadata(rt, path)?,
@@ -33,7 +33,7 @@ fn regular<R: Files>(rt: &R, path: &str, links: Links) -> io::Result<Metadata> {
     Ok(standing)
 }
 
-/// The bytes of a file that stands, where it has at most `limit`.
+// The bytes of a file that stands, where it has at most `limit`.
 fn read_standing<R: Files + AllocGlobal>(
     rt: &R,
     path: &str,
@@ -123,7 +123,7 @@ pub(crate) fn take_on<R: Files + AllocGlobal>(
     about(rt.alloc(), path, set)
 }
 
-/// What the system answered a change of owner, where that it forbids it is no error.
+// What the system answered a change of owner, where that it forbids it is no error.
 fn unless_forbidden(changed: io::Result<()>) -> io::Result<()> {
     match changed {
         Err(e) if e.kind() == io::ErrorKind::PermissionDenied => Ok(()),

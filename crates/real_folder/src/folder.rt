@@ -63,27 +63,27 @@ impl<R: Files<File = File> + AllocGlobal + Clone + Drop> RealFolder<R> {
         self.faults.last.as_ref()
     }
 
-    /// Where the name stands.
+    // Where the name stands.
     fn path(&self, name: Name) -> Result<String, AllocError>
         ensures { IfOk result (λ p. string_bytes p ≡ path_at (string_bytes self.now.etc) name) }
     {
         path_of(self.rt.alloc(), self.etc.as_str(), name)
     }
 
-    /// Where the file stands that the session fills before it is its lock.
+    // Where the file stands that the session fills before it is its lock.
     fn own_path(&self, by: &Token) -> Result<String, AllocError> {
         let by = String::from_utf8_lossy(self.rt.alloc(), by.as_slice())?;
         own_path(self.rt.alloc(), self.etc.as_str(), by.as_str())
     }
 
-    /// What the system answered about a path.
+    // What the system answered about a path.
     fn at<T>(&self, path: &str, done: io::Result<T>) -> Result<T, SystemError>
         ensures { IfOk result (λ value. done ≡ Ok value) }
     {
         about(self.rt.alloc(), path, done)
     }
 
-    /// Answers a call that changes nothing: an error of the system is want of memory, or counted.
+    // Answers a call that changes nothing: an error of the system is want of memory, or counted.
     fn answer_look<T>(&mut self, found: Result<T, SystemError>) -> Result<T, FolderFault>
         ensures answers { IsOk result ↔ IsOk found }
         ensures answer { IfOk result (λ answer. found ≡ Ok answer) }
@@ -95,8 +95,8 @@ impl<R: Files<File = File> + AllocGlobal + Clone + Drop> RealFolder<R> {
         }
     }
 
-    /// Answers a call that changes files: each error of the system is counted, also want of memory
-    /// there, since the change may have happened.
+    // Answers a call that changes files: each error of the system is counted, also want of memory
+    // there, since the change may have happened.
     fn answer_change<T>(&mut self, done: Result<T, SystemError>) -> Result<T, FolderFault>
         ensures answers { IsOk result ↔ IsOk done }
         ensures answer { IfOk result (λ answer. done ≡ Ok answer) }
@@ -112,8 +112,8 @@ impl<R: Files<File = File> + AllocGlobal + Clone + Drop> RealFolder<R> {
         }
     }
 
-    /// The token of the session, which tells how the folder's file system lets it hold a lock. No file is
-    /// made: that is left to the create of the lock.
+    // The token of the session, which tells how the folder's file system lets it hold a lock. No file is
+    // made: that is left to the create of the lock.
     fn own_token(&mut self) -> Result<Token, SystemError>
         ensures { self.new.faults.count ≡ self.old.faults.count }
     {
@@ -126,7 +126,7 @@ impl<R: Files<File = File> + AllocGlobal + Clone + Drop> RealFolder<R> {
         }
     }
 
-    /// The numbers of the locks in the folder, ascending.
+    // The numbers of the locks in the folder, ascending.
     fn lock_numbers(&self) -> io::Result<Vec<u64>>
         ensures { IfOk result (λ numbers. All IsLockNumber numbers.items) }
     {
@@ -140,7 +140,7 @@ impl<R: Files<File = File> + AllocGlobal + Clone + Drop> RealFolder<R> {
         Ok(numbers)
     }
 
-    /// Reads a file. An intent that is found is to last before anyone carries it out.
+    // Reads a file. An intent that is found is to last before anyone carries it out.
     fn read_at(&self, name: Name, path: &str, limit: u64) -> Result<Found, SystemError>
         ensures { IfOk result (IsWithinLimit limit) }
     {
@@ -151,13 +151,13 @@ impl<R: Files<File = File> + AllocGlobal + Clone + Drop> RealFolder<R> {
         Ok(found)
     }
 
-    /// Makes what was renamed in the folder last.
+    // Makes what was renamed in the folder last.
     fn sync_folder(&self) -> Result<(), SystemError> {
         let etc = self.etc.as_str();
         self.at(etc, files::sync_folder(&self.rt, etc))
     }
 
-    /// Claims a file and makes a lock of it.
+    // Claims a file and makes a lock of it.
     fn make_lock(&mut self, own: String, lock: &str, text: &[u8]) -> Result<Created, SystemError>
         ensures { self.new.faults.count ≡ self.old.faults.count }
     {
@@ -167,8 +167,8 @@ impl<R: Files<File = File> + AllocGlobal + Clone + Drop> RealFolder<R> {
         placed
     }
 
-    /// Begins a staging file with its first piece, and with the access of the table that it is for. Of
-    /// what is to be a backup only the rename knows the table.
+    // Begins a staging file with its first piece, and with the access of the table that it is for. Of
+    // what is to be a backup only the rename knows the table.
     fn begin_at(
         &mut self,
         name: Name,
@@ -187,7 +187,7 @@ impl<R: Files<File = File> + AllocGlobal + Clone + Drop> RealFolder<R> {
         Ok(())
     }
 
-    /// Puts a piece behind what the session stages at the name. Where a piece fails, the file is let go.
+    // Puts a piece behind what the session stages at the name. Where a piece fails, the file is let go.
     fn continue_at(&mut self, name: Name, path: &str, piece: &[u8]) -> Result<(), SystemError>
         ensures { self.new.faults.count ≡ self.old.faults.count }
     {
@@ -204,7 +204,7 @@ impl<R: Files<File = File> + AllocGlobal + Clone + Drop> RealFolder<R> {
         self.at(path, pushed)
     }
 
-    /// The file that the session stages at the name, which it lets go.
+    // The file that the session stages at the name, which it lets go.
     fn take_staged(&mut self, name: Name) -> Option<StagedFile>
         ensures { self.new.faults.count ≡ self.old.faults.count }
     {
@@ -214,9 +214,9 @@ impl<R: Files<File = File> + AllocGlobal + Clone + Drop> RealFolder<R> {
         }
     }
 
-    /// Renames a file to a name, once all that the session staged there is on the disk. The rename to
-    /// the intent is the commit, and is to last once it is answered. With the freed lock goes what others
-    /// left over.
+    // Renames a file to a name, once all that the session staged there is on the disk. The rename to
+    // the intent is the commit, and is to last once it is answered. With the freed lock goes what others
+    // left over.
     fn rename_to(
         &mut self,
         from: Name,
@@ -243,8 +243,8 @@ impl<R: Files<File = File> + AllocGlobal + Clone + Drop> RealFolder<R> {
         Ok(())
     }
 
-    /// Removes the file of a name. Before the intent goes, by which a recovery redoes them, the renames
-    /// to the tables are to last.
+    // Removes the file of a name. Before the intent goes, by which a recovery redoes them, the renames
+    // to the tables are to last.
     fn remove_at(&self, name: Name, path: &str) -> Result<(), SystemError> {
         if name == Name::Intent {
             self.sync_folder()?;
@@ -253,7 +253,7 @@ impl<R: Files<File = File> + AllocGlobal + Clone + Drop> RealFolder<R> {
     }
 }
 
-/// The text of a lock that the session holds.
+// The text of a lock that the session holds.
 fn held_text(alloc: Global, by: &Token) -> Result<Bytes, AllocError>
     ensures { IfOk result (λ text. text ≡ held by.now) }
 {
@@ -263,7 +263,7 @@ fn held_text(alloc: Global, by: &Token) -> Result<Bytes, AllocError>
     Ok(text)
 }
 
-/// The token that the text is.
+// The token that the text is.
 fn token_of(alloc: Global, text: &String) -> Result<Token, SystemError> {
     match Token::read(alloc, text.as_str().as_bytes())? {
         Some(token) => Ok(token),
@@ -271,7 +271,7 @@ fn token_of(alloc: Global, text: &String) -> Result<Token, SystemError> {
     }
 }
 
-/// The table whose mode and owner go with what is staged for it or is its backup.
+// The table whose mode and owner go with what is staged for it or is its backup.
 fn model_of(name: Name) -> Name {
     match name {
         Name::Staged(table) | Name::Backup(table) => Name::Table(table),
@@ -279,12 +279,12 @@ fn model_of(name: Name) -> Name {
     }
 }
 
-/// Removes what a write or an append has left that failed: a part of a file would only fill the disk.
+// Removes what a write or an append has left that failed: a part of a file would only fill the disk.
 fn remove_part<R: Files>(rt: &R, path: &str) {
     let _ = files::remove(rt, path);
 }
 
-/// Whether a link may stand at the name. Only login.defs(5) is never replaced.
+// Whether a link may stand at the name. Only login.defs(5) is never replaced.
 fn links_at(name: Name) -> Links {
     match name {
         Name::Defs => Links::Followed,

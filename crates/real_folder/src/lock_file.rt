@@ -50,11 +50,11 @@ pub(crate) struct LockFile {
     own: Option<String>,
 }
 
-/// Makes an empty file at a path where nothing stands, and has the kernel lock it. Without such locks
-/// it is removed again, and none is given.
-///
-/// Before it is locked a keeper may take it for one that was left over, and remove it: then the claim
-/// begins anew.
+// Makes an empty file at a path where nothing stands, and has the kernel lock it. Without such locks
+// it is removed again, and none is given.
+//
+// Before it is locked a keeper may take it for one that was left over, and remove it: then the claim
+// begins anew.
 fn claim<R: Files<File = File>>(rt: &R, path: &str) -> io::Result<Option<File>> {
     for _ in 0..CLAIMS {
         let file = files::make(rt, path, CLAIM_MODE)?;
@@ -69,7 +69,7 @@ fn claim<R: Files<File = File>>(rt: &R, path: &str) -> io::Result<Option<File>> 
     Err(io::Error::from(ErrorKind::TimedOut))
 }
 
-/// Whether the path is one of the file's names.
+// Whether the path is one of the file's names.
 fn stands_at<R: Files>(rt: &R, file: &File, path: &str) -> io::Result<bool> {
     let own = file.metadata()?;
     match fs::symlink_metadata(rt, path) {
@@ -79,8 +79,8 @@ fn stands_at<R: Files>(rt: &R, file: &File, path: &str) -> io::Result<bool> {
     }
 }
 
-/// Claims a file as `claim` does, in place of one that a process left which had the number and the start of
-/// this one and was stopped.
+// Claims a file as `claim` does, in place of one that a process left which had the number and the start of
+// this one and was stopped.
 fn claim_own<R: Files<File = File>>(rt: &R, own: &str) -> io::Result<Option<File>> {
     match claim(rt, own) {
         Err(e) if e.kind() == ErrorKind::AlreadyExists => {
@@ -131,14 +131,14 @@ impl LockFile {
         }
     }
 
-    /// Writes the text of the lock to the disk, for all to read.
+    // Writes the text of the lock to the disk, for all to read.
     fn fill(&mut self, text: &[u8]) -> io::Result<()> {
         self.file
             .set_permissions(Permissions::from_mode(LOCK_MODE))?;
         files::fill(&mut self.file, text)
     }
 
-    /// Gives the file the lock's name beside its own.
+    // Gives the file the lock's name beside its own.
     fn link<R: Files<File = File>>(&self, rt: &R, lock: &str) -> io::Result<()> {
         match &self.own {
             Some(own) => fs::hard_link(rt, own.as_str(), lock),
@@ -154,8 +154,8 @@ impl LockFile {
         }
     }
 
-    /// Makes the file anew under the lock's name, where the file system has no hard links. There it is
-    /// empty until it is filled, and is removed again where it can't be.
+    // Makes the file anew under the lock's name, where the file system has no hard links. There it is
+    // empty until it is filled, and is removed again where it can't be.
     fn make_in_place<R: Files<File = File>>(
         &mut self,
         rt: &R,
@@ -174,7 +174,7 @@ impl LockFile {
     }
 }
 
-/// Makes an empty file at a path where nothing stands, held as its token tells.
+// Makes an empty file at a path where nothing stands, held as its token tells.
 fn make_held<R: Files<File = File>>(rt: &R, path: &str, hold: Hold) -> io::Result<File> {
     match hold {
         Hold::Kernel => claim(rt, path)?.ok_or(io::Error::from(ErrorKind::Unsupported)),
@@ -182,7 +182,7 @@ fn make_held<R: Files<File = File>>(rt: &R, path: &str, hold: Hold) -> io::Resul
     }
 }
 
-/// Whether the error says that the file system has no hard links (link(2), EPERM and EOPNOTSUPP).
+// Whether the error says that the file system has no hard links (link(2), EPERM and EOPNOTSUPP).
 fn has_no_links(error: &io::Error) -> bool {
     error.kind() == ErrorKind::PermissionDenied || error.kind() == ErrorKind::Unsupported
 }
@@ -237,7 +237,7 @@ pub(crate) fn remove_left_over<R: Files<File = File> + AllocGlobal + Clone + Dro
     Ok(())
 }
 
-/// Removes a file that nobody holds. It is locked meanwhile, so that nobody claims it.
+// Removes a file that nobody holds. It is locked meanwhile, so that nobody claims it.
 fn remove_unheld<R: Files<File = File>>(rt: &R, path: &str) -> io::Result<()> {
     let file = File::open(rt, path)?;
     match file.try_lock_shared() {

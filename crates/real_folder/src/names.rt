@@ -36,7 +36,7 @@ pub(crate) fn own_path(alloc: Global, etc: &str, token: &str) -> Result<String, 
     path_to(alloc, etc, file.as_str())
 }
 
-/// The path of a file in the folder.
+// The path of a file in the folder.
 fn path_to(alloc: Global, etc: &str, file: &str) -> Result<String, AllocError>
     ensures { IfOk result (λ path. string_bytes path ≡ path_in etc.now file.now) }
 {
@@ -46,14 +46,14 @@ fn path_to(alloc: Global, etc: &str, file: &str) -> Result<String, AllocError>
     path_below(alloc, etc, file)
 }
 
-/// The path of a file in a folder that was named.
+// The path of a file in a folder that was named.
 fn path_below(alloc: Global, etc: &str, file: &str) -> Result<String, AllocError>
     ensures { IfOk result (λ path. string_bytes path ≡ etc.now ++ codes "/" ++ file.now) }
 {
     format!(in alloc; "{etc}/{file}")
 }
 
-/// The name of the file in the folder.
+// The name of the file in the folder.
 fn file_of(alloc: Global, name: Name) -> Result<String, AllocError>
     ensures { IfOk result (λ file. string_bytes file ≡ file_name name) }
 {
@@ -85,7 +85,7 @@ pub(crate) fn lock_number(file: &str) -> Option<u64>
     number_in(file.strip_prefix("accounts.lock.")?.as_bytes())
 }
 
-/// The number of a lock whose digits these are.
+// The number of a lock whose digits these are.
 fn number_in(digits: &[u8]) -> Option<u64>
     ensures printed { FindsLock decimal digits.now result }
     ensures bounds { IfSome result IsLockNumber }

@@ -125,8 +125,8 @@ pub(crate) fn sight_of<R: Files + AllocGlobal>(
     }
 }
 
-/// What it means that a process isn't seen: where /proc hides the processes of others (its mount
-/// option `hidepid`), it hides the first process too, which always runs.
+// What it means that a process isn't seen: where /proc hides the processes of others (its mount
+// option `hidepid`), it hides the first process too, which always runs.
 fn sight_of_unseen<R: Files>(rt: &R) -> io::Result<Sight> {
     match fs::metadata(rt, "/proc/1") {
         Ok(_) => Ok(Sight::Ended),
@@ -135,7 +135,7 @@ fn sight_of_unseen<R: Files>(rt: &R) -> io::Result<Sight> {
     }
 }
 
-/// Whether the error says that no such process is seen, or that it ended while it was looked at.
+// Whether the error says that no such process is seen, or that it ended while it was looked at.
 fn is_unseen(error: &io::Error) -> bool {
     error.kind() == io::ErrorKind::NotFound || error.raw_os_error() == Some(NO_SUCH_PROCESS)
 }
@@ -144,7 +144,7 @@ fn is_number(text: &str) -> bool {
     !text.is_empty() && text.bytes().all(|byte| byte.is_ascii_digit())
 }
 
-/// Whether the text has the form of a boot's, as `0b1c2d3e-0000-4000-8000-000000000000`.
+// Whether the text has the form of a boot's, as `0b1c2d3e-0000-4000-8000-000000000000`.
 fn is_boot(text: &str) -> bool {
     text.len() == 36
         && text
@@ -158,7 +158,7 @@ fn boot_id<R: Files + AllocGlobal>(rt: &R) -> Result<String, SystemError> {
     Ok(String::from_str(rt.alloc(), text.as_str().trim())?)
 }
 
-/// The number of this process's namespace, from a link as `pid:[4026531836]`.
+// The number of this process's namespace, from a link as `pid:[4026531836]`.
 fn own_namespace<R: Files + AllocGlobal>(rt: &R) -> Result<String, SystemError> {
     let path = "/proc/self/ns/pid";
     let link = about(rt.alloc(), path, fs::read_link(rt, path))?;
@@ -169,32 +169,32 @@ fn own_namespace<R: Files + AllocGlobal>(rt: &R) -> Result<String, SystemError> 
     Ok(String::from_str(rt.alloc(), number)?)
 }
 
-/// The stat file of a process. The name of its program in it may hold bytes that are no text.
+// The stat file of a process. The name of its program in it may hold bytes that are no text.
 fn stat_of<R: Files + AllocGlobal>(rt: &R, process: &str) -> io::Result<String> {
     let path = format!(in rt.alloc(); "/proc/{process}/stat")?;
     let bytes = fs::read(rt, path.as_str())?;
     Ok(String::from_utf8_lossy(rt.alloc(), &bytes)?)
 }
 
-/// Field 1 of a stat file, the process number.
+// Field 1 of a stat file, the process number.
 fn number_in(stat: &str) -> &str {
     stat.split_once(' ').map_or("", |parts| parts.0)
 }
 
-/// Field 22 of a stat file, the start.
+// Field 22 of a stat file, the start.
 fn start_in(stat: &str) -> &str {
     field_behind_name(stat, 19)
 }
 
-/// Whether the stat file is of a process with this start that runs: field 3 is `Z` or `X` where it has
-/// ended and its parent hasn't waited for it.
+// Whether the stat file is of a process with this start that runs: field 3 is `Z` or `X` where it has
+// ended and its parent hasn't waited for it.
 fn runs(stat: &str, start: &str) -> bool {
     let state = field_behind_name(stat, 0);
     start_in(stat) == start && state != "Z" && state != "X"
 }
 
-/// A field of a stat file, counted from 0 behind field 2. That is a name in parentheses, which may hold
-/// blanks and parentheses, so the fields are counted from its end.
+// A field of a stat file, counted from 0 behind field 2. That is a name in parentheses, which may hold
+// blanks and parentheses, so the fields are counted from its end.
 fn field_behind_name(stat: &str, place: usize) -> &str {
     let fields = stat.rsplit_once(')').map_or("", |parts| parts.1);
     fields.split_whitespace().nth(place).unwrap_or("")

@@ -53,7 +53,7 @@ impl StagedFile {
     }
 }
 
-/// The mode of what is written at a name. All may read a freed lock.
+// The mode of what is written at a name. All may read a freed lock.
 fn mode_of(name: Name) -> u32 {
     match name {
         Name::FreeStage => LOCK_MODE,

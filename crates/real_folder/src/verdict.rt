@@ -30,13 +30,13 @@ pub(crate) fn verdict_of<R: Files<File = File> + AllocGlobal>(
     }
 }
 
-/// The holder that a token names, and none where it has another form.
+// The holder that a token names, and none where it has another form.
 fn holder_of(token: &Token) -> Option<Holder<'_>> {
     Holder::read(str::from_utf8(token.as_slice()).ok()?)
 }
 
-/// The verdict on a holder that had its lock file locked, which is free: its process has ended, unless
-/// /proc shows it, as where the lock is the copy of another.
+// The verdict on a holder that had its lock file locked, which is free: its process has ended, unless
+// /proc shows it, as where the lock is the copy of another.
 fn verdict_on_free<R: Files + AllocGlobal>(
     rt: &R,
     process: Identity<'_>,
@@ -50,7 +50,7 @@ fn verdict_on_free<R: Files + AllocGlobal>(
     }
 }
 
-/// The verdict on a holder of whom nothing but its process is known.
+// The verdict on a holder of whom nothing but its process is known.
 fn verdict_by_process<R: Files + AllocGlobal>(
     rt: &R,
     process: Identity<'_>,

@@ -36,7 +36,7 @@ pub fn read_intent<F: Folder>(
     after_read(alloc, keeper, folder, found)
 }
 
-/// What the read of the intent leads to.
+// What the read of the intent leads to.
 fn after_read<F: Folder>(
     alloc: Global,
     keeper: Keeper<Unknown>,
@@ -57,7 +57,7 @@ fn after_read<F: Folder>(
     }
 }
 
-/// What the bytes of an intent lead to.
+// What the bytes of an intent lead to.
 fn after_bytes(
     alloc: Global,
     keeper: Keeper<Unknown>,

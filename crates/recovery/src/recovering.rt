@@ -84,14 +84,14 @@ impl Recovering {
         self.left.len()
     }
 
-    /// The token of its session.
+    // The token of its session.
     fn token(&self) -> &Token
         ensures { result.now ≡ self.now.keeper.token }
     {
         self.keeper.token()
     }
 
-    /// The first of the tables that are left.
+    // The first of the tables that are left.
     fn next(&self) -> &NewTable
         requires { 0 < length self.now.left }
         ensures { slice_get self.now.left 0 ≡ Some result.now }
@@ -125,7 +125,7 @@ impl Recovering {
         leads(self.begun(), staged, CommitStage::Before)
     }
 
-    /// Its first piece is staged.
+    // Its first piece is staged.
     fn begun(self) -> Moving
         requires { 0 < length self.left }
         ensures { result ≡ mover_of 1 self }
@@ -136,7 +136,7 @@ impl Recovering {
         }
     }
 
-    /// One table less is left.
+    // One table less is left.
     fn moved_once(mut self) -> Self
         ensures { result ≡ record self { left = drop 1 self.left } }
     {
@@ -158,7 +158,7 @@ impl Recovering {
         self.after_removal(folder, removed)
     }
 
-    /// What the removal of the intent leads to.
+    // What the removal of the intent leads to.
     fn after_removal<F: Folder>(
         self,
         folder: &F,
@@ -212,7 +212,7 @@ impl Moving {
         leads(self.appended_once(count), appended, CommitStage::Before)
     }
 
-    /// One piece more is staged, of so many.
+    // One piece more is staged, of so many.
     fn appended_once(mut self, count: usize) -> Self
         requires { self.staged < count }
         ensures { result ≡ appended_once self }

@@ -36,8 +36,8 @@ pub(crate) fn run_in(
     ))
 }
 
-/// Whether a tool's answer changed the tables. Nothing stands in the way of a command here, and nothing
-/// outside fails, so that where no tool answered memory ran out, as the error says.
+// Whether a tool's answer changed the tables. Nothing stands in the way of a command here, and nothing
+// outside fails, so that where no tool answered memory ran out, as the error says.
 fn is_changed(outcome: Outcome) -> Result<bool, AllocError>
     ensures { IfOk result (λ changed.
         IsDecided outcome.cause × (changed ≡ is_changed outcome.cause)) }
@@ -45,7 +45,7 @@ fn is_changed(outcome: Outcome) -> Result<bool, AllocError>
     is_change(&outcome.cause)
 }
 
-/// The same of the cause.
+// The same of the cause.
 fn is_change(cause: &Cause) -> Result<bool, AllocError>
     ensures { IfOk result (λ changed. IsDecided cause.now × (changed ≡ is_changed cause.now)) }
 {

@@ -50,14 +50,14 @@ pub(crate) fn asked_by(words: &[Word]) -> Option<Rehearsal>
     Some(Rehearsal { seed, count })
 }
 
-/// Whether the word is `rehearse`.
+// Whether the word is `rehearse`.
 fn names_rehearsal(word: &Word) -> bool
     ensures { IsTrue result ↔ (word.now ≡ codes "rehearse") }
 {
     word.as_slice() == b"rehearse".as_slice()
 }
 
-/// The decimal number of a word, where it is one within the bound.
+// The decimal number of a word, where it is one within the bound.
 fn number_in(word: &Word, bound: u64) -> Option<u64>
     ensures { result ≡ number_within bound word.now }
 {

@@ -61,7 +61,7 @@ impl Command {
         Ok(words)
     }
 
-    /// The tool of the command.
+    // The tool of the command.
     fn tool(self) -> Tool
         ensures { result ≡ tool_of self }
     {
@@ -75,7 +75,7 @@ impl Command {
         }
     }
 
-    /// Adds the words that stand behind the image.
+    // Adds the words that stand behind the image.
     fn push_own(self, alloc: Global, words: &mut Vec<Word>) -> Result<(), AllocError>
         ensures { OnOk result (words.new.items ≡ words.old.items ++ own_words self) }
     {
@@ -101,7 +101,7 @@ impl Command {
     }
 }
 
-/// Adds the words by which a user joins the group of its number.
+// Adds the words by which a user joins the group of its number.
 fn push_join(alloc: Global, words: &mut Vec<Word>, number: u64) -> Result<(), AllocError>
     ensures { OnOk result (words.new.items ≡ words.old.items ++ own_words (Command.JoinGroup number)) }
 {
@@ -111,7 +111,7 @@ fn push_join(alloc: Global, words: &mut Vec<Word>, number: u64) -> Result<(), Al
     push_name(alloc, words, b"u", number)
 }
 
-/// Adds a word.
+// Adds a word.
 fn push(alloc: Global, words: &mut Vec<Word>, text: &[u8]) -> Result<(), AllocError>
     ensures { OnOk result (words.new.items ≡ words.old.items ++ text.now ∷ []) }
 {
@@ -119,7 +119,7 @@ fn push(alloc: Global, words: &mut Vec<Word>, text: &[u8]) -> Result<(), AllocEr
     Ok(())
 }
 
-/// Adds a name: a letter with a number behind it.
+// Adds a name: a letter with a number behind it.
 fn push_name(
     alloc: Global,
     words: &mut Vec<Word>,

@@ -21,7 +21,7 @@ pub struct Reached {
 }
 
 impl Reached {
-    /// Where each rehearsal begins: six empty tables, and no change.
+    // Where each rehearsal begins: six empty tables, and no change.
     fn beginning(alloc: Global) -> Self
         ensures { result ≡ beginning }
     {
@@ -31,7 +31,7 @@ impl Reached {
         }
     }
 
-    /// What the command of the words leaves. The error says that memory ran out.
+    // What the command of the words leaves. The error says that memory ran out.
     fn after_words(&self, alloc: Global, words: &[Word]) -> Result<Self, AllocError>
         requires tables { AllStand self.now.files }
         requires changed { self.now.changed < most_commands }
@@ -45,7 +45,7 @@ impl Reached {
     }
 }
 
-/// One more, where the command changed the tables.
+// One more, where the command changed the tables.
 fn counted(changed: u64, changes: bool) -> u64
     requires { changed < most_commands }
     ensures { result ≡ (if changes then changed + 1 else changed) }

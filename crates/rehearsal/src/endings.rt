@@ -42,7 +42,7 @@ pub fn rehearse<O: Sink, E: Sink>(alloc: Global, words: &[Word], out: &mut O, er
     }
 }
 
-/// Carries out the rehearsal, and tells its summary, or that there is no memory.
+// Carries out the rehearsal, and tells its summary, or that there is no memory.
 fn rehearse_asked<O: Sink, E: Sink>(alloc: Global, asked: Rehearsal, out: &mut O, err: &mut E) -> u8
     requires { IsWithinBounds asked }
     ensures { (words : List Spoken) → AsksFor words asked →
@@ -56,8 +56,8 @@ fn rehearse_asked<O: Sink, E: Sink>(alloc: Global, asked: Rehearsal, out: &mut O
     }
 }
 
-/// Carries out the rehearsal, and puts its summary. At `Memory` there was none for the rehearsal or for
-/// the sink.
+// Carries out the rehearsal, and puts its summary. At `Memory` there was none for the rehearsal or for
+// the sink.
 fn put_summary<O: Sink>(alloc: Global, asked: Rehearsal, out: &mut O) -> Result<(), SinkFault>
     requires { IsWithinBounds asked }
     ensures holds { WhereBytesTold (O.moment out.old).holds (O.moment out.new).holds
@@ -71,7 +71,7 @@ fn put_summary<O: Sink>(alloc: Global, asked: Rehearsal, out: &mut O) -> Result<
     }
 }
 
-/// Puts a line, and gives the status: this one, or that of the fault of the sink.
+// Puts a line, and gives the status: this one, or that of the fault of the sink.
 fn tell<E: Sink>(err: &mut E, line: &[u8], status: u8) -> u8
     ensures { Tells line.now status (E.moment err.old) (E.moment err.new) result }
 {
@@ -79,7 +79,7 @@ fn tell<E: Sink>(err: &mut E, line: &[u8], status: u8) -> u8
     status_after(put, status)
 }
 
-/// The status after a line was put, where this one is due.
+// The status after a line was put, where this one is due.
 fn status_after(put: Result<(), SinkFault>, due: u8) -> u8
     ensures { result ≡ status_after put due }
 {

@@ -37,7 +37,7 @@ pub(crate) fn folder_of(alloc: Global, files: &Files) -> Result<MemoryFolder, Al
     Ok(folder)
 }
 
-/// The tables by their names in the folder.
+// The tables by their names in the folder.
 fn contents_of(alloc: Global, files: &Files) -> Result<Vec<(Name, Bytes)>, AllocError>
     ensures { IfOk result (λ contents. contents.items ≡ contents_of files.now) }
 {
@@ -74,7 +74,7 @@ pub(crate) fn files_in(folder: &MemoryFolder) -> Result<Files, AllocError>
     })
 }
 
-/// A table of a folder, and none where it is absent.
+// A table of a folder, and none where it is absent.
 fn table_in(folder: &MemoryFolder, table: Tab) -> Result<Option<Bytes>, AllocError>
     ensures { IfOk result (λ bytes.
         bytes ≡ (folder_after (past_of folder.now)).file (Name.Table table)) }

@@ -19,7 +19,7 @@ pub(crate) fn summary_of(alloc: Global, asked: Rehearsal) -> Result<Bytes, Alloc
     summary_with(alloc, asked.count, &last)
 }
 
-/// The summary of so many commands that left this.
+// The summary of so many commands that left this.
 fn summary_with(alloc: Global, count: u64, last: &Reached) -> Result<Bytes, AllocError>
     ensures { IfOk result (λ summary. summary ≡ summary_with count last.now) }
 {
@@ -32,7 +32,7 @@ fn summary_with(alloc: Global, count: u64, last: &Reached) -> Result<Bytes, Allo
     Ok(summary)
 }
 
-/// Adds a line with a word and a number.
+// Adds a line with a word and a number.
 fn push_count(summary: &mut Bytes, word: &[u8], count: u64) -> Result<(), AllocError>
     ensures { OnOk result (summary.new ≡ summary.old ++ count_line word.now count) }
 {
@@ -41,7 +41,7 @@ fn push_count(summary: &mut Bytes, word: &[u8], count: u64) -> Result<(), AllocE
     summary.push(b"\n")
 }
 
-/// Adds the line of a table with this text: its name, its lines and its bytes.
+// Adds the line of a table with this text: its name, its lines and its bytes.
 fn push_table(alloc: Global, summary: &mut Bytes, table: Tab, text: &[u8]) -> Result<(), AllocError>
     ensures { OnOk result (summary.new ≡ summary.old ++ table_line table text.now) }
 {
@@ -52,7 +52,7 @@ fn push_table(alloc: Global, summary: &mut Bytes, table: Tab, text: &[u8]) -> Re
     summary.push(b"\n")
 }
 
-/// Adds a blank and a number.
+// Adds a blank and a number.
 fn push_number(summary: &mut Bytes, number: u64) -> Result<(), AllocError>
     ensures { OnOk result (summary.new ≡ summary.old ++ spaced number) }
 {
@@ -60,7 +60,7 @@ fn push_number(summary: &mut Bytes, number: u64) -> Result<(), AllocError>
     push_decimal(summary, number)
 }
 
-/// How many lines a text has; bytes behind the last newline are a line as well.
+// How many lines a text has; bytes behind the last newline are a line as well.
 fn line_count(alloc: Global, text: &[u8]) -> Result<usize, AllocError>
     ensures { IfOk result (λ count. count ≡ length (lines_of text.now)) }
 {

@@ -73,7 +73,7 @@ impl Answer {
         Ok(Answer::saying(alloc, status, cause, err))
     }
 
-    /// An answer with this cause and this line, and no output.
+    // An answer with this cause and this line, and no output.
     fn saying(alloc: Global, status: u8, cause: Cause, err: Bytes) -> Self
         ensures { result ≡ says cause status err }
     {

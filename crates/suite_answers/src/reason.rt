@@ -31,14 +31,14 @@ pub(crate) fn reason_text(alloc: Global, cause: &Cause) -> Result<Bytes, AllocEr
     }
 }
 
-/// The lock of this number came to this.
+// The lock of this number came to this.
 fn lock(alloc: Global, number: u64, came: &[u8]) -> Result<Bytes, AllocError>
     ensures { IfOk result (λ text. text ≡ codes "lock " ++ decimal number ++ came.now) }
 {
     Bytes::made_of(alloc, &[Text(b"lock "), Number(number), Text(came)])
 }
 
-/// The lock of the first number was taken while one of the second stood.
+// The lock of the first number was taken while one of the second stood.
 fn outrun(alloc: Global, number: u64, greater: u64) -> Result<Bytes, AllocError>
     ensures { IfOk result (λ text. text ≡
         codes "lock " ++ decimal number ++ codes " was outrun by " ++ decimal greater) }
@@ -54,7 +54,7 @@ fn outrun(alloc: Global, number: u64, greater: u64) -> Result<Bytes, AllocError>
     )
 }
 
-/// This part of the intent is the first that doesn't stand.
+// This part of the intent is the first that doesn't stand.
 fn intent_damaged(alloc: Global, part: u32) -> Result<Bytes, AllocError>
     ensures { IfOk result (λ text. text ≡ codes "intent is damaged in part " ++ decimal part) }
 {
@@ -64,7 +64,7 @@ fn intent_damaged(alloc: Global, part: u32) -> Result<Bytes, AllocError>
     )
 }
 
-/// This line of login.defs has a number that its key doesn't allow.
+// This line of login.defs has a number that its key doesn't allow.
 fn bad_setting(alloc: Global, line: u32) -> Result<Bytes, AllocError>
     ensures { IfOk result (λ text. text ≡
         codes "login.defs line " ++ decimal line ++ codes ": bad number") }
@@ -91,7 +91,7 @@ pub(crate) fn stage_text(stage: CommitStage) -> &'static [u8]
 }
 
 impl Which {
-    /// The name of what is too large, as a line has it.
+    // The name of what is too large, as a line has it.
     fn name(self) -> &'static str
         ensures { too_large_text self ≡ result.now ++ codes " is too large" }
     {

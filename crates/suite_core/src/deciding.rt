@@ -40,7 +40,7 @@ impl Tools for Suite {
     }
 }
 
-/// The answer to a settings file with this fault.
+// The answer to a settings file with this fault.
 fn bad_setting(alloc: Global, asked: &Question, fault: DefsFault) -> Result<Decided, AllocError>
     ensures { IfOk result (λ decided. decided ≡ Decided.Stay
         (given_for asked.now.request.tool (Cause.BadSetting (bad_line fault)))) }
@@ -49,7 +49,7 @@ fn bad_setting(alloc: Global, asked: &Question, fault: DefsFault) -> Result<Deci
     Ok(Decided::Stay(asked.try_to_tell(alloc, Cause::BadSetting(line))?))
 }
 
-/// The settings of login.defs, where it may be absent; `BadNumber` names its first bad line.
+// The settings of login.defs, where it may be absent; `BadNumber` names its first bad line.
 fn settings_in(defs: Option<&Bytes>) -> Result<Defs, DefsFault>
     requires { IfSome (option_copied defs) (λ bytes. length bytes ≤ table_limit) }
     ensures settings { IfOk result (λ held.
@@ -62,7 +62,7 @@ fn settings_in(defs: Option<&Bytes>) -> Result<Defs, DefsFault>
     }
 }
 
-/// What the command decides on the files, by the settings.
+// What the command decides on the files, by the settings.
 fn decide_command(
     alloc: Global,
     asked: &Question,
@@ -76,7 +76,7 @@ fn decide_command(
     batch_commands::decide(alloc, asked.parsed(), asked.input(), files, settings, day)
 }
 
-/// The answer to what the command decides.
+// The answer to what the command decides.
 fn answer_to(alloc: Global, asked: &Question, decision: Decision) -> Result<Decided, AllocError>
     ensures { IfOk result (AnswersDecision asked.now decision) }
 {
@@ -93,7 +93,7 @@ fn answer_to(alloc: Global, asked: &Question, decision: Decision) -> Result<Deci
     }
 }
 
-/// The answer to a change, of which each table must keep its limit.
+// The answer to a change, of which each table must keep its limit.
 fn change(
     alloc: Global,
     asked: &Question,
@@ -113,7 +113,7 @@ fn change(
     }
 }
 
-/// The first table that gets more bytes than it may have.
+// The first table that gets more bytes than it may have.
 fn large_table(tables: &NewTables) -> Option<Tab>
     ensures { result ≡ large_table tables.now }
 {
@@ -125,14 +125,14 @@ fn large_table(tables: &NewTables) -> Option<Tab>
     None
 }
 
-/// Whether these are more bytes than a table may have.
+// Whether these are more bytes than a table may have.
 fn passes_limit(bytes: &[u8]) -> bool
     ensures { result ≡ passes_limit bytes.now }
 {
     bytes.len() as u64 > TABLE_LIMIT
 }
 
-/// The answer with this cause and what the command prints.
+// The answer with this cause and what the command prints.
 fn with_output(cause: Cause, output: Output) -> Answer
     ensures { result ≡ with_output cause output }
 {

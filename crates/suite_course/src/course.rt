@@ -33,7 +33,7 @@ pub(crate) fn finish<T: Tools, F: Folder, O: Sink, E: Sink>(
     conclude(after_streams(session, put), folder)
 }
 
-/// Serves the streams with the session's answer.
+// Serves the streams with the session's answer.
 fn put_answer<T: Tools, O: Sink, E: Sink>(
     tool: Tool,
     session: &Session<T>,
@@ -50,7 +50,7 @@ fn put_answer<T: Tools, O: Sink, E: Sink>(
     }
 }
 
-/// The session as the streams left it.
+// The session as the streams left it.
 fn after_streams<T: Tools>(mut session: Session<T>, put: Result<(), SinkFault>) -> Session<T>
     requires { (fault : Fault) → put ≡ Err fault → IsToPut session }
     ensures { result ≡ phase_after put session }
@@ -61,7 +61,7 @@ fn after_streams<T: Tools>(mut session: Session<T>, put: Result<(), SinkFault>) 
     session
 }
 
-/// Lets the session answer, and gives its outcome.
+// Lets the session answer, and gives its outcome.
 fn conclude<T: Tools, F: Folder>(mut session: Session<T>, folder: &mut F) -> Outcome
     requires belongs { Belongs (F.moment folder.old) session }
     requires answers { IsSome (answer_of session) }
@@ -71,7 +71,7 @@ fn conclude<T: Tools, F: Folder>(mut session: Session<T>, folder: &mut F) -> Out
     session.into_outcome()
 }
 
-/// Turns the session until it has its answer.
+// Turns the session until it has its answer.
 fn to_answer<T: Tools, F: Folder>(mut session: Session<T>, folder: &mut F) -> Session<T>
     requires { IsWaiting session }
     ensures comes { (asked : Question) → session ≡ Waiting asked → Comes asked

@@ -38,7 +38,7 @@ pub fn refuse_words<O: Sink, E: Sink>(
     )
 }
 
-/// The answer to the first fault of the words, or that there is no memory.
+// The answer to the first fault of the words, or that there is no memory.
 fn answer_to_words(alloc: Global, words: &[Word], fault: WordFault) -> Answer
     ensures { (result ≡ memory_answer CommitStage.Before)
         ⊎ ((fault ≡ Fault.Memory → ⊥) × (result ≡ told_words words.now fault)) }
@@ -52,7 +52,7 @@ fn answer_to_words(alloc: Global, words: &[Word], fault: WordFault) -> Answer
     }
 }
 
-/// The tool that the first word names.
+// The tool that the first word names.
 fn named_tool(words: &[Word]) -> Option<Tool>
     ensures { result ≡ named_tool words.now }
 {
@@ -78,7 +78,7 @@ pub(crate) fn tell<O: Sink, E: Sink>(
     end(Some(tool), answer, out, err)
 }
 
-/// The answer to what the command lacks. The error says that memory ran out for its text.
+// The answer to what the command lacks. The error says that memory ran out for its text.
 fn answer_to_lack(alloc: Global, tool: Tool, lack: Lack) -> Result<Answer, AllocError>
     ensures { IfOk result (λ answer. answer ≡ told_lack tool lack) }
 {
@@ -107,7 +107,7 @@ pub(crate) fn end<O: Sink, E: Sink>(
     left_by(put, answer)
 }
 
-/// The outcome of an answer that the streams left so.
+// The outcome of an answer that the streams left so.
 fn left_by(put: Result<(), SinkFault>, answer: Answer) -> Outcome
     ensures { result ≡ (after_streams put answer).outcome }
 {

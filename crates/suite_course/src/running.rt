@@ -57,7 +57,7 @@ pub fn run_request<T: Tools, F: Folder, S: Source, O: Sink, E: Sink, C: Clock>(
     }
 }
 
-/// Runs a session in the folder, with its input and on its day.
+// Runs a session in the folder, with its input and on its day.
 fn run<T: Tools, F: Folder, O: Sink, E: Sink>(
     alloc: Global,
     words: &[Word],
@@ -85,7 +85,7 @@ fn run<T: Tools, F: Folder, O: Sink, E: Sink>(
     }
 }
 
-/// Enters the folder, and makes the session that is to run there. The error says that memory ran out.
+// Enters the folder, and makes the session that is to run there. The error says that memory ran out.
 fn enter<T: Tools, F: Folder>(
     alloc: Global,
     words: &[Word],

@@ -27,7 +27,7 @@ pub(crate) fn serve<O: Sink, E: Sink>(
     put_message(tool, answer, err)
 }
 
-/// Puts the message of an answer.
+// Puts the message of an answer.
 #[tactic(auto, using(crate::proofs::StreamsLemmas::memory_message_some))]
 fn put_message<E: Sink>(tool: Option<Tool>, answer: &Answer, err: &mut E) -> Result<(), SinkFault>
     ensures holds { WhereBytesTold (E.moment err.old).holds (E.moment err.new).holds
@@ -42,7 +42,7 @@ fn put_message<E: Sink>(tool: Option<Tool>, answer: &Answer, err: &mut E) -> Res
     }
 }
 
-/// The stage of an answer that there is no memory, none of any other.
+// The stage of an answer that there is no memory, none of any other.
 fn memory_stage(answer: &Answer) -> Option<CommitStage>
     ensures { result ≡ memory_stage answer.now.outcome.cause }
 {
@@ -52,7 +52,7 @@ fn memory_stage(answer: &Answer) -> Option<CommitStage>
     }
 }
 
-/// Puts the text in one piece, and none where it is empty.
+// Puts the text in one piece, and none where it is empty.
 fn put_text<S: Sink>(sink: &mut S, text: &[u8]) -> Result<(), SinkFault>
     ensures holds { WhereBytesTold (S.moment sink.old).holds (S.moment sink.new).holds
         (PutsFront text.now result) }

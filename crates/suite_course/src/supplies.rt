@@ -73,8 +73,8 @@ pub(crate) fn supply<S: Source, C: Clock>(
     }
 }
 
-/// Sees to it that each line of a batch asks for something. The error is the first line that doesn't,
-/// or `Memory`.
+// Sees to it that each line of a batch asks for something. The error is the first line that doesn't,
+// or `Memory`.
 fn lines_ask(alloc: Global, tool: Tool, input: &Bytes) -> Result<(), Lack>
     requires { length input.now ≤ table_limit }
     ensures ask { OnOk result (LinesAsk tool input.now) }
@@ -87,7 +87,7 @@ fn lines_ask(alloc: Global, tool: Tool, input: &Bytes) -> Result<(), Lack>
     }
 }
 
-/// The whole input of a tool that reads one; others take nothing, and have an empty one.
+// The whole input of a tool that reads one; others take nothing, and have an empty one.
 fn input_of<S: Source>(alloc: Global, tool: Tool, source: &mut S) -> Result<Bytes, Cause>
     ensures all_input { reads_input tool ≡ true → WhereBytesTold (S.moment source.old).left
         (S.moment source.new).left (TakesAll result) }
@@ -105,7 +105,7 @@ fn input_of<S: Source>(alloc: Global, tool: Tool, source: &mut S) -> Result<Byte
     }
 }
 
-/// Whether the tool reads an input.
+// Whether the tool reads an input.
 fn reads_input(tool: Tool) -> bool
     ensures { result ≡ reads_input tool }
 {
@@ -115,10 +115,10 @@ fn reads_input(tool: Tool) -> bool
     }
 }
 
-/// Takes all that the source has left.
-///
-/// It is too large once one byte came beyond the limit. At `InputFault` the last take failed. No more is
-/// taken after either.
+// Takes all that the source has left.
+//
+// It is too large once one byte came beyond the limit. At `InputFault` the last take failed. No more is
+// taken after either.
 fn take_all<S: Source>(alloc: Global, source: &mut S) -> Result<Bytes, Cause>
     ensures taken { WhereBytesTold (S.moment source.old).left (S.moment source.new).left
         (TakesAll result) }
@@ -143,7 +143,7 @@ fn take_all<S: Source>(alloc: Global, source: &mut S) -> Result<Bytes, Cause>
     Err(Cause::TooLarge(Which::Input))
 }
 
-/// The cause of a fault of the source.
+// The cause of a fault of the source.
 fn cause_of_source(fault: SourceFault) -> Cause
     ensures { result ≡ cause_of_source fault }
 {

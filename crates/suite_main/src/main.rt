@@ -42,7 +42,7 @@ fn main(rt: HostRuntime) -> ExitCode {
     ExitCode::from(status)
 }
 
-/// Answers the words after the program's name, and gives the status.
+// Answers the words after the program's name, and gives the status.
 fn answer<
     R: Files<File = File> + Input + Clock + Env + AllocGlobal + Clone + Drop,
     O: Write + Drop,
@@ -56,7 +56,7 @@ fn answer<
     }
 }
 
-/// Writes a text whole, and gives the status; or that of an output fault, where it couldn't.
+// Writes a text whole, and gives the status; or that of an output fault, where it couldn't.
 fn tell<S: Sink>(sink: &mut S, text: &str, status: u8) -> u8 {
     match sink.put(text.as_bytes()) {
         Ok(()) => status,
@@ -64,7 +64,7 @@ fn tell<S: Sink>(sink: &mut S, text: &str, status: u8) -> u8 {
     }
 }
 
-/// Runs the program on the real objects, and gives its status. After a fault it says why.
+// Runs the program on the real objects, and gives its status. After a fault it says why.
 fn run<
     R: Files<File = File> + Input + Clock + Env + AllocGlobal + Clone + Drop,
     O: Write + Drop,
@@ -96,8 +96,8 @@ fn run<
     Ok(ended.status())
 }
 
-/// Writes the reason of a fault, where one is known and there is memory for it. The status stays that
-/// of the fault.
+// Writes the reason of a fault, where one is known and there is memory for it. The status stays that
+// of the fault.
 fn tell_why<S: Sink>(alloc: Global, err: &mut S, error: Option<&SystemError>) {
     let Some(error) = error else {
         return;

@@ -49,7 +49,7 @@ pub(crate) fn request_of(words: &[Word]) -> Request
     }
 }
 
-/// The tool that the words ask about: its name with `--help` or `-h`, and nothing behind that.
+// The tool that the words ask about: its name with `--help` or `-h`, and nothing behind that.
 fn asked_about(words: &[Word]) -> Option<Tool>
     ensures { (tool : Tool) → (result ≡ Some tool) ↔ AskAbout words.now tool }
 {
@@ -60,7 +60,7 @@ fn asked_about(words: &[Word]) -> Option<Tool>
     None
 }
 
-/// Whether this is the only word.
+// Whether this is the only word.
 fn is_only(words: &[Word], wanted: &[u8]) -> bool
     ensures { IsTrue result ↔ (words.now ≡ wanted.now ∷ []) }
 {

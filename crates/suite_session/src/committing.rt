@@ -40,7 +40,7 @@ pub(crate) fn back_up<F: Folder>(
     }
 }
 
-/// Stages the first piece of the next backup or moves it, or stages the intent once no table is left.
+// Stages the first piece of the next backup or moves it, or stages the intent once no table is left.
 fn back_up_table<F: Folder>(
     alloc: Global,
     runner: &Runner,
@@ -62,7 +62,7 @@ fn back_up_table<F: Folder>(
     }
 }
 
-/// Stages the first piece of the intent.
+// Stages the first piece of the intent.
 fn stage_intent<F: Folder>(
     alloc: Global,
     runner: &Runner,
@@ -103,7 +103,7 @@ pub(crate) fn commit<F: Folder>(
     }
 }
 
-/// Moves the intent to its name: done, the change stands.
+// Moves the intent to its name: done, the change stands.
 fn commit_intent<F: Folder>(
     alloc: Global,
     runner: &Runner,
@@ -144,7 +144,7 @@ pub(crate) fn install<F: Folder>(
     }
 }
 
-/// Stages the first piece of the next table or moves it, or removes the intent once no table is left.
+// Stages the first piece of the next table or moves it, or removes the intent once no table is left.
 fn install_table<F: Folder>(
     alloc: Global,
     runner: &Runner,
@@ -167,7 +167,7 @@ fn install_table<F: Folder>(
     }
 }
 
-/// Removes the intent.
+// Removes the intent.
 fn clear<F: Folder>(
     alloc: Global,
     runner: &Runner,

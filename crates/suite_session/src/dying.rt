@@ -45,7 +45,7 @@ impl<T: Tools> Session<T> {
     }
 }
 
-/// Lets a session that has begun die within the call of its state.
+// Lets a session that has begun die within the call of its state.
 fn die_in(
     alloc: Global,
     runner: &Runner,

@@ -32,7 +32,7 @@ pub(crate) fn load<T: Tools, F: Folder>(
     }
 }
 
-/// More is to be read, or the tool decides.
+// More is to be read, or the tool decides.
 fn after_load<T: Tools>(alloc: Global, runner: &Runner, loading: Loading) -> State
     ensures { LoadsTo runner.now loading result }
 {
@@ -42,8 +42,8 @@ fn after_load<T: Tools>(alloc: Global, runner: &Runner, loading: Loading) -> Sta
     }
 }
 
-/// What the tool decides on the files: a change is backed up next, and any other answer is given
-/// once the lock is free.
+// What the tool decides on the files: a change is backed up next, and any other answer is given
+// once the lock is free.
 fn decided<T: Tools>(alloc: Global, runner: &Runner, loaded: Loaded) -> State
     ensures { DecidesTo runner.now loaded result }
 {
@@ -57,7 +57,7 @@ fn decided<T: Tools>(alloc: Global, runner: &Runner, loaded: Loaded) -> State
     }
 }
 
-/// The change that the tool decided is backed up next.
+// The change that the tool decided is backed up next.
 fn backing_up(
     alloc: Global,
     runner: &Runner,
@@ -82,7 +82,7 @@ fn backing_up(
     }
 }
 
-/// A file is too large or absent: the keeper frees its lock, but after a fault of the folder.
+// A file is too large or absent: the keeper frees its lock, but after a fault of the folder.
 fn ended(alloc: Global, runner: &Runner, end: LoadEnd) -> State
     ensures { EndsAt runner.now.asked.request.tool end result }
 {

@@ -30,7 +30,7 @@ pub(crate) fn look<F: Folder>(
     }
 }
 
-/// There is no lock, or a greatest one.
+// There is no lock, or a greatest one.
 fn after_look(runner: &Runner, seen: Seen) -> State
     ensures { result ≡ after_look runner.now.asked.request seen }
 {
@@ -41,7 +41,7 @@ fn after_look(runner: &Runner, seen: Seen) -> State
     }
 }
 
-/// The greatest lock is judged: a report reads without one, and any other command makes the next.
+// The greatest lock is judged: a report reads without one, and any other command makes the next.
 fn after_judging(runner: &Runner, judged: Judged) -> State
     ensures { result ≡ after_judging runner.now.asked.request judged }
 {
@@ -64,7 +64,7 @@ pub(crate) fn read<F: Folder>(alloc: Global, runner: &Runner, seen: Seen, folder
     }
 }
 
-/// The greatest lock is free, or held by another session.
+// The greatest lock is free, or held by another session.
 fn after_read(runner: &Runner, told: Told) -> State
     ensures { result ≡ after_read runner.now.asked.request told }
 {
@@ -125,7 +125,7 @@ pub(crate) fn confirm<F: Folder>(
     }
 }
 
-/// The own lock is the greatest, or a greater one stands.
+// The own lock is the greatest, or a greater one stands.
 fn after_listing(confirmed: Confirmed) -> State
     ensures next { result ≡ after_listing confirmed }
     ensures few { ShowsFew confirmed }
@@ -161,7 +161,7 @@ pub(crate) fn stopped(alloc: Global, runner: &Runner, end: LockEnd) -> State
     State::Answering(runner.asked.tell(alloc, cause_of_end(end)))
 }
 
-/// The cause of a step that doesn't lead on.
+// The cause of a step that doesn't lead on.
 fn cause_of_end(end: LockEnd) -> Cause
     ensures { result ≡ cause_of_end end }
 {
@@ -171,7 +171,7 @@ fn cause_of_end(end: LockEnd) -> Cause
     }
 }
 
-/// The cause of a refused lock.
+// The cause of a refused lock.
 fn cause_of_refusal(refusal: LockRefusal) -> Cause
     ensures { result ≡ cause_of_refusal refusal }
 {

@@ -33,7 +33,7 @@ pub(crate) fn read_intent<F: Folder>(
     }
 }
 
-/// No intent stands, or one that reads.
+// No intent stands, or one that reads.
 fn after_intent(seen: IntentSeen) -> State
     ensures { result ≡ after_intent seen }
 {
@@ -43,7 +43,7 @@ fn after_intent(seen: IntentSeen) -> State
     }
 }
 
-/// The intent can't be read: the keeper frees its lock, but after a fault of the folder.
+// The intent can't be read: the keeper frees its lock, but after a fault of the folder.
 fn refused(alloc: Global, runner: &Runner, end: RecoveryEnd) -> State
     ensures { Refuses runner.now.asked.request.tool end result }
 {
@@ -83,7 +83,7 @@ pub(crate) fn recover<F: Folder>(
     }
 }
 
-/// Removes the intent, of which no table is left.
+// Removes the intent, of which no table is left.
 fn remove_intent<F: Folder>(
     alloc: Global,
     runner: &Runner,
@@ -121,7 +121,7 @@ pub(crate) fn move_table<F: Folder>(
     }
 }
 
-/// Moves the staged table to its place.
+// Moves the staged table to its place.
 fn move_whole<F: Folder>(alloc: Global, runner: &Runner, moving: Moving, folder: &mut F) -> State
     requires whole { moving_pieces moving ≡ 0 }
     requires stands { StandsAs (F.moment folder.old) runner.now (State.Moving moving) }

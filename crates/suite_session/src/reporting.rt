@@ -62,7 +62,7 @@ pub(crate) fn gather<T: Tools, F: Folder>(
     }
 }
 
-/// Lists the locks again, and lets the tool decide on what was read under the same one.
+// Lists the locks again, and lets the tool decide on what was read under the same one.
 fn show<T: Tools, F: Folder>(
     alloc: Global,
     runner: &Runner,
@@ -83,7 +83,7 @@ fn show<T: Tools, F: Folder>(
     }
 }
 
-/// The answer on what was shown, where the intent is absent or reads.
+// The answer on what was shown, where the intent is absent or reads.
 fn reported<T: Tools>(alloc: Global, runner: &Runner, shown: Shown) -> State
     requires { is_report runner.now.asked.request ≡ true }
     ensures { ReportsTo runner.now shown result }
@@ -95,7 +95,7 @@ fn reported<T: Tools>(alloc: Global, runner: &Runner, shown: Shown) -> State
     }
 }
 
-/// The answer on the files that were shown, where all of them can be used.
+// The answer on the files that were shown, where all of them can be used.
 fn answered_on<T: Tools>(alloc: Global, runner: &Runner, shown: &Shown) -> State
     requires { is_report runner.now.asked.request ≡ true }
     ensures { AnswersFiles runner.now shown.now.gathered (first_problem shown.now.gathered) result }
@@ -106,7 +106,7 @@ fn answered_on<T: Tools>(alloc: Global, runner: &Runner, shown: &Shown) -> State
     }
 }
 
-/// What the tool decides on the files that were shown: no report is a change.
+// What the tool decides on the files that were shown: no report is a change.
 fn decided_on<T: Tools>(alloc: Global, runner: &Runner, shown: &Shown) -> State
     requires report { is_report runner.now.asked.request ≡ true }
     requires usable { first_problem shown.now.gathered ≡ None }
@@ -121,7 +121,7 @@ fn decided_on<T: Tools>(alloc: Global, runner: &Runner, shown: &Shown) -> State
     }
 }
 
-/// The cause of the first file that can't be used, of the tables in their order and login.defs.
+// The cause of the first file that can't be used, of the tables in their order and login.defs.
 fn first_problem(shown: &Shown) -> Option<Cause>
     ensures { result ≡ option_map cause_of_problem (first_problem shown.now.gathered) }
 {
@@ -132,7 +132,7 @@ fn first_problem(shown: &Shown) -> Option<Cause>
     }
 }
 
-/// The first table that can't be used: it is too large, or must stand and is absent.
+// The first table that can't be used: it is too large, or must stand and is absent.
 fn first_bad(shown: &Shown) -> Option<Tab>
     ensures { result ≡ find (is_bad shown.now.gathered) all_tables }
 {
@@ -144,7 +144,7 @@ fn first_bad(shown: &Shown) -> Option<Tab>
     None
 }
 
-/// Whether the table can't be used.
+// Whether the table can't be used.
 fn is_bad(shown: &Shown, table: Tab) -> bool
     ensures { result ≡ is_bad shown.now.gathered table }
 {
@@ -152,7 +152,7 @@ fn is_bad(shown: &Shown, table: Tab) -> bool
     shown.too_large(Name::Table(table)) || (must_stand && shown.files().table(table).is_none())
 }
 
-/// Why a table can't be used that can't.
+// Why a table can't be used that can't.
 fn cause_of_table(shown: &Shown, table: Tab) -> Cause
     ensures { result ≡ cause_of_problem (bad_table shown.now.gathered table) }
 {
@@ -163,7 +163,7 @@ fn cause_of_table(shown: &Shown, table: Tab) -> Cause
     }
 }
 
-/// The answer to a cause, as no other call is left.
+// The answer to a cause, as no other call is left.
 fn told(alloc: Global, runner: &Runner, cause: Cause) -> State
     ensures { AnswersWith runner.now.asked.request.tool cause result }
 {

@@ -171,12 +171,12 @@ impl<T: Tools> Session<T> {
     }
 }
 
-/// What stands in a session's place while its phase is taken out.
+// What stands in a session's place while its phase is taken out.
 fn no_phase(alloc: Global) -> Phase {
     Phase::Unbegun(Tool::Useradd, memory_answer(alloc, CommitStage::Before))
 }
 
-/// The phase after a fault of a stream.
+// The phase after a fault of a stream.
 fn failed_phase(fault: SinkFault, phase: Phase) -> Phase
     ensures { result ≡ output_failed fault phase }
 {
@@ -188,7 +188,7 @@ fn failed_phase(fault: SinkFault, phase: Phase) -> Phase
     }
 }
 
-/// The state after a fault of a stream, which changes an answer alone.
+// The state after a fault of a stream, which changes an answer alone.
 fn failed_state(fault: SinkFault, state: State) -> State
     ensures { result ≡ state_failed fault state }
 {
@@ -198,7 +198,7 @@ fn failed_state(fault: SinkFault, state: State) -> State
     }
 }
 
-/// The answer after a fault of a stream: its texts stay.
+// The answer after a fault of a stream: its texts stay.
 fn failed_answer(fault: SinkFault, answer: Answer) -> Answer
     ensures { result ≡ after_fault fault answer }
 {

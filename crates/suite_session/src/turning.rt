@@ -40,7 +40,7 @@ pub(crate) fn turned<T: Tools, F: Folder>(alloc: Global, phase: Phase, folder: &
     }
 }
 
-/// The phase after the one call of a session that has begun: the answer, or another.
+// The phase after the one call of a session that has begun: the answer, or another.
 fn stepped<T: Tools, F: Folder>(
     alloc: Global,
     runner: Runner,
@@ -63,7 +63,7 @@ fn stepped<T: Tools, F: Folder>(
     }
 }
 
-/// Begins the session.
+// Begins the session.
 fn begin<F: Folder>(alloc: Global, asked: Question, folder: &mut F) -> Phase
     ensures turns { SessionTurns (F.moment folder.old) (F.moment folder.new) (Phase.Waiting asked)
         result }
@@ -79,7 +79,7 @@ fn begin<F: Folder>(alloc: Global, asked: Question, folder: &mut F) -> Phase
     }
 }
 
-/// The answer where the begin gave no token.
+// The answer where the begin gave no token.
 fn unbegun(alloc: Global, asked: Question, fault: FolderFault) -> Answer
     ensures { IsTold asked.request.tool (cause_of_fault CommitStage.Before fault) result }
 {
@@ -88,8 +88,8 @@ fn unbegun(alloc: Global, asked: Question, fault: FolderFault) -> Answer
     answer
 }
 
-/// The first state of a session that has begun: it lists the locks, but without memory for that it
-/// answers.
+// The first state of a session that has begun: it lists the locks, but without memory for that it
+// answers.
 fn first_state(alloc: Global, runner: &Runner) -> State
     ensures { IsFirst runner.now result }
 {
@@ -99,14 +99,14 @@ fn first_state(alloc: Global, runner: &Runner) -> State
     }
 }
 
-/// The state that lists the locks.
+// The state that lists the locks.
 fn looking(alloc: Global, token: &Token) -> Result<Looking, AllocError>
     ensures { IfOk result (λ looking. looking ≡ token.now) }
 {
     Looking::start(alloc, token.copy()?)
 }
 
-/// Makes the one call of a state that doesn't answer, and gives the next state.
+// Makes the one call of a state that doesn't answer, and gives the next state.
 fn go_on<T: Tools, F: Folder>(alloc: Global, runner: &Runner, state: State, folder: &mut F) -> State
     requires going { 1 < calls_left state }
     requires stands { StandsAs (F.moment folder.old) runner.now state }
@@ -136,7 +136,7 @@ fn go_on<T: Tools, F: Folder>(alloc: Global, runner: &Runner, state: State, fold
     }
 }
 
-/// Gives the answer, the session's last call.
+// Gives the answer, the session's last call.
 fn answered<F: Folder>(runner: Runner, answer: Answer, folder: &mut F) -> Phase
     requires { Belongs (F.moment folder.old) (Phase.Begun runner (State.Answering answer)) }
     ensures turns { SessionTurns (F.moment folder.old) (F.moment folder.new)

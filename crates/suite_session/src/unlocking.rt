@@ -39,7 +39,7 @@ pub(crate) fn unlock<F: Folder>(
     }
 }
 
-/// Stages the free text, once no lower lock is left.
+// Stages the free text, once no lower lock is left.
 fn stage_free<F: Folder>(
     alloc: Global,
     runner: &Runner,
@@ -76,8 +76,8 @@ pub(crate) fn free<F: Folder>(
     }
 }
 
-/// The answer after a fault of the folder, in place of the one that was to be given, whose stage of
-/// the commit it keeps.
+// The answer after a fault of the folder, in place of the one that was to be given, whose stage of
+// the commit it keeps.
 fn replaced(alloc: Global, runner: &Runner, answer: Answer, fault: FolderFault) -> State
     ensures { AnswersWith runner.now.asked.request.tool
         (cause_of_fault (stage_of answer.outcome.cause) fault) result }

@@ -38,7 +38,7 @@ pub fn decide(
     decide_on(alloc, request.asked(), request.input(), files, defs, day)
 }
 
-/// The same, by the words of the command and its input.
+// The same, by the words of the command and its input.
 fn decide_on(
     alloc: Global,
     asked: &Asked,
@@ -61,7 +61,7 @@ fn decide_on(
     }
 }
 
-/// What a tool decides that answers with a script.
+// What a tool decides that answers with a script.
 fn decide_by_script(
     alloc: Global,
     asked: &Asked,

@@ -45,7 +45,7 @@ pub fn carry_out(
     Ok(output)
 }
 
-/// Makes the edits of each table.
+// Makes the edits of each table.
 fn edit_tables(alloc: Global, tables: &mut CarriedTables, script: &Script) -> Result<(), AllocError>
     requires { IsWrittenScript (seen_script script.now) }
     ensures { OnOk result (tables.new ≡ files_after (seen_script script.now) tables.old) }
@@ -63,8 +63,8 @@ fn edit_tables(alloc: Global, tables: &mut CarriedTables, script: &Script) -> Re
     Ok(())
 }
 
-/// Makes the edits of subuid or subgid. A range that is added alone takes no pass over the lines, nor do
-/// edits that leave all ranges.
+// Makes the edits of subuid or subgid. A range that is added alone takes no pass over the lines, nor do
+// edits that leave all ranges.
 fn edit_ranges(
     alloc: Global,
     table: &mut RangeTable,
@@ -88,7 +88,7 @@ fn edit_ranges(
     Ok(())
 }
 
-/// The range that the edits add, where they do nothing else.
+// The range that the edits add, where they do nothing else.
 fn added_alone(edits: &[Edit<SubidRecord, SubidChange>]) -> Option<&SubidRecord>
     ensures { IfSome result (λ range.
         seen_edits subid_becomes edits.now ≡ Add range.now ∷ []) }

@@ -61,7 +61,7 @@ pub fn line_fault_message(
     batch_message(alloc, text.as_slice())
 }
 
-/// The line on the error stream in which a batch says the text.
+// The line on the error stream in which a batch says the text.
 fn batch_message(alloc: Global, text: &[u8]) -> Result<Bytes, AllocError>
     ensures { IfOk result (λ line. line ≡ message Tool.Batch text.now) }
 {

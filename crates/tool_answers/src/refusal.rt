@@ -37,7 +37,7 @@ pub fn refusal_text(alloc: Global, refusal: &Refusal) -> Result<Bytes, AllocErro
     }
 }
 
-/// The value of the option of a letter can't be used.
+// The value of the option of a letter can't be used.
 fn bad_value(alloc: Global, letter: u8, value: &[u8]) -> Result<Bytes, AllocError>
     ensures { IfOk result (λ text. text ≡
         codes "invalid value for -" ++ letter ∷ codes ": " ++ value.now) }
@@ -49,7 +49,7 @@ fn bad_value(alloc: Global, letter: u8, value: &[u8]) -> Result<Bytes, AllocErro
     Ok(text)
 }
 
-/// The ID of this sort is in use.
+// The ID of this sort is in use.
 fn in_use(alloc: Global, sort: &[u8], id: u32) -> Result<Bytes, AllocError>
     ensures { IfOk result (λ text. text ≡ sort.now ++ decimal id ++ codes " is in use") }
 {
@@ -59,7 +59,7 @@ fn in_use(alloc: Global, sort: &[u8], id: u32) -> Result<Bytes, AllocError>
     )
 }
 
-/// The range from the first ID to the last meets a line of the table.
+// The range from the first ID to the last meets a line of the table.
 fn meets(alloc: Global, first: u32, last: u32, tab: Tab, line: usize) -> Result<Bytes, AllocError>
     ensures { IfOk result (λ text. text ≡
         codes "range " ++ decimal first ++ codes "-" ++ decimal last ++ codes " meets "
@@ -80,7 +80,7 @@ fn meets(alloc: Global, first: u32, last: u32, tab: Tab, line: usize) -> Result<
     )
 }
 
-/// To unlock the user would leave no password.
+// To unlock the user would leave no password.
 fn empty_hash(alloc: Global, name: &[u8]) -> Result<Bytes, AllocError>
     ensures { IfOk result (λ text. text ≡
         codes "unlocking " ++ name.now ++ codes " would leave no password") }
@@ -88,7 +88,7 @@ fn empty_hash(alloc: Global, name: &[u8]) -> Result<Bytes, AllocError>
     triple(alloc, b"unlocking ", name, b" would leave no password")
 }
 
-/// The group is the primary group of the user.
+// The group is the primary group of the user.
 fn primary(alloc: Global, group: &[u8], user: &[u8]) -> Result<Bytes, AllocError>
     ensures { IfOk result (λ text. text ≡
         codes "group " ++ group.now ++ codes " is the primary group of " ++ user.now) }
@@ -98,7 +98,7 @@ fn primary(alloc: Global, group: &[u8], user: &[u8]) -> Result<Bytes, AllocError
     Ok(text)
 }
 
-/// The user isn't a member of the group.
+// The user isn't a member of the group.
 fn no_member(alloc: Global, user: &[u8], group: &[u8]) -> Result<Bytes, AllocError>
     ensures { IfOk result (λ text. text ≡
         codes "user " ++ user.now ++ codes " is not a member of " ++ group.now) }
@@ -108,7 +108,7 @@ fn no_member(alloc: Global, user: &[u8], group: &[u8]) -> Result<Bytes, AllocErr
     Ok(text)
 }
 
-/// A line of the input has this problem.
+// A line of the input has this problem.
 fn bad_line(alloc: Global, line: u32, problem: &LineProblem) -> Result<Bytes, AllocError>
     ensures { IfOk result (λ text. text ≡
         codes "line " ++ decimal line ++ codes ": " ++ line_problem_text problem.now) }
@@ -125,7 +125,7 @@ fn bad_line(alloc: Global, line: u32, problem: &LineProblem) -> Result<Bytes, Al
     )
 }
 
-/// What is wrong with a line of the input.
+// What is wrong with a line of the input.
 fn problem_text(alloc: Global, problem: &LineProblem) -> Result<Bytes, AllocError>
     ensures { IfOk result (λ text. text ≡ line_problem_text problem.now) }
 {
@@ -136,7 +136,7 @@ fn problem_text(alloc: Global, problem: &LineProblem) -> Result<Bytes, AllocErro
     }
 }
 
-/// The table has several records of the name.
+// The table has several records of the name.
 fn multiple(alloc: Global, tab: Tab, name: &[u8]) -> Result<Bytes, AllocError>
     ensures { IfOk result (λ text. text ≡
         table_name tab ++ codes " has multiple entries for " ++ name.now) }

@@ -99,7 +99,7 @@ pub fn refusal_status(tool: Tool, refusal: &Refusal) -> u8
     }
 }
 
-/// The status for a value of an option.
+// The status for a value of an option.
 fn bad_value_status(tool: Tool) -> u8
     ensures { result ≡ bad_value_status tool }
 {
@@ -109,7 +109,7 @@ fn bad_value_status(tool: Tool) -> u8
     }
 }
 
-/// The status for a user that isn't there.
+// The status for a user that isn't there.
 fn no_user_status(tool: Tool) -> u8
     ensures { result ≡ no_user_status tool }
 {
@@ -120,7 +120,7 @@ fn no_user_status(tool: Tool) -> u8
     }
 }
 
-/// The status for a group that isn't there.
+// The status for a group that isn't there.
 fn no_group_status(tool: Tool) -> u8
     ensures { result ≡ no_group_status tool }
 {
@@ -130,7 +130,7 @@ fn no_group_status(tool: Tool) -> u8
     }
 }
 
-/// The status where shadow isn't there.
+// The status where shadow isn't there.
 fn no_shadow_status(tool: Tool) -> u8
     ensures { result ≡ no_shadow_status tool }
 {
@@ -140,7 +140,7 @@ fn no_shadow_status(tool: Tool) -> u8
     }
 }
 
-/// The status for several records of a name in this table.
+// The status for several records of a name in this table.
 fn multiple_status(tool: Tool, tab: Tab) -> u8
     ensures { result ≡ multiple_status tool tab }
 {
@@ -151,7 +151,7 @@ fn multiple_status(tool: Tool, tab: Tab) -> u8
     }
 }
 
-/// The same for the tools of users, of which the pages give the group files a status of their own.
+// The same for the tools of users, of which the pages give the group files a status of their own.
 fn user_multiple_status(tab: Tab) -> u8
     ensures { result ≡ multiple_status Tool.Useradd tab }
 {

@@ -56,7 +56,7 @@ pub fn faulty_tool(words: &[Word], fault: WordFault) -> Option<Tool>
     }
 }
 
-/// The tool that the first word names.
+// The tool that the first word names.
 fn named(words: &[Word]) -> Option<Tool>
     ensures { result ≡ tool_named (word_at words.now 0) }
 {
@@ -73,7 +73,7 @@ pub fn syntax_status(tool: Tool) -> u8
     }
 }
 
-/// The word at a place, counted from 0; past the end it is empty.
+// The word at a place, counted from 0; past the end it is empty.
 fn word_at(words: &[Word], place: usize) -> &[u8]
     ensures { result.now ≡ word_at words.now place }
 {
@@ -112,7 +112,7 @@ pub(crate) fn word_fault_text(
     }
 }
 
-/// A text with the place of a word in it.
+// A text with the place of a word in it.
 fn at_place<'x>(
     alloc: Global,
     before: &'x [u8],
@@ -124,7 +124,7 @@ fn at_place<'x>(
     Bytes::made_of(alloc, &[Text(before), Number(place as u64), Text(behind)])
 }
 
-/// A text that ends with the place of a word, and with the word.
+// A text that ends with the place of a word, and with the word.
 fn with_word<'x>(
     alloc: Global,
     before: &'x [u8],
@@ -141,7 +141,7 @@ fn with_word<'x>(
     )
 }
 
-/// The options break the rule of this number.
+// The options break the rule of this number.
 fn clash(alloc: Global, rule: u32) -> Result<Bytes, AllocError>
     ensures { IfOk result (λ text. text ≡ codes "options break rule " ++ decimal rule) }
 {

@@ -70,7 +70,7 @@ impl Beside {
         Ok(true)
     }
 
-    /// Adds so many turns of the command at the place, or its death.
+    // Adds so many turns of the command at the place, or its death.
     fn add_step(&mut self, place: usize, what: &[u8]) -> Result<(), AllocError> {
         if let Ok(calls) = read_decimal(what, 1000) {
             return push_turns(&mut self.steps, place, calls as usize);

@@ -21,7 +21,7 @@ pub(crate) fn name_of(text: &[u8]) -> Option<Name>
     }
 }
 
-/// The lock of this number, where it may be one.
+// The lock of this number, where it may be one.
 fn lock_of(digits: &[u8]) -> Option<Name>
     ensures { IfSome result IsName }
 {
@@ -31,7 +31,7 @@ fn lock_of(digits: &[u8]) -> Option<Name>
     }
 }
 
-/// The name of a table, its backup or what is staged for it.
+// The name of a table, its backup or what is staged for it.
 fn table_name(text: &[u8]) -> Option<Name>
     ensures { IfSome result IsName }
 {
@@ -46,7 +46,7 @@ fn table_name(text: &[u8]) -> Option<Name>
     None
 }
 
-/// A name that is neither a table's nor a lock's.
+// A name that is neither a table's nor a lock's.
 fn other_name(text: &[u8]) -> Option<Name>
     ensures { IfSome result IsName }
 {

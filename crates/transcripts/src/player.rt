@@ -41,7 +41,7 @@ impl Player {
         Ok(played)
     }
 
-    /// Keeps a line for the sweep that was begun, or plays it in the scene.
+    // Keeps a line for the sweep that was begun, or plays it in the scene.
     fn play_in(&mut self, line: &[u8], played: &mut Bytes) -> Result<(), AllocError> {
         if let Some(sweep) = &mut self.sweep {
             push_line(played, line)?;
@@ -55,7 +55,7 @@ impl Player {
         Ok(())
     }
 
-    /// Plays the sweep that was begun, and pushes what it shows.
+    // Plays the sweep that was begun, and pushes what it shows.
     fn end_sweep(&mut self, played: &mut Bytes) -> Result<(), AllocError> {
         let shown = match &self.sweep {
             Some(sweep) => sweep.push_runs(self.alloc, played),

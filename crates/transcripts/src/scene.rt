@@ -39,7 +39,7 @@ struct File {
 }
 
 impl Scene {
-    /// A folder without files.
+    // A folder without files.
     fn bare(alloc: Global) -> Self {
         Scene {
             alloc,
@@ -61,7 +61,7 @@ impl Scene {
         Ok(scene)
     }
 
-    /// A folder with the files of a small system.
+    // A folder with the files of a small system.
     fn image(alloc: Global) -> Result<Self, AllocError> {
         let mut scene = Scene::bare(alloc);
         for (name, text) in IMAGE {
@@ -84,7 +84,7 @@ impl Scene {
         }
     }
 
-    /// Does what a line says of the folder before the first command, or of the next command's streams.
+    // Does what a line says of the folder before the first command, or of the next command's streams.
     fn set(&mut self, line: &[u8]) -> Result<bool, AllocError> {
         match line {
             [b'=', b' ', scene @ ..] => self.begin(scene),
@@ -101,7 +101,7 @@ impl Scene {
         }
     }
 
-    /// Begins a new folder, or leaves a file out of it.
+    // Begins a new folder, or leaves a file out of it.
     fn begin(&mut self, scene: &[u8]) -> Result<bool, AllocError> {
         if let Some(name) = scene.strip_prefix(b"without ") {
             self.files.retain(|file| file.name.as_slice() != name);
@@ -115,7 +115,7 @@ impl Scene {
         Ok(true)
     }
 
-    /// Puts a file of this text.
+    // Puts a file of this text.
     fn put(&mut self, name: &[u8], text: &[u8]) -> Result<bool, AllocError> {
         let name = Bytes::of(self.alloc, name)?;
         let text = Bytes::of(self.alloc, text)?;
@@ -123,7 +123,7 @@ impl Scene {
         Ok(true)
     }
 
-    /// Puts a file with the text that it has.
+    // Puts a file with the text that it has.
     fn put_again(&mut self, name: &[u8]) -> Result<bool, AllocError> {
         let mut text = Bytes::new(self.alloc);
         for file in &self.files {
@@ -136,7 +136,7 @@ impl Scene {
         Ok(true)
     }
 
-    /// Adds a line to the last file: the text, so many times.
+    // Adds a line to the last file: the text, so many times.
     fn add_line(&mut self, count: usize, text: &[u8]) -> Result<bool, AllocError> {
         if let Some(file) = self.files.last_mut() {
             push_repeated(&mut file.text, text, count)?;
@@ -144,7 +144,7 @@ impl Scene {
         Ok(true)
     }
 
-    /// Adds a line to the last file, of a count and a text.
+    // Adds a line to the last file, of a count and a text.
     fn add_repeated(&mut self, line: &[u8]) -> Result<bool, AllocError> {
         match counted(line) {
             Some((count, text)) => self.add_line(count, text),
@@ -152,7 +152,7 @@ impl Scene {
         }
     }
 
-    /// Takes the end of the last file's last line away.
+    // Takes the end of the last file's last line away.
     fn open_last_line(&mut self) -> Result<bool, AllocError> {
         if let Some(file) = self.files.last_mut() {
             let text = file.text.as_slice();
@@ -161,13 +161,13 @@ impl Scene {
         Ok(true)
     }
 
-    /// Adds a line to the input of the next command: the text, so many times.
+    // Adds a line to the input of the next command: the text, so many times.
     fn add_input(&mut self, count: usize, text: &[u8]) -> Result<bool, AllocError> {
         push_repeated(&mut self.input, text, count)?;
         Ok(true)
     }
 
-    /// Adds a line to the input of the next command, of a count and a text.
+    // Adds a line to the input of the next command, of a count and a text.
     fn add_repeated_input(&mut self, line: &[u8]) -> Result<bool, AllocError> {
         match counted(line) {
             Some((count, text)) => self.add_input(count, text),
@@ -175,7 +175,7 @@ impl Scene {
         }
     }
 
-    /// Tells a session alive.
+    // Tells a session alive.
     fn let_live(&mut self, token: &[u8]) -> Result<bool, AllocError> {
         let Some(token) = Token::read(self.alloc, token)? else {
             return Ok(false);
@@ -184,7 +184,7 @@ impl Scene {
         Ok(true)
     }
 
-    /// Lets a call of the folder fail, or of a stream of the next command.
+    // Lets a call of the folder fail, or of a stream of the next command.
     fn let_fail(&mut self, mishap: &[u8]) -> Result<bool, AllocError> {
         if let Some((call, effect)) = counted(mishap) {
             return self.plan(call as u64, effect);
@@ -199,7 +199,7 @@ impl Scene {
         Ok(true)
     }
 
-    /// Plans that a call of the folder fails.
+    // Plans that a call of the folder fails.
     fn plan(&mut self, call: u64, effect: &[u8]) -> Result<bool, AllocError> {
         let Some(effect) = effect_of(self.alloc, effect)? else {
             return Ok(false);
@@ -208,7 +208,7 @@ impl Scene {
         Ok(true)
     }
 
-    /// Lets a command make so many calls of the folder, and die within the next.
+    // Lets a command make so many calls of the folder, and die within the next.
     fn die(&mut self, death: &[u8]) -> Result<bool, AllocError> {
         let Some((calls, command)) = counted(death) else {
             return Ok(false);
@@ -220,13 +220,13 @@ impl Scene {
         }
     }
 
-    /// Lets a command with the input wait beside the next one.
+    // Lets a command with the input wait beside the next one.
     fn let_wait(&mut self, other: &[u8]) -> Result<bool, AllocError> {
         let input = mem::replace(&mut self.input, Bytes::new(self.alloc));
         self.beside.add(other, input.as_slice())
     }
 
-    /// Shows what a command tells and does, with those beside it.
+    // Shows what a command tells and does, with those beside it.
     fn show(&mut self, command: &[u8], shown: &mut Bytes) -> Result<bool, AllocError> {
         self.make()?;
         let input = mem::replace(&mut self.input, Bytes::new(self.alloc));
@@ -240,7 +240,7 @@ impl Scene {
         Ok(true)
     }
 
-    /// Shows what a command with this input and no others beside it tells and does.
+    // Shows what a command with this input and no others beside it tells and does.
     fn show_alone(
         &mut self,
         command: &[u8],
@@ -255,7 +255,7 @@ impl Scene {
         Ok(true)
     }
 
-    /// Makes the folder, where no command ran in it.
+    // Makes the folder, where no command ran in it.
     fn make(&mut self) -> Result<(), AllocError> {
         if self.folder.is_none() {
             let files = contents(self.alloc, self.files.as_slice())?;
@@ -267,7 +267,7 @@ impl Scene {
     }
 }
 
-/// The files by their names; a text that is no name has none.
+// The files by their names; a text that is no name has none.
 fn contents(alloc: Global, files: &[File]) -> Result<Contents, AllocError>
     ensures { IfOk result (λ files. All (λ file. IsName file.0) files.items) }
 {

@@ -56,7 +56,7 @@ pub(crate) fn push_file(
     }
 }
 
-/// Pushes each line of a text.
+// Pushes each line of a text.
 fn push_text(shown: &mut Bytes, text: &[u8]) -> Result<(), AllocError> {
     let ended = text.strip_suffix(b"\n");
     if text.is_empty() {
@@ -94,7 +94,7 @@ pub(crate) fn push_names(shown: &mut Bytes, folder: &MemoryFolder) -> Result<(),
     Ok(())
 }
 
-/// Pushes a name, where it stands.
+// Pushes a name, where it stands.
 fn push_name(
     shown: &mut Bytes,
     folder: &MemoryFolder,

@@ -45,7 +45,7 @@ impl Sweep {
         push_run(played, first, self.last, shown.as_slice())
     }
 
-    /// What the lines show with this number, without the lines themselves.
+    // What the lines show with this number, without the lines themselves.
     fn shown_at(&self, alloc: Global, number: u64) -> Result<Bytes, AllocError> {
         let mut scene = Scene::empty(alloc)?;
         let mut shown = Bytes::new(alloc);
@@ -57,7 +57,7 @@ impl Sweep {
     }
 }
 
-/// The line with the number in place of each `~`.
+// The line with the number in place of each `~`.
 fn with_number(alloc: Global, line: &[u8], number: u64) -> Result<Bytes, AllocError> {
     let mut text = Bytes::new(alloc);
     let mut is_behind = false;

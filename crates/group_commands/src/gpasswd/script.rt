@@ -31,7 +31,7 @@ pub(super) fn script_of(alloc: Global, asked: &Asked, tables: &Tables) -> Result
     Ok(script)
 }
 
-/// `-a` adds a member.
+// `-a` adds a member.
 fn add_member(alloc: Global, asked: &Asked, script: &mut Script) -> Result<(), AllocError>
     ensures { OnOk result (HasAlso
         (with_option (codes "a") asked.now (add_to_group (operand asked.now)))
@@ -43,7 +43,7 @@ fn add_member(alloc: Global, asked: &Asked, script: &mut Script) -> Result<(), A
     script.add_to_group(alloc, asked.operand(), user)
 }
 
-/// `-d` removes a member.
+// `-d` removes a member.
 fn remove_member(alloc: Global, asked: &Asked, script: &mut Script) -> Result<(), AllocError>
     ensures { OnOk result (HasAlso
         (with_option (codes "d") asked.now (remove_from_group (operand asked.now)))
@@ -57,7 +57,7 @@ fn remove_member(alloc: Global, asked: &Asked, script: &mut Script) -> Result<()
     script.change_both(alloc, asked.operand(), act, gshadow_act)
 }
 
-/// `-A` sets the administrators.
+// `-A` sets the administrators.
 fn list_administrators(
     alloc: Global,
     asked: &Asked,
@@ -75,7 +75,7 @@ fn list_administrators(
     set_administrators(alloc, script, tables, asked.operand(), administrators)
 }
 
-/// `-M` sets the members.
+// `-M` sets the members.
 fn list_members(alloc: Global, asked: &Asked, script: &mut Script) -> Result<(), AllocError>
     ensures { OnOk result (HasAlso (with_option (codes "M") asked.now
         (λ users. each_members (operand asked.now) (λ _. names_of_list users)))
@@ -89,7 +89,7 @@ fn list_members(alloc: Global, asked: &Asked, script: &mut Script) -> Result<(),
     script.change_both(alloc, asked.operand(), act, gshadow_act)
 }
 
-/// `-r` sets an empty hash.
+// `-r` sets an empty hash.
 fn remove_password(
     alloc: Global,
     asked: &Asked,
@@ -106,7 +106,7 @@ fn remove_password(
     script.set_group_hash(alloc, tables, asked.operand(), b"")
 }
 
-/// `-R` sets the hash `!`.
+// `-R` sets the hash `!`.
 fn restrict(
     alloc: Global,
     asked: &Asked,
@@ -123,7 +123,7 @@ fn restrict(
     script.set_group_hash(alloc, tables, asked.operand(), b"!")
 }
 
-/// The administrators of the group become these in gshadow, where a line is made on demand.
+// The administrators of the group become these in gshadow, where a line is made on demand.
 fn set_administrators(
     alloc: Global,
     script: &mut Script,
