@@ -4,9 +4,8 @@
 // 2. `Claimed`: its create was done. `confirm` lists the locks, and leads to `Keeper` where its own
 //    is the greatest, to `Loser` where a greater one stands.
 // 3. `Loser`: a greater lock stands. `withdraw` removes its own, and no more is left.
-ghost use Rattle.std.specs.Prelude.{◌≡◌, ◌+◌, ◌<◌, IfOk, IsErrOf, Err, All};
+ghost use Rattle.std.specs.Prelude.{◌≡◌, ◌+◌, IfOk, IsErrOf, Err, All};
 ghost use Rattle.acct_outside.specs.declared.Name.TheVariants.{Lock};
-ghost use Rattle.acct_outside.specs.Names.{greatest_lock};
 ghost use Rattle.acct_outside.specs.Calls.{lists, creates, removes};
 ghost use Rattle.acct_outside.specs.Contract.{IsLockNumber, locks_result};
 ghost use Rattle.suite_rules.specs.Steps.{StandsIn};
@@ -16,6 +15,7 @@ ghost use Rattle.lock_steps.specs.Outcomes.{folder_failed, Claims, Confirms, Wit
 ghost use Rattle.lock_steps.specs.Steps.{SeeksLock};
 
 use crate::holder::Holder;
+use crate::judging::Seen;
 use crate::keeping::{Keeper, Unknown};
 use crate::listing::greatest_of;
 use crate::watching::Watcher;
@@ -26,20 +26,15 @@ use std::marker::Model;
 /// A session that may make the next lock, as nobody keeps the greatest.
 #[derive(Debug, Drop)]
 pub struct Judged {
-    holder: Holder,
-    greatest: u64,
+    seen: Seen,
 }
 
 impl Model for Judged {
-    ghost use Rattle.std.specs.Prelude.{◌<◌};
-    ghost use Rattle.acct_outside.specs.Names.{greatest_lock};
     ghost use Rattle.lock_steps.specs.States.{Lister};
 
     ghost Value = { Lister };
 
-    ghost view = { λ judged. record { token = judged.holder.token; greatest = judged.greatest } };
-
-    ghost invariant = { λ judged. judged.greatest < greatest_lock };
+    ghost view = { λ judged. judged.seen };
 }
 
 /// A session that has made the lock of its number.
@@ -94,26 +89,26 @@ pub enum Confirmed {
 }
 
 impl Judged {
-    /// The session of this holder has judged the greatest lock, which has this number, 0 for none.
-    pub(crate) fn new(holder: Holder, greatest: u64) -> Self
-        requires { greatest < greatest_lock }
-        ensures { result ≡ record { token = holder.token; greatest = greatest } }
+    /// The session has judged the greatest lock that it has seen.
+    pub(crate) fn new(seen: Seen) -> Self
+        ensures { result ≡ seen }
     {
-        Judged { holder, greatest }
+        Judged { seen }
     }
 
     /// The session as one that takes no lock, and watches whether another does.
     pub fn watch(self) -> Watcher
         ensures { result ≡ self }
     {
-        Watcher::new(self.holder.into_token(), self.greatest)
+        let seen = self.seen;
+        Watcher::new(seen.holder.into_token(), seen.greatest)
     }
 
     /// The call that `claim` makes.
     pub fn next_call(&self) -> Call
         ensures { IsNextCall (HasJudged self.now) (creates (self.now.greatest + 1)) result }
     {
-        Call::Create(self.greatest + 1)
+        Call::Create(self.seen.greatest + 1)
     }
 
     /// Makes the lock one above the greatest.
@@ -124,7 +119,7 @@ impl Judged {
         ensures { SeeksLock (F.moment folder.old) (F.moment folder.new) self.token
             (creates (self.greatest + 1)) (Claims self) HasMade result }
     {
-        let created = folder.create(&self.holder.token, self.greatest + 1);
+        let created = folder.create(&self.seen.holder.token, self.seen.greatest + 1);
         self.after_create(created)
     }
 
@@ -133,10 +128,10 @@ impl Judged {
         ensures shown { Claims self created result }
         ensures failed { IsErrOf result folder_failed → IsErrOf created FolderFault.Failed }
     {
-        let number = self.greatest + 1;
+        let number = self.seen.greatest + 1;
         match created? {
             Created::Done => Ok(Claimed {
-                holder: self.holder,
+                holder: self.seen.holder,
                 number,
             }),
             Created::Exists => Err(LockEnd::Refused(LockRefusal::Raced(number))),

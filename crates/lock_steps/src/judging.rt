@@ -44,8 +44,8 @@ impl Model for Looking {
 /// A session that knows the greatest lock of its listing.
 #[derive(Debug, Drop)]
 pub struct Seen {
-    holder: Holder,
-    greatest: u64,
+    pub(crate) holder: Holder,
+    pub(crate) greatest: u64,
 }
 
 impl Model for Seen {
@@ -63,25 +63,20 @@ impl Model for Seen {
 /// A session that knows which other holds the greatest lock.
 #[derive(Debug, Drop)]
 pub struct Asking {
-    holder: Holder,
-    greatest: u64,
+    seen: Seen,
     asked: Token,
 }
 
 impl Model for Asking {
-    ghost use Rattle.std.specs.Prelude.{◌<◌};
-    ghost use Rattle.acct_outside.specs.Names.{greatest_lock};
     ghost use Rattle.lock_steps.specs.States.{Asker};
 
     ghost Value = { Asker };
 
     ghost view = { λ asking. record {
-      token = asking.holder.token;
-      greatest = asking.greatest;
+      token = asking.seen.token;
+      greatest = asking.seen.greatest;
       asked = asking.asked;
     } };
-
-    ghost invariant = { λ asking. asking.greatest < greatest_lock };
 }
 
 /// What the text of the greatest lock leads to.
@@ -155,7 +150,7 @@ impl Seen {
         ensures value { result ≡ self }
         ensures judged { (stood : Standing) → HasLooked self stood → HasJudged result stood }
     {
-        Judged::new(self.holder, self.greatest)
+        Judged::new(self)
     }
 
     /// The call that `read` makes.
@@ -199,12 +194,8 @@ impl Seen {
         ensures failed { ¬ (IsErrOf result folder_failed) }
     {
         match LockText::read(alloc, text)? {
-            LockText::Free => Ok(Told::Judged(Judged::new(self.holder, self.greatest))),
-            LockText::Held(asked) => Ok(Told::Ask(Asking {
-                holder: self.holder,
-                greatest: self.greatest,
-                asked,
-            })),
+            LockText::Free => Ok(Told::Judged(Judged::new(self))),
+            LockText::Held(asked) => Ok(Told::Ask(Asking { seen: self, asked })),
             LockText::Damaged => Err(LockEnd::Refused(LockRefusal::Damaged(self.greatest))),
         }
     }
@@ -226,7 +217,7 @@ impl Asking {
         ensures { SeeksLock (F.moment folder.old) (F.moment folder.new) self.token (asks self.asked)
             (Asks self) HasJudged result }
     {
-        let verdict = folder.verdict(&self.holder.token, &self.asked);
+        let verdict = folder.verdict(&self.seen.holder.token, &self.asked);
         self.after_verdict(verdict)
     }
 
@@ -237,7 +228,7 @@ impl Asking {
     {
         match verdict? {
             Verdict::Alive => Err(LockEnd::Refused(LockRefusal::Held(self.asked))),
-            Verdict::Dead => Ok(Judged::new(self.holder, self.greatest)),
+            Verdict::Dead => Ok(Judged::new(self.seen)),
         }
     }
 }

@@ -1,7 +1,8 @@
-use Rattle.std.proofs.Common.{refl, ap}
+use Rattle.std.proofs.Common.{◌∙◌, refl, ap}
 use Rattle.acct_outside.specs.Calls.{asks}
 use Rattle.suite_rules.specs.Rules.{free_verdict}
 use Rattle.suite_rules.specs.Steps.{own_command}
+use Rattle.lock_steps.specs.declared.judging.Asking.TheInside.{Inside}
 use Rattle.lock_steps.specs.States.{Asker}
 use Rattle.lock_steps.specs.Stands.{HasJudged, HasReadHeld}
 use Rattle.lock_steps.specs.Outcomes.{Asks, folder_failed}
@@ -12,8 +13,10 @@ pub returns : goal.returns
 returns g c =
     let asking = c.args.self in
     let passes = rw (
-      ap (λ (asker : Asker). asker.token) c.self.view_is,
-      ap (λ (asker : Asker). asker.asked) c.self.view_is,
+      ap (λ (inside : Inside). inside.seen.token) c.self-inside.view_is
+          ∙ ap (λ (asker : Asker). asker.token) c.self.view_is,
+      ap (λ (inside : Inside). inside.asked) c.self-inside.view_is
+          ∙ ap (λ (asker : Asker). asker.asked) c.self.view_is,
     )
     at c.verdict-verdict.ensures in
     takes-call asking.token (asks asking.asked) tt tt (HasReadHeld asking)
