@@ -25,8 +25,8 @@ use Rattle.acct_outside.specs.Moment.{Moment}
 use Rattle.side_by_side.specs.Scenes.{Scene, TakePart, scene, telling}
 use Rattle.side_by_side.specs.Advances.{Advances, IsOutsider, by_sessions}
 use Rattle.side_by_side.specs.Staged.{Stage, scene_in, stage_of, staged_moment}
-use Rattle.side_by_side.specs.Lists.{CallsAtOnce, CallsNext, lists_behind, next_list}
-use Rattle.side_by_side.specs.Steps.{TakesFront, TakesSteps}
+use Rattle.side_by_side.specs.Lists.{CallsAtOnce, CallsNext, PlaysNext, next_list}
+use Rattle.side_by_side.specs.Steps.{TakesSteps}
 use Rattle.side_by_side.proofs.SceneLemmas.{advances-narrow, advances-none}
 use Rattle.side_by_side.proofs.StagedLemmas.{OneCame, acting-outside, answering-outside, begin-strangers, begins-after, begun-one, begun-outside, begun_token, never-outsiders, part-after, passes-after, tells-after, told-one}
 
@@ -161,8 +161,7 @@ module _ (start between : Stage)
 
 -- ---- A begin
 
-module _ (start between : Stage) (folder : MemoryFolder)
-    (advances : Advances (scene_in start) (scene_in between)) (part : TakePart (scene_in between))
+module _ {start between : Stage} (played : PlaysNext start between) (folder : MemoryFolder)
     (command : Command) (result : Result Token FolderFault)
     (told : WhereTold (Some (past_of between.files)) (Some (past_of folder))
     (TellsBegin no_others command result)) where
@@ -174,144 +173,32 @@ module _ (start between : Stage) (folder : MemoryFolder)
   pub begins-so : CountsFailure Failed (faults_of between.files) (faults_of folder) result →
       BeginsSession (staged_moment start) (staged_moment (with_files folder between)) command result
   begins-so counts =
-      passes-after (scene_in start) (scene_in between) (scene folder between.others) advances refl
-      (begun_token result) begin-one _
-      (begins-after (scene_in start) (scene_in between) (scene folder between.others) advances refl
-      command result told) result counts
+      passes-after (scene_in start) (scene_in between) (scene folder between.others) played.advances
+      refl (begun_token result) begin-one _
+      (begins-after (scene_in start) (scene_in between) (scene folder between.others)
+      played.advances refl command result told) result counts
 
   -- the sessions after it
   pub begin-part : TakePart (scene folder between.others)
   begin-part = part-after (telling between.files) (telling folder) (begun_token result) begin-one
       between.others
       (begin-strangers (telling between.files) (telling folder) command result told
-      between.others part.each)
-      part
+      between.others played.take_part.each)
+      played.take_part
 
 -- none of the events of the session that begins is admitted
-pub begin-own : (between : Stage) (folder : MemoryFolder) →
-    TakePart (scene_in between) → (command : Command) (result : Result Token FolderFault) →
+pub begin-own : {start between : Stage} → PlaysNext start between → (folder : MemoryFolder)
+    (command : Command) (result : Result Token FolderFault) →
     WhereTold (Some (past_of between.files)) (Some (past_of folder))
     (TellsBegin no_others command result) →
     IfOk result (NeverAdmits (by_sessions (scene folder between.others)))
-begin-own between folder part command (Ok token) told =
+begin-own {between = between} played folder command (Ok token) told =
     never-outsiders (scene folder between.others) token
     (begun-outside (telling between.files) (telling folder) command token told
-    between.others part.each)
-begin-own between folder part command (Err fault) told = tt
+    between.others played.take_part.each)
+begin-own played folder command (Err fault) told = tt
 
 -- ---- In the words of a call, whose staged folder has this value before
-
-module _ (start value between : Stage) (folder : MemoryFolder)
-    (is : start ≡ value) (advances : Advances (scene_in start) (scene_in between)) where
-  -- what is said of the parts is said of the value
-  said : (Says : Stage → Type 0) → Says start → Says value
-  said Says told = subst Says is told
-
-  -- who may call is an outsider
-  may-outside : (token : Token) → MayAct (staged_moment value) token →
-      IsOutsider (scene_in start) token
-  may-outside token may = acting-outside (scene_in start) token
-      (subst (λ (parts : Stage). MayAct (staged_moment parts) token) (sym is) may)
-
-  -- a call
-  pub calls-told : (token : Token) (call : Call) (result : Result (Answer call) FolderFault) →
-      TellsIn between.files folder token call result →
-      CountsFailure Failed (faults_of between.files) (faults_of folder) result →
-      CallsFolder (staged_moment value)
-      (staged_moment (with_files folder between)) token call result
-  calls-told token call result told counts = said
-      (λ parts. CallsFolder (staged_moment parts)
-      (staged_moment (with_files folder between)) token call result)
-      (calls-so start between folder advances token call result told counts)
-
-  -- the sessions after it
-  pub calls-part : (token : Token) (call : Call) (result : Result (Answer call) FolderFault) →
-      TellsIn between.files folder token call result → MayAct (staged_moment value) token →
-      TakePart (scene_in between) → TakePart (scene folder between.others)
-  calls-part token call result told may = part-so start between folder advances token call
-      (gives_call token call) result told (may-outside token may)
-
-  -- a listing
-  pub lists-told : (token : Token) (result : Result (Vec ℕ) FolderFault) →
-      TellsIn between.files folder token lists (locks_result result) →
-      CountsFailure Failed (faults_of between.files) (faults_of folder) result →
-      ListsLocks (staged_moment value) (staged_moment (with_files folder between)) token result
-  lists-told token result told counts = said
-      (λ parts. ListsLocks (staged_moment parts)
-      (staged_moment (with_files folder between)) token result)
-      (lists-so start between folder advances token result told counts)
-
-  -- a read
-  pub reads-told : (token : Token) (name : Name) (limit : ℕ) (result : Result Reading FolderFault) →
-      TellsRead (moment_of between.files) (moment_of folder) token name limit result →
-      CountsFailure Failed (faults_of between.files) (faults_of folder) result →
-      ReadsFolder (staged_moment value)
-      (staged_moment (with_files folder between)) token name limit result
-  reads-told token name limit result told counts = said
-      (λ parts. ReadsFolder (staged_moment parts)
-      (staged_moment (with_files folder between)) token name limit
-      result)
-      (reads-so start between folder advances token name limit result told counts)
-
-  -- the sessions after it
-  pub reads-part : (token : Token) (name : Name) (limit : ℕ) (result : Result Reading FolderFault) →
-      TellsRead (moment_of between.files) (moment_of folder) token name limit result →
-      MayAct (staged_moment value) token → TakePart (scene_in between) →
-      TakePart (scene folder between.others)
-  reads-part token name limit result told may = part-so start between folder advances token
-      (reads name) (gives_read limit name) (found_result result) told (may-outside token may)
-
-  -- a begin
-  pub begins-told : (command : Command) (result : Result Token FolderFault) →
-      WhereTold (Some (past_of between.files)) (Some (past_of folder))
-      (TellsBegin no_others command result) →
-      CountsFailure Failed (faults_of between.files) (faults_of folder) result →
-      TakePart (scene_in between) →
-      BeginsSession (staged_moment value) (staged_moment (with_files folder between)) command result
-  begins-told command result told counts part = said
-      (λ parts. BeginsSession (staged_moment parts)
-      (staged_moment (with_files folder between)) command result)
-      (begins-so start between folder advances part command result told counts)
-
-module _ (start value between : Stage) (is : start ≡ value)
-    (advances : Advances (scene_in start) (scene_in between)) where
-  -- want of memory, of a call
-  pub want-told : (token : Token) (call : Call) (result : Result (Answer call) FolderFault) →
-      IsErr result × IsErrAnd result (λ fault. fault ≡ Memory) →
-      CallsFolder (staged_moment value) (staged_moment between) token call result
-  want-told token call result none = subst
-      (λ (parts : Stage). CallsFolder (staged_moment parts)
-      (staged_moment between) token call result) is
-      (want-of start between advances token call result none)
-
-  -- of a listing
-  pub want-listed : (token : Token) (result : Result (Vec ℕ) FolderFault) →
-      IsErr result × IsErrAnd result (λ fault. fault ≡ Memory) →
-      ListsLocks (staged_moment value) (staged_moment between) token result
-  want-listed token result none = subst
-      (λ (parts : Stage). ListsLocks (staged_moment parts)
-      (staged_moment between) token result) is
-      (want-lists start between advances token result none)
-
-  -- of a read
-  pub want-read : (token : Token) (name : Name) (limit : ℕ) (result : Result Reading FolderFault) →
-      IsErr result × IsErrAnd result (λ fault. fault ≡ Memory) →
-      ReadsFolder (staged_moment value) (staged_moment between) token name limit result
-  want-read token name limit result none = subst
-      (λ (parts : Stage). ReadsFolder (staged_moment parts)
-      (staged_moment between) token name limit result) is
-      (want-reads start between advances token name limit result none)
-
-  -- of a begin
-  pub want-begun : (command : Command) (result : Result Token FolderFault) →
-      IsErr result × IsErrAnd result (λ fault. fault ≡ Memory) →
-      BeginsSession (staged_moment value) (staged_moment between) command result
-  want-begun command result none = subst
-      (λ (parts : Stage). BeginsSession (staged_moment parts)
-      (staged_moment between) command result) is
-      (want-begins start between advances command result none)
-
--- ---- The next list, and then the call
 
 -- a call of the folder in memory, which admits none of others, passes on so
 pub in-memory : {T : Type 0} (old new : MemoryFolder) (Told : Type 0) → Told →
@@ -323,33 +210,6 @@ in-memory old new Told told result counts = record {
   faults = counts;
 }
 
-module _ (start value between : Stage) (is : start ≡ value)
-    (left : between.left ≡ lists_behind start.left) where
-  -- the list was taken, and the call was made
-  pub calls-next : {T : Type 0} (folder : MemoryFolder) →
-      TakesSteps (next_list start.left) (scene_in start) (scene_in between) →
-      (Told : Moment → Moment → Type 0) (result : Result T FolderFault) →
-      Told (moment_of between.files) (moment_of folder) →
-      CallsNext value (with_files folder between) Told result
-  calls-next folder taken Told result told = subst
-      (λ (before : Stage). CallsNext before (with_files folder between) Told result) is
-      (inl (
-        between,
-        record { left = left; taken = taken },
-        record { told = told; others = refl; left = refl },
-      ))
-
-  -- the list broke off
-  pub breaks-off : {T : Type 0} →
-      TakesFront (next_list start.left) (scene_in start) (scene_in between) →
-      (Told : Moment → Moment → Type 0) (result : Result T FolderFault) →
-      IsErr result × IsErrAnd result (λ fault. fault ≡ Memory) →
-      CallsNext value between Told result
-  breaks-off front Told (Ok answer) wrong = absurd (cc (wrong.0))
-  breaks-off {T = T} front Told (Err fault) is_memory = subst
-      (λ (before : Stage). CallsNext {T = T} before between Told (Err fault)) is
-      (inr (record { left = left; taken = front }, ap (λ (one : FolderFault). Err one) is_memory.1))
-
 -- what a call with an event tells: in the words of the trait, and that the next list came first
 abbrev pub TellsNext : Stage → Stage → Token → (made : Call) → Result (Answer made) FolderFault
     → Type 0
@@ -358,21 +218,149 @@ TellsNext value now token made result = record {
   next : CallsNext value now (λ before after. CallsFolder before after token made result) result;
 }
 
-module _ (start value between : Stage) (is : start ≡ value)
-    (advances : Advances (scene_in start) (scene_in between))
-    (left : between.left ≡ lists_behind start.left) where
-  -- the list broke off, and the call wasn't made
-  pub call-wanted : TakesFront (next_list start.left) (scene_in start) (scene_in between) →
-      (token : Token) (call : Call) (result : Result (Answer call) FolderFault) →
+module _ {start value between : Stage} (is : start ≡ value) (played : PlaysNext start between) where
+  -- what is said of the parts is said of the value
+  said : (Says : Stage → Type 0) → Says start → Says value
+  said Says told = subst Says is told
+
+  -- who may call is an outsider
+  may-outside : (token : Token) → MayAct (staged_moment value) token →
+      IsOutsider (scene_in start) token
+  may-outside token may = acting-outside (scene_in start) token
+      (subst (λ (parts : Stage). MayAct (staged_moment parts) token) (sym is) may)
+
+  -- a call
+  calls-told : (folder : MemoryFolder) (token : Token) (call : Call)
+      (result : Result (Answer call) FolderFault) →
+      TellsIn between.files folder token call result →
+      CountsFailure Failed (faults_of between.files) (faults_of folder) result →
+      CallsFolder (staged_moment value)
+      (staged_moment (with_files folder between)) token call result
+  calls-told folder token call result told counts = said
+      (λ parts. CallsFolder (staged_moment parts)
+      (staged_moment (with_files folder between)) token call result)
+      (calls-so start between folder played.advances token call result told counts)
+
+  -- the sessions after it
+  pub calls-part : (folder : MemoryFolder) (token : Token) (call : Call)
+      (result : Result (Answer call) FolderFault) →
+      TellsIn between.files folder token call result → MayAct (staged_moment value) token →
+      TakePart (scene folder between.others)
+  calls-part folder token call result told may = part-so start between folder played.advances token
+      call (gives_call token call) result told (may-outside token may) played.take_part
+
+  -- a listing
+  pub lists-told : (folder : MemoryFolder) (token : Token) (result : Result (Vec ℕ) FolderFault) →
+      TellsIn between.files folder token lists (locks_result result) →
+      CountsFailure Failed (faults_of between.files) (faults_of folder) result →
+      ListsLocks (staged_moment value) (staged_moment (with_files folder between)) token result
+  lists-told folder token result told counts = said
+      (λ parts. ListsLocks (staged_moment parts)
+      (staged_moment (with_files folder between)) token result)
+      (lists-so start between folder played.advances token result told counts)
+
+  -- a read
+  pub reads-told : (folder : MemoryFolder) (token : Token) (name : Name) (limit : ℕ)
+      (result : Result Reading FolderFault) →
+      TellsRead (moment_of between.files) (moment_of folder) token name limit result →
+      CountsFailure Failed (faults_of between.files) (faults_of folder) result →
+      ReadsFolder (staged_moment value)
+      (staged_moment (with_files folder between)) token name limit result
+  reads-told folder token name limit result told counts = said
+      (λ parts. ReadsFolder (staged_moment parts)
+      (staged_moment (with_files folder between)) token name limit
+      result)
+      (reads-so start between folder played.advances token name limit result told counts)
+
+  -- the sessions after it
+  pub reads-part : (folder : MemoryFolder) (token : Token) (name : Name) (limit : ℕ)
+      (result : Result Reading FolderFault) →
+      TellsRead (moment_of between.files) (moment_of folder) token name limit result →
+      MayAct (staged_moment value) token → TakePart (scene folder between.others)
+  reads-part folder token name limit result told may = part-so start between folder
+      played.advances token (reads name) (gives_read limit name) (found_result result) told
+      (may-outside token may) played.take_part
+
+  -- a begin
+  pub begins-told : (folder : MemoryFolder) (command : Command)
+      (result : Result Token FolderFault) →
+      WhereTold (Some (past_of between.files)) (Some (past_of folder))
+      (TellsBegin no_others command result) →
+      CountsFailure Failed (faults_of between.files) (faults_of folder) result →
+      BeginsSession (staged_moment value) (staged_moment (with_files folder between)) command result
+  begins-told folder command result told counts = said
+      (λ parts. BeginsSession (staged_moment parts)
+      (staged_moment (with_files folder between)) command result)
+      (begins-so played folder command result told counts)
+
+  -- want of memory, of a call
+  want-told : (token : Token) (call : Call) (result : Result (Answer call) FolderFault) →
+      IsErr result × IsErrAnd result (λ fault. fault ≡ Memory) →
+      CallsFolder (staged_moment value) (staged_moment between) token call result
+  want-told token call result none = said
+      (λ parts. CallsFolder (staged_moment parts) (staged_moment between) token call result)
+      (want-of start between played.advances token call result none)
+
+  -- of a listing
+  pub want-listed : (token : Token) (result : Result (Vec ℕ) FolderFault) →
+      IsErr result × IsErrAnd result (λ fault. fault ≡ Memory) →
+      ListsLocks (staged_moment value) (staged_moment between) token result
+  want-listed token result none = said
+      (λ parts. ListsLocks (staged_moment parts) (staged_moment between) token result)
+      (want-lists start between played.advances token result none)
+
+  -- of a read
+  pub want-read : (token : Token) (name : Name) (limit : ℕ) (result : Result Reading FolderFault) →
+      IsErr result × IsErrAnd result (λ fault. fault ≡ Memory) →
+      ReadsFolder (staged_moment value) (staged_moment between) token name limit result
+  want-read token name limit result none = said
+      (λ parts. ReadsFolder (staged_moment parts) (staged_moment between) token name limit result)
+      (want-reads start between played.advances token name limit result none)
+
+  -- of a begin
+  pub want-begun : (command : Command) (result : Result Token FolderFault) →
+      IsErr result × IsErrAnd result (λ fault. fault ≡ Memory) →
+      BeginsSession (staged_moment value) (staged_moment between) command result
+  want-begun command result none = said
+      (λ parts. BeginsSession (staged_moment parts) (staged_moment between) command result)
+      (want-begins start between played.advances command result none)
+
+  -- the list was taken, and the call was made
+  pub calls-next : {T : Type 0} (folder : MemoryFolder) →
+      TakesSteps (next_list start.left) (scene_in start) (scene_in between) →
+      (Told : Moment → Moment → Type 0) (result : Result T FolderFault) →
+      Told (moment_of between.files) (moment_of folder) →
+      CallsNext value (with_files folder between) Told result
+  calls-next folder taken Told result told = said
+      (λ before. CallsNext before (with_files folder between) Told result)
+      (inl (
+        between,
+        record { left = played.left; taken = taken },
+        record { told = told; others = refl; left = refl },
+      ))
+
+  -- the list broke off
+  pub breaks-off : {T : Type 0} (Told : Moment → Moment → Type 0) (result : Result T FolderFault) →
+      IsErr result × IsErrAnd result (λ fault. fault ≡ Memory) →
+      CallsNext value between Told result
+  breaks-off Told (Ok answer) wrong = absurd (cc (wrong.0))
+  breaks-off {T = T} Told (Err fault) is_memory = said
+      (λ before. CallsNext {T = T} before between Told (Err fault))
+      (inr (
+        record { left = played.left; taken = played.front },
+        ap (λ (one : FolderFault). Err one) is_memory.1,
+      ))
+
+  -- the list broke off, and a call with an event wasn't made
+  pub call-wanted : (token : Token) (call : Call) (result : Result (Answer call) FolderFault) →
       IsErr result × IsErrAnd result (λ fault. fault ≡ Memory) →
       TellsNext value between token call result
-  call-wanted front token call result none = record {
-    call = want-told start value between is advances token call result none;
-    next = breaks-off start value between is left front
-        (λ before now. CallsFolder before now token call result) result none;
+  call-wanted token call result none = record {
+    call = want-told token call result none;
+    next = breaks-off (λ before now. CallsFolder before now token call result) result none;
   }
 
-  -- the call was made
+  -- it was made
   pub call-made : (folder : MemoryFolder) →
       TakesSteps (next_list start.left) (scene_in start) (scene_in between) →
       (token : Token) (call : Call) (result : Result (Answer call) FolderFault) →
@@ -380,9 +368,8 @@ module _ (start value between : Stage) (is : start ≡ value)
       CountsFailure Failed (faults_of between.files) (faults_of folder) result →
       TellsNext value (with_files folder between) token call result
   call-made folder whole token call result told counts = record {
-    call = calls-told start value between folder is advances token call result told counts;
-    next = calls-next start value between is left folder whole
-        (λ before now. CallsFolder before now token call result) result
+    call = calls-told folder token call result told counts;
+    next = calls-next folder whole (λ before now. CallsFolder before now token call result) result
         (in-memory between.files folder _ told result counts);
   }
 

@@ -7,6 +7,8 @@ use Rattle.acct_outside.specs.Memory.{moment_of}
 use Rattle.acct_outside.specs.Moment.{Moment}
 use Rattle.side_by_side.specs.declared.schedule.Schedule.{Schedule}
 use Rattle.side_by_side.specs.declared.step.Step.{Step}
+use Rattle.side_by_side.specs.Scenes.{TakePart}
+use Rattle.side_by_side.specs.Advances.{Advances}
 use Rattle.side_by_side.specs.Staged.{Stage, scene_in}
 use Rattle.side_by_side.specs.Steps.{TakesFront, TakesSteps}
 
@@ -23,6 +25,14 @@ next_list (list ∷ lists) = list.items
 abbrev pub lists_behind : List (Vec Step) → List (Vec Step)
 lists_behind [] = []
 lists_behind (list ∷ lists) = lists
+
+-- Before a call the sessions take the steps of the next list, or those before one for which there
+-- was no memory. What came is of them alone, and they take part still.
+pub record PlaysNext (before now : Stage) : Type 0 where
+  pub left : now.left ≡ lists_behind before.left
+  pub front : TakesFront (next_list before.left) (scene_in before) (scene_in now)
+  pub advances : Advances (scene_in before) (scene_in now)
+  pub take_part : TakePart (scene_in now)
 
 -- the sessions take all steps of the next list
 pub record TakesList (before now : Stage) : Type 0 where

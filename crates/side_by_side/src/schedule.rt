@@ -1,8 +1,7 @@
 // A schedule: lists of steps, of which one is taken before each call of a staged folder.
 ghost use Rattle.std.specs.Prelude.{◌≡◌, OnOk, drop};
 ghost use Rattle.side_by_side.specs.Scenes.{TakePart, scene};
-ghost use Rattle.side_by_side.specs.Steps.{TakesFront, TakesSteps};
-ghost use Rattle.side_by_side.specs.Advances.{Advances};
+ghost use Rattle.side_by_side.specs.Steps.{TakesSteps};
 ghost use Rattle.side_by_side.specs.Lists.{lists_behind, next_list};
 
 use crate::playing::play;
@@ -19,7 +18,8 @@ pub(crate) struct Schedule {
 }
 
 impl Schedule {
-    ghost use Rattle.side_by_side.specs.Lists.{lists_left};
+    ghost use Rattle.side_by_side.specs.Staged.{stage_of};
+    ghost use Rattle.side_by_side.specs.Lists.{PlaysNext, lists_left};
 
     /// The sessions take the steps of the next list; none where no list is left. The error says that
     /// there was no memory for a step: then those before it are taken, and the list is none that is left.
@@ -29,14 +29,10 @@ impl Schedule {
         folder: &mut MemoryFolder,
     ) -> Result<(), AllocError>
         requires { TakePart (scene folder.old sessions.old.items) }
-        ensures left { lists_left self.new ≡ lists_behind (lists_left self.old) }
-        ensures front { TakesFront (next_list (lists_left self.old))
-            (scene folder.old sessions.old.items) (scene folder.new sessions.new.items) }
+        ensures played { PlaysNext (stage_of folder.old sessions.old.items (lists_left self.old))
+            (stage_of folder.new sessions.new.items (lists_left self.new)) }
         ensures whole { OnOk result (TakesSteps (next_list (lists_left self.old))
             (scene folder.old sessions.old.items) (scene folder.new sessions.new.items)) }
-        ensures advances { Advances (scene folder.old sessions.old.items)
-            (scene folder.new sessions.new.items) }
-        ensures take_part { TakePart (scene folder.new sessions.new.items) }
     {
         let list = self.taken;
         self.taken = place_behind(&self.lists, list);

@@ -1,15 +1,10 @@
 use Rattle.acct_outside.specs.Calls.{Command}
 use Rattle.acct_outside.specs.Contract.{BeginsSession}
-use Rattle.side_by_side.specs.Lists.{lists_left}
-use Rattle.side_by_side.specs.Staged.{stage_of}
 use Rattle.side_by_side.proofs.StagedCalls.{begin-own, begin-part, begins-told, breaks-off, calls-next, in-memory, want-begun}
 use Rattle.side_by_side.proofs.staged_calls.StagedFolderFolder.begin.Goals as goal
 
 pub returns-in_err-play_next-clause-call : goal.returns-in_err-play_next-clause-call
-returns-in_err-play_next-clause-call g c = want-begun _ _
-    (stage_of c.play_next.new.folder c.play_next.new.sessions.items
-    (lists_left c.play_next.new.self))
-    c.self.view_is c.play_next.ensures.advances _
+returns-in_err-play_next-clause-call g c = want-begun c.self.view_is c.play_next.ensures.played _
     c.from_residual.result c.from_residual.ensures
 
 pub invariant_of-self-2 : goal.invariant_of-self-2
@@ -18,25 +13,17 @@ invariant_of-self-2 g c =
       words = c.args.words.now;
       input = c.args.input.now;
       day = c.args.day;
-    } in begin-part
-    (stage_of c.self.inside.folder c.self.inside.others.items
-    (lists_left c.self.inside.schedule))
-    (stage_of c.play_next.new.folder c.play_next.new.sessions.items
-    (lists_left c.play_next.new.self)) c.begin.new.self
-    c.play_next.ensures.advances c.play_next.ensures.take_part command c.begin.result
+    } in
+    begin-part c.play_next.ensures.played c.begin.new.self command c.begin.result
     c.begin.ensures.told
 
 pub returns-clause-call : goal.returns-clause-call
-returns-clause-call g c = begins-told _ _
-    (stage_of c.play_next.new.folder c.play_next.new.sessions.items
-    (lists_left c.play_next.new.self)) c.begin.new.self c.self.view_is
-    c.play_next.ensures.advances _ c.begin.result c.begin.ensures.told c.begin.ensures.faults
-    c.play_next.ensures.take_part
+returns-clause-call g c = begins-told c.self.view_is c.play_next.ensures.played c.begin.new.self _
+    c.begin.result c.begin.ensures.told c.begin.ensures.faults
 
 pub returns-clause-own : goal.returns-clause-own
-returns-clause-own g c = begin-own (stage_of c.play_next.new.folder c.play_next.new.sessions.items
-    (lists_left c.play_next.new.self))
-    c.begin.new.self c.play_next.ensures.take_part _ c.begin.result c.begin.ensures.told
+returns-clause-own g c = begin-own c.play_next.ensures.played c.begin.new.self _
+    c.begin.result c.begin.ensures.told
 
 pub returns-in_err-play_next-clause-next : goal.returns-in_err-play_next-clause-next
 returns-in_err-play_next-clause-next g c =
@@ -44,10 +31,8 @@ returns-in_err-play_next-clause-next g c =
       words = c.args.words.now;
       input = c.args.input.now;
       day = c.args.day;
-    } in breaks-off _ _
-    (stage_of c.play_next.new.folder c.play_next.new.sessions.items
-    (lists_left c.play_next.new.self)) c.self.view_is
-    c.play_next.ensures.left c.play_next.ensures.front
+    } in
+    breaks-off c.self.view_is c.play_next.ensures.played
     (λ before now. BeginsSession before now command c.from_residual.result)
     c.from_residual.result c.from_residual.ensures
 
@@ -57,10 +42,9 @@ returns-clause-next g c =
       words = c.args.words.now;
       input = c.args.input.now;
       day = c.args.day;
-    } in calls-next _ _
-    (stage_of c.play_next.new.folder c.play_next.new.sessions.items
-    (lists_left c.play_next.new.self)) c.self.view_is
-    c.play_next.ensures.left c.begin.new.self c.in_ok-play_next.ensures.whole
+    } in
+    calls-next c.self.view_is c.play_next.ensures.played c.begin.new.self
+    c.in_ok-play_next.ensures.whole
     (λ before now. BeginsSession before now command c.begin.result) c.begin.result
     (in-memory c.play_next.new.folder c.begin.new.self _ c.begin.ensures.told c.begin.result
     c.begin.ensures.faults)

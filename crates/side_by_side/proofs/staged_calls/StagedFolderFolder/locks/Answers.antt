@@ -1,44 +1,28 @@
 use Rattle.acct_outside.specs.Calls.{lists}
 use Rattle.acct_outside.specs.Contract.{ListsLocks, locks_result}
-use Rattle.side_by_side.specs.Lists.{lists_left}
-use Rattle.side_by_side.specs.Staged.{stage_of}
 use Rattle.side_by_side.proofs.StagedCalls.{breaks-off, calls-next, calls-part, in-memory, lists-told, want-listed}
 use Rattle.side_by_side.proofs.staged_calls.StagedFolderFolder.locks.Goals as goal
 
 pub returns-in_err-play_next-clause-call : goal.returns-in_err-play_next-clause-call
-returns-in_err-play_next-clause-call g c = want-listed _ _
-    (stage_of c.play_next.new.folder c.play_next.new.sessions.items
-    (lists_left c.play_next.new.self))
-    c.self.view_is c.play_next.ensures.advances c.args.by.now
-    c.from_residual.result c.from_residual.ensures
+returns-in_err-play_next-clause-call g c = want-listed c.self.view_is c.play_next.ensures.played
+    c.args.by.now c.from_residual.result c.from_residual.ensures
 
 pub invariant_of-self-2 : goal.invariant_of-self-2
-invariant_of-self-2 g c = calls-part _ _
-    (stage_of c.play_next.new.folder c.play_next.new.sessions.items
-    (lists_left c.play_next.new.self)) c.locks.new.self c.self.view_is
-    c.play_next.ensures.advances c.args.by.now lists (locks_result c.locks.result)
-    c.locks.ensures.told c.requires c.play_next.ensures.take_part
+invariant_of-self-2 g c = calls-part c.self.view_is c.play_next.ensures.played c.locks.new.self
+    c.args.by.now lists (locks_result c.locks.result) c.locks.ensures.told c.requires
 
 pub returns-clause-call : goal.returns-clause-call
-returns-clause-call g c = lists-told _ _
-    (stage_of c.play_next.new.folder c.play_next.new.sessions.items
-    (lists_left c.play_next.new.self)) c.locks.new.self c.self.view_is
-    c.play_next.ensures.advances c.args.by.now c.locks.result c.locks.ensures.told
-    c.locks.ensures.faults
+returns-clause-call g c = lists-told c.self.view_is c.play_next.ensures.played c.locks.new.self
+    c.args.by.now c.locks.result c.locks.ensures.told c.locks.ensures.faults
 
 pub returns-in_err-play_next-clause-next : goal.returns-in_err-play_next-clause-next
-returns-in_err-play_next-clause-next g c = breaks-off _ _
-    (stage_of c.play_next.new.folder c.play_next.new.sessions.items
-    (lists_left c.play_next.new.self)) c.self.view_is
-    c.play_next.ensures.left c.play_next.ensures.front
+returns-in_err-play_next-clause-next g c = breaks-off c.self.view_is c.play_next.ensures.played
     (λ before now. ListsLocks before now c.args.by.now c.from_residual.result)
     c.from_residual.result c.from_residual.ensures
 
 pub returns-clause-next : goal.returns-clause-next
-returns-clause-next g c = calls-next _ _
-    (stage_of c.play_next.new.folder c.play_next.new.sessions.items
-    (lists_left c.play_next.new.self)) c.self.view_is
-    c.play_next.ensures.left c.locks.new.self c.in_ok-play_next.ensures.whole
+returns-clause-next g c = calls-next c.self.view_is c.play_next.ensures.played c.locks.new.self
+    c.in_ok-play_next.ensures.whole
     (λ before now. ListsLocks before now c.args.by.now c.locks.result) c.locks.result
     (in-memory c.play_next.new.folder c.locks.new.self _ c.locks.ensures.told c.locks.result
     c.locks.ensures.faults)

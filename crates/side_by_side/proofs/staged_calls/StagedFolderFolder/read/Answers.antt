@@ -1,44 +1,28 @@
 use Rattle.acct_outside.specs.Contract.{ReadsFolder}
-use Rattle.side_by_side.specs.Lists.{lists_left}
-use Rattle.side_by_side.specs.Staged.{stage_of}
 use Rattle.side_by_side.proofs.StagedCalls.{breaks-off, calls-next, in-memory, reads-part, reads-told, want-read}
 use Rattle.side_by_side.proofs.staged_calls.StagedFolderFolder.read.Goals as goal
 
 pub returns-in_err-play_next-clause-call : goal.returns-in_err-play_next-clause-call
-returns-in_err-play_next-clause-call g c = want-read _ _
-    (stage_of c.play_next.new.folder c.play_next.new.sessions.items
-    (lists_left c.play_next.new.self))
-    c.self.view_is c.play_next.ensures.advances c.args.by.now c.args.name c.args.limit
-    c.from_residual.result c.from_residual.ensures
+returns-in_err-play_next-clause-call g c = want-read c.self.view_is c.play_next.ensures.played
+    c.args.by.now c.args.name c.args.limit c.from_residual.result c.from_residual.ensures
 
 pub invariant_of-self-2 : goal.invariant_of-self-2
-invariant_of-self-2 g c = reads-part _ _
-    (stage_of c.play_next.new.folder c.play_next.new.sessions.items
-    (lists_left c.play_next.new.self)) c.read.new.self c.self.view_is
-    c.play_next.ensures.advances c.args.by.now c.args.name c.args.limit c.read.result
-    c.read.ensures.told c.requires.acts c.play_next.ensures.take_part
+invariant_of-self-2 g c = reads-part c.self.view_is c.play_next.ensures.played c.read.new.self
+    c.args.by.now c.args.name c.args.limit c.read.result c.read.ensures.told c.requires.acts
 
 pub returns-clause-call : goal.returns-clause-call
-returns-clause-call g c = reads-told _ _
-    (stage_of c.play_next.new.folder c.play_next.new.sessions.items
-    (lists_left c.play_next.new.self)) c.read.new.self c.self.view_is
-    c.play_next.ensures.advances c.args.by.now c.args.name c.args.limit c.read.result
-    c.read.ensures.told c.read.ensures.faults
+returns-clause-call g c = reads-told c.self.view_is c.play_next.ensures.played c.read.new.self
+    c.args.by.now c.args.name c.args.limit c.read.result c.read.ensures.told c.read.ensures.faults
 
 pub returns-in_err-play_next-clause-next : goal.returns-in_err-play_next-clause-next
-returns-in_err-play_next-clause-next g c = breaks-off _ _
-    (stage_of c.play_next.new.folder c.play_next.new.sessions.items
-    (lists_left c.play_next.new.self)) c.self.view_is
-    c.play_next.ensures.left c.play_next.ensures.front
+returns-in_err-play_next-clause-next g c = breaks-off c.self.view_is c.play_next.ensures.played
     (λ before now. ReadsFolder before now c.args.by.now
     c.args.name c.args.limit c.from_residual.result)
     c.from_residual.result c.from_residual.ensures
 
 pub returns-clause-next : goal.returns-clause-next
-returns-clause-next g c = calls-next _ _
-    (stage_of c.play_next.new.folder c.play_next.new.sessions.items
-    (lists_left c.play_next.new.self)) c.self.view_is
-    c.play_next.ensures.left c.read.new.self c.in_ok-play_next.ensures.whole
+returns-clause-next g c = calls-next c.self.view_is c.play_next.ensures.played c.read.new.self
+    c.in_ok-play_next.ensures.whole
     (λ before now. ReadsFolder before now c.args.by.now
     c.args.name c.args.limit c.read.result) c.read.result
     (in-memory c.play_next.new.folder c.read.new.self _ c.read.ensures.told c.read.result
