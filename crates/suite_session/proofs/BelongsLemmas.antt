@@ -14,6 +14,7 @@ use Rattle.acct_outside.specs.Contract.{NeverAdmits, MayAnswer, RunsIn, WhereTol
 use Rattle.acct_outside.specs.declared.CommitStage.{CommitStage}
 use Rattle.suite_rules.specs.OwnLock.{kept_number}
 use Rattle.suite_rules.specs.Standing.{Standing}
+use Rattle.suite_rules.specs.Steps.{StandsIn}
 use Rattle.suite_rules.proofs.Own.{own-standing}
 use Rattle.suite_rules.proofs.StepLemmas.{may-answer-now}
 use Rattle.suite_answers.specs.declared.answer.Answer.{Answer}
@@ -41,44 +42,32 @@ use Rattle.suite_session.proofs.TellingLemmas.{tells-others}
 
 -- ---- A session that belongs
 
--- in each state it runs, and the folder admits no event of it
-pub state-runs : (now : Moment) (runner : Runner) (state : State) → StandsAs now runner state →
-    MayAnswer now runner.token
-state-runs now runner (Looking looking) stands =
-    may-answer-now now.admits runner.token _ now.told stands.1
-state-runs now runner (Reading seen) stands =
-    may-answer-now now.admits runner.token _ now.told stands.2
-state-runs now runner (Asking asking) stands =
-    may-answer-now now.admits runner.token _ now.told stands.1
-state-runs now runner (Claiming judged) stands =
-    may-answer-now now.admits runner.token _ now.told stands.1
-state-runs now runner (Confirming claimed) stands =
-    may-answer-now now.admits runner.token _ now.told stands.1
-state-runs now runner (Withdrawing loser) stands =
-    may-answer-now now.admits runner.token _ now.told stands.2
-state-runs now runner (ReadingIntent keeper) stands =
-    may-answer-now now.admits runner.token _ now.told stands.1
-state-runs now runner (Recovering recovering) stands =
-    may-answer-now now.admits runner.token _ now.told stands.1
-state-runs now runner (Moving moving) stands =
-    may-answer-now now.admits runner.token _ now.told stands.2
-state-runs now runner (Loading reader) stands =
-    may-answer-now now.admits runner.token _ now.told stands.1
-state-runs now runner (BackingUp walker answer) stands =
-    may-answer-now now.admits runner.token _ now.told stands.stands
-state-runs now runner (Committing change answer) stands =
-    may-answer-now now.admits runner.token _ now.told stands.stands
-state-runs now runner (Installing walker answer) stands =
-    may-answer-now now.admits runner.token _ now.told stands.stands
-state-runs now runner (Unlocking keeper answer) stands =
-    may-answer-now now.admits runner.token _ now.told stands.stands
-state-runs now runner (Freeing freeing answer) stands =
-    may-answer-now now.admits runner.token _ now.told stands.stands
-state-runs now runner (Watching watcher) stands =
-    may-answer-now now.admits runner.token _ now.told stands.1
-state-runs now runner (Gathering reading) stands =
-    may-answer-now now.admits runner.token _ now.told stands.1
-state-runs now runner (Answering answer) stands = stands.may_answer
+module _ (now : Moment) (runner : Runner) where
+  -- wherever it stands it runs, and the folder admits no event of it
+  runs-so : (Holds : Standing → Type 0) → StandsIn now runner.token Holds →
+      MayAnswer now runner.token
+  runs-so Holds = may-answer-now now.admits runner.token Holds now.told
+
+  -- so it does in each state
+  pub state-runs : (state : State) → StandsAs now runner state → MayAnswer now runner.token
+  state-runs (Looking looking) stands = runs-so _ stands.1
+  state-runs (Reading seen) stands = runs-so _ stands.2
+  state-runs (Asking asking) stands = runs-so _ stands.1
+  state-runs (Claiming judged) stands = runs-so _ stands.1
+  state-runs (Confirming claimed) stands = runs-so _ stands.1
+  state-runs (Withdrawing loser) stands = runs-so _ stands.2
+  state-runs (ReadingIntent keeper) stands = runs-so _ stands.1
+  state-runs (Recovering recovering) stands = runs-so _ stands.1
+  state-runs (Moving moving) stands = runs-so _ stands.2
+  state-runs (Loading reader) stands = runs-so _ stands.1
+  state-runs (BackingUp walker answer) stands = runs-so _ stands.stands
+  state-runs (Committing change answer) stands = runs-so _ stands.stands
+  state-runs (Installing walker answer) stands = runs-so _ stands.stands
+  state-runs (Unlocking keeper answer) stands = runs-so _ stands.stands
+  state-runs (Freeing freeing answer) stands = runs-so _ stands.stands
+  state-runs (Watching watcher) stands = runs-so _ stands.1
+  state-runs (Gathering reading) stands = runs-so _ stands.1
+  state-runs (Answering answer) stands = stands.may_answer
 
 -- the folder admits no event of it
 pub state-own : (now : Moment) (runner : Runner) (state : State) → StandsAs now runner state →
