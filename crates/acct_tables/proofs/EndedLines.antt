@@ -36,7 +36,7 @@ end-next lines now place line new so_far inside is ended =
     ∙ ap (λ n. ended_up_to n lines) (sym (add-one place))
 
 -- lines of which a new one is the last
-pub ended-with :
+ended-with :
     (lines : List Line) (line : Line) (text : List ℕ)
     → line ≡ record { text = text; ended = true }
     → map as_ended (lines ++ line ∷ []) ≡ with_line text lines
@@ -51,7 +51,7 @@ drop-none (suc count) [] all = refl
 drop-none (suc count) (x ∷ xs) all = drop-none count xs (omega arith)
 
 -- as many lines in the place of all lines of a list are all its lines
-pub written-back :
+written-back :
     (new old : List Line) (count : ℕ)
     → length new ≡ length old
     → count ≡ length old

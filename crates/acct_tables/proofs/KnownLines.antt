@@ -1,18 +1,24 @@
--- Claim: a record of another canonical text than that of a line takes the line (`put-other`). Way: it
--- is another record.
+-- Claim: a record of another canonical text than that of a line takes the line (`put-other`), and one of
+-- the same leaves it (`put-same`). Way: it is another record, or the same.
 use Rattle.std.proofs.Common.{◌≡◌, ◌∙◌, ℕ, Bool, true, false, List, refl, sym, ap}
-use Rattle.std.specs.Prelude.{Option, Some, None, bytes_eq, not, option_map, if◌then◌else◌}
+use Rattle.std.specs.Prelude.{Option, Some, None, IfSome, bytes_eq, not, option_map, if◌then◌else◌}
 use Rattle.std.proofs.lemmas.Bool.{false_from_ne_true}
 use Rattle.std.proofs.lemmas.Slice.Eq.{bytes_eq-Decides}
 use Rattle.acct_text.specs.Lines.{Line}
 use Rattle.account_formats.specs.Format.{Format}
 use Rattle.account_formats.specs.RecordEdits.{TellsSame}
+use Rattle.account_formats.specs.Written.{IsWritten}
 use Rattle.acct_tables.specs.TableLines.{with_record}
 
 -- what isn't so is false
 pub isn't : (test : Bool) → not test ≡ true → test ≡ false
 isn't true other = absurd cc
 isn't false other = refl
+
+-- what isn't not so is true
+pub is-so : (test : Bool) → not test ≡ false → test ≡ true
+is-so true so = refl
+is-so false so = absurd cc
 
 module _ {R : Type 0} (format : Format R) (tells : TellsSame format) (item : R) where
   -- a record of another text is another one
@@ -40,6 +46,29 @@ module _ {R : Type 0} (format : Format R) (tells : TellsSame format) (item : R) 
       let apart : bytes_eq (format.print item) (format.print old) ≡ false =
       ap (λ t. bytes_eq t (format.print old)) (sym is) ∙ ap (bytes_eq text) printed ∙ other in
       ap (λ same. if same then line else new) (sym (other-record old apart))
+      ∙ ap (λ found. elim found [
+        | None ↦ new
+        | Some old ↦ if format.same old item then line else new
+      ]) (sym reads)
+
+  -- a record of the same text is the same, by what the line reads as
+  pub put-same :
+      (line : Line) (found : Option R) (kept text : List ℕ)
+      → format.read line.text ≡ found
+      → IfSome found (IsWritten format)
+      → option_map format.print found ≡ Some kept
+      → IsWritten format item
+      → text ≡ format.print item
+      → text ≡ kept
+      → line ≡ with_record format item line
+  put-same line None kept text reads old_written known written is same = absurd cc
+  put-same line (Some old) kept text reads old_written known written is same =
+      let new : Line = record line { text = format.print item } in
+      let printed : format.print old ≡ format.print item = cc in
+      let both : Some old ≡ Some item =
+      sym old_written.reads ∙ ap format.read printed ∙ written.reads in
+      let one : old ≡ item = cc in
+      ap (λ same. if same then line else new) (sym ((tells old item).1 one))
       ∙ ap (λ found. elim found [
         | None ↦ new
         | Some old ↦ if format.same old item then line else new

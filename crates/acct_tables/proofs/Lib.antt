@@ -7,7 +7,11 @@ pub mod ListLines
 pub mod RenamingLemmas
 pub mod OrderLemmas
 pub mod RefusalLemmas
-pub mod IndexedLines
+pub mod LineTextLemmas
+pub mod FilePlaces
+pub mod KeptLines
+pub mod PutLines
+pub mod IndexedTexts
 pub mod LinesAhead
 pub mod EditedFiles
 pub mod LinesCounted

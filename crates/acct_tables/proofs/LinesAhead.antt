@@ -82,7 +82,7 @@ last-tells (byte ∷ next ∷ rest) =
     ∙ last-tells (next ∷ rest)
 
 -- behind a newline the end of the rest tells
-ends-newline :
+pub ends-newline :
     (text rest : List ℕ) → missing_end ((text ++ newline ∷ []) ++ rest) ≡ missing_end rest
 ends-newline [] [] = refl
 ends-newline [] (byte ∷ rest) = refl
@@ -90,7 +90,7 @@ ends-newline (byte ∷ []) rest = ends-newline [] rest
 ends-newline (byte ∷ next ∷ text) rest = ends-newline (next ∷ text) rest
 
 -- a text of bytes without a newline misses it
-open-end :
+pub open-end :
     (text : List ℕ) → Lacks newline text → 0 < length text → missing_end text ≡ newline ∷ []
 open-end [] lacks some = absurd (lt_irrefl 0 some)
 open-end (last ∷ []) lacks some = rw (ne_eqb last newline lacks.0) refl

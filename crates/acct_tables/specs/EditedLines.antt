@@ -1,19 +1,26 @@
--- What stands beside the lines of a table while edits change them (passwd(5), shadow(5), group(5),
--- gshadow(5), subuid(5), subgid(5)).
-use Rattle.std.specs.Prelude.{◌≡◌, Bool, true, List}
-use Rattle.std.specs.List.{AllPass}
+-- The lines of a table while edits change them, as they are kept: their texts, and whether the last
+-- one lacks its end (passwd(5), shadow(5), group(5), gshadow(5), subuid(5), subgid(5)).
+use Rattle.std.specs.Prelude.{ℕ, Bool, not, ◌&&◌, List, [], ◌∷◌, map, All, Option, option_map}
+use Rattle.acct_text.specs.Bytes.{is_empty, newline}
 use Rattle.acct_text.specs.Lines.{Line}
+use Rattle.acct_text.specs.Pieces.{Lacks}
 use Rattle.account_formats.specs.Format.{Format}
 use Rattle.acct_tables.specs.declared.table_names.TableNames.{TableNames}
-use Rattle.acct_tables.specs.NameIndex.{Tells, line_names}
+use Rattle.acct_tables.specs.NameIndex.{Tells}
 use Rattle.acct_tables.specs.TableNames.{told_names}
 
--- each line has an end, the last one too
-abbrev pub AllEnded : List Line → Type 0
-AllEnded lines = AllPass (λ line. line.ended) lines
+-- the lines of these texts, each with an end, but for the last where it lacks it
+abbrev pub lines_with : Bool → List (List ℕ) → List Line
+lines_with lacks [] = []
+lines_with lacks (text ∷ rest) =
+    record { text = text; ended = not (is_empty rest && lacks) } ∷ lines_with lacks rest
 
--- the index tells of these lines, and each of them has an end where that is noted
-pub record AreIndexed {R : Type 0} (format : Format R) (lines : List Line) (names : TableNames)
-    (ended : Bool) : Type 0 where
-  pub told : Tells (line_names format lines) (told_names names)
-  pub ends : ended ≡ true → AllEnded lines
+-- the names of the records that these texts are; none for one of other text
+abbrev pub text_names : {R : Type 0} → Format R → List (List ℕ) → List (Option (List ℕ))
+text_names format texts = map (λ text. option_map format.name (format.read text)) texts
+
+-- each text is one line, and the index tells of them
+pub record AreIndexed {R : Type 0} (format : Format R) (texts : List (List ℕ))
+    (names : TableNames) : Type 0 where
+  pub one_line : All (Lacks newline) texts
+  pub told : Tells (text_names format texts) (told_names names)

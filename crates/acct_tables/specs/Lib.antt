@@ -5,7 +5,7 @@ pub mod Lists
 pub mod Order
 pub mod Renaming
 pub mod EditedLines
-pub mod EditedTexts
+pub mod LineTexts
 pub mod SeenLines
 pub mod NameIndex
 pub mod TableNames

@@ -1,17 +1,23 @@
 // The lines of a table's file while edits change them.
-ghost use Rattle.std.specs.Prelude.{◌≡◌, ◌<◌, ◌++◌, ◌∷◌, [], Some, length, map, nat_le, option_map, IfOk, IfSome, OnOk, OnErr};
-ghost use Rattle.acct_text.specs.Lines.{lines_of, file_bytes};
-ghost use Rattle.account_formats.specs.Edits.{as_ended, with_line};
+ghost use Rattle.std.specs.Prelude.{◌≡◌, ◌<◌, Some, get_or, length, nat_le, option_map, IfOk, IfSome, OnOk, OnErr};
+ghost use Rattle.acct_text.specs.Lines.{Line, file_bytes, lines_of};
+ghost use Rattle.account_formats.specs.Edits.{with_line};
 ghost use Rattle.account_formats.specs.Format.{count_named, find_named, records_of};
 ghost use Rattle.account_formats.specs.Written.{IsWritten};
-ghost use Rattle.acct_tables.specs.NameIndex.{line_names, lines_named};
+ghost use Rattle.acct_tables.specs.EditedLines.{text_names};
+ghost use Rattle.acct_tables.specs.LineTexts.{file_text};
+ghost use Rattle.acct_tables.specs.NameIndex.{Tells, line_names, lines_named};
 ghost use Rattle.acct_tables.specs.Order.{text_at};
+ghost use Rattle.acct_tables.specs.SeenLines.{seen_line};
 ghost use Rattle.acct_tables.specs.TableLines.{changed_at, record_at, with_record};
+ghost use Rattle.acct_tables.specs.TableNames.{told_names};
 
-use crate::edited_line::EditedLine;
+use crate::line::read_record;
+use crate::line_texts::{FileText, LineTexts};
+use crate::lines::lacks_end;
 use crate::name_index::are_several;
 use crate::table_names::TableNames;
-use crate::{Lines, NamedLines};
+use crate::{FileLine, NamedLines};
 use acct_lines::TableRecord;
 use acct_text::Bytes;
 use std::alloc::{AllocError, Global};
@@ -23,59 +29,63 @@ use std::marker::{Model, PhantomData};
 /// the same call of `Table` keeps.
 #[derive(Drop)]
 pub struct EditedLines<'a, R: TableRecord> {
-    lines: Vec<EditedLine<'a>>,
+    texts: LineTexts<'a>,
+    // whether the last line lacks its end, as it may in a file; each other line has one
+    lacks_end: bool,
     // where the records of each name stand among the lines
     names: TableNames,
-    // whether each line surely has an end
-    ended: bool,
     record: PhantomData<R>,
 }
 
 impl<'a, R: TableRecord> Model for EditedLines<'a, R> {
     ghost use Rattle.std.specs.Prelude.{List};
     ghost use Rattle.acct_text.specs.Lines.{Line};
-    ghost use Rattle.acct_tables.specs.EditedLines.{AreIndexed};
+    ghost use Rattle.acct_tables.specs.EditedLines.{AreIndexed, lines_with};
 
     ghost Value = { List Line };
 
-    ghost view = { λ t. t.lines.items };
+    ghost view = { λ t. lines_with t.lacks_end t.texts };
 
-    ghost invariant = { λ t. AreIndexed R.format t.lines.items t.names t.ended };
+    ghost invariant = { λ t. AreIndexed R.format t.texts t.names };
 }
 
 impl<'a, R: TableRecord + Drop> EditedLines<'a, R> {
     /// The lines of a file with these bytes. They take the memory of later edits from the same
-    /// allocator.
+    /// allocator. A file of 4 GiB or more is answered as want of memory.
     pub fn of(alloc: Global, text: &'a [u8]) -> Result<Self, AllocError>
         ensures { IfOk result (λ lines. lines ≡ lines_of text.now) }
     {
-        let mut kept = EditedLines::new(alloc);
-        let mut left = Lines::of(text);
-        'lines: while let Some(line) = left.take() {
-            let edited = EditedLine::of(line.text, line.ended);
-            kept.push(edited)?;
-        }
-        Ok(kept)
+        EditedLines::of_file(alloc, FileText::Lent(text))
     }
 
-    /// The lines of a file with these bytes, which they don't borrow: each line has bytes of its own.
+    /// The lines of a file with these bytes, which they don't borrow: they have a copy. A file of 4 GiB
+    /// or more is answered as want of memory.
     pub fn copied(alloc: Global, text: &[u8]) -> Result<Self, AllocError>
         ensures { IfOk result (λ lines. lines ≡ lines_of text.now) }
     {
-        let mut kept = EditedLines::new(alloc);
-        let mut left = Lines::of(text);
-        'lines: while let Some(line) = left.take() {
-            let copy = EditedLine::copied(alloc, line.text, line.ended)?;
-            kept.push(copy)?;
-        }
-        Ok(kept)
+        EditedLines::of_file(alloc, FileText::Own(Bytes::of(alloc, text)?))
+    }
+
+    // The lines of a file.
+    fn of_file(alloc: Global, file: FileText<'a>) -> Result<Self, AllocError>
+        ensures { IfOk result (λ lines. lines ≡ lines_of (file_text file.entry)) }
+    {
+        let lacks_end = lacks_end(file.as_slice());
+        let texts = LineTexts::of(alloc, file)?;
+        let names = names_of::<R>(alloc, &texts)?;
+        Ok(EditedLines {
+            texts,
+            lacks_end,
+            names,
+            record: PhantomData,
+        })
     }
 
     /// The number of lines, of records and other text.
     pub fn len(&self) -> usize
         ensures { result ≡ length self.now }
     {
-        self.lines.len()
+        self.texts.len()
     }
 
     /// Where the records of the name stand; none where no record has it. It takes no pass over the
@@ -111,8 +121,8 @@ impl<'a, R: TableRecord + Drop> EditedLines<'a, R> {
         ensures found { IfOk result (λ found. found ≡ record_at R.format self.now place) }
         ensures written { IfOk result (λ found. IfSome found (IsWritten R.format)) }
     {
-        match self.lines.get(place) {
-            Some(line) => line.record(alloc),
+        match self.texts.get(place) {
+            Some(text) => read_record(alloc, text),
             None => Ok(None),
         }
     }
@@ -122,23 +132,27 @@ impl<'a, R: TableRecord + Drop> EditedLines<'a, R> {
     pub fn text_at(&self, place: usize) -> &[u8]
         ensures { result.now ≡ text_at self.now place }
     {
-        match self.lines.get(place) {
-            Some(line) => line.text(),
+        match self.texts.get(place) {
+            Some(text) => text,
             None => &[],
         }
     }
 
     /// Adds a record behind the last line, which gets an end where it had none. Its name may have
-    /// records. Only where some line may lack an end it takes a pass over the lines. At `AllocError`
-    /// the lines are as before.
+    /// records. It takes no pass over the lines. At `AllocError` the lines are as before.
     pub fn append(&mut self, item: &R) -> Result<(), AllocError>
         requires { IsWritten R.format item.now }
         ensures appended { OnOk result (self.new ≡ with_line (R.format.print item.now) self.old) }
         ensures unchanged { OnErr result (self.new ≡ self.old) }
     {
-        let line = EditedLine::printed(self.allocator(), item)?;
-        self.push(line)?;
-        self.end();
+        let alloc = self.texts.allocator();
+        let place = self.texts.len();
+        self.texts.push(item.print(alloc)?)?;
+        if let Err(fault) = self.names.note(alloc, Some(item.name()), place) {
+            self.texts.pop();
+            return Err(fault);
+        }
+        self.lacks_end = false;
         Ok(())
     }
 
@@ -156,69 +170,53 @@ impl<'a, R: TableRecord + Drop> EditedLines<'a, R> {
             changed_at (with_record R.format item.now) place self.old) }
         ensures unchanged { OnErr result (self.new ≡ self.old) }
     {
-        let alloc = self.allocator();
-        self.lines[place].put(alloc, kept, item)
+        let text = item.print(self.texts.allocator())?;
+        if text.as_slice() != kept {
+            self.texts.put(place, text)?;
+        }
+        Ok(())
     }
 
     /// The bytes of the lines, one behind the other.
     pub fn text(&self) -> Result<Bytes, AllocError>
         ensures { IfOk result (λ bytes. bytes ≡ file_bytes self.now) }
     {
-        let mut text = Bytes::new(self.allocator());
-        for line in &self.lines {
-            line.push_to(&mut text)?;
+        let mut text = Bytes::with_room(self.texts.allocator(), self.room())?;
+        'places: for place in 0..self.len() {
+            self.line_at(place).push_to(&mut text)?;
         }
         Ok(text)
     }
 
-    // No lines.
-    fn new(alloc: Global) -> Self
-        ensures { result ≡ [] }
-    {
-        EditedLines {
-            lines: Vec::new(alloc),
-            names: TableNames::new(alloc),
-            ended: true,
-            record: PhantomData,
+    // So many bytes are those of the lines.
+    fn room(&self) -> usize {
+        let mut room = self.len();
+        for place in 0..self.len() {
+            room = room.saturating_add(self.text_at(place).len());
         }
+        room
     }
 
-    // Puts a line behind the last. At `AllocError` the lines are as before.
-    fn push(&mut self, line: EditedLine<'a>) -> Result<(), AllocError>
-        ensures pushed { OnOk result (self.new ≡ self.old ++ line.entry ∷ []) }
-        ensures unchanged { OnErr result (self.new ≡ self.old) }
+    // The line at a place.
+    fn line_at(&self, place: usize) -> FileLine<'_>
+        requires { place < length self.now }
+        ensures { (other : Line) → seen_line result ≡ get_or self.now place other }
     {
-        let alloc = self.allocator();
-        let ended = self.ended && line.is_ended();
-        self.lines.reserve(1)?;
-        self.names.note(alloc, line.name::<R>(), self.lines.len())?;
-        self.lines.push(line)?;
-        self.ended = ended;
-        Ok(())
-    }
-
-    // Gives each line an end.
-    fn end(&mut self)
-        ensures { self.new ≡ map as_ended self.old }
-    {
-        if self.ended {
-            return;
+        let count = self.len();
+        FileLine {
+            text: self.text_at(place),
+            ended: place + 1 < count || !self.lacks_end,
         }
-        end_all(&mut self.lines);
-        self.ended = true;
-    }
-
-    // The allocator of the lines.
-    fn allocator(&self) -> Global {
-        *self.lines.allocator()
     }
 }
 
-// Gives each line an end.
-fn end_all(lines: &mut [EditedLine<'_>])
-    ensures { lines.new ≡ map as_ended lines.old }
+// The index of the names of the records that these texts are.
+fn names_of<R: TableRecord>(alloc: Global, texts: &LineTexts<'_>) -> Result<TableNames, AllocError>
+    ensures { IfOk result (λ names. Tells (text_names R.format texts.now) (told_names names)) }
 {
-    for line in lines.iter_mut() {
-        line.end();
+    let mut names = TableNames::new(alloc);
+    'places: for place in 0..texts.len() {
+        names.note(alloc, texts.name::<R>(place), place)?;
     }
+    Ok(names)
 }

@@ -9,10 +9,10 @@
 //! of memory a table is as before the call.
 #![tactic(auto)]
 
-mod edited_line;
 mod edited_lines;
 mod fault;
 mod line;
+mod line_texts;
 mod lines;
 mod list_record;
 mod marks;

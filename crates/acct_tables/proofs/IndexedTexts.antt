@@ -1,0 +1,120 @@
+-- Claim: what stands beside the texts of lines is so of them after each edit: of those of a file
+-- (`file-lacks`), with one more (`pushed-indexed`), without it again (`same-indexed`), and with a record
+-- in the text of one of its name (`put-indexed`). Way: the names follow the texts.
+use Rattle.std.proofs.Common.{◌≡◌, ◌∙◌, ℕ, ◌-◌, ◌<◌, Bool, List, [], ◌∷◌, ◌++◌, length, take, sym, ap, subst, arith, length-append}
+use Rattle.std.specs.Prelude.{All, Some, Result, Ok, Err, OnOk, OnErr, option_map, set, slice_get}
+use Rattle.std.proofs.Math.Seq.{take-append_seam}
+use Rattle.std.proofs.lemmas.List.{length-map, map-append}
+use Rattle.std.proofs.lemmas.List.Elements.{All-from_recursion, All-get_or, All-map, All-push, All-set}
+use Rattle.std.proofs.lemmas.Option.{get_or_from_slice_get, slice_get_within}
+use Rattle.acct_text.specs.Bytes.{newline}
+use Rattle.acct_text.specs.Lines.{lines_of, texts_of}
+use Rattle.acct_text.specs.Pieces.{Lacks}
+use Rattle.acct_text.proofs.LinesLaws.{lines_of-are}
+use Rattle.account_formats.specs.Format.{Format}
+use Rattle.account_formats.specs.Written.{IsWritten}
+use Rattle.acct_tables.specs.declared.table_names.TableNames.{TableNames}
+use Rattle.acct_tables.specs.EditedLines.{AreIndexed, lines_with, text_names}
+use Rattle.acct_tables.specs.NameIndex.{IsLineNoted, Tells}
+use Rattle.acct_tables.specs.TableLines.{record_at}
+use Rattle.acct_tables.specs.TableNames.{told_names}
+use Rattle.acct_tables.proofs.NameIndexLemmas.{told-line}
+use Rattle.acct_tables.proofs.PutLines.{put-names}
+
+-- the texts of the lines of a file are one line each
+pub file-lacks : (text : List ℕ) → All (Lacks newline) (texts_of (lines_of text))
+file-lacks text =
+    All-map (Lacks newline) (λ line. line.text) (lines_of text)
+    (All-from_recursion (λ line. Lacks newline line.text) (lines_of text) (lines_of-are text).apart)
+
+-- so is one of them
+pub text-lacks :
+    (texts : List (List ℕ)) (place : ℕ) (text : List ℕ)
+    → All (Lacks newline) texts
+    → slice_get texts place ≡ Some text
+    → Lacks newline text
+text-lacks texts place text all is =
+    subst (Lacks newline) (get_or_from_slice_get texts place text [] is)
+    (All-get_or (Lacks newline) texts place [] (slice_get_within texts place text is) all)
+
+-- without the last of texts the others are left
+pub all-but-last :
+    (texts : List (List ℕ)) (text : List ℕ)
+    → take (length (texts ++ text ∷ []) - 1) (texts ++ text ∷ []) ≡ texts
+all-but-last texts text =
+    let many : length (texts ++ text ∷ []) - 1 ≡ length texts =
+    omega (arith, length-append texts (text ∷ [])) in
+    ap (λ n. take n (texts ++ text ∷ [])) many ∙ take-append_seam texts (text ∷ [])
+
+module _ {R : Type 0} (format : Format R) (texts : List (List ℕ)) (names : TableNames)
+    (indexed : AreIndexed format texts names) where
+  -- the same texts, and an index that tells the same
+  pub same-indexed :
+      (now : List (List ℕ)) (after : TableNames)
+      → now ≡ texts
+      → told_names after ≡ told_names names
+      → AreIndexed format now after
+  same-indexed now after same told = record {
+    one_line = subst (All (Lacks newline)) (sym same) indexed.one_line;
+    told = subst (λ t. Tells (text_names format now) t) (sym told)
+        (subst (λ t. Tells (text_names format t) (told_names names)) (sym same) indexed.told);
+  }
+
+  -- a text that is noted behind them
+  pub pushed-indexed :
+      (text : List ℕ) (now : List (List ℕ)) (after : TableNames)
+      → Lacks newline text
+      → now ≡ texts ++ text ∷ []
+      → IsLineNoted (option_map format.name (format.read text)) (length texts)
+      (told_names names) (told_names after)
+      → AreIndexed format now after
+  pushed-indexed text now after lacks pushed noted =
+      let name = option_map format.name (format.read text) in
+      let many : length (text_names format texts) ≡ length texts =
+      length-map texts (λ text. option_map format.name (format.read text)) in
+      let more : text_names format now ≡ text_names format texts ++ name ∷ [] =
+      ap (text_names format) pushed
+      ∙ map-append (λ text. option_map format.name (format.read text)) texts (text ∷ []) in
+      record {
+        one_line = subst (All (Lacks newline)) (sym pushed)
+            (All-push (Lacks newline) texts text indexed.one_line lacks);
+        told = subst (λ found. Tells found (told_names after)) (sym more)
+            (told-line (text_names format texts) (told_names names) indexed.told name
+            (told_names after)
+            (subst (λ n. IsLineNoted name n (told_names names) (told_names after)) (sym many)
+            noted));
+      }
+
+  -- a record in the text of one of its name
+  put-in :
+      (lacks : Bool) (place : ℕ) (item : R) (text : List ℕ)
+      → place < length texts
+      → IsWritten format item
+      → text ≡ format.print item
+      → option_map format.name (record_at format (lines_with lacks texts) place)
+      ≡ Some (format.name item)
+      → AreIndexed format (set texts place text) names
+  put-in lacks place item text inside written is named = record {
+    one_line = All-set (Lacks newline) texts place text
+        (subst (Lacks newline) (sym is) written.one_line) indexed.one_line;
+    told = subst (λ found. Tells found (told_names names))
+        (sym (put-names format lacks texts place inside item written text is named)) indexed.told;
+  }
+
+  -- the same, where want of memory leaves the texts
+  pub put-indexed :
+      {X E : Type 0} (put : Result X E) (now : List (List ℕ))
+      (lacks : Bool) (place : ℕ) (item : R) (text : List ℕ)
+      → place < length texts
+      → IsWritten format item
+      → text ≡ format.print item
+      → option_map format.name (record_at format (lines_with lacks texts) place)
+      ≡ Some (format.name item)
+      → OnOk put (now ≡ set texts place text)
+      → OnErr put (now ≡ texts)
+      → AreIndexed format now names
+  put-indexed (Ok done) now lacks place item text inside written is named made kept =
+      subst (λ t. AreIndexed format t names) (sym made)
+      (put-in lacks place item text inside written is named)
+  put-indexed (Err fault) now lacks place item text inside written is named made kept =
+      subst (λ t. AreIndexed format t names) (sym kept) indexed
