@@ -1,6 +1,7 @@
 -- Claim: what is told of each key in front of lines is told with one line more, where its key is noted
 -- (`first-noted`), where another line is told of it (`first-known`), where it isn't asked for
--- (`first-unasked`, `line-unasked`), and where it is other text (`first-other`). Way: key by key, by whether the record of the line has it.
+-- (`first-unasked`, `line-unasked`), and where it is other text (`first-other`). Way: key by key, by
+-- whether the record of the line has it.
 use Rattle.std.proofs.Common.{◌≡◌, ℕ, Bool, true, false, true≢false, List, ◌∷◌, refl, sym, ◌∙◌, ap, inl, inr, if◌then◌else◌}
 use Rattle.std.specs.Prelude.{Option, Some, None, find, is_some, option_map}
 use Rattle.std.specs.List.{cons_option}

@@ -9,7 +9,8 @@ use Rattle.table_lookups.proofs.group_index.note_gid.Goals as goal
 
 pub returns-in_default : goal.returns-in_default
 returns-in_default c = λ rest all.
-    first-other group_format has_gid (is_used c.args.asked.now) c.args.line.now (told_gids c.args.gids.now) rest all
+    first-other group_format has_gid (is_used c.args.asked.now) c.args.line.now
+    (told_gids c.args.gids.now) rest all
     (none-of (λ group. group.gid) (group_format.read c.args.line.now) c.in_default.ensures)
 
 pub returns-then-not-holds : goal.returns-then-not-holds
@@ -27,8 +28,8 @@ returns-then-contains_key c = λ rest all.
     let line = c.args.line.now in
     let gid = c.in-Some.gid in
     let here = told-of (λ group. group.gid) (group_format.read line) gid c.in-Some.ensures in
-    first-known group_format has_gid (is_used c.args.asked.now) line (told_gids c.args.gids.now) rest all
-    here.item gid here.is
+    first-known group_format has_gid (is_used c.args.asked.now) line (told_gids c.args.gids.now)
+    rest all here.item gid here.is
     (λ key is. sym here.has ∙ eqb-true here.item.gid key is)
     (some-mapped (λ line. line.now) _ ∙ sym c.contains_key.ensures ∙ c.if-contains_key.true)
 
@@ -37,8 +38,8 @@ returns c = λ rest all.
     let line = c.args.line.now in
     let gid = c.in-Some.gid in
     let here = told-of (λ group. group.gid) (group_format.read line) gid c.in-Some.ensures in
-    first-noted group_format has_gid (is_used c.args.asked.now) line (told_gids c.args.gids.now) rest all
-    here.item gid (told_gids c.insert.new.self) here.is
+    first-noted group_format has_gid (is_used c.args.asked.now) line (told_gids c.args.gids.now)
+    rest all here.item gid (told_gids c.insert.new.self) here.is
     (λ key is. sym here.has ∙ eqb-true here.item.gid key is)
     (ap (option_map (λ line. line.now))
     (is-none _ (sym c.contains_key.ensures ∙ c.if-contains_key.false)))

@@ -21,7 +21,7 @@ returns-in_err-check_in c =
     let stopped = stopped-first test NoUser name rest fault
     (subst (λ n. StopsBy {X = Unit {0}} (refuse_if (test n) (NoUser n)) (Err fault))
     c.as_slice.ensures (c.in_err-check_in.ensures {u = tt})) in
-    handed-stops _ c.from_residual-in_err-check_in.result fault
-    c.from_residual-in_err-check_in.ensures.1
+    handed-stops _ c.from_residual.result fault
+    c.from_residual.ensures.1
     (subst (λ found. StopsBy {X = Unit {0}} (option_map NoUser found) (Err fault))
     (ap (find test) (sym from) ∙ c.loop-name.invariant) stopped)

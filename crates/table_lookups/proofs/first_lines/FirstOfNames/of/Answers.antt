@@ -18,7 +18,7 @@ lines-preserved g c =
     let format = g.R.TableRecord.format in
     let all = table_records format c.args.file.now in
     c.in_ok-note_name.ensures (records_of format c.take.new.self) all
-    (subst (λ lines. Tells format (has_name format) (is_asked c.args.asked)
+    (subst (λ lines. Tells format (has_name format) (is_asked c.lines.asked-1)
     (told_names c.lines.lines) (records_of format lines) all)
     c.in-Some.ensures.taken c.lines.invariant)
 
@@ -28,6 +28,6 @@ lines-smaller g c = omega (arith, ap length c.in-Some.ensures.taken)
 pub returns : goal.returns
 returns g c =
     let format = g.R.TableRecord.format in
-    subst (λ lines. Tells format (has_name format) (is_asked c.args.asked)
+    subst (λ lines. Tells format (has_name format) (is_asked c.lines.asked-1)
     (told_names c.lines.lines) (records_of format lines) (table_records format c.args.file.now))
     c.in_default.ensures.taken c.lines.invariant
