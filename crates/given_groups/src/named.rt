@@ -97,3 +97,21 @@ pub fn group_words(alloc: Global, asked: &Asked) -> Result<Names, AllocError>
 {
     list_value(alloc, asked.value_or(b'G', b""))
 }
+
+/// The groups of the tables, which are to be asked for by these words: with one pass where the words
+/// are many, and another where GIDs are among them.
+pub fn groups_asked<'a>(
+    alloc: Global,
+    tables: &Tables<'a>,
+    words: &Names,
+) -> Result<GroupIndex<'a>, AllocError>
+    ensures { IfOk result (λ groups. groups ≡ tables.now) }
+{
+    let mut gids = Vec::new(alloc);
+    for word in words.as_slice() {
+        if let Some(gid) = read_id(word.as_slice()) {
+            gids.push(gid)?;
+        }
+    }
+    GroupIndex::of(alloc, tables, words, gids)
+}

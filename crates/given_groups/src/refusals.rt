@@ -4,7 +4,7 @@ ghost use Rattle.account_model.specs.GivenGroups.{is_unknown_group, unknown_grou
 ghost use Rattle.account_model.specs.Refusals.{refuse_if};
 ghost use Rattle.table_lookups.specs.Stopping.{StopsBy};
 
-use crate::named::{group_words, names_group};
+use crate::named::{group_words, groups_asked, names_group};
 use account_model::Refusal;
 use acct_text::Bytes;
 use command_values::{Asked, ToolFault};
@@ -16,7 +16,7 @@ pub fn check_given_group(alloc: Global, asked: &Asked, tables: &Tables) -> Resul
     ensures { StopsBy (unknown_group asked.now tables.now) result }
 {
     match asked.value(b'g') {
-        Some(word) => check_word(alloc, &GroupIndex::of(alloc, tables, 1)?, word),
+        Some(word) => check_word(alloc, &GroupIndex::plain(tables), word),
         None => Ok(()),
     }
 }
@@ -26,7 +26,7 @@ pub fn check_given_groups(alloc: Global, asked: &Asked, tables: &Tables) -> Resu
     ensures { StopsBy (unknown_groups asked.now tables.now) result }
 {
     let words = group_words(alloc, asked)?;
-    let groups = GroupIndex::of(alloc, tables, words.len())?;
+    let groups = groups_asked(alloc, tables, &words)?;
     check_words(alloc, &groups, words.as_slice())
 }
 

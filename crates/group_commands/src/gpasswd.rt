@@ -131,7 +131,7 @@ fn check_listed(alloc: Global, tables: &Tables, users: &[u8]) -> Result<(), Tool
     ensures { StopsBy (missing_users (names_of_list users.now) tables.now) result }
 {
     let names = list_value(alloc, users)?;
-    tables.check_users(alloc, names.as_slice())
+    tables.check_users(alloc, &names)
 }
 
 // Refuses a user of `-a` who can't stand in a list.

@@ -1,6 +1,7 @@
 -- What the contracts of `Runs` say: a set of numbers is told by its members. A run is as long as it
 -- can be.
-use Rattle.std.specs.Prelude.{◌≡◌, ℕ, ◌+◌, ◌<◌, ◌≤◌, true, false, ◌||◌, List}
+use Rattle.std.specs.Prelude.{◌≡◌, ℕ, ◌+◌, ◌<◌, ◌≤◌, Bool, true, false, ◌||◌, List}
+use Rattle.std.specs.List.{list_any}
 use Rattle.account_words.specs.Ids.{in_range, is_used}
 use Rattle.id_choice.specs.declared.runs.Run.{Run}
 
@@ -8,6 +9,14 @@ use Rattle.id_choice.specs.declared.runs.Run.{Run}
 abbrev pub AddsAll : List ℕ → ℕ → ℕ → List ℕ → Type 0
 AddsAll old first last new =
     (number : ℕ) → is_used new number ≡ (in_range first last number || is_used old number)
+
+-- whether one of the runs has the number
+abbrev pub is_run : List Run → ℕ → Bool
+is_run runs number = list_any (λ run. in_range run.first run.last number) runs
+
+-- the numbers are exactly those of the runs
+abbrev pub AreThoseOfRuns : List Run → List ℕ → Type 0
+AreThoseOfRuns runs numbers = (number : ℕ) → is_used numbers number ≡ is_run runs number
 
 -- the numbers of the run are there, and neither the one before it nor the one behind it
 pub record IsWholeRun (numbers : List ℕ) (run : Run) : Type 0 where

@@ -1,6 +1,6 @@
 // Numbers as runs of those that follow one another, of which no two touch. Contracts see them as a
 // set: they name members, and no order.
-ghost use Rattle.std.specs.Prelude.{◌≡◌, ◌≤◌, [], MatchOption, OnOk, OnErr};
+ghost use Rattle.std.specs.Prelude.{◌≡◌, ◌≤◌, [], All, IfOk, MatchOption, OnOk, OnErr};
 ghost use Rattle.std.specs.BTreeMap.{IsOrdered};
 ghost use Rattle.std.specs.Ordering.{nat_cmp};
 ghost use Rattle.account_words.specs.Ids.{is_used};
@@ -39,7 +39,7 @@ impl Model for Runs {
 }
 
 impl Runs {
-    ghost use Rattle.id_choice.specs.Runs.{AddsAll, HasNothingFrom, HasNothingUpTo, IsFirstFrom, IsLastUpTo};
+    ghost use Rattle.id_choice.specs.Runs.{AddsAll, AreThoseOfRuns, HasNothingFrom, HasNothingUpTo, IsFirstFrom, IsLastUpTo};
 
     /// No number. It allocates nothing before the first `add`.
     pub fn new(alloc: Global) -> Runs
@@ -48,6 +48,21 @@ impl Runs {
         Runs {
             runs: BTreeMap::new(alloc),
         }
+    }
+
+    /// The numbers of the runs of a list, which may come in any order, and may meet. They are sorted
+    /// first, as runs in their order cost little more than a push each.
+    pub fn of(alloc: Global, runs: Vec<Run>) -> Result<Runs, AllocError>
+        requires { All (λ run. run.first ≤ run.last) runs.items }
+        ensures { IfOk result (AreThoseOfRuns runs.items) }
+    {
+        let mut sorted = runs;
+        sorted.sort_unstable_by_key(|run| run.first);
+        let mut numbers = Runs::new(alloc);
+        'runs: for run in &sorted {
+            numbers.add(run.first, run.last)?;
+        }
+        Ok(numbers)
     }
 
     /// Adds the numbers from the first to the last, of which some may be there already. At

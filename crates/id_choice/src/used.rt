@@ -1,6 +1,6 @@
 // The IDs that users or groups have, and the choice of one that isn't among them (useradd(8),
 // groupadd(8)). Contracts see them as a set: they name members, and no order.
-ghost use Rattle.std.specs.Prelude.{◌≡◌, List, ℕ, [], ◌∷◌, OnOk, OnErr};
+ghost use Rattle.std.specs.Prelude.{◌≡◌, List, ℕ, [], ◌∷◌, IfOk, OnOk, OnErr};
 ghost use Rattle.account_words.specs.Ids.{is_used};
 ghost use Rattle.id_choice.specs.Used.{AreThoseOf, Gives, id_for};
 
@@ -30,6 +30,20 @@ impl UsedIds {
         UsedIds {
             ids: Runs::new(alloc),
         }
+    }
+
+    /// The IDs of a list, which may come in any order, and each any number of times. They are sorted
+    /// first, as IDs in their order cost little more than a push each.
+    pub fn of(alloc: Global, ids: Vec<u32>) -> Result<UsedIds, AllocError>
+        ensures { IfOk result (λ used. AreThoseOf used ids.items) }
+    {
+        let mut sorted = ids;
+        sorted.sort_unstable();
+        let mut used = UsedIds::new(alloc);
+        'ids: for id in &sorted {
+            used.add(*id)?;
+        }
+        Ok(used)
     }
 
     /// Adds an ID, which may be used already. At `AllocError` the set is as before.

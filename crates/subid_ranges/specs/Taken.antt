@@ -1,7 +1,9 @@
 -- Which numbers are taken, and the gaps between them (useradd(8), subuid(5), subgid(5)).
-use Rattle.std.specs.Prelude.{◌≡◌, ℕ, ◌+◌, ◌-◌, ◌≤◌, Bool, true, false, ◌||◌, List}
+use Rattle.std.specs.Prelude.{◌≡◌, ℕ, ◌+◌, ◌-◌, ◌≤◌, All, Bool, true, false, ◌||◌, List}
 use Rattle.account_formats.specs.declared.records.SubidRecord.{SubidRecord}
 use Rattle.account_words.specs.Ids.{is_used}
+use Rattle.id_choice.specs.Runs.{is_run}
+use Rattle.id_choice.specs.declared.runs.Run.{Run}
 use Rattle.subid_ranges.specs.declared.taken.Taken.{Taken}
 use Rattle.subid_ranges.specs.Numbers.{is_of, is_ranged}
 
@@ -12,6 +14,11 @@ is_taken taken number = is_used taken.runs number || is_of taken.newest number
 -- the numbers taken are those of the ranges
 pub record TakesThoseOf (ranges : List SubidRecord) (taken : Taken) : Type 0 where
   pub same : (number : ℕ) → is_taken taken number ≡ is_ranged ranges number
+
+-- each of the ranges is one run
+pub record AreRunsOf (ranges : List SubidRecord) (runs : List Run) : Type 0 where
+  pub same : (number : ℕ) → is_run runs number ≡ is_ranged ranges number
+  pub ordered : All (λ run. run.first ≤ run.last) runs
 
 -- none of the numbers from the first to the last is taken
 abbrev pub AreFree : Taken → ℕ → ℕ → Type 0

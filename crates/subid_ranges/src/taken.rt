@@ -40,11 +40,15 @@ impl Taken {
         }
     }
 
-    /// The numbers of the ranges of a file with these bytes.
+    /// The numbers of the ranges of a file with these bytes, whose lines may stand in any order.
     pub(crate) fn of(alloc: Global, text: &[u8]) -> Result<Taken, AllocError>
         ensures { IfOk result (TakesThoseOf (ranges_of (lines_of text.now))) }
     {
-        gather(alloc, Taken::new(alloc), text)
+        let ranges = gather(alloc, Vec::new(alloc), text)?;
+        Ok(Taken {
+            runs: Runs::of(alloc, ranges)?,
+            newest: None,
+        })
     }
 
     /// Takes the memory for one more range. The numbers stay the same, also at `AllocError`.
@@ -98,6 +102,21 @@ impl Taken {
             Some(end) => Some(end),
             None => end_where_met(self.runs.last_up_to(last), first, last),
         }
+    }
+}
+
+impl Gathered for Vec<Run> {
+    ghost use Rattle.subid_ranges.specs.Taken.{AreRunsOf};
+    ghost use Rattle.std.specs.Vec.{vec_items};
+
+    ghost is_of = { λ ranges runs. AreRunsOf ranges (vec_items runs) };
+
+    fn note(&mut self, _alloc: Global, range: &SubidLine<'_>) -> Result<(), AllocError> {
+        self.push(Run {
+            first: range.first,
+            last: end_of(range),
+        })?;
+        Ok(())
     }
 }
 

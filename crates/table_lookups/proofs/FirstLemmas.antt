@@ -1,6 +1,7 @@
 -- Claim: what is told of each key in front of lines is told with one line more, where its key is noted
--- (`first-noted`), where another line is told of it (`first-known`), and where it is other text
--- (`first-other`). Way: key by key, by whether the record of the line has it.
+-- (`first-noted`), where another line is told of it (`first-known`), where it isn't asked for
+-- (`first-unasked`, `line-unasked`), and where it is other text (`first-other`). Way: key by key, by
+-- whether the record of the line has it.
 use Rattle.std.proofs.Common.{◌≡◌, ℕ, Bool, true, false, true≢false, List, ◌∷◌, refl, sym, ◌∙◌, ap, inl, inr, if◌then◌else◌}
 use Rattle.std.specs.Prelude.{Option, Some, None, find, is_some, option_map}
 use Rattle.std.specs.List.{cons_option}
@@ -47,14 +48,14 @@ pub mapped-if :
 mapped-if f true x other = refl
 mapped-if f false x other = refl
 
-module _ {R K : Type 0} (format : Format R) (has : K → R → Bool) where
+module _ {R K : Type 0} (format : Format R) (has : K → R → Bool) (asks : K → Bool) where
   -- where nothing is told yet, all records are left
   pub none-told :
       (told : K → Option (List ℕ)) (left all : List R)
       → ((key : K) → told key ≡ None)
       → left ≡ all
-      → Tells format has told left all
-  none-told told left all none is = λ key.
+      → Tells format has asks told left all
+  none-told told left all none is = λ key asked.
       ap (λ told. or_other format told (find (has key) left)) (none key) ∙ ap (find (has key)) is
 
   -- a record that another line is told of is passed over
@@ -92,13 +93,13 @@ module _ {R K : Type 0} (format : Format R) (has : K → R → Bool) where
         → ((key : K) → has key r ≡ true → own ≡ key)
         → old own ≡ None
         → ((key : K) → new key ≡ (if has key r then Some line else old key))
-        → Tells format has old (cons_option (format.read line) rest) all
-        → Tells format has new rest all
-    first-noted r own new reads is none put tells = λ key.
+        → Tells format has asks old (cons_option (format.read line) rest) all
+        → Tells format has asks new rest all
+    first-noted r own new reads is none put tells = λ key asked.
         noted key (old key) (new key) line r rest (has key r) refl reads
         (λ here. ap old (sym (is key here)) ∙ none) (put key)
         ∙ ap (λ kept. or_other format (old key) (find (has key) (cons_option kept rest))) (sym reads)
-        ∙ tells key
+        ∙ tells key asked
 
     -- another line is told of the key
     pub first-known :
@@ -106,18 +107,44 @@ module _ {R K : Type 0} (format : Format R) (has : K → R → Bool) where
         → format.read line ≡ Some r
         → ((key : K) → has key r ≡ true → own ≡ key)
         → is_some (old own) ≡ true
-        → Tells format has old (cons_option (format.read line) rest) all
-        → Tells format has old rest all
-    first-known r own reads is known tells = λ key.
+        → Tells format has asks old (cons_option (format.read line) rest) all
+        → Tells format has asks old rest all
+    first-known r own reads is known tells = λ key asked.
         passed key (old key) r rest (λ here. ap (λ key. is_some (old key)) (sym (is key here)) ∙ known)
         ∙ ap (λ kept. or_other format (old key) (find (has key) (cons_option kept rest))) (sym reads)
-        ∙ tells key
+        ∙ tells key asked
+
+    -- a key that isn't asked for is passed over
+    pub first-unasked :
+        (r : R) (own : K)
+        → format.read line ≡ Some r
+        → ((key : K) → has key r ≡ true → own ≡ key)
+        → asks own ≡ false
+        → Tells format has asks old (cons_option (format.read line) rest) all
+        → Tells format has asks old rest all
+    first-unasked r own reads is unasked tells = λ key asked.
+        passed key (old key) r rest
+        (λ here. absurd (true≢false (sym asked ∙ ap asks (sym (is key here)) ∙ unasked)))
+        ∙ ap (λ kept. or_other format (old key) (find (has key) (cons_option kept rest))) (sym reads)
+        ∙ tells key asked
 
     -- other text has no key
     pub first-other :
         format.read line ≡ None
-        → Tells format has old (cons_option (format.read line) rest) all
-        → Tells format has old rest all
-    first-other other tells = λ key.
+        → Tells format has asks old (cons_option (format.read line) rest) all
+        → Tells format has asks old rest all
+    first-other other tells = λ key asked.
         ap (λ kept. or_other format (old key) (find (has key) (cons_option kept rest))) (sym other)
-        ∙ tells key
+        ∙ tells key asked
+
+    -- a line whose key isn't asked for is passed over, be it a record or other text
+    pub line-unasked :
+        (kept : Option R) (own : K)
+        → format.read line ≡ kept
+        → ((r : R) → format.read line ≡ Some r → (key : K) → has key r ≡ true → own ≡ key)
+        → asks own ≡ false
+        → Tells format has asks old (cons_option (format.read line) rest) all
+        → Tells format has asks old rest all
+    line-unasked None own reads is unasked tells = first-other reads tells
+    line-unasked (Some r) own reads is unasked tells =
+        first-unasked r own reads (is r reads) unasked tells

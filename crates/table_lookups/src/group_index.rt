@@ -1,6 +1,6 @@
 // The groups of group, asked for by name and by GID: where they are many, without a pass over the
 // table for each.
-ghost use Rattle.std.specs.Prelude.{◌≡◌, List, [], is_some, option_map, IfOk, OnOk};
+ghost use Rattle.std.specs.Prelude.{◌≡◌, List, [], true, is_some, option_map, IfOk, IfSome, OnOk};
 ghost use Rattle.std.specs.List.{cons_option};
 ghost use Rattle.std.specs.Option.{option_copied};
 ghost use Rattle.acct_text.specs.Lines.{lines_of};
@@ -10,25 +10,28 @@ ghost use Rattle.account_formats.specs.Records.{group_format};
 ghost use Rattle.account_formats.specs.Tables.{group_records, table_records};
 ghost use Rattle.account_model.specs.Users.{has_group};
 ghost use Rattle.account_formats.specs.declared.records.GroupRecord.{GroupRecord};
-ghost use Rattle.table_lookups.specs.FirstLines.{AreGroups, Tells, has_gid, told_gids};
+ghost use Rattle.account_words.specs.Ids.{is_used};
+ghost use Rattle.table_lookups.specs.FirstLines.{Tells, TellsGids, TellsNames, has_gid, told_gids};
 
 use crate::first_lines::FirstOfNames;
 use crate::ids::IdRecord;
 use crate::{Tables, text_of};
 use acct_lines::GroupRecord;
 use acct_tables::{Lines, name_of};
-use acct_text::Bytes;
+use acct_text::{Bytes, Names};
+use id_choice::UsedIds;
 use indexmap::IndexMap;
+use line_edits::NameSet;
 use std::alloc::{AllocError, Global};
 use std::marker::Model;
 
-/// The lines of group(5) that are the first of their name or of their GID.
+/// The lines of group(5) that are the first with each of the GIDs that are asked for.
 #[derive(Drop)]
-pub(crate) struct GroupLines<'a> {
-    /// By name.
-    pub names: FirstOfNames<'a>,
+pub(crate) struct FirstOfGids<'a> {
+    /// The GIDs that are asked for.
+    pub asked: UsedIds,
     /// By GID.
-    pub gids: IndexMap<u32, &'a [u8]>,
+    pub lines: IndexMap<u32, &'a [u8]>,
 }
 
 /// The groups, of which each is told by its name and by its GID, and none is copied. Contracts see
@@ -37,35 +40,57 @@ pub(crate) struct GroupLines<'a> {
 pub struct GroupIndex<'a> {
     tables: Tables<'a>,
     // none where few groups are asked for, and of carried tables
-    groups: Option<GroupLines<'a>>,
+    names: Option<FirstOfNames<'a>>,
+    // none as well where no GID is asked for
+    gids: Option<FirstOfGids<'a>>,
 }
 
 impl<'a> Model for GroupIndex<'a> {
     ghost use Rattle.std.specs.Prelude.{IfSome};
     ghost use Rattle.acct_text.specs.declared.files.Files.{Files};
+    ghost use Rattle.account_formats.specs.Records.{group_format};
     ghost use Rattle.account_formats.specs.Tables.{group_records};
-    ghost use Rattle.table_lookups.specs.FirstLines.{AreGroups};
+    ghost use Rattle.table_lookups.specs.FirstLines.{TellsGids, TellsNames};
 
     ghost Value = { Files };
 
     ghost view = { λ index. index.tables };
 
     ghost invariant = { λ index.
-        IfSome index.groups (AreGroups (group_records index.tables)) };
+        IfSome index.names (TellsNames group_format (group_records index.tables))
+        × IfSome index.gids (TellsGids (group_records index.tables)) };
 }
 
 impl<'a> GroupIndex<'a> {
-    /// The groups of the tables, of which so many are asked for.
-    pub fn of(alloc: Global, tables: &Tables<'a>, asked: usize) -> Result<Self, AllocError>
+    /// The groups of the tables, each found by a pass of its own.
+    pub fn plain(tables: &Tables<'a>) -> Self
+        ensures { result ≡ tables.now }
+    {
+        GroupIndex {
+            tables: tables.again(),
+            names: None,
+            gids: None,
+        }
+    }
+
+    /// The groups of the tables, of which those of the names and with the GIDs are asked for. Where
+    /// these are many, one pass finds all of the names, and one all with the GIDs. Others can be asked
+    /// for as well.
+    pub fn of(
+        alloc: Global,
+        tables: &Tables<'a>,
+        names: &Names,
+        gids: Vec<u32>,
+    ) -> Result<Self, AllocError>
         ensures { IfOk result (λ index. index ≡ tables.now) }
     {
-        let groups = match tables.files_for_many(asked) {
-            Some(files) => Some(group_lines(alloc, &files.group)?),
-            None => None,
+        let Some(files) = tables.files_for_many(names.len()) else {
+            return Ok(GroupIndex::plain(tables));
         };
         Ok(GroupIndex {
             tables: tables.again(),
-            groups,
+            names: Some(first_of_names(alloc, &files.group, names)?),
+            gids: first_of_gids(alloc, &files.group, gids)?,
         })
     }
 
@@ -73,9 +98,9 @@ impl<'a> GroupIndex<'a> {
     pub fn has_group(&self, name: &[u8]) -> bool
         ensures { result ≡ has_group name.now self.now }
     {
-        match &self.groups {
-            Some(groups) => groups.names.has::<GroupRecord>(name),
-            None => self.tables.has_group(name),
+        match &self.names {
+            Some(names) if names.asks(name) => names.has::<GroupRecord>(name),
+            _ => self.tables.has_group(name),
         }
     }
 
@@ -84,9 +109,9 @@ impl<'a> GroupIndex<'a> {
         ensures { IfOk result (λ has.
             has ≡ is_some (first_of_gid gid (group_records self.now))) }
     {
-        match &self.groups {
-            Some(groups) => Ok(name_told(&groups.gids, gid).is_some()),
-            None => self.tables.is_gid_used(alloc, gid),
+        match &self.gids {
+            Some(gids) if gids.asked.holds(gid) => Ok(name_told(gids, gid).is_some()),
+            _ => self.tables.is_gid_used(alloc, gid),
         }
     }
 
@@ -95,9 +120,9 @@ impl<'a> GroupIndex<'a> {
         ensures { IfOk result (λ name.
             name ≡ option_map (λ group. group.name) (first_of_gid gid (group_records self.now))) }
     {
-        match &self.groups {
-            Some(groups) => copied(alloc, name_told(&groups.gids, gid)),
-            None => Ok(
+        match &self.gids {
+            Some(gids) if gids.asked.holds(gid) => copied(alloc, name_told(gids, gid)),
+            _ => Ok(
                 self.tables
                     .group_of_gid(alloc, gid)?
                     .map(|group| group.name),
@@ -106,38 +131,69 @@ impl<'a> GroupIndex<'a> {
     }
 }
 
-// The first group of each name and of each GID; an absent file has none.
-fn group_lines(alloc: Global, file: &Option<Bytes>) -> Result<GroupLines<'_>, AllocError>
-    ensures { IfOk result (AreGroups (table_records group_format file.now)) }
+// The first group of each of the names; an absent file has none.
+fn first_of_names<'a>(
+    alloc: Global,
+    file: &'a Option<Bytes>,
+    names: &Names,
+) -> Result<FirstOfNames<'a>, AllocError>
+    ensures { IfOk result (TellsNames group_format (table_records group_format file.now)) }
 {
-    let names = FirstOfNames::of::<GroupRecord>(alloc, file)?;
-    let gids = first_of_gids(alloc, text_of(file))?;
-    Ok(GroupLines { names, gids })
+    let asked = NameSet::of(alloc, names.copy()?)?;
+    FirstOfNames::of::<GroupRecord>(alloc, file, Some(asked))
 }
 
-// The line of the first group with each GID.
-fn first_of_gids(alloc: Global, text: &[u8]) -> Result<IndexMap<u32, &[u8]>, AllocError>
-    ensures { IfOk result (λ gids. Tells group_format has_gid (told_gids gids) []
+// The first group with each of the GIDs, where there are any; an absent file has none.
+fn first_of_gids(
+    alloc: Global,
+    file: &Option<Bytes>,
+    gids: Vec<u32>,
+) -> Result<Option<FirstOfGids<'_>>, AllocError>
+    ensures { IfOk result (λ first.
+        IfSome first (TellsGids (table_records group_format file.now))) }
+{
+    if gids.is_empty() {
+        return Ok(None);
+    }
+    let asked = UsedIds::of(alloc, gids)?;
+    let lines = lines_of_gids(alloc, text_of(file), &asked)?;
+    Ok(Some(FirstOfGids { asked, lines }))
+}
+
+// The line of the first group with each of the GIDs.
+fn lines_of_gids<'a>(
+    alloc: Global,
+    text: &'a [u8],
+    asked: &UsedIds,
+) -> Result<IndexMap<u32, &'a [u8]>, AllocError>
+    ensures { IfOk result (λ gids. Tells group_format has_gid (is_used asked.now) (told_gids gids) []
         (records_of group_format (lines_of text.now))) }
 {
     let mut gids = IndexMap::new(alloc);
     let mut left = Lines::of(text);
     'lines: while let Some(line) = left.take() {
-        note_gid(&mut gids, line.text)?;
+        note_gid(&mut gids, asked, line.text)?;
     }
     Ok(gids)
 }
 
-// Notes the GID of the group that the line is, where no line in front of it has it.
-fn note_gid<'a>(gids: &mut IndexMap<u32, &'a [u8]>, line: &'a [u8]) -> Result<(), AllocError>
+// Notes the GID of the group that the line is, where it is asked for and no line in front has it.
+fn note_gid<'a>(
+    gids: &mut IndexMap<u32, &'a [u8]>,
+    asked: &UsedIds,
+    line: &'a [u8],
+) -> Result<(), AllocError>
     ensures { OnOk result ((rest all : List GroupRecord)
-        → Tells group_format has_gid (told_gids gids.old)
+        → Tells group_format has_gid (is_used asked.now) (told_gids gids.old)
         (cons_option (group_format.read line.now) rest) all
-        → Tells group_format has_gid (told_gids gids.new) rest all) }
+        → Tells group_format has_gid (is_used asked.now) (told_gids gids.new) rest all) }
 {
     let Some(gid) = GroupRecord::id_in(line) else {
         return Ok(());
     };
+    if !asked.holds(gid) {
+        return Ok(());
+    }
     if gids.contains_key(&gid) {
         return Ok(());
     }
@@ -145,13 +201,13 @@ fn note_gid<'a>(gids: &mut IndexMap<u32, &'a [u8]>, line: &'a [u8]) -> Result<()
     Ok(())
 }
 
-// The name of the first group with the GID, by what the map tells of it.
-fn name_told<'a>(gids: &IndexMap<u32, &'a [u8]>, gid: u32) -> Option<&'a [u8]>
-    ensures { (records : List GroupRecord)
-        → Tells group_format has_gid (told_gids gids.now) [] records
+// The name of the first group with a GID that was asked for, by what is told of it.
+fn name_told<'a>(gids: &FirstOfGids<'a>, gid: u32) -> Option<&'a [u8]>
+    ensures { (records : List GroupRecord) → TellsGids records gids.now
+        → is_used gids.now.asked gid ≡ true
         → option_copied result ≡ option_map (λ group. group.name) (first_of_gid gid records) }
 {
-    match gids.get(&gid) {
+    match gids.lines.get(&gid) {
         Some(line) => name_of::<GroupRecord>(line),
         None => None,
     }

@@ -1,5 +1,5 @@
 // The IDs that users and groups have by their records (passwd(5), group(5)).
-ghost use Rattle.std.specs.Prelude.{◌≡◌, ℕ, true, map, option_map, IfOk, OnOk};
+ghost use Rattle.std.specs.Prelude.{◌≡◌, ◌++◌, ℕ, true, [], map, option_map, IfOk, OnOk};
 ghost use Rattle.std.specs.List.{cons_option};
 ghost use Rattle.account_formats.specs.Tables.{table_records};
 ghost use Rattle.id_choice.specs.Used.{AreThoseOf};
@@ -105,21 +105,31 @@ pub(crate) fn used_ids<R: IdRecord>(
     ensures { IfOk result (λ used.
         AreThoseOf used (map R.id_of (table_records R.format file.now))) }
 {
-    let mut used = UsedIds::new(alloc);
+    let ids = listed_ids::<R>(alloc, file)?;
+    UsedIds::of(alloc, ids)
+}
+
+// The IDs of all records of the file, in the order of lines.
+fn listed_ids<R: IdRecord>(alloc: Global, file: &Option<Bytes>) -> Result<Vec<u32>, AllocError>
+    ensures { IfOk result (λ ids.
+        ids.items ≡ map R.id_of (table_records R.format file.now)) }
+{
+    let mut ids = Vec::new(alloc);
     let mut left = Lines::of(text_of(file));
     'lines: while let Some(line) = left.take() {
-        note_id::<R>(&mut used, line.text)?;
+        note_id::<R>(&mut ids, line.text)?;
     }
-    Ok(used)
+    Ok(ids)
 }
 
 // Adds the ID of the record that the line is; other text has none.
-fn note_id<R: IdRecord>(used: &mut UsedIds, line: &[u8]) -> Result<(), AllocError>
-    ensures { OnOk result (AreThoseOf used.new
-        (cons_option (option_map R.id_of (R.format.read line.now)) used.old)) }
+fn note_id<R: IdRecord>(ids: &mut Vec<u32>, line: &[u8]) -> Result<(), AllocError>
+    ensures { OnOk result (ids.new.items
+        ≡ ids.old.items ++ cons_option (option_map R.id_of (R.format.read line.now)) []) }
 {
-    match R::id_in(line) {
-        Some(id) => used.add(id),
-        None => Ok(()),
-    }
+    let Some(id) = R::id_in(line) else {
+        return Ok(());
+    };
+    ids.push(id)?;
+    Ok(())
 }

@@ -68,8 +68,8 @@ impl<'a> UserIndex<'a> {
         ensures { IfOk result (λ found. found ≡ find_user name.now self.now) }
     {
         match &self.lines {
-            Some(lines) => lines.users.find(alloc, name),
-            None => self.tables.user_named(alloc, name),
+            Some(lines) if lines.users.asks(name) => lines.users.find(alloc, name),
+            _ => self.tables.user_named(alloc, name),
         }
     }
 
@@ -82,8 +82,8 @@ impl<'a> UserIndex<'a> {
         ensures { IfOk result (λ found. found ≡ find_shadow name.now self.now) }
     {
         match &self.lines {
-            Some(lines) => lines.shadow.find(alloc, name),
-            None => self.tables.shadow_named(alloc, name),
+            Some(lines) if lines.shadow.asks(name) => lines.shadow.find(alloc, name),
+            _ => self.tables.shadow_named(alloc, name),
         }
     }
 }
@@ -93,7 +93,7 @@ fn user_lines(alloc: Global, files: &Files) -> Result<UserLines<'_>, AllocError>
     ensures { IfOk result (AreUsers files.now) }
 {
     Ok(UserLines {
-        users: FirstOfNames::of::<PasswdRecord>(alloc, &files.passwd)?,
-        shadow: FirstOfNames::of::<ShadowRecord>(alloc, &files.shadow)?,
+        users: FirstOfNames::of::<PasswdRecord>(alloc, &files.passwd, None)?,
+        shadow: FirstOfNames::of::<ShadowRecord>(alloc, &files.shadow, None)?,
     })
 }

@@ -16,7 +16,8 @@ use crate::tables::Source;
 use crate::{IdsInUse, RecordTest, Tables};
 use account_model::Refusal;
 use acct_lines::PasswdRecord;
-use acct_text::Bytes;
+use acct_text::{Bytes, Names};
+use line_edits::NameSet;
 use std::alloc::{AllocError, Global};
 use tool_answers::ToolFault;
 
@@ -75,30 +76,45 @@ impl<'a> Tables<'a> {
     }
 
     /// Refuses the first of the names that no user has: `NoUser`.
-    pub fn check_users(&self, alloc: Global, names: &[Bytes]) -> Result<(), ToolFault>
+    pub fn check_users(&self, alloc: Global, names: &Names) -> Result<(), ToolFault>
         ensures { StopsBy (missing_users names.now self.now) result }
     {
-        let users = &indexed_users(alloc, self, names.len())?;
-        for name in names {
-            check_in(alloc, self, users, name.as_slice())?;
-        }
-        Ok(())
+        let users = asked_users(alloc, self, names)?;
+        check_each(alloc, self, &users, names.as_slice())
     }
 }
 
-// The first of each name of passwd, where so many are asked for that it saves time; none else.
-fn indexed_users<'a>(
+// The first user of each of the names, where they are so many that it saves time; none else.
+fn asked_users<'a>(
     alloc: Global,
     tables: &Tables<'a>,
-    asked: usize,
+    names: &Names,
 ) -> Result<Option<FirstOfNames<'a>>, AllocError>
     ensures { IfOk result (λ users.
         IfSome users (TellsNames passwd_format (passwd_records tables.now))) }
 {
-    match tables.files_for_many(asked) {
-        Some(files) => Ok(Some(FirstOfNames::of::<PasswdRecord>(alloc, &files.passwd)?)),
-        None => Ok(None),
+    let Some(files) = tables.files_for_many(names.len()) else {
+        return Ok(None);
+    };
+    let asked = NameSet::of(alloc, names.copy()?)?;
+    let users = FirstOfNames::of::<PasswdRecord>(alloc, &files.passwd, Some(asked))?;
+    Ok(Some(users))
+}
+
+// Refuses the first of the names that no user has, by the index where there is one: `NoUser`.
+fn check_each(
+    alloc: Global,
+    tables: &Tables,
+    users: &Option<FirstOfNames<'_>>,
+    names: &[Bytes],
+) -> Result<(), ToolFault>
+    requires { IfSome users.now (TellsNames passwd_format (passwd_records tables.now)) }
+    ensures { StopsBy (missing_users names.now tables.now) result }
+{
+    for name in names {
+        check_in(alloc, tables, users, name.as_slice())?;
     }
+    Ok(())
 }
 
 // Refuses a name that no user has, by the index where there is one: `NoUser`.
@@ -123,7 +139,7 @@ fn has_user(tables: &Tables, users: &Option<FirstOfNames<'_>>, name: &[u8]) -> b
     ensures { result ≡ has_user name.now tables.now }
 {
     match users {
-        Some(users) => users.has::<PasswdRecord>(name),
-        None => tables.has_user(name),
+        Some(users) if users.asks(name) => users.has::<PasswdRecord>(name),
+        _ => tables.has_user(name),
     }
 }

@@ -9,13 +9,13 @@ ghost use Rattle.user_changes.specs.Memberships.{group_edit, group_names, gshado
 use crate::changes::new_name;
 use acct_text::{Bytes, Names};
 use command_values::Asked;
-use given_groups::{group_name, group_words};
+use given_groups::{group_name, group_words, groups_asked};
 use line_edits::{
     Edit, GroupAct, GroupChange, GshadowAct, GshadowChange, Membership, NameSet, UserGroups,
 };
 use std::alloc::{AllocError, Global};
 use table_edits::Script;
-use table_lookups::{GroupIndex, Tables};
+use table_lookups::Tables;
 
 /// Changes the lists of all groups, in group and in gshadow.
 pub(crate) fn write_memberships(
@@ -103,7 +103,7 @@ pub(crate) fn group_names(
     ensures { IfOk result (λ names. names ≡ group_names asked.now tables.now) }
 {
     let words = group_words(alloc, asked)?;
-    let groups = GroupIndex::of(alloc, tables, words.len())?;
+    let groups = groups_asked(alloc, tables, &words)?;
     let mut names = Names::new(alloc);
     for word in words.as_slice() {
         if let Some(name) = group_name(alloc, &groups, word.as_slice())? {

@@ -16,7 +16,7 @@ use account_formats::{ShadowRecord, SubidRecord};
 use account_model::{Allotment, Plan};
 use acct_text::Bytes;
 use command_values::Asked;
-use given_groups::{group_name, group_words};
+use given_groups::{group_name, group_words, groups_asked};
 use line_edits::{Edit, SubidChange};
 use std::alloc::{AllocError, Global};
 use table_edits::Script;
@@ -93,7 +93,7 @@ fn join_groups(
     ensures { OnOk result (HasAlso (joined_groups asked.now tables.now) script.old script.new) }
 {
     let words = group_words(alloc, asked)?;
-    let groups = GroupIndex::of(alloc, tables, words.len())?;
+    let groups = groups_asked(alloc, tables, &words)?;
     join_all(alloc, script, &groups, words.as_slice(), asked.operand())
 }
 

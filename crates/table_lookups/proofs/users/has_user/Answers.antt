@@ -1,4 +1,4 @@
-use Rattle.std.proofs.Common.{subst}
+use Rattle.std.proofs.Common.{◌∙◌, subst, sym}
 use Rattle.std.specs.Prelude.{IfSome}
 use Rattle.account_formats.specs.Records.{passwd_format}
 use Rattle.account_formats.specs.Tables.{passwd_records}
@@ -10,3 +10,4 @@ returns-in-Some c =
     let records = passwd_records c.args.tables.now in
     c.has.ensures records
     (subst (λ users. IfSome users (TellsNames passwd_format records)) c.in-Some.is c.requires)
+    (sym c.asks.ensures ∙ c.if-asks.true)

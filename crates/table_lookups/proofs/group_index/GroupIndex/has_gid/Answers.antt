@@ -4,7 +4,7 @@ use Rattle.std.proofs.lemmas.Result.{IfOk-weaker}
 use Rattle.account_formats.specs.Tables.{group_records}
 use Rattle.account_formats.specs.declared.records.GroupRecord.{GroupRecord}
 use Rattle.account_model.specs.GivenGroups.{find_gid}
-use Rattle.table_lookups.specs.FirstLines.{AreGroups}
+use Rattle.table_lookups.specs.FirstLines.{TellsGids}
 use Rattle.table_lookups.proofs.FirstLemmas.{some-mapped}
 use Rattle.table_lookups.proofs.KeptIdLemmas.{used-found}
 use Rattle.table_lookups.proofs.group_index.GroupIndex.has_gid.Goals as goal
@@ -13,16 +13,15 @@ use denote.Ref.{Bor}
 pub returns-in-Some : goal.returns-in-Some
 returns-in-Some c =
     let records = group_records c.self.inside.tables in
-    let groups =
-    subst (λ groups. IfSome groups (AreGroups records)) c.in-Some.is c.self.invariant in
+    let gids = subst (λ gids. IfSome gids (TellsGids records)) c.in-Some.is c.self.invariant.1 in
     c.is_some.ensures
     ∙ sym (some-mapped (λ (name : Bor (List ℕ)). name.now) c.name_told.result)
-    ∙ ap is_some (c.name_told.ensures records groups.gids)
+    ∙ ap is_some (c.name_told.ensures records gids (sym c.holds.ensures ∙ c.if-holds.true))
     ∙ some-mapped (λ (group : GroupRecord). group.name) (find_gid c.args.gid records)
     ∙ ap (λ files. is_some (find_gid c.args.gid (group_records files))) c.self.view_is
 
-pub returns-in-None : goal.returns-in-None
-returns-in-None c =
+pub returns-in_default : goal.returns-in_default
+returns-in_default c =
     IfOk-weaker c.is_gid_used.result _ _ (λ has is.
     is
     ∙ sym (used-found (λ (group : GroupRecord). group.gid) c.args.gid

@@ -1,4 +1,4 @@
-use Rattle.std.proofs.Common.{◌∙◌, ap, subst}
+use Rattle.std.proofs.Common.{◌∙◌, ap, subst, sym}
 use Rattle.std.specs.Prelude.{IfSome}
 use Rattle.std.proofs.lemmas.Result.{IfOk-weaker}
 use Rattle.account_formats.specs.Format.{find_named}
@@ -12,6 +12,6 @@ returns-in-Some c =
     let files = c.self.inside.tables in
     let lines = subst (λ lines. IfSome lines (AreUsers files)) c.in-Some.is c.self.invariant in
     IfOk-weaker c.find.result _ _ (λ found is.
-    is (shadow_records files) lines.shadow
+    is (shadow_records files) lines.shadow (sym c.asks.ensures ∙ c.if-asks.true)
     ∙ ap (λ files. find_named shadow_format c.args.name.now (shadow_records files)) c.self.view_is)
     c.find.ensures

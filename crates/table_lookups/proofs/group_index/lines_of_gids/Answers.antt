@@ -2,14 +2,15 @@ use Rattle.std.proofs.Common.{length, ap, subst, arith}
 use Rattle.acct_text.specs.Lines.{lines_of}
 use Rattle.account_formats.specs.Format.{records_of}
 use Rattle.account_formats.specs.Records.{group_format}
+use Rattle.account_words.specs.Ids.{is_used}
 use Rattle.table_lookups.specs.FirstLines.{Tells, has_gid, told_gids}
-use Rattle.table_lookups.proofs.group_index.first_of_gids.Goals as goal
+use Rattle.table_lookups.proofs.group_index.lines_of_gids.Goals as goal
 
 pub lines-preserved : goal.lines-preserved
 lines-preserved c =
     let all = records_of group_format (lines_of c.args.text.now) in
     c.in_ok-note_gid.ensures (records_of group_format c.take.new.self) all
-    (subst (λ lines. Tells group_format has_gid (told_gids c.lines.gids)
+    (subst (λ lines. Tells group_format has_gid (is_used c.args.asked.now) (told_gids c.lines.gids)
     (records_of group_format lines) all)
     c.in-Some.ensures.taken c.lines.invariant)
 
@@ -18,6 +19,6 @@ lines-smaller c = omega (arith, ap length c.in-Some.ensures.taken)
 
 pub returns : goal.returns
 returns c =
-    subst (λ lines. Tells group_format has_gid (told_gids c.lines.gids)
+    subst (λ lines. Tells group_format has_gid (is_used c.args.asked.now) (told_gids c.lines.gids)
     (records_of group_format lines) (records_of group_format (lines_of c.args.text.now)))
     c.in_default.ensures.taken c.lines.invariant
