@@ -9,3 +9,4 @@ pub mod GroupFields
 pub mod GshadowFields
 pub mod ShadowFields
 pub mod SubidFields
+pub mod ListedTexts

@@ -1,12 +1,14 @@
 // The records of group (group(5)).
-ghost use Rattle.std.specs.Prelude.{◌≡◌, Some, IfOk, MatchResult};
+ghost use Rattle.std.specs.Prelude.{◌≡◌, [], ◌∷◌, Some, IfOk, MatchResult, decimal};
+ghost use Rattle.acct_text.specs.Pieces.{line_of};
 ghost use Rattle.account_formats.specs.Faults.{group_fault};
 ghost use Rattle.account_formats.specs.Records.{group_format};
 
 use crate::fields::{self, Fields};
+use crate::parts::push_field;
 use crate::walks::{copy_field, copy_fields, print_field, print_fields, read_fields};
 use crate::{GroupRecord, LineFault, ReadFault, TableRecord, cut_names, parts};
-use acct_text::{Bytes, Names, join_fields};
+use acct_text::{Bytes, Names, join_fields, push_decimal};
 use std::alloc::{AllocError, Global};
 
 // The fields of a line, in their order (group(5)).
@@ -54,6 +56,14 @@ impl<'a> GroupLine<'a> {
     {
         Ok(group_fields!(copy_fields, self as GroupRecord in alloc))
     }
+
+    /// The canonical line of the group with such a text for the list of its members.
+    pub fn printed_with(&self, alloc: Global, members: &[u8]) -> Result<Bytes, AllocError>
+        ensures { IfOk result (λ line. line ≡ line_of
+            (self.now.name.now ∷ self.now.password.now ∷ decimal self.now.gid ∷ members.now ∷ [])) }
+    {
+        line_with(alloc, self.name, self.password, self.gid, members)
+    }
 }
 
 impl TableRecord for GroupRecord {
@@ -85,4 +95,23 @@ impl TableRecord for GroupRecord {
     ghost is_line_format = { group-is_format };
 
     ghost names_first = { group-names_first };
+}
+
+// The canonical line of these fields, of which the last is the text of a list.
+fn line_with(
+    alloc: Global,
+    name: &[u8],
+    password: &[u8],
+    gid: u32,
+    members: &[u8],
+) -> Result<Bytes, AllocError>
+    ensures { IfOk result (λ line. line ≡ line_of
+        (name.now ∷ password.now ∷ decimal gid ∷ members.now ∷ [])) }
+{
+    let mut line = Bytes::of(alloc, name)?;
+    push_field(&mut line, password)?;
+    line.push(b":")?;
+    push_decimal(&mut line, u64::from(gid))?;
+    push_field(&mut line, members)?;
+    Ok(line)
 }

@@ -1,9 +1,11 @@
 // The records of gshadow (gshadow(5)).
-ghost use Rattle.std.specs.Prelude.{◌≡◌, Some, IfOk, MatchResult};
+ghost use Rattle.std.specs.Prelude.{◌≡◌, [], ◌∷◌, Some, IfOk, MatchResult};
+ghost use Rattle.acct_text.specs.Pieces.{line_of};
 ghost use Rattle.account_formats.specs.Faults.{gshadow_fault};
 ghost use Rattle.account_formats.specs.Records.{gshadow_format};
 
 use crate::fields::{self, Fields};
+use crate::parts::push_field;
 use crate::walks::{copy_field, copy_fields, print_field, print_fields, read_fields};
 use crate::{GshadowRecord, LineFault, ReadFault, TableRecord, cut_names, parts};
 use acct_text::{Bytes, Names, join_fields};
@@ -54,6 +56,19 @@ impl<'a> GshadowLine<'a> {
     {
         Ok(gshadow_fields!(copy_fields, self as GshadowRecord in alloc))
     }
+
+    /// The canonical line of the group with such texts for its two lists.
+    pub fn printed_with(
+        &self,
+        alloc: Global,
+        administrators: &[u8],
+        members: &[u8],
+    ) -> Result<Bytes, AllocError>
+        ensures { IfOk result (λ line. line ≡ line_of
+            (self.now.name.now ∷ self.now.password.now ∷ administrators.now ∷ members.now ∷ [])) }
+    {
+        line_with(alloc, self.name, self.password, administrators, members)
+    }
 }
 
 impl TableRecord for GshadowRecord {
@@ -85,4 +100,22 @@ impl TableRecord for GshadowRecord {
     ghost is_line_format = { gshadow-is_format };
 
     ghost names_first = { gshadow-names_first };
+}
+
+// The canonical line of these fields, of which two are the texts of lists.
+fn line_with(
+    alloc: Global,
+    name: &[u8],
+    password: &[u8],
+    administrators: &[u8],
+    members: &[u8],
+) -> Result<Bytes, AllocError>
+    ensures { IfOk result (λ line. line ≡ line_of
+        (name.now ∷ password.now ∷ administrators.now ∷ members.now ∷ [])) }
+{
+    let mut line = Bytes::of(alloc, name)?;
+    push_field(&mut line, password)?;
+    push_field(&mut line, administrators)?;
+    push_field(&mut line, members)?;
+    Ok(line)
 }

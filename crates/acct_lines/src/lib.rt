@@ -4,12 +4,14 @@
 //!
 //! `TableRecord` is what the five records share. `PasswdLine` and its likes show the record of a line
 //! where it stands, without memory. `fields` cuts a line and reads its fields, `parts` prints them,
-//! and each record has a file of its own, which names its fields once for `walks`.
+//! `listed` adds names to the text of a list, and each record has a file of its own, which names its
+//! fields once for `walks`.
 #![tactic(auto)]
 
 mod fields;
 mod group;
 mod gshadow;
+mod listed;
 mod names;
 mod parts;
 mod passwd;
@@ -24,6 +26,7 @@ pub use account_formats::{
 pub use fields::{cut_names, first_field, has_first_field, lists};
 pub use group::GroupLine;
 pub use gshadow::GshadowLine;
+pub use listed::{listed_text, push_listed};
 pub use names::{is_digits, is_valid_name};
 pub use passwd::PasswdLine;
 pub use record::{ReadFault, TableRecord};

@@ -1,6 +1,7 @@
 // The fields that a record prints, each added behind those of its line so far.
 ghost use Rattle.std.specs.Prelude.{◌≡◌, ◌++◌, [], ◌∷◌, OnOk};
 ghost use Rattle.std.specs.Fmt.{decimal};
+ghost use Rattle.acct_text.specs.Bytes.{colon};
 ghost use Rattle.account_formats.specs.Records.{print_days, print_names};
 
 use acct_text::{Bytes, Names, Piece, join};
@@ -34,4 +35,12 @@ pub(crate) fn push_names(alloc: Global, line: &mut Names, names: &Names) -> Resu
 {
     let text = join(alloc, b',', names)?;
     line.push(text.as_slice())
+}
+
+/// Adds a field behind those of a line, with the colon between.
+pub(crate) fn push_field(line: &mut Bytes, field: &[u8]) -> Result<(), AllocError>
+    ensures { OnOk result (line.new ≡ line.old ++ colon ∷ field.now) }
+{
+    line.push(b":")?;
+    line.push(field)
 }
