@@ -1,11 +1,12 @@
 -- A table as its calls see it: the list of the lines of its file, each other text or a record of
 -- the table's format (passwd(5), shadow(5), group(5), gshadow(5), subuid(5), subgid(5)).
 -- Places count the lines from 0.
-use Rattle.std.specs.Prelude.{ℕ, ◌+◌, ◌==◌, Bool, false, List, ◌++◌, length, map, take, drop, Option, Some, None, slice_get, if◌then◌else◌}
+use Rattle.std.specs.Prelude.{◌≡◌, ℕ, ◌+◌, ◌==◌, Bool, false, List, ◌++◌, length, map, take, drop, Option, Some, None, slice_get, option_map, if◌then◌else◌}
 use Rattle.std.specs.List.{insert}
 use Rattle.acct_text.specs.Lines.{Line}
 use Rattle.account_formats.specs.Format.{Format, is_named}
 use Rattle.account_formats.specs.Edits.{printed_line, with_line}
+use Rattle.account_formats.specs.Written.{IsWritten}
 
 -- ---- What is found
 
@@ -43,3 +44,11 @@ abbrev pub with_record_at : {R : Type 0} → Format R → R → ℕ → List Lin
 with_record_at format r place lines = if place == length lines
     then with_line (format.print r) lines
     else insert lines place (printed_line format r)
+
+-- the text is the canonical one of a record that a line can hold, of the name of the record here
+pub record IsPrintedFor {R : Type 0} (format : Format R) (here : Option R) (text : List ℕ) : Type 0
+  where
+    pub item : R
+    pub written : IsWritten format item
+    pub named : option_map format.name here ≡ Some (format.name item)
+    pub printed : text ≡ format.print item

@@ -1,6 +1,8 @@
 // The lines of a table's file while edits change them.
 ghost use Rattle.std.specs.Prelude.{◌≡◌, ◌<◌, Some, get_or, length, nat_le, option_map, IfOk, IfSome, OnOk, OnErr};
+ghost use Rattle.acct_text.specs.Bytes.{newline};
 ghost use Rattle.acct_text.specs.Lines.{Line, file_bytes, lines_of};
+ghost use Rattle.acct_text.specs.Pieces.{Lacks};
 ghost use Rattle.account_formats.specs.Edits.{with_line};
 ghost use Rattle.account_formats.specs.Format.{count_named, find_named, records_of};
 ghost use Rattle.account_formats.specs.Written.{IsWritten};
@@ -9,7 +11,7 @@ ghost use Rattle.acct_tables.specs.LineTexts.{file_text};
 ghost use Rattle.acct_tables.specs.NameIndex.{Tells, line_names, lines_named};
 ghost use Rattle.acct_tables.specs.Order.{text_at};
 ghost use Rattle.acct_tables.specs.SeenLines.{seen_line};
-ghost use Rattle.acct_tables.specs.TableLines.{changed_at, record_at, with_record};
+ghost use Rattle.acct_tables.specs.TableLines.{IsPrintedFor, changed_at, record_at, with_record};
 ghost use Rattle.acct_tables.specs.TableNames.{told_names};
 
 use crate::line::read_record;
@@ -130,7 +132,8 @@ impl<'a, R: TableRecord + Drop> EditedLines<'a, R> {
     /// The text of the line at a place, counted from 0 over all lines, without its newline; empty
     /// past the end.
     pub fn text_at(&self, place: usize) -> &[u8]
-        ensures { result.now ≡ text_at self.now place }
+        ensures text { result.now ≡ text_at self.now place }
+        ensures one_line { Lacks newline result.now }
     {
         match self.texts.get(place) {
             Some(text) => text,
@@ -171,6 +174,21 @@ impl<'a, R: TableRecord + Drop> EditedLines<'a, R> {
         ensures unchanged { OnErr result (self.new ≡ self.old) }
     {
         let text = item.print(self.texts.allocator())?;
+        self.set_text_at(place, kept, text)
+    }
+
+    /// Puts the canonical text of a record in place of the record at a place, of the same name, of
+    /// which `kept` is the canonical text. The line keeps its end, and its bytes where the texts are
+    /// the same. At `AllocError` the lines are as before.
+    pub fn set_text_at(&mut self, place: usize, kept: &[u8], text: Bytes) -> Result<(), AllocError>
+        requires inside { place < length self.old }
+        requires kept { option_map R.format.print (record_at R.format self.old place)
+            ≡ Some kept.now }
+        requires printed { IsPrintedFor R.format (record_at R.format self.old place) text }
+        ensures set { OnOk result ((item : R) → IsWritten R.format item → text ≡ R.format.print item
+            → self.new ≡ changed_at (with_record R.format item) place self.old) }
+        ensures unchanged { OnErr result (self.new ≡ self.old) }
+    {
         if text.as_slice() != kept {
             self.texts.put(place, text)?;
         }

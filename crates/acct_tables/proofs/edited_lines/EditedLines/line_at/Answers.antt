@@ -16,7 +16,7 @@ returns g c = λ other.
     ap length (sym c.self.view_is) ∙ lines-many lacks texts in
     let line : Line = get_or all place other in
     let text : c.text_at.result.now ≡ line.text =
-    c.text_at.ensures
+    c.text_at.ensures.text
     ∙ ap (λ found. elim found [ None ↦ [] | Some line ↦ line.text ])
     (slice_get-get_or all place other c.requires) in
     let ended : c.if-place-count.result ≡ (get_or all place other).ended =
