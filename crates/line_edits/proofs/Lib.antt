@@ -14,3 +14,5 @@ pub mod NameSets
 pub mod MarkLemmas
 pub mod ReachLemmas
 pub mod FieldLemmas
+mod JoinedTexts
+mod RewrittenLines

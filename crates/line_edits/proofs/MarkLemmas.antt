@@ -4,7 +4,7 @@
 -- groups (`kept-group`, `kept-gshadow`). Way: the line of a record has its fields, and a field with
 -- names has each of these.
 use Rattle.std.proofs.Common.{◌≡◌, ◌∙◌, ℕ, true, false, inl, inr, List, [], ◌∷◌, refl, sym, ap, subst}
-use Rattle.std.specs.Prelude.{◌||◌, bytes_eq, map, IfSome, Option, Some, None}
+use Rattle.std.specs.Prelude.{◌||◌, bytes_eq, map, IfSome, Option, Some, None, if◌then◌else◌}
 use Rattle.std.specs.List.{join_with_byte}
 use Rattle.std.specs.Vec.{vec_items}
 use Rattle.std.proofs.lemmas.Bool.{cases_Bool}
@@ -153,6 +153,28 @@ pub named-marks :
 named-marks format first name marks f is left = λ line without r read.
     left r (other-record format first name line r read
     (subst (λ found. IsWithoutAll found line) is without).0)
+
+module _ {R C : Type 0} (format : Format R) (first : NamesFirst format) (becomes : C → R → List R)
+    (name : List ℕ) (marks : List (List ℕ)) (is : marks ≡ name ∷ [])
+    (change named : C) (change_is : change ≡ named) where
+  -- an act with the records of a name has that for its mark
+  pub act-marks :
+      (after : R → R)
+      → ((r : R) → becomes named r ≡ (if is_named format name r then after r else r) ∷ [])
+      → AreMarksOf format (becomes change) marks
+  act-marks after acts =
+      named-marks format first name marks (becomes change) is
+      (λ r other. ap (λ change. becomes change r) change_is ∙ acts r
+      ∙ ap (λ named. (if named then after r else r) ∷ []) other)
+
+  -- and so has their removal
+  pub removal-marks :
+      ((r : R) → becomes named r ≡ (if is_named format name r then [] else r ∷ []))
+      → AreMarksOf format (becomes change) marks
+  removal-marks goes =
+      named-marks format first name marks (becomes change) is
+      (λ r other. ap (λ change. becomes change r) change_is ∙ goes r
+      ∙ ap (λ named. if named then [] else r ∷ []) other)
 
 -- a group whose line is without the marks of a membership stays
 pub kept-group :

@@ -202,7 +202,7 @@ same-by true false new names is = absurd cc
 same-by false same new names is = refl
 
 -- a list in which a name gets the same name stays
-same-renamed :
+pub same-renamed :
     (old new : List ℕ) (names : List (List ℕ)) → old ≡ new → renamed_in old new names ≡ names
 same-renamed old new names is =
     same-by (is_listed old names) (bytes_eq old new)

@@ -14,3 +14,4 @@ pub mod WrittenLines
 pub mod NameSets
 pub mod Reach
 pub mod LineFields
+pub mod Rewriting

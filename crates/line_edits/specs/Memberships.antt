@@ -1,10 +1,11 @@
 -- What becomes of a user in the lists of all groups (usermod(8), `-G`, `-a` and `-l`).
-use Rattle.std.specs.Prelude.{◌≡◌, ℕ, Bool, false, List, map, bytes_eq, if◌then◌else◌}
+use Rattle.std.specs.Prelude.{◌≡◌, ℕ, Bool, false, List, [], ◌∷◌, ◌++◌, map, bytes_eq, if◌then◌else◌}
 use Rattle.std.specs.List.{IsDistinct}
 use Rattle.std.specs.Vec.{vec_items}
 use Rattle.account_formats.specs.declared.records.GroupRecord.{GroupRecord}
 use Rattle.account_formats.specs.declared.records.GshadowRecord.{GshadowRecord}
 use Rattle.account_model.specs.Members.{with_name, without_name, renamed_in}
+use Rattle.acct_text.specs.Bytes.{is_empty}
 use Rattle.account_formats.specs.Text.{is_listed}
 use Rattle.acct_tables.specs.declared.marks.Marks.{Marks}
 use Rattle.line_edits.specs.declared.memberships.Membership.{Membership}
@@ -53,3 +54,9 @@ pub record ChangesOnlyIn (membership : Membership) (groups : List (List ℕ)) : 
   pub others : (group : List ℕ) (members : List (List ℕ)) → is_listed group groups ≡ false
       → members_with membership.groups membership.user group members ≡ members
   pub apart : IsDistinct bytes_eq groups
+
+-- the user keeps its name, and goes behind the members of the group
+pub record Adds (membership : Membership) (group : List ℕ) (members : List (List ℕ)) : Type 0 where
+  pub some : is_empty membership.user ≡ false
+  pub name : membership.user ≡ membership.new_name
+  pub behind : members_by membership group members ≡ members ++ membership.user ∷ []

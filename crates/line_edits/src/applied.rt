@@ -52,12 +52,31 @@ pub fn edited_text<R: EditedRecord + Drop>(
     ensures { IfOk result (λ bytes. bytes ≡ file_bytes
         (edited_by R.format (seen_edits R.becomes edits.now) (lines_of text.now))) }
 {
-    if edits.len() < MANY {
+    if edits.len() < MANY || !tell_names(edits) {
         return edited_in_order(alloc, text, edits);
     }
     let mut lines = EditedLines::of(alloc, text)?;
     apply(alloc, &mut lines, edits)?;
     lines.text()
+}
+
+// Whether one of the edits tells the names of the records that it touches: without any, an index of
+// the names is of no use.
+fn tell_names<R: EditedRecord>(edits: &[Edit<R, R::Change>]) -> bool {
+    'edits: for edit in edits {
+        if tells_names(edit) {
+            return true;
+        }
+    }
+    false
+}
+
+// Whether the edit tells the names of the records that it touches.
+fn tells_names<R: EditedRecord>(edit: &Edit<R, R::Change>) -> bool {
+    match edit {
+        Edit::Become(change) => R::only_names(change).is_some(),
+        Edit::Add(_) | Edit::AddMissing(_) | Edit::Put(_) => true,
+    }
 }
 
 // Carries out an edit, where the records of its names stand if it can.

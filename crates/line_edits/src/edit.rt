@@ -3,11 +3,13 @@ ghost use Rattle.std.specs.Prelude.{◌≡◌, true, List, [], None, IfOk, IfSom
 ghost use Rattle.account_formats.specs.Written.{IsWritten};
 ghost use Rattle.acct_tables.specs.Marks.{marks_in};
 ghost use Rattle.line_edits.specs.Naming.{AreMarksOf, ChangesOnly, Leaves, names_in};
+ghost use Rattle.line_edits.specs.Rewriting.{IsRewritten};
 ghost use Rattle.line_edits.specs.SeenEdits.{records_in};
 
 use crate::ChangedNames;
 use acct_lines::TableRecord;
 use acct_tables::Marks;
+use acct_text::Bytes;
 use std::alloc::{AllocError, Global};
 
 /// What becomes of a record, in its place.
@@ -21,6 +23,15 @@ pub enum Becoming<R> {
     Goes,
     /// The record becomes these two.
     Splits(R, R),
+}
+
+/// The canonical texts of a record, before and after a change.
+#[derive(Drop)]
+pub struct Rewritten {
+    /// That of before.
+    pub kept: Bytes,
+    /// That of after.
+    pub new: Bytes,
 }
 
 /// One edit of a table of the records R, of which C tells what becomes.
@@ -48,6 +59,16 @@ pub trait EditedRecord: TableRecord {
     fn becoming(self, alloc: Global, change: &Self::Change) -> Result<Becoming<Self>, AllocError>
         requires { IsWritten Self.format self }
         ensures { IfOk result (λ becoming. records_in self becoming ≡ becomes change.now self) };
+
+    /// The canonical texts of the record that the line is, before and after the change, where the
+    /// parts of the line tell them; none where they don't, and where the line is no record.
+    fn rewritten(
+        alloc: Global,
+        change: &Self::Change,
+        line: &[u8],
+    ) -> Result<Option<Rewritten>, AllocError>
+        ensures { IfOk result (λ texts. IfSome texts
+            (IsRewritten Self.format (becomes change.now) line.now)) };
 
     /// Whether the change surely leaves the record that the line is, if it is one, by what can be seen
     /// without memory.

@@ -10,8 +10,9 @@ ghost use Rattle.line_edits.specs.Naming.{ChangesOnly, names_in};
 ghost use Rattle.line_edits.specs.declared.group_changes.GroupChange.TheVariants.{All};
 
 use crate::fields::{fourth_field, has_other_name};
+use crate::joined_texts::joined_group;
 use crate::lists::{add_name, remove_name};
-use crate::{Becoming, ChangedNames, EditedRecord, Membership};
+use crate::{Becoming, ChangedNames, EditedRecord, Membership, Rewritten};
 use acct_lines::{GroupRecord, TableRecord, first_field, lists};
 use acct_tables::Marks;
 use acct_text::{Bytes, Names};
@@ -63,6 +64,19 @@ impl EditedRecord for GroupRecord {
             GroupChange::All(act) => Ok(Becoming::Changes(acted(alloc, self, act)?)),
             GroupChange::Remove(name) if self.name() == name.as_slice() => Ok(Becoming::Goes),
             _ => Ok(Becoming::Stays),
+        }
+    }
+
+    fn rewritten(
+        alloc: Global,
+        change: &GroupChange,
+        line: &[u8],
+    ) -> Result<Option<Rewritten>, AllocError> {
+        match change {
+            GroupChange::All(GroupAct::SetMembership(membership)) => joined_group(
+                alloc, membership, line,
+            ),
+            _ => Ok(None),
         }
     }
 

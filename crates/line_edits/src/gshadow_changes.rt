@@ -10,8 +10,9 @@ ghost use Rattle.line_edits.specs.Naming.{ChangesOnly, names_in};
 ghost use Rattle.line_edits.specs.declared.gshadow_changes.GshadowChange.TheVariants.{All};
 
 use crate::fields::{fourth_field, has_other_name, third_field};
+use crate::joined_texts::joined_gshadow;
 use crate::lists::{add_name, remove_name};
-use crate::{Becoming, ChangedNames, EditedRecord, Membership};
+use crate::{Becoming, ChangedNames, EditedRecord, Membership, Rewritten};
 use acct_lines::{GshadowRecord, TableRecord, first_field, lists};
 use acct_tables::Marks;
 use acct_text::{Bytes, Names};
@@ -65,6 +66,19 @@ impl EditedRecord for GshadowRecord {
             GshadowChange::All(act) => Ok(Becoming::Changes(acted(alloc, self, act)?)),
             GshadowChange::Remove(name) if self.name() == name.as_slice() => Ok(Becoming::Goes),
             _ => Ok(Becoming::Stays),
+        }
+    }
+
+    fn rewritten(
+        alloc: Global,
+        change: &GshadowChange,
+        line: &[u8],
+    ) -> Result<Option<Rewritten>, AllocError> {
+        match change {
+            GshadowChange::All(GshadowAct::SetMembership(membership)) => joined_gshadow(
+                alloc, membership, line,
+            ),
+            _ => Ok(None),
         }
     }
 

@@ -2,11 +2,11 @@
 //! subuid(5), subgid(5)).
 //!
 //! `edit` has the edits of a table as data, and what a record has so that they can be made of it;
-//! `group_changes` and its like what becomes of a record. `applied` carries edits out in lines that are
-//! kept, by the names of the records that they touch (`named_edits`), at the places of these
-//! (`placed_edits`), and in the text of a file: few of them one after another (`line_changes`), many
-//! by names. `multiple` and `multiple_in` find the first record that they touch and whose name has
-//! several.
+//! `group_changes` and its like what becomes of a record, and `joined_texts` what becomes of a group's
+//! line by its parts alone. `applied` carries edits out in lines that are kept, by the names of the
+//! records that they touch (`named_edits`), at the places of these (`placed_edits`), and in the text
+//! of a file: few of them one after another (`line_changes`), many by names. `multiple` and
+//! `multiple_in` find the first record that they touch and whose name has several.
 #![tactic(auto)]
 
 mod applied;
@@ -16,6 +16,7 @@ mod fields;
 mod group_changes;
 mod gshadow_changes;
 mod hash_change;
+mod joined_texts;
 mod line_changes;
 mod lists;
 mod memberships;
@@ -32,7 +33,7 @@ mod touched;
 
 pub use applied::{apply, edited_text};
 pub use changed_names::ChangedNames;
-pub use edit::{Becoming, Edit, EditedRecord};
+pub use edit::{Becoming, Edit, EditedRecord, Rewritten};
 pub use group_changes::{GroupAct, GroupChange};
 pub use gshadow_changes::{GshadowAct, GshadowChange};
 pub use hash_change::HashChange;

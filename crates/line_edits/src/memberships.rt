@@ -1,12 +1,14 @@
 // What becomes of a user in the lists of all groups (usermod(8), `-G`, `-a` and `-l`).
-ghost use Rattle.std.specs.Prelude.{◌≡◌, ℕ, List, map, IfSome, OnOk};
+ghost use Rattle.std.specs.Prelude.{◌≡◌, ℕ, List, map, true, IfSome, OnOk};
 ghost use Rattle.std.specs.Vec.{vec_items};
 ghost use Rattle.account_formats.specs.Text.{is_listed};
-ghost use Rattle.line_edits.specs.Memberships.{AreMarksIn, ChangesOnlyIn, joins, members_with};
+ghost use Rattle.account_formats.specs.Records.{read_names};
+ghost use Rattle.line_edits.specs.Memberships.{Adds, AreMarksIn, ChangesOnlyIn, joins, members_with};
 ghost use Rattle.line_edits.specs.Naming.{names_in};
 
 use crate::lists::{add_name, remove_name};
 use crate::{ChangedNames, NameSet};
+use acct_lines::lists;
 use acct_tables::{ListRecord, MANY, Marks};
 use acct_text::{Bytes, Names};
 use std::alloc::{AllocError, Global};
@@ -42,6 +44,21 @@ impl Membership {
             UserGroups::Kept => false,
             UserGroups::Also(groups) | UserGroups::Only(groups) => groups.has(group),
         }
+    }
+
+    /// Whether the user keeps its name, joins the group, and isn't among its members yet, as this
+    /// text lists them.
+    pub(crate) fn adds_to(&self, group: &[u8], members: &[u8]) -> bool
+        ensures { result ≡ true → Adds self.now group.now (read_names members.now) }
+    {
+        let user = self.user.as_slice();
+        if user.is_empty() {
+            return false;
+        }
+        if user != self.new_name.as_slice() {
+            return false;
+        }
+        self.joins(group) && !lists(members, user)
     }
 
     /// The user and the groups that it joins, where these are few; none else.

@@ -14,7 +14,7 @@ ghost use Rattle.line_edits.specs.SeenEdits.{seen_edit, seen_edits};
 ghost use Rattle.line_edits.specs.Touching.{LacksName, LeavesTo, TouchOnly, met_in, touches_alone};
 
 use crate::fields::has_other_name;
-use crate::reach::{Reach, open_to, reach_of_all};
+use crate::reach::{open_to, reach_of_all};
 use crate::touched::touched_names;
 use crate::{Becoming, Edit, EditedRecord};
 use acct_tables::{Lines, MANY, NameIndex, has_several_records, name_of, read_record};
@@ -34,9 +34,10 @@ pub fn first_multiple<R: EditedRecord + Drop>(
         (records_of R.format (lines_of text.now))) }
 {
     let reach = reach_of_all(edits);
-    let names = &names_for(alloc, text, reach, edits)?;
+    let open = open_to(text, reach);
+    let names = &names_for(alloc, text, open, edits)?;
     let touched = &touched_names(alloc, edits)?;
-    let mut left = Lines::of(open_to(text, reach));
+    let mut left = Lines::of(open);
     'lines: while let Some(line) = left.take() {
         if let Some(name) = met_in(alloc, text, edits, names, touched, line.text)? {
             return Ok(Some(name));
@@ -47,35 +48,32 @@ pub fn first_multiple<R: EditedRecord + Drop>(
 }
 
 // Where the records of each name stand; none where the edits ask for few names, of which each is
-// counted then.
+// counted then. They touch no line in front of the open text.
 fn names_for<'a, R: EditedRecord>(
     alloc: Global,
     text: &'a [u8],
-    reach: Reach<'_>,
+    open: &[u8],
     edits: &[Edit<R, R::Change>],
 ) -> Result<Option<NameIndex<'a>>, AllocError>
     ensures { IfOk result (λ names. IfSome names (λ names.
         Tells (line_names R.format (lines_of text.now)) (told names))) }
 {
-    if edits.len() < MANY && !may_touch_many(text, reach, edits) {
+    if edits.len() < MANY && !may_touch_many(open, edits) {
         return Ok(None);
     }
     Ok(Some(NameIndex::of::<R>(alloc, text)?))
 }
 
-// Whether so many lines may be touched that an index of all names saves time.
-fn may_touch_many<R: EditedRecord>(
-    text: &[u8],
-    reach: Reach<'_>,
-    edits: &[Edit<R, R::Change>],
-) -> bool {
-    let mut open = 0;
-    let mut left = Lines::of(open_to(text, reach));
+// Whether so many lines of the open text may be touched that an index of all names saves time.
+fn may_touch_many<R: EditedRecord>(open: &[u8], edits: &[Edit<R, R::Change>]) -> bool {
+    let reach = reach_of_all(edits);
+    let mut count = 0;
+    let mut left = Lines::of(open);
     'lines: while let Some(line) = left.take() {
         if !leave(edits, line.text) {
-            open += 1;
+            count += 1;
         }
-        if open == MANY {
+        if count == MANY {
             return true;
         }
         left = Lines::of(open_to(left.bytes(), reach));

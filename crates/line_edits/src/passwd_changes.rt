@@ -5,7 +5,7 @@ ghost use Rattle.account_formats.specs.declared.records.PasswdRecord.{PasswdReco
 ghost use Rattle.line_edits.specs.PasswdChanges.{keeps_user_name, passwd_after, with_user_fields};
 
 use crate::fields::{fourth_field, has_other_name, leaves_name, set_given};
-use crate::{Becoming, ChangedNames, EditedRecord, HashChange};
+use crate::{Becoming, ChangedNames, EditedRecord, HashChange, Rewritten};
 use account_formats::GREATEST_ID;
 use acct_lines::{PasswdRecord, TableRecord};
 use acct_tables::Marks;
@@ -72,6 +72,14 @@ impl EditedRecord for PasswdRecord {
             PasswdChange::Remove(name) if self.name() == name.as_slice() => Ok(Becoming::Goes),
             _ => Ok(Becoming::Stays),
         }
+    }
+
+    fn rewritten(
+        _alloc: Global,
+        _change: &PasswdChange,
+        _line: &[u8],
+    ) -> Result<Option<Rewritten>, AllocError> {
+        Ok(None)
     }
 
     fn leaves(change: &PasswdChange, line: &[u8]) -> bool {

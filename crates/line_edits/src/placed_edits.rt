@@ -9,7 +9,7 @@ ghost use Rattle.acct_tables.specs.TableLines.{changed_at, record_at, with_recor
 ghost use Rattle.line_edits.specs.Naming.{KeepsNames, on_named};
 ghost use Rattle.line_edits.specs.Places.{spliced_at};
 
-use crate::{Becoming, EditedRecord};
+use crate::{Becoming, EditedRecord, Rewritten};
 use acct_tables::{EditedLines, is_named};
 use std::alloc::{AllocError, Global};
 
@@ -55,7 +55,7 @@ fn change_named_at<R: EditedRecord + Drop>(
 }
 
 /// Puts in place of the record at a place what becomes of it. A line that the change leaves isn't
-/// read.
+/// read, nor is one whose parts tell what becomes of it.
 pub(crate) fn change_at<R: EditedRecord + Drop>(
     alloc: Global,
     lines: &mut EditedLines<'_, R>,
@@ -71,6 +71,25 @@ pub(crate) fn change_at<R: EditedRecord + Drop>(
     if R::leaves(change, lines.text_at(place)) {
         return Ok(());
     }
+    match R::rewritten(alloc, change, lines.text_at(place))? {
+        Some(Rewritten { kept, new }) => lines.set_text_at(place, kept.as_slice(), new),
+        None => change_record_at(alloc, lines, place, change),
+    }
+}
+
+// The same, by the record that is read.
+fn change_record_at<R: EditedRecord + Drop>(
+    alloc: Global,
+    lines: &mut EditedLines<'_, R>,
+    place: usize,
+    change: &R::Change,
+) -> Result<(), AllocError>
+    requires inside { place < length lines.old }
+    requires written { IsWrittenEdit R.format (model.Become (R.becomes change.now)) }
+    requires named { KeepsNames R.format (R.becomes change.now) }
+    ensures { OnOk result (lines.new ≡
+        spliced_at (becomes R.format (R.becomes change.now)) place lines.old) }
+{
     let Some(item) = lines.record_at(alloc, place)? else {
         return Ok(());
     };

@@ -3,7 +3,7 @@ ghost use Rattle.std.specs.Prelude.{◌≡◌, None, IfOk, OnOk, unwrap_or};
 ghost use Rattle.line_edits.specs.ShadowChanges.{given_days, keeps_shadow_name, shadow_after, with_shadow_fields};
 
 use crate::fields::{has_other_name, leaves_name, set_given};
-use crate::{Becoming, ChangedNames, EditedRecord, HashChange};
+use crate::{Becoming, ChangedNames, EditedRecord, HashChange, Rewritten};
 use acct_lines::{ShadowRecord, TableRecord};
 use acct_tables::Marks;
 use acct_text::Bytes;
@@ -126,6 +126,14 @@ impl EditedRecord for ShadowRecord {
             ShadowChange::Remove(name) if self.name() == name.as_slice() => Ok(Becoming::Goes),
             _ => Ok(Becoming::Stays),
         }
+    }
+
+    fn rewritten(
+        _alloc: Global,
+        _change: &ShadowChange,
+        _line: &[u8],
+    ) -> Result<Option<Rewritten>, AllocError> {
+        Ok(None)
     }
 
     fn leaves(change: &ShadowChange, line: &[u8]) -> bool {

@@ -25,7 +25,7 @@ lines-preserved g c =
     let first = λ (lines : List Line). first_touched format edits whole (records_of format lines) in
     ap first c.of-left-in-Some.ensures
     ∙ open-met format edits c.reach_of_all-reach.result c.reach_of_all-reach.ensures whole
-    c.bytes.result.now c.open_to-in-Some.result.now c.open_to-in-Some.ensures
+    c.bytes.result.now c.open_to.result.now c.open_to.ensures
     ∙ ap first c.bytes.ensures.lines
     ∙ sym (passed-here format edits whole (seen_line c.in-Some.line) c.lines.left
     c.take.new.self c.in-Some.ensures.taken (sym c.in_ok-name.ensures ∙ c.in_default-2.is))
@@ -38,12 +38,12 @@ lines-init g c =
     let whole = records_of format (lines_of c.args.text.now) in
     ap (λ lines. first_touched format edits whole (records_of format lines)) c.of-left.ensures
     ∙ open-met format edits c.reach_of_all-reach.result c.reach_of_all-reach.ensures whole
-    c.args.text.now c.open_to.result.now c.open_to.ensures
+    c.args.text.now c.open_to-open.result.now c.open_to-open.ensures
 
 pub lines-smaller : goal.lines-smaller
 lines-smaller g c =
-    let fewer = open-fewer c.reach_of_all-reach.result c.bytes.result.now c.open_to-in-Some.result.now
-    c.open_to-in-Some.ensures in
+    let fewer = open-fewer c.reach_of_all-reach.result c.bytes.result.now c.open_to.result.now
+    c.open_to.ensures in
     omega (
       arith,
       fewer,

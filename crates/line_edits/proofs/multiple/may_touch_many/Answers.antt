@@ -4,8 +4,8 @@ use Rattle.line_edits.proofs.multiple.may_touch_many.Goals as goal
 
 pub lines-smaller : goal.lines-smaller
 lines-smaller g c =
-    let fewer = open-fewer c.args.reach c.bytes.result.now c.open_to-in-Some.result.now
-    c.open_to-in-Some.ensures in
+    let fewer = open-fewer c.reach_of_all-reach.result c.bytes.result.now c.open_to.result.now
+    c.open_to.ensures in
     omega (
       arith,
       fewer,

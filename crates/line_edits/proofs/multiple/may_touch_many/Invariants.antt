@@ -3,7 +3,7 @@ use Rattle.line_edits.proofs.multiple.may_touch_many.Given as goal
 
 -- few lines so far
 abbrev pub invariant-lines : goal.invariant-lines
-invariant-lines g l = l.open < 8
+invariant-lines g l = l.count < 8
 
 abbrev pub decreases-lines : goal.decreases-lines
 decreases-lines g l = length l.left

@@ -1,8 +1,12 @@
-use Rattle.std.proofs.Common.{◌∙◌, sym, ap, subst}
+use Rattle.std.proofs.Common.{subst}
+use Rattle.std.specs.Prelude.{IfSome}
 use Rattle.std.proofs.lemmas.Result.{on_ok_weaker}
+use Rattle.acct_text.specs.Bytes.{newline}
+use Rattle.acct_text.specs.Pieces.{Lacks}
 use Rattle.line_edits.specs.Naming.{Leaves}
-use Rattle.line_edits.specs.SeenEdits.{records_in}
-use Rattle.line_edits.proofs.ChangedLines.{change-left, change-other, change-stays, change-sets, none-named, two-named}
+use Rattle.line_edits.specs.Rewriting.{IsRewritten}
+use Rattle.line_edits.proofs.ChangedLines.{change-left}
+use Rattle.line_edits.proofs.RewrittenLines.{rewrites}
 use Rattle.line_edits.proofs.placed_edits.change_at.Goals as goal
 
 pub returns-then-leaves : goal.returns-then-leaves
@@ -11,41 +15,21 @@ returns-then-leaves g c =
     let change = g.R.EditedRecord.becomes c.args.change.now in
     change-left format change c.args.lines.now c.args.place c.requires.inside
     g.met.R.TableRecord.is_line_format.same
-    (subst (Leaves format change) c.text_at.ensures (c.leaves.ensures c.if-leaves.true))
+    (subst (Leaves format change) c.text_at.ensures.text (c.leaves.ensures c.if-leaves.true))
 
-pub returns-in_default : goal.returns-in_default
-returns-in_default g c =
-    change-other g.R.TableRecord.format (g.R.EditedRecord.becomes c.args.change.now)
-    c.args.lines.now c.args.place c.requires.inside
-    (sym c.in_ok-item.ensures.found ∙ c.in_default.is)
-
-pub returns-in-Stays : goal.returns-in-Stays
-returns-in-Stays g c =
-    change-stays g.R.TableRecord.format (g.R.EditedRecord.becomes c.args.change.now)
-    c.args.lines.now c.args.place c.requires.inside c.in-Some.item
-    (sym c.in_ok-item.ensures.found ∙ c.in-Some.is) g.met.R.TableRecord.is_line_format.same
-    (sym c.in_ok-becoming.ensures ∙ ap (records_in c.in-Some.item) c.in-Stays.is)
-
-pub returns-in-Changes : goal.returns-in-Changes
-returns-in-Changes g c =
-    on_ok_weaker c.set_at.result
-    (λ set.
-    set
-    ∙ change-sets g.R.TableRecord.format (g.R.EditedRecord.becomes c.args.change.now)
-    c.args.lines.now c.args.place c.requires.inside c.in-Some.item
-    (sym c.in_ok-item.ensures.found ∙ c.in-Some.is) c.in-Changes.new
-    (sym c.in_ok-becoming.ensures ∙ ap (records_in c.in-Some.item) c.in-Changes.is))
-    c.set_at.ensures.set
-
-pub returns-in-Goes : goal.returns-in-Goes
-returns-in-Goes g c =
-    let item = c.in-Some.item in
-    absurd (none-named g.R.TableRecord.format (g.R.EditedRecord.becomes c.args.change.now) item
-    (c.requires.named item) (sym c.in_ok-becoming.ensures ∙ ap (records_in item) c.in-Goes.is))
-
-pub returns : goal.returns
-returns g c =
-    let item = c.in-Some.item in
-    absurd (two-named g.R.TableRecord.format (g.R.EditedRecord.becomes c.args.change.now) item
-    c.in-Splits.field-0 c.in-Splits.field-1 (c.requires.named item)
-    (sym c.in_ok-becoming.ensures ∙ ap (records_in item) c.in-Splits.is))
+pub returns-in-Some : goal.returns-in-Some
+returns-in-Some g c =
+    let format = g.R.TableRecord.format in
+    let change = g.R.EditedRecord.becomes c.args.change.now in
+    let lines = c.args.lines.now in
+    let told =
+    subst (λ texts. IfSome texts (IsRewritten format change c.text_at-2.result.now)) c.in-Some.is
+    c.in_ok-kept.ensures in
+    let is =
+    subst (λ text. IsRewritten format change text c.in-Some.field-0) c.text_at-2.ensures.text told in
+    on_ok_weaker c.set_text_at.result
+    (λ set. rewrites format change lines c.args.place c.requires.inside c.in-Some.field-0 is
+    c.requires.written
+    (subst (Lacks newline) c.text_at-2.ensures.text c.text_at-2.ensures.one_line)
+    c.set_text_at.new.self set)
+    c.set_text_at.ensures.set

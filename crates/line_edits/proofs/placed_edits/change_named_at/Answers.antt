@@ -9,7 +9,7 @@ returns-then-not-is_named g c =
     let format = g.R.TableRecord.format in
     place-other format (g.R.EditedRecord.becomes c.args.change.now) c.args.name.now
     g.met.R.TableRecord.is_line_format.same c.args.lines.now c.args.place c.requires.inside
-    (ap (text_is_named format c.args.name.now) (sym c.text_at.ensures)
+    (ap (text_is_named format c.args.name.now) (sym c.text_at.ensures.text)
     ∙ sym c.is_named.ensures ∙ c.if-not-is_named.true)
 
 pub returns : goal.returns
@@ -20,6 +20,6 @@ returns g c =
     changed
     ∙ place-named format (g.R.EditedRecord.becomes c.args.change.now) c.args.name.now
     g.met.R.TableRecord.is_line_format.same c.args.lines.now c.args.place c.requires.inside
-    (ap (text_is_named format c.args.name.now) (sym c.text_at.ensures)
+    (ap (text_is_named format c.args.name.now) (sym c.text_at.ensures.text)
     ∙ sym c.is_named.ensures ∙ c.if-not-is_named.false))
     c.change_at.ensures
