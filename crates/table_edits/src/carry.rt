@@ -50,10 +50,13 @@ fn edit_tables(alloc: Global, tables: &mut CarriedTables, script: &Script) -> Re
     requires { IsWrittenScript (seen_script script.now) }
     ensures { OnOk result (tables.new ≡ files_after (seen_script script.now) tables.old) }
 {
-    tables.edit_passwd(alloc, &script.passwd)?;
-    tables.edit_shadow(alloc, &script.shadow)?;
-    tables.edit_group(alloc, &script.group)?;
-    tables.edit_gshadow(alloc, &script.gshadow)?;
+    tables.edit(
+        alloc,
+        &script.passwd,
+        &script.shadow,
+        &script.group,
+        &script.gshadow,
+    )?;
     let mut subuid = tables.take_subuid();
     edit_ranges(alloc, &mut subuid, &script.subuid)?;
     tables.put_subuid(subuid);

@@ -117,60 +117,31 @@ impl CarriedTables {
         &self.gshadow
     }
 
-    /// Carries out the edits of passwd(5), in their order. At `AllocError` some of them may be.
-    pub fn edit_passwd(
+    /// Carries out the edits of the tables of users and groups, those of each in their order. At
+    /// `AllocError` some of them may be.
+    pub fn edit(
         &mut self,
         alloc: Global,
-        edits: &[Edit<PasswdRecord, PasswdChange>],
+        passwd: &[Edit<PasswdRecord, PasswdChange>],
+        shadow: &[Edit<ShadowRecord, ShadowChange>],
+        group: &[Edit<GroupRecord, GroupChange>],
+        gshadow: &[Edit<GshadowRecord, GshadowChange>],
     ) -> Result<(), AllocError>
-        requires { AreWritten passwd_format passwd_becomes edits.now }
+        requires passwd { AreWritten passwd_format passwd_becomes passwd.now }
+        requires shadow { AreWritten shadow_format shadow_becomes shadow.now }
+        requires group { AreWritten group_format group_becomes group.now }
+        requires gshadow { AreWritten gshadow_format gshadow_becomes gshadow.now }
         ensures { OnOk result (self.new ≡ record self.old {
-          passwd = table_by passwd_format passwd_becomes edits.now self.old.passwd;
+          passwd = table_by passwd_format passwd_becomes passwd.now self.old.passwd;
+          shadow = table_by shadow_format shadow_becomes shadow.now self.old.shadow;
+          group = table_by group_format group_becomes group.now self.old.group;
+          gshadow = table_by gshadow_format gshadow_becomes gshadow.now self.old.gshadow;
         }) }
     {
-        self.passwd.edit(alloc, edits)
-    }
-
-    /// Carries out the edits of shadow(5), in their order. At `AllocError` some of them may be.
-    pub fn edit_shadow(
-        &mut self,
-        alloc: Global,
-        edits: &[Edit<ShadowRecord, ShadowChange>],
-    ) -> Result<(), AllocError>
-        requires { AreWritten shadow_format shadow_becomes edits.now }
-        ensures { OnOk result (self.new ≡ record self.old {
-          shadow = table_by shadow_format shadow_becomes edits.now self.old.shadow;
-        }) }
-    {
-        self.shadow.edit(alloc, edits)
-    }
-
-    /// Carries out the edits of group(5), in their order. At `AllocError` some of them may be.
-    pub fn edit_group(
-        &mut self,
-        alloc: Global,
-        edits: &[Edit<GroupRecord, GroupChange>],
-    ) -> Result<(), AllocError>
-        requires { AreWritten group_format group_becomes edits.now }
-        ensures { OnOk result (self.new ≡ record self.old {
-          group = table_by group_format group_becomes edits.now self.old.group;
-        }) }
-    {
-        self.group.edit(alloc, edits)
-    }
-
-    /// Carries out the edits of gshadow(5), in their order. At `AllocError` some of them may be.
-    pub fn edit_gshadow(
-        &mut self,
-        alloc: Global,
-        edits: &[Edit<GshadowRecord, GshadowChange>],
-    ) -> Result<(), AllocError>
-        requires { AreWritten gshadow_format gshadow_becomes edits.now }
-        ensures { OnOk result (self.new ≡ record self.old {
-          gshadow = table_by gshadow_format gshadow_becomes edits.now self.old.gshadow;
-        }) }
-    {
-        self.gshadow.edit(alloc, edits)
+        self.passwd.edit(alloc, passwd)?;
+        self.shadow.edit(alloc, shadow)?;
+        self.group.edit(alloc, group)?;
+        self.gshadow.edit(alloc, gshadow)
     }
 
     /// Takes the table subuid(5) out, for edits: there is no such file until it is put back.
