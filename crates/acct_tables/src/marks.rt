@@ -1,14 +1,15 @@
 // Lines that are passed over at once: those without bytes of which each line that is looked for has
 // some (passwd(5), and likewise the other five tables).
 ghost use Rattle.std.specs.Prelude.{◌≡◌, ◌<◌, [], ◌∷◌, length};
+ghost use Rattle.memchr.specs.Find.{FindsNeedle};
 ghost use Rattle.acct_tables.specs.Marks.{IsFromMark, IsFromMarks, IsFrontWithout, marks_in};
 
 use acct_text::cut_once;
+use memchr::arch::all::rabinkarp;
 use memchr::{memmem, memrchr};
 
-// So many bytes are searched for each mark before those behind them: a mark that stands nowhere isn't
-// looked for in the whole text at each line that has another one.
-const CHUNK: usize = 4096;
+// In so many bytes a search that is begun at once has ended before a fast one is set up.
+const NEAR: usize = 256;
 
 /// Bytes of which each line that is looked for has some.
 #[derive(Clone, Copy)]
@@ -36,7 +37,7 @@ impl<'m> Marks<'m> {
 pub fn from_mark<'a>(text: &'a [u8], mark: &[u8]) -> &'a [u8]
     ensures { IsFromMark mark.now text.now result.now }
 {
-    let Some(place) = memmem::find(text, mark) else {
+    let Some(place) = first_place(text, mark) else {
         return &[];
     };
     match memrchr(b'\n', &text[..place]) {
@@ -45,32 +46,46 @@ pub fn from_mark<'a>(text: &'a [u8], mark: &[u8]) -> &'a [u8]
     }
 }
 
+// The first place of a mark in a text.
+fn first_place(text: &[u8], mark: &[u8]) -> Option<usize>
+    ensures { FindsNeedle text.now mark.now 0 result }
+{
+    if text.len() <= 2 * NEAR {
+        return rabinkarp::Finder::new(mark).find(text, mark);
+    }
+    memmem::find(text, mark)
+}
+
 /// The text of a file from the line on in which one of the marks first stands; empty where none
-/// stands anywhere.
+/// stands anywhere. Where marked lines are dense, each takes the time of its own bytes.
 pub fn from_marks<'a>(text: &'a [u8], marks: Marks<'_>) -> &'a [u8]
     ensures { IsFromMarks (marks_in marks.entry) text.now result.now }
 {
     let mut left = text;
+    // The first chunk is one line, and each further one is some times as great: a mark that stands
+    // nowhere isn't looked for far behind a line that has another one.
+    let mut size = 0usize;
     'chunks: while !left.is_empty() {
-        let chunk = chunk_of(left);
+        let chunk = chunk_of(left, size);
         let front = front_without(chunk, marks);
         left = &left[front.len()..];
         if front.len() < chunk.len() {
             return left;
         }
+        size = size.saturating_mul(4).saturating_add(NEAR);
     }
     left
 }
 
-// The first lines of a text, as many as have the bytes of a chunk.
-fn chunk_of(text: &[u8]) -> &[u8]
+// The first lines of a text, as many as have one byte more than this size.
+fn chunk_of(text: &[u8], size: usize) -> &[u8]
     ensures front { IsFrontWithout [] text.now result.now }
     ensures some { 0 < length text.now → 0 < length result.now }
 {
-    if text.len() <= CHUNK {
+    if text.len() <= size {
         return text;
     }
-    match cut_once(b'\n', &text[CHUNK..]) {
+    match cut_once(b'\n', &text[size..]) {
         Some(cut) => &text[..text.len() - cut.behind.len()],
         None => text,
     }
