@@ -1,10 +1,10 @@
 -- Claim: what stands beside the texts of lines is so of them after each edit: of those of a file
 -- (`file-lacks`), with one more (`pushed-indexed`), without it again (`same-indexed`), and with a record
 -- in the text of one of its name (`put-indexed`). Way: the names follow the texts.
-use Rattle.std.proofs.Common.{◌≡◌, ◌∙◌, ℕ, ◌-◌, ◌<◌, Bool, List, [], ◌∷◌, ◌++◌, length, take, sym, ap, subst, arith, length-append}
+use Rattle.std.proofs.Common.{◌≡◌, ◌∙◌, ℕ, ◌-◌, ◌<◌, Bool, List, [], ◌∷◌, ◌++◌, ◌+◌, length, take, sym, ap, subst, arith, length-append}
 use Rattle.std.specs.Prelude.{All, Some, Result, Ok, Err, OnOk, OnErr, option_map, set, slice_get}
 use Rattle.std.proofs.Math.Seq.{take-append_seam}
-use Rattle.std.proofs.lemmas.List.{length-map, map-append}
+use Rattle.std.proofs.lemmas.List.{take_all}
 use Rattle.std.proofs.lemmas.List.Elements.{All-from_recursion, All-get_or, All-map, All-push, All-set}
 use Rattle.std.proofs.lemmas.Option.{get_or_from_slice_get, slice_get_within}
 use Rattle.acct_text.specs.Bytes.{newline}
@@ -13,12 +13,10 @@ use Rattle.acct_text.specs.Pieces.{Lacks}
 use Rattle.acct_text.proofs.LinesLaws.{lines_of-are}
 use Rattle.account_formats.specs.Format.{Format}
 use Rattle.account_formats.specs.Written.{IsWritten}
-use Rattle.acct_tables.specs.declared.table_names.TableNames.{TableNames}
+use Rattle.acct_tables.specs.declared.name_hashes.NameHashes.{NameHashes}
 use Rattle.acct_tables.specs.EditedLines.{AreIndexed, lines_with, text_names}
-use Rattle.acct_tables.specs.NameIndex.{IsLineNoted, Tells}
+use Rattle.acct_tables.specs.NameHashes.{TellsHashes, told_hashes}
 use Rattle.acct_tables.specs.TableLines.{record_at}
-use Rattle.acct_tables.specs.TableNames.{told_names}
-use Rattle.acct_tables.proofs.NameIndexLemmas.{told-line}
 use Rattle.acct_tables.proofs.PutLines.{put-names}
 
 -- the texts of the lines of a file are one line each
@@ -46,43 +44,46 @@ all-but-last texts text =
     omega (arith, length-append texts (text ∷ [])) in
     ap (λ n. take n (texts ++ text ∷ [])) many ∙ take-append_seam texts (text ∷ [])
 
-module _ {R : Type 0} (format : Format R) (texts : List (List ℕ)) (names : TableNames)
+module _ {R : Type 0} (format : Format R) (texts : List (List ℕ)) (names : NameHashes)
     (indexed : AreIndexed format texts names) where
   -- the same texts, and an index that tells the same
   pub same-indexed :
-      (now : List (List ℕ)) (after : TableNames)
+      (now : List (List ℕ)) (after : NameHashes)
       → now ≡ texts
-      → told_names after ≡ told_names names
+      → told_hashes after ≡ told_hashes names
       → AreIndexed format now after
   same-indexed now after same told = record {
     one_line = subst (All (Lacks newline)) (sym same) indexed.one_line;
-    told = subst (λ t. Tells (text_names format now) t) (sym told)
-        (subst (λ t. Tells (text_names format t) (told_names names)) (sym same) indexed.told);
+    told = subst (λ t. TellsHashes (text_names format now) t) (sym told)
+        (subst (λ t. TellsHashes (text_names format t) (told_hashes names)) (sym same) indexed.told);
   }
+
+  -- in front of a text more they are the same
+  pub pushed-front :
+      (text : List ℕ) (now : List (List ℕ)) (place : ℕ)
+      → now ≡ texts ++ text ∷ []
+      → place ≡ length texts
+      → take place now ≡ texts
+  pushed-front text now place pushed many =
+      ap (take place) pushed
+      ∙ ap (λ n. take n (texts ++ text ∷ [])) many
+      ∙ take-append_seam texts (text ∷ [])
 
   -- a text that is noted behind them
   pub pushed-indexed :
-      (text : List ℕ) (now : List (List ℕ)) (after : TableNames)
+      (text : List ℕ) (now : List (List ℕ)) (place : ℕ) (after : NameHashes)
       → Lacks newline text
       → now ≡ texts ++ text ∷ []
-      → IsLineNoted (option_map format.name (format.read text)) (length texts)
-      (told_names names) (told_names after)
+      → place ≡ length texts
+      → TellsHashes (text_names format (take (place + 1) now)) (told_hashes after)
       → AreIndexed format now after
-  pushed-indexed text now after lacks pushed noted =
-      let name = option_map format.name (format.read text) in
-      let many : length (text_names format texts) ≡ length texts =
-      length-map texts (λ text. option_map format.name (format.read text)) in
-      let more : text_names format now ≡ text_names format texts ++ name ∷ [] =
-      ap (text_names format) pushed
-      ∙ map-append (λ text. option_map format.name (format.read text)) texts (text ∷ []) in
+  pushed-indexed text now place after lacks pushed many tells =
+      let size : length now ≡ length texts + 1 = ap length pushed ∙ length-append texts (text ∷ []) in
+      let all : take (place + 1) now ≡ now = take_all (place + 1) now (omega (arith, size, many)) in
       record {
         one_line = subst (All (Lacks newline)) (sym pushed)
             (All-push (Lacks newline) texts text indexed.one_line lacks);
-        told = subst (λ found. Tells found (told_names after)) (sym more)
-            (told-line (text_names format texts) (told_names names) indexed.told name
-            (told_names after)
-            (subst (λ n. IsLineNoted name n (told_names names) (told_names after)) (sym many)
-            noted));
+        told = subst (λ texts. TellsHashes (text_names format texts) (told_hashes after)) all tells;
       }
 
   -- a record in the text of one of its name
@@ -97,7 +98,7 @@ module _ {R : Type 0} (format : Format R) (texts : List (List ℕ)) (names : Tab
   put-in lacks place item text inside written is named = record {
     one_line = All-set (Lacks newline) texts place text
         (subst (Lacks newline) (sym is) written.one_line) indexed.one_line;
-    told = subst (λ found. Tells found (told_names names))
+    told = subst (λ found. TellsHashes found (told_hashes names))
         (sym (put-names format lacks texts place inside item written text is named)) indexed.told;
   }
 

@@ -25,3 +25,4 @@ pub mod FrontLines
 pub mod MarkedRecords
 pub mod KnownLines
 pub mod FieldMarks
+pub mod HashedNames

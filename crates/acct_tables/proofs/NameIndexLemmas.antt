@@ -94,7 +94,7 @@ last-by false place None count none = refl
 last-by false place (Some first) count none = refl
 
 -- the records of a name where there is one line more, of this name or of none
-lines-end :
+pub lines-end :
     (name : List ℕ) (names : List (Option (List ℕ))) (last : Option (List ℕ))
     → lines_named name (names ++ last ∷ [])
     ≡ (if has_name name last

@@ -5,9 +5,8 @@ use Rattle.acct_text.specs.Bytes.{is_empty, newline}
 use Rattle.acct_text.specs.Lines.{Line}
 use Rattle.acct_text.specs.Pieces.{Lacks}
 use Rattle.account_formats.specs.Format.{Format}
-use Rattle.acct_tables.specs.declared.table_names.TableNames.{TableNames}
-use Rattle.acct_tables.specs.NameIndex.{Tells}
-use Rattle.acct_tables.specs.TableNames.{told_names}
+use Rattle.acct_tables.specs.declared.name_hashes.NameHashes.{NameHashes}
+use Rattle.acct_tables.specs.NameHashes.{TellsHashes, told_hashes}
 
 -- the lines of these texts, each with an end, but for the last where it lacks it
 abbrev pub lines_with : Bool → List (List ℕ) → List Line
@@ -21,6 +20,6 @@ text_names format texts = map (λ text. option_map format.name (format.read text
 
 -- each text is one line, and the index tells of them
 pub record AreIndexed {R : Type 0} (format : Format R) (texts : List (List ℕ))
-    (names : TableNames) : Type 0 where
+    (names : NameHashes) : Type 0 where
   pub one_line : All (Lacks newline) texts
-  pub told : Tells (text_names format texts) (told_names names)
+  pub told : TellsHashes (text_names format texts) (told_hashes names)

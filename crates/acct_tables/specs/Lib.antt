@@ -10,3 +10,4 @@ pub mod SeenLines
 pub mod NameIndex
 pub mod TableNames
 pub mod Marks
+pub mod NameHashes

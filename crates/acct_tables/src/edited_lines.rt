@@ -6,19 +6,17 @@ ghost use Rattle.acct_text.specs.Pieces.{Lacks};
 ghost use Rattle.account_formats.specs.Edits.{with_line};
 ghost use Rattle.account_formats.specs.Format.{count_named, find_named, records_of};
 ghost use Rattle.account_formats.specs.Written.{IsWritten};
-ghost use Rattle.acct_tables.specs.EditedLines.{text_names};
 ghost use Rattle.acct_tables.specs.LineTexts.{file_text};
-ghost use Rattle.acct_tables.specs.NameIndex.{Tells, line_names, lines_named};
+ghost use Rattle.acct_tables.specs.NameIndex.{line_names, lines_named};
 ghost use Rattle.acct_tables.specs.Order.{text_at};
 ghost use Rattle.acct_tables.specs.SeenLines.{seen_line};
 ghost use Rattle.acct_tables.specs.TableLines.{IsPrintedFor, changed_at, record_at, with_record};
-ghost use Rattle.acct_tables.specs.TableNames.{told_names};
 
 use crate::line::read_record;
 use crate::line_texts::{FileText, LineTexts};
 use crate::lines::lacks_end;
+use crate::name_hashes::NameHashes;
 use crate::name_index::are_several;
-use crate::table_names::TableNames;
 use crate::{FileLine, NamedLines};
 use acct_lines::TableRecord;
 use acct_text::Bytes;
@@ -35,7 +33,7 @@ pub struct EditedLines<'a, R: TableRecord> {
     // whether the last line lacks its end, as it may in a file; each other line has one
     lacks_end: bool,
     // where the records of each name stand among the lines
-    names: TableNames,
+    names: NameHashes,
     record: PhantomData<R>,
 }
 
@@ -74,7 +72,7 @@ impl<'a, R: TableRecord + Drop> EditedLines<'a, R> {
     {
         let lacks_end = lacks_end(file.as_slice());
         let texts = LineTexts::of(alloc, file)?;
-        let names = names_of::<R>(alloc, &texts)?;
+        let names = NameHashes::of::<R>(alloc, &texts)?;
         Ok(EditedLines {
             texts,
             lacks_end,
@@ -95,7 +93,7 @@ impl<'a, R: TableRecord + Drop> EditedLines<'a, R> {
     pub fn get(&self, name: &[u8]) -> Option<NamedLines>
         ensures { result ≡ lines_named name.now (line_names R.format self.now) }
     {
-        self.names.get(name)
+        self.names.get::<R>(&self.texts, name)
     }
 
     /// The first record of the name; none where no record has it. It takes no pass over the lines.
@@ -151,7 +149,7 @@ impl<'a, R: TableRecord + Drop> EditedLines<'a, R> {
         let alloc = self.texts.allocator();
         let place = self.texts.len();
         self.texts.push(item.print(alloc)?)?;
-        if let Err(fault) = self.names.note(alloc, Some(item.name()), place) {
+        if let Err(fault) = self.names.note::<R>(&self.texts, place) {
             self.texts.pop();
             return Err(fault);
         }
@@ -226,15 +224,4 @@ impl<'a, R: TableRecord + Drop> EditedLines<'a, R> {
             ended: place + 1 < count || !self.lacks_end,
         }
     }
-}
-
-// The index of the names of the records that these texts are.
-fn names_of<R: TableRecord>(alloc: Global, texts: &LineTexts<'_>) -> Result<TableNames, AllocError>
-    ensures { IfOk result (λ names. Tells (text_names R.format texts.now) (told_names names)) }
-{
-    let mut names = TableNames::new(alloc);
-    'places: for place in 0..texts.len() {
-        names.note(alloc, texts.name::<R>(place), place)?;
-    }
-    Ok(names)
 }

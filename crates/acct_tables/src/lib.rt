@@ -16,6 +16,7 @@ mod line_texts;
 mod lines;
 mod list_record;
 mod marks;
+mod name_hashes;
 mod name_index;
 mod owner;
 mod renaming;

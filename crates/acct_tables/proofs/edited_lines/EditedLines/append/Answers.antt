@@ -1,12 +1,10 @@
 use Rattle.std.proofs.Common.{◌≡◌, ◌∙◌, ◌-◌, false, length, take, Some, ap, ap₂, sym, subst}
-use Rattle.std.specs.Prelude.{option_map}
 use Rattle.acct_text.specs.Bytes.{newline}
 use Rattle.acct_text.specs.Pieces.{Lacks}
 use Rattle.account_formats.specs.Edits.{with_line}
-use Rattle.acct_tables.specs.EditedLines.{lines_with}
-use Rattle.acct_tables.specs.NameIndex.{IsLineNoted}
-use Rattle.acct_tables.specs.TableNames.{told_names}
-use Rattle.acct_tables.proofs.IndexedTexts.{all-but-last, pushed-indexed, same-indexed}
+use Rattle.acct_tables.specs.EditedLines.{lines_with, text_names}
+use Rattle.acct_tables.specs.NameHashes.{TellsHashes, told_hashes}
+use Rattle.acct_tables.proofs.IndexedTexts.{all-but-last, pushed-front, pushed-indexed, same-indexed}
 use Rattle.acct_tables.proofs.KeptLines.{lines-appended}
 use Rattle.acct_tables.proofs.edited_lines.EditedLines.append.Goals as goal
 
@@ -22,20 +20,20 @@ invariant_of-self-in-Err g c =
 
 pub invariant_of-self-2 : goal.invariant_of-self-2
 invariant_of-self-2 g c =
+    let old = c.self.inside in
+    pushed-indexed g.R.TableRecord.format old.texts old.names c.self.invariant
+    c.in_ok-print.field-0 c.push.new.self c.len-place.result c.note.new.self
+    (subst (Lacks newline) (sym c.in_ok-print.ensures) c.requires.one_line)
+    c.in_ok-push.ensures.pushed c.len-place.ensures.count (c.in_default.ensures {u = tt}).noted
+
+pub note-requires-clause-told : goal.note-requires-clause-told
+note-requires-clause-told g c =
     let format = g.R.TableRecord.format in
     let old = c.self.inside in
-    let text = c.in_ok-print.field-0 in
-    let before = told_names old.names in
-    let after = told_names c.note.new.self in
-    let named : Some c.name.result.now ≡ option_map format.name (format.read text) =
-    ap Some c.name.ensures
-    ∙ ap (option_map format.name) (sym (ap format.read c.in_ok-print.ensures ∙ c.requires.reads)) in
-    pushed-indexed format old.texts old.names c.self.invariant text c.push.new.self c.note.new.self
-    (subst (Lacks newline) (sym c.in_ok-print.ensures) c.requires.one_line)
-    c.in_ok-push.ensures.pushed
-    (subst (λ name. IsLineNoted name (length old.texts) before after) named
-    (subst (λ place. IsLineNoted (Some c.name.result.now) place before after)
-    c.len-place.ensures.count (c.in_default.ensures {u = tt}).noted))
+    subst (λ texts. TellsHashes (text_names format texts) (told_hashes old.names))
+    (sym (pushed-front format old.texts old.names c.self.invariant c.in_ok-print.field-0
+    c.push.new.self c.len-place.result c.in_ok-push.ensures.pushed c.len-place.ensures.count))
+    c.self.invariant.told
 
 pub returns-clause-appended : goal.returns-clause-appended
 returns-clause-appended g c =

@@ -8,7 +8,6 @@ returns g c =
     let format = g.R.TableRecord.format in
     let name = c.args.name.now in
     c.get.ensures
-    ∙ c.self.invariant.told name
     ∙ ap (lines_named name)
     (sym (lines-named c.self.inside.lacks_end format c.self.inside.texts)
     ∙ ap (line_names format) c.self.view_is)
