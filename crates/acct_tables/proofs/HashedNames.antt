@@ -1,6 +1,7 @@
 -- Claim: what is told of a hash stays so where a line of no such name stands behind the others
--- (`told-still`), and is so with a record more of its name (`told-first`, `told-more`); a name is found
--- by the first of records that are alike (`alike-named`, `alike-other`), since that has their name. Way: a line behind all changes what is so of its own name alone.
+-- (`told-still`), and is so with a record more of its name (`told-first`, `told-more`); a name is
+-- found by the first of records that are alike (`alike-named`, `alike-other`), since that has their
+-- name. Way: a line behind all changes what is so of its own name alone.
 use Rattle.std.proofs.Common.{◌≡◌, ◌∙◌, ◌≢◌, ℕ, ◌+◌, ◌≤◌, zero, suc, Bool, true, false, List, [], ◌∷◌, ◌++◌, ◌<◌, length, map, take, refl, sym, ap, subst, arith, inl, inr, cond, if◌then◌else◌, zero-add}
 use Rattle.std.specs.Prelude.{Option, Some, None, IfSome, bytes_eq, count_by, nat_eq, not, option_and_then, option_map, slice_get}
 use Rattle.std.specs.List.{position_from}
@@ -252,7 +253,8 @@ module _ {R : Type 0} (format : Format R) (texts : List (List ℕ)) where
   abbrev names : List (Option (List ℕ))
   names = text_names format texts
 
-  module _ (hash : ℕ) (found : HashedLines) (alike : AreAlike names hash found) (name : List ℕ) where
+  module _ (hash : ℕ) (found : HashedLines) (alike : AreAlike names hash found)
+      (name : List ℕ) where
     -- the first of records that are alike has their name
     has-first : has_name alike.name (name_at format texts found.first) ≡ true
     has-first =

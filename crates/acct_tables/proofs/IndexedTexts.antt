@@ -55,7 +55,8 @@ module _ {R : Type 0} (format : Format R) (texts : List (List ℕ)) (names : Nam
   same-indexed now after same told = record {
     one_line = subst (All (Lacks newline)) (sym same) indexed.one_line;
     told = subst (λ t. TellsHashes (text_names format now) t) (sym told)
-        (subst (λ t. TellsHashes (text_names format t) (told_hashes names)) (sym same) indexed.told);
+        (subst (λ t. TellsHashes (text_names format t) (told_hashes names)) (sym same)
+        indexed.told);
   }
 
   -- in front of a text more they are the same
@@ -78,8 +79,10 @@ module _ {R : Type 0} (format : Format R) (texts : List (List ℕ)) (names : Nam
       → TellsHashes (text_names format (take (place + 1) now)) (told_hashes after)
       → AreIndexed format now after
   pushed-indexed text now place after lacks pushed many tells =
-      let size : length now ≡ length texts + 1 = ap length pushed ∙ length-append texts (text ∷ []) in
-      let all : take (place + 1) now ≡ now = take_all (place + 1) now (omega (arith, size, many)) in
+      let size : length now ≡ length texts + 1 =
+      ap length pushed ∙ length-append texts (text ∷ []) in
+      let all : take (place + 1) now ≡ now =
+      take_all (place + 1) now (omega (arith, size, many)) in
       record {
         one_line = subst (All (Lacks newline)) (sym pushed)
             (All-push (Lacks newline) texts text indexed.one_line lacks);

@@ -89,14 +89,14 @@ impl<'a, R: TableRecord + Drop> EditedLines<'a, R> {
     }
 
     /// Where the records of the name stand; none where no record has it. It takes no pass over the
-    /// lines.
+    /// lines, but where two names among them have the same hash of 64 bits.
     pub fn get(&self, name: &[u8]) -> Option<NamedLines>
         ensures { result ≡ lines_named name.now (line_names R.format self.now) }
     {
         self.names.get::<R>(&self.texts, name)
     }
 
-    /// The first record of the name; none where no record has it. It takes no pass over the lines.
+    /// The first record of the name, found as by `get`; none where no record has it.
     pub fn find(&self, alloc: Global, name: &[u8]) -> Result<Option<R>, AllocError>
         ensures found { IfOk result (λ found.
             found ≡ find_named R.format name.now (records_of R.format self.now)) }
@@ -108,7 +108,7 @@ impl<'a, R: TableRecord + Drop> EditedLines<'a, R> {
         }
     }
 
-    /// Whether several records have the name. It takes no pass over the lines.
+    /// Whether several records have the name, which are found as by `get`.
     pub fn has_several(&self, name: &[u8]) -> bool
         ensures { result ≡ nat_le 2
             (count_named R.format name.now (records_of R.format self.now)) }

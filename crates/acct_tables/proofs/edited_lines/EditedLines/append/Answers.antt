@@ -1,4 +1,4 @@
-use Rattle.std.proofs.Common.{◌≡◌, ◌∙◌, ◌-◌, false, length, take, Some, ap, ap₂, sym, subst}
+use Rattle.std.proofs.Common.{◌∙◌, ◌-◌, false, length, take, ap, ap₂, sym, subst}
 use Rattle.acct_text.specs.Bytes.{newline}
 use Rattle.acct_text.specs.Pieces.{Lacks}
 use Rattle.account_formats.specs.Edits.{with_line}
