@@ -61,5 +61,6 @@ module _ (text : List ℕ) (begin : ℕ) (left rest : List Line) (line : Line)
   bytes-left =
       back-of text (take begin text ++ (line.text ++ end)) (file_bytes rest)
       (sym (take-append-drop begin text)
-      ∙ ap (λ back. take begin text ++ back) (begins ∙ sym (append_assoc line.text end (file_bytes rest)))
+      ∙ ap (λ back. take begin text ++ back)
+      (begins ∙ sym (append_assoc line.text end (file_bytes rest)))
       ∙ sym (append_assoc (take begin text) (line.text ++ end) (file_bytes rest)))

@@ -124,7 +124,9 @@ first-loaded :
     (texts_of rest)
     ≡ record { text = text; ended = ended } ∷ rest
 first-loaded text whole true rest is later =
-    ap (λ missing. record { text = text; ended = true } ∷ lines_with (lacks_by missing) (texts_of rest))
+    ap
+    (λ missing. record { text = text; ended = true }
+    ∷ lines_with (lacks_by missing) (texts_of rest))
     (ends-newline text whole)
     ∙ ap (λ lines. record { text = text; ended = true } ∷ lines) later
 first-loaded text whole false rest is later = absurd cc

@@ -60,6 +60,7 @@ module _ {R : Type 0} (format : Format R) (name : List ℕ) where
   has-by start behind r found true later = refl
   has-by start behind r found false later = later
 
+  -- a line in front of others has the name, or some other line, where a record has it
   has-line :
       (kept : Option R) (rest : List R) (start : ℕ) (behind : Option ℕ)
       → is_some behind ≡ has_named format name rest

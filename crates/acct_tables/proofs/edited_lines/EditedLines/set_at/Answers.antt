@@ -1,4 +1,3 @@
-use Rattle.std.proofs.Common.{subst, sym}
 use Rattle.std.proofs.lemmas.Result.{on_ok_weaker}
 use Rattle.acct_tables.proofs.edited_lines.EditedLines.set_at.Goals as goal
 

@@ -31,10 +31,11 @@ invariant_of-self g c =
     (λ lines. option_map format.name (record_at format lines c.args.place)
     ≡ Some (format.name new.item))
     (sym c.self.view_is) new.named in
+    let many = lines-many old.lacks_end old.texts in
     let inside : c.args.place < length old.texts =
-    omega (arith, c.requires.inside, ap length c.self.view_is, lines-many old.lacks_end old.texts) in
-    put-indexed format old.texts old.names c.self.invariant c.put.result c.put.new.self old.lacks_end
-    c.args.place new.item c.args.text inside new.written new.printed named
+    omega (arith, c.requires.inside, ap length c.self.view_is, many) in
+    put-indexed format old.texts old.names c.self.invariant c.put.result c.put.new.self
+    old.lacks_end c.args.place new.item c.args.text inside new.written new.printed named
     c.put.ensures.put c.put.ensures.unchanged
 
 pub returns-in_ok-put-clause-set : goal.returns-in_ok-put-clause-set
@@ -44,8 +45,9 @@ returns-in_ok-put-clause-set g c item written printed =
     let place = c.args.place in
     let text = c.args.text in
     let kept = c.args.kept.now in
+    let many = lines-many old.lacks_end old.texts in
     let inside : place < length old.texts =
-    omega (arith, c.requires.inside, ap length c.self.view_is, lines-many old.lacks_end old.texts) in
+    omega (arith, c.requires.inside, ap length c.self.view_is, many) in
     let known =
     subst (λ lines. option_map format.print (record_at format lines place) ≡ Some kept)
     (sym c.self.view_is) c.requires.kept in
@@ -64,8 +66,9 @@ returns-else-ne-clause-set g c item written printed =
     let place = c.args.place in
     let text = c.args.text in
     let kept = c.args.kept.now in
+    let many = lines-many old.lacks_end old.texts in
     let inside : place < length old.texts =
-    omega (arith, c.requires.inside, ap length c.self.view_is, lines-many old.lacks_end old.texts) in
+    omega (arith, c.requires.inside, ap length c.self.view_is, many) in
     let known =
     subst (λ lines. option_map format.print (record_at format lines place) ≡ Some kept)
     (sym c.self.view_is) c.requires.kept in
