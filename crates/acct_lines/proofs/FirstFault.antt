@@ -1,110 +1,90 @@
--- Claim: the first number of a line that couldn't be read is the fault of the line, and where all are
--- read the empty name, then what the format adds (`passwd-first` and its likes). Way: number by
--- number, one that couldn't be read is the first fault (`unread`), and behind one that was read the
--- fault is that of the others (`was-read`); behind the numbers it is that of the name (`unnamed`),
--- or the added one (`added`).
-use Rattle.std.proofs.Common.{◌≡◌, ℕ, false, List, [], ◌∷◌, ◌++◌, length, refl, ap, Ok, Err, Option, Some, None}
-use Rattle.std.specs.Prelude.{is_some, map}
-use Rattle.std.specs.Option.{ok_or}
-use Rattle.std.proofs.lemmas.Bool.{eq-eqb}
+-- Claim: what the readings of the fields kept is the first fault of the line, then what the format
+-- adds (`line-fault`), and where nothing was kept, each number was read (`read-clear`) and the name
+-- is there (`named-clear`). Way: number by number (`was-read`), what is kept and what comes behind
+-- have the same first fault.
+use Rattle.std.proofs.Common.{◌≡◌, ◌∙◌, ℕ, Bool, true, false, List, [], ◌∷◌, ◌++◌, refl, sym, ap, Option, Some, None}
+use Rattle.std.specs.Prelude.{is_some, map, if◌then◌else◌}
+use Rattle.std.specs.Option.{option_or}
 use Rattle.account_formats.specs.declared.fault.LineFault.{LineFault}
-use Rattle.account_formats.specs.declared.fault.LineFault.TheVariants.{BadNumber}
+use Rattle.account_formats.specs.declared.fault.LineFault.TheVariants.{BadNumber, EmptyName}
 use Rattle.acct_text.specs.Bytes.{is_empty}
+use Rattle.acct_text.specs.Pieces.{fields_of}
 use Rattle.account_formats.specs.Text.{first_some}
-use Rattle.account_formats.specs.Records.{is_id, read_count, read_id}
-use Rattle.account_formats.specs.Faults.{NumberField, field_at, field_fault, fields_fault, gshadow_fault, group_fault, is_count_text, is_days_text, name_fault, passwd_fault, range_fault, shadow_fault, subid_fault}
-use Rattle.acct_lines.specs.Fields.{AreFields, IsUnnamed}
-use Rattle.acct_lines.proofs.Read.{read-some, read-none, read-fault}
+use Rattle.account_formats.specs.Faults.{NumberField, field_at, field_fault, fields_fault, name_fault}
+use Rattle.acct_lines.specs.Fields.{IsRead}
+use Rattle.acct_lines.proofs.Taken.{AreTakenOf}
 
--- the first fault of these fields: of these numbers, of the name, and the one that the format adds
-pub record IsFirst (fields : List (List ℕ)) (further : Option LineFault)
-    (numbers : List NumberField) (fault : LineFault) : Type 0 where
+-- of two faults the one is kept that comes first
+kept-first :
+    (before found : Option LineFault) (others : List (Option LineFault))
+    → first_some (before ∷ found ∷ others) ≡ first_some (option_or before found ∷ others)
+kept-first None found others = refl
+kept-first (Some first) found others = refl
+
+-- so of two alone
+first-kept :
+    (before found : Option LineFault)
+    → first_some (before ∷ found ∷ []) ≡ option_or before found
+first-kept None None = refl
+first-kept None (Some fault) = refl
+first-kept (Some first) found = refl
+
+-- these numbers were read, one after another, and what is kept of them is their first fault
+pub record AreRead (fields : List (List ℕ)) (numbers : List NumberField)
+    (before after : Option LineFault) : Type 0 where
   pub first :
-      first_some (map (field_fault fields) numbers ++ name_fault fields ∷ further ∷ [])
-      ≡ Some fault
+      (others : List (Option LineFault))
+      → first_some (before ∷ map (field_fault fields) numbers ++ others)
+      ≡ first_some (after ∷ others)
 
--- a number that couldn't be read
-pub unread :
-    {X : Type 0} {fields : List (List ℕ)} {further : Option LineFault}
-    {numbers : List NumberField} {fault : LineFault} {place : ℕ} (read : List ℕ → Option X)
-    → Err fault ≡ ok_or (read (field_at place fields)) (BadNumber place)
-    → IsFirst fields further ((place, λ text. is_some (read text)) ∷ numbers) fault
-unread read bad =
-    record { first = rw (read-none _ _ _ bad) (ap Some (read-fault _ _ _ bad)) }
-
--- one that was read
+-- one number, and then the others
 pub was-read :
-    {X : Type 0} {fields : List (List ℕ)} {further : Option LineFault}
-    {numbers : List NumberField} {fault : LineFault} {place : ℕ} (read : List ℕ → Option X) {x : X}
-    → Ok x ≡ ok_or (read (field_at place fields)) (BadNumber place)
-    → IsFirst fields further numbers fault
-    → IsFirst fields further ((place, λ text. is_some (read text)) ∷ numbers) fault
-was-read read good behind = record { first = rw (read-some _ _ _ good) behind.first }
+    {X : Type 0} {fields : List (List ℕ)} {numbers : List NumberField}
+    {before between after : Option LineFault} {place : ℕ} (read : List ℕ → Option X) {value : X}
+    → IsRead (read (field_at place fields)) (BadNumber place) before between value
+    → AreRead fields numbers between after
+    → AreRead fields ((place, λ text. is_some (read text)) ∷ numbers) before after
+was-read {fields = fields} {numbers = numbers} {before = before} read is behind = record {
+  first = λ others. kept-first before _ _
+      ∙ ap (λ kept. first_some (kept ∷ map (field_fault fields) numbers ++ others)) (sym is.first)
+      ∙ behind.first others;
+}
 
--- an empty name
-pub unnamed :
-    {fields : List (List ℕ)} {further : Option LineFault} {fault : LineFault}
-    → IsUnnamed (field_at 1 fields) fault
-    → IsFirst fields further [] fault
-unnamed is = record { first = rw (is.empty, is.told) refl }
+-- no other number
+pub all_read : {fields : List (List ℕ)} {fault : Option LineFault} → AreRead fields [] fault fault
+all_read = record { first = λ others. refl }
 
--- what the format adds
-pub added :
-    {fields : List (List ℕ)} {further : Option LineFault} {fault : LineFault}
-    → is_empty (field_at 1 fields) ≡ false
-    → further ≡ Some fault
-    → IsFirst fields further [] fault
-added named is = record { first = rw (named, is) refl }
+-- the fault of a line: what was kept, else that of the name, else what the format adds
+pub line-fault :
+    {count : ℕ} {line : List ℕ} {fields : List (List ℕ)} {numbers : List NumberField}
+    {before after fault : Option LineFault} (further : Option LineFault)
+    → AreTakenOf count line fields before
+    → AreRead fields numbers before after
+    → fault ≡ option_or after (name_fault fields)
+    → fields_fault count numbers further (fields_of line) ≡ option_or fault further
+line-fault {numbers = numbers} {after = after} further taken read is =
+    taken.first numbers further ∙ read.first _ ∙ kept-first after _ _ ∙ first-kept _ further
+    ∙ ap (λ first. option_or first further) (sym is)
 
--- it's the fault of so many fields
-fields-first :
-    {count : ℕ} {fields : List (List ℕ)} {further : Option LineFault}
-    {numbers : List NumberField} {fault : LineFault}
-    → length fields ≡ count
-    → IsFirst fields further numbers fault
-    → fields_fault count numbers further fields ≡ Some fault
-fields-first {count = count} counted is = rw (eq-eqb _ count counted) is.first
+-- where no fault is kept, none was before, and the number was read
+pub read-clear :
+    {X : Type 0} {found : Option X} {fault : LineFault} {before after : Option LineFault}
+    {value : X}
+    → IsRead found fault before after value
+    → after ≡ None
+    → (before ≡ None) × (found ≡ Some value)
+read-clear {before = None} is none = (refl, is.read none)
+read-clear {before = Some first} is none = let kept = is.first in absurd cc
 
--- ---- The five formats
+-- a name without a fault isn't empty
+no-fault : (empty : Bool) → None ≡ (if empty then Some EmptyName else None) → empty ≡ false
+no-fault true none = absurd cc
+no-fault false none = refl
 
--- the first fault of the fields of a line of passwd is its fault
-pub passwd-first :
-    {line : List ℕ} {fields : List (List ℕ)} {fault : LineFault}
-    → AreFields 7 line fields
-    → IsFirst fields None ((3, is_id) ∷ (4, is_id) ∷ []) fault
-    → passwd_fault line ≡ Some fault
-passwd-first are is = rw (← are.cut) (fields-first are.counted is)
-
--- that of shadow
-pub shadow-first :
-    {line : List ℕ} {fields : List (List ℕ)} {fault : LineFault}
-    → AreFields 9 line fields
-    → IsFirst fields None ((3, is_days_text) ∷ (4, is_days_text) ∷ (5, is_days_text)
-    ∷ (6, is_days_text) ∷ (7, is_days_text) ∷ (8, is_days_text) ∷ []) fault
-    → shadow_fault line ≡ Some fault
-shadow-first are is = rw (← are.cut) (fields-first are.counted is)
-
--- that of group
-pub group-first :
-    {line : List ℕ} {fields : List (List ℕ)} {fault : LineFault}
-    → AreFields 4 line fields
-    → IsFirst fields None ((3, is_id) ∷ []) fault
-    → group_fault line ≡ Some fault
-group-first are is = rw (← are.cut) (fields-first are.counted is)
-
--- that of gshadow
-pub gshadow-first :
-    {line : List ℕ} {fields : List (List ℕ)} {fault : LineFault}
-    → AreFields 4 line fields
-    → IsFirst fields None [] fault
-    → gshadow_fault line ≡ Some fault
-gshadow-first are is = rw (← are.cut) (fields-first are.counted is)
-
--- that of subuid and subgid, with the fault of the range
-pub subid-first :
-    {line : List ℕ} {fields : List (List ℕ)} {fault : LineFault}
-    → AreFields 3 line fields
-    → IsFirst fields (range_fault (read_id (field_at 2 fields)) (read_count (field_at 3 fields)))
-    ((2, is_id) ∷ (3, is_count_text) ∷ []) fault
-    → subid_fault line ≡ Some fault
-subid-first are is = rw (← are.cut) (fields-first are.counted is)
+-- where a line has no fault, none was kept, and the name isn't empty
+pub named-clear :
+    {kept : Option LineFault} (name : List ℕ)
+    → None ≡ option_or kept (name_fault (name ∷ []))
+    → (kept ≡ None) × (is_empty name ≡ false)
+named-clear {kept = None} name clear = (refl, no-fault (is_empty name) clear)
+named-clear {kept = Some first} name clear = absurd cc

@@ -1,12 +1,15 @@
 -- Claim: what was read of four fields is the record of gshadow(5) that the line is
 -- (`gshadow-read`).
-use Rattle.std.proofs.Common.{◌≡◌, ℕ, List, [], ◌∷◌, length, refl, sym, ◌∙◌, ap, arith, Some, None, false}
+use Rattle.std.proofs.Common.{◌≡◌, ℕ, List, [], ◌∷◌, length, refl, sym, ◌∙◌, ap, arith, Option, Some, None}
 use Rattle.std.specs.Prelude.{if◌then◌else◌}
+use Rattle.std.specs.Option.{option_or}
+use Rattle.account_formats.specs.declared.fault.LineFault.{LineFault}
 use Rattle.account_formats.specs.declared.records.GshadowRecord.{GshadowRecord}
 use Rattle.acct_text.specs.Bytes.{is_empty}
 use Rattle.account_formats.specs.Records.{read_names, gshadow_of_fields, gshadow_format}
-use Rattle.account_formats.specs.Faults.{field_at}
-use Rattle.acct_lines.specs.Fields.{AreFields}
+use Rattle.account_formats.specs.Faults.{field_at, name_fault}
+use Rattle.acct_lines.proofs.FirstFault.{named-clear}
+use Rattle.acct_lines.proofs.Taken.{AreTakenOf}
 
 -- the record of four fields, by their places
 fields-at :
@@ -24,14 +27,16 @@ fields-at fields counted = absurd (omega (arith, counted))
 
 -- the record that was read of a line with four fields
 pub gshadow-read :
-    (line : List ℕ) (fields : List (List ℕ)) (r : GshadowRecord)
-    → AreFields 4 line fields
+    (line : List ℕ) (fields : List (List ℕ)) (r : GshadowRecord) {counted : Option LineFault}
+    → AreTakenOf 4 line fields counted
+    → None ≡ option_or counted (name_fault (r.name ∷ []))
     → r.name ≡ field_at 1 fields
-    → is_empty r.name ≡ false
     → r.password ≡ field_at 2 fields
     → r.administrators ≡ read_names (field_at 3 fields)
     → r.members ≡ read_names (field_at 4 fields)
     → gshadow_format.read line ≡ Some r
-gshadow-read line fields r are name named password administrators members =
+gshadow-read line fields r taken clear name password administrators members =
+    let named = named-clear _ clear in
+    let are = taken.all named.0 in
     ap gshadow_of_fields (sym are.cut) ∙ fields-at fields are.counted
-    ∙ rw (← name, ← password, ← administrators, ← members, named) refl
+    ∙ rw (← name, ← password, ← administrators, ← members, named.1) refl

@@ -1,7 +1,7 @@
 -- Claim: names added one behind the other give the canonical text of those that aren't empty
 -- (`listed-all`), and so does one more (`listed-more`). Way: behind a first name each further one
 -- stands with a comma in front (`behind`), in the text as in the list (`printed`).
-use Rattle.std.proofs.Common.{◌≡◌, ℕ, Bool, true, false, List, [], ◌∷◌, ◌++◌, refl, sym, ◌∙◌, ap, append_assoc, append-nil}
+use Rattle.std.proofs.Common.{◌≡◌, ℕ, false, List, [], ◌∷◌, ◌++◌, refl, sym, ◌∙◌, ap, append_assoc, append-nil}
 use Rattle.std.specs.Prelude.{flat_map, fold}
 use Rattle.acct_text.specs.Bytes.{is_empty}
 use Rattle.account_formats.specs.Text.{comma, nonempty}

@@ -1,13 +1,14 @@
 -- Claim: what was read of seven fields is the record of passwd(5) that the line is (`passwd-read`).
-use Rattle.std.proofs.Common.{◌≡◌, ℕ, List, [], ◌∷◌, length, refl, sym, ◌∙◌, ap, arith, Ok, Some, false}
-use Rattle.std.specs.Option.{ok_or}
+use Rattle.std.proofs.Common.{◌≡◌, ℕ, List, [], ◌∷◌, length, refl, sym, ◌∙◌, ap, arith, Option, Some, None}
+use Rattle.std.specs.Option.{option_or}
+use Rattle.account_formats.specs.declared.fault.LineFault.{LineFault}
 use Rattle.account_formats.specs.declared.fault.LineFault.TheVariants.{BadNumber}
 use Rattle.account_formats.specs.declared.records.PasswdRecord.{PasswdRecord}
-use Rattle.acct_text.specs.Bytes.{is_empty}
 use Rattle.account_formats.specs.Records.{read_id, passwd_of_fields, passwd_with, passwd_format}
-use Rattle.account_formats.specs.Faults.{field_at}
-use Rattle.acct_lines.specs.Fields.{AreFields}
-use Rattle.acct_lines.proofs.Read.{read-some}
+use Rattle.account_formats.specs.Faults.{field_at, name_fault}
+use Rattle.acct_lines.specs.Fields.{IsRead}
+use Rattle.acct_lines.proofs.FirstFault.{named-clear, read-clear}
+use Rattle.acct_lines.proofs.Taken.{AreTakenOf}
 
 -- the record of seven fields, by their places
 fields-at :
@@ -22,25 +23,21 @@ fields-at fields counted = absurd (omega (arith, counted))
 -- the record that was read of a line with seven fields
 pub passwd-read :
     (line : List ℕ) (fields : List (List ℕ)) (r : PasswdRecord)
-    → AreFields 7 line fields
-    → Ok r.uid ≡ ok_or (read_id (field_at 3 fields)) (BadNumber 3)
-    → Ok r.gid ≡ ok_or (read_id (field_at 4 fields)) (BadNumber 4)
+    {counted third last : Option LineFault}
+    → AreTakenOf 7 line fields counted
+    → IsRead (read_id (field_at 3 fields)) (BadNumber 3) counted third r.uid
+    → IsRead (read_id (field_at 4 fields)) (BadNumber 4) third last r.gid
+    → None ≡ option_or last (name_fault (r.name ∷ []))
     → r.name ≡ field_at 1 fields
-    → is_empty r.name ≡ false
     → r.password ≡ field_at 2 fields
     → r.comment ≡ field_at 5 fields
     → r.home ≡ field_at 6 fields
     → r.shell ≡ field_at 7 fields
     → passwd_format.read line ≡ Some r
-passwd-read line fields r are uid gid name named password comment home shell =
+passwd-read line fields r taken uid gid clear name password comment home shell =
+    let named = named-clear _ clear in
+    let gid = read-clear gid named.0 in
+    let uid = read-clear uid gid.0 in
+    let are = taken.all uid.0 in
     ap passwd_of_fields (sym are.cut) ∙ fields-at fields are.counted
-    ∙ (rw (
-      ← name,
-      ← password,
-      ← comment,
-      ← home,
-      ← shell,
-      read-some _ _ _ uid,
-      read-some _ _ _ gid,
-      named,
-    ) refl)
+    ∙ rw (← name, ← password, ← comment, ← home, ← shell, uid.1, gid.1, named.1) refl

@@ -1,36 +1,11 @@
--- What a field that was read, or wasn't, tells of the text that it was read from; what `?` makes of a
--- fault (`told-first`), and what a reading tells of the fault of its text (`fault-told`).
+-- What `?` makes of a fault (`told-first`), and what a reading tells of the fault of its text
+-- (`fault-told`).
 use Rattle.std.proofs.Common.{◌≡◌, ℕ, true, List, ◌∙◌, ap, Option, Result, Ok, Err, Some, None, refl, sym, subst}
 use Rattle.std.specs.Result.{result_err}
 use Rattle.std.specs.Prelude.{IsErrAnd, MatchResult, is_some, is_none}
-use Rattle.std.specs.Option.{ok_or}
 use Rattle.account_formats.specs.declared.fault.LineFault.{LineFault}
 use Rattle.account_formats.specs.Format.{Format}
 use Rattle.account_formats.specs.LineFormat.{IsLineFormat}
-
--- a value that was read is there
-pub read-some :
-    {X E : Type 0} (found : Option X) (fault : E) (x : X)
-    → Ok x ≡ ok_or found fault
-    → found ≡ Some x
-read-some None fault x read = absurd cc
-read-some (Some y) fault x read = cc
-
--- a fault comes where nothing could be read
-pub read-none :
-    {X E : Type 0} (found : Option X) (fault first : E)
-    → Err first ≡ ok_or found fault
-    → found ≡ None
-read-none None fault first read = refl
-read-none (Some y) fault first read = absurd cc
-
--- it is the fault that was to be named
-pub read-fault :
-    {X E : Type 0} (found : Option X) (fault first : E)
-    → Err first ≡ ok_or found fault
-    → fault ≡ first
-read-fault None fault first read = cc
-read-fault (Some y) fault first read = absurd cc
 
 -- what `?` passes on tells the first fault
 pub told-first :

@@ -1,13 +1,14 @@
 -- Claim: what was read of three fields is the record of subuid(5) that the line is (`subid-read`).
-use Rattle.std.proofs.Common.{◌≡◌, ℕ, List, [], ◌∷◌, length, refl, sym, ◌∙◌, ap, arith, Ok, Some, false}
-use Rattle.std.specs.Option.{ok_or}
-use Rattle.account_formats.specs.declared.fault.LineFault.TheVariants.{BadNumber}
-use Rattle.account_formats.specs.declared.records.SubidRecord.{SubidRecord}
-use Rattle.acct_text.specs.Bytes.{is_empty}
+use Rattle.std.proofs.Common.{◌≡◌, ℕ, List, [], ◌∷◌, length, refl, sym, ◌∙◌, ap, arith, Option, Some, None, true, false}
+use Rattle.std.specs.Option.{option_or}
+use Rattle.account_formats.specs.declared.fault.LineFault.{LineFault}
+use Rattle.account_formats.specs.declared.fault.LineFault.TheVariants.{BadNumber, BadRange}
+use Rattle.acct_text.specs.Pieces.{fields_of}
 use Rattle.account_formats.specs.Records.{read_id, read_count, is_bad_range, subid_of_fields, subid_with, subid_format}
-use Rattle.account_formats.specs.Faults.{field_at}
-use Rattle.acct_lines.specs.Fields.{AreFields}
-use Rattle.acct_lines.proofs.Read.{read-some}
+use Rattle.account_formats.specs.Faults.{field_at, name_fault, range_fault}
+use Rattle.acct_lines.specs.Fields.{IsRead}
+use Rattle.acct_lines.proofs.FirstFault.{named-clear, read-clear}
+use Rattle.acct_lines.proofs.Taken.{AreTakenOf}
 
 -- the record of three fields, by their places
 fields-at :
@@ -18,16 +19,30 @@ fields-at :
 fields-at (owner ∷ first ∷ count ∷ []) counted = refl
 fields-at fields counted = absurd (omega (arith, counted))
 
--- the record that was read of a line with three fields
-pub subid-read :
-    (line : List ℕ) (fields : List (List ℕ)) (r : SubidRecord)
-    → AreFields 3 line fields
-    → Ok r.first ≡ ok_or (read_id (field_at 2 fields)) (BadNumber 2)
-    → Ok r.count ≡ ok_or (read_count (field_at 3 fields)) (BadNumber 3)
-    → r.owner ≡ field_at 1 fields
-    → is_empty r.owner ≡ false
-    → is_bad_range r.first r.count ≡ false
-    → subid_format.read line ≡ Some r
-subid-read line fields r are first count owner named good =
-    ap subid_of_fields (sym are.cut) ∙ fields-at fields are.counted
-    ∙ rw (← owner, read-some _ _ _ first, read-some _ _ _ count, named, good) refl
+module _ (line : List ℕ) (fields : List (List ℕ)) (owner : List ℕ) {first count : ℕ}
+    {counted second last : Option LineFault} (taken : AreTakenOf 3 line fields counted)
+    (first_read : IsRead (read_id (field_at 2 fields)) (BadNumber 2) counted second first)
+    (count_read : IsRead (read_count (field_at 3 fields)) (BadNumber 3) second last count)
+    (clear : None ≡ option_or last (name_fault (owner ∷ []))) where
+  -- the record that was read of a line with three fields
+  pub subid-read :
+      owner ≡ field_at 1 fields
+      → is_bad_range first count ≡ false
+      → subid_format.read line ≡ Some (record { owner = owner; first = first; count = count })
+  subid-read is_owner good =
+      let named = named-clear _ clear in
+      let third = read-clear count_read named.0 in
+      let second = read-clear first_read third.0 in
+      let are = taken.all second.0 in
+      ap subid_of_fields (sym are.cut) ∙ fields-at fields are.counted
+      ∙ rw (← is_owner, second.1, third.1, named.1, good) refl
+
+  -- the fault of a range that is none
+  pub subid-bad :
+      is_bad_range first count ≡ true
+      → range_fault (read_id (field_at 2 (fields_of line)))
+      (read_count (field_at 3 (fields_of line))) ≡ Some BadRange
+  subid-bad bad =
+      let third = read-clear count_read (named-clear _ clear).0 in
+      let second = read-clear first_read third.0 in
+      rw (← (taken.all second.0).cut, second.1, third.1, bad) refl

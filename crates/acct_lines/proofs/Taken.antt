@@ -1,14 +1,18 @@
 -- Claim: fields that were taken one by one until none is left are all fields of the line, and where
--- others are left, or more were to be taken, the line has another number of fields (`all` and
--- `other` of `are-taken`). Way: field by field, what is left before follows from what is left then
+-- others are left, or more were to be taken, their number is the line's first fault (`all` and
+-- `first` of `are-taken`). Way: field by field, what is left before follows from what is left then
 -- (`none-left`), and the other way round (`all-taken`).
-use Rattle.std.proofs.Common.{◌≡◌, ◌≢◌, ◌==◌, ℕ, false, List, [], ◌∷◌, length, Option, Some, refl, sym, subst, ◌∙◌, arith}
-use Rattle.std.proofs.lemmas.Bool.{ne_eqb}
+use Rattle.std.proofs.Common.{◌≡◌, ℕ, List, [], ◌∷◌, ◌++◌, length, Option, Some, None, refl, sym, subst, ◌∙◌, arith}
+use Rattle.std.specs.Prelude.{MatchOption, map}
+use Rattle.std.proofs.lemmas.Bool.{eq-eqb, ne_eqb}
+use Rattle.account_formats.specs.declared.fault.LineFault.{LineFault}
+use Rattle.account_formats.specs.Faults.{NumberField, field_fault, fields_fault, name_fault}
+use Rattle.account_formats.specs.Text.{first_some}
 use Rattle.acct_text.specs.Bytes.{colon}
 use Rattle.acct_text.specs.Pieces.{fields_of}
 use Rattle.acct_lines.specs.declared.fields.Fields.{Fields}
 use Rattle.acct_lines.specs.declared.fields.Fields.TheVariants.{Left, Taken, Missing}
-use Rattle.acct_lines.specs.Fields.{AreFields, IsTaken, fields_left}
+use Rattle.acct_lines.specs.Fields.{AreFields, IsOtherCount, IsTaken, fields_left}
 use Rattle.acct_lines.proofs.Counted.{some-piece}
 
 -- what is left of the fields
@@ -52,13 +56,16 @@ none-left-taken (Left rest) none =
 none-left-taken Taken none = refl
 none-left-taken Missing none = absurd cc
 
--- what fields that were taken tell of the line, by what is left
-pub record AreTakenOf (count : ℕ) (line : List ℕ) (fields : List (List ℕ)) (left : FieldsLeft)
-    : Type 0 where
-  -- where none is left, they are its fields
-  pub all : left ≡ Some [] → AreFields count line fields
-  -- else it has another number of them
-  pub other : left ≢ Some [] → (length (fields_of line) == count) ≡ false
+-- what fields that were taken tell of the line, by the fault of their number
+pub record AreTakenOf (count : ℕ) (line : List ℕ) (fields : List (List ℕ))
+    (fault : Option LineFault) : Type 0 where
+  -- where it's none, they are the fields of the line
+  pub all : fault ≡ None → AreFields count line fields
+  -- it comes before the faults of the fields
+  pub first :
+      (numbers : List NumberField) (further : Option LineFault)
+      → fields_fault count numbers further (fields_of line)
+      ≡ first_some (fault ∷ map (field_fault fields) numbers ++ name_fault fields ∷ further ∷ [])
 
 -- fields that were taken, one before the others
 pub record AreInTurn (before : FieldsLeft) (fields : List (List ℕ)) (left : FieldsLeft)
@@ -80,17 +87,24 @@ no_more = record { taken = refl }
 
 -- such fields of the line tell that of it
 pub are-taken :
-    (line : List ℕ) {fields : List (List ℕ)} {left : FieldsLeft}
+    (line : List ℕ) (fault : Option LineFault) {fields : List (List ℕ)} {left : FieldsLeft}
     → AreInTurn (Some (fields_of line)) fields left
-    → AreTakenOf (length fields) line fields left
-are-taken line {fields} {left} from = record {
-  all = λ none. record {
-    cut =
-        let same : Some (fields_of line) ≡ Some fields =
-        none-left _ fields (subst (AreTaken (Some (fields_of line)) fields) none from.taken)
-        in cc;
-    counted = refl;
-  };
-  other = λ some. ne_eqb _ _
-      (λ counted. some (all-taken _ left (fields_of line) fields refl from.taken counted));
+    → MatchOption fault (left ≡ Some []) (IsOtherCount line left)
+    → AreTakenOf (length fields) line fields fault
+are-taken line None {fields} {left} from none =
+    let same : Some (fields_of line) ≡ Some fields =
+    none-left _ fields (subst (AreTaken (Some (fields_of line)) fields) none from.taken)
+    in
+    let cut : fields ≡ fields_of line = cc in
+    record {
+      all = λ _. record { cut = cut; counted = refl };
+      first = λ numbers further. rw (← cut, eq-eqb (length fields) (length fields) refl) refl;
+    }
+are-taken line (Some first) {fields} {left} from is = record {
+  all = λ none. absurd cc;
+  first = λ numbers further. rw (
+    ne_eqb (length (fields_of line)) (length fields)
+        (λ counted. is.other (all-taken _ left (fields_of line) fields refl from.taken counted)),
+    is.told,
+  ) refl;
 }

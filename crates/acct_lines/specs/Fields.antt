@@ -1,8 +1,8 @@
--- The fields of a line as they are read: so many as the table has, and the first with a name.
-use Rattle.std.specs.Prelude.{◌≡◌, ◌≢◌, ℕ, true, false, List, [], ◌∷◌, length, Option, None, Some}
+-- The fields of a line as they are taken and read: so many as the table has, and no fault in them.
+use Rattle.std.specs.Prelude.{◌≡◌, ◌≢◌, ℕ, List, [], ◌∷◌, length, Option, None, Some, is_some, if◌then◌else◌}
+use Rattle.std.specs.Option.{option_or}
 use Rattle.account_formats.specs.declared.fault.LineFault.{LineFault}
-use Rattle.account_formats.specs.declared.fault.LineFault.TheVariants.{FieldCount, EmptyName}
-use Rattle.acct_text.specs.Bytes.{is_empty}
+use Rattle.account_formats.specs.declared.fault.LineFault.TheVariants.{FieldCount}
 use Rattle.acct_text.specs.Pieces.{fields_of}
 use Rattle.acct_lines.specs.declared.fields.Fields.{Fields}
 use Rattle.acct_lines.specs.declared.fields.Fields.TheVariants.{Left, Taken, Missing}
@@ -33,12 +33,9 @@ pub record AreFields (count : ℕ) (line : List ℕ) (fields : List (List ℕ)) 
   pub cut : fields ≡ fields_of line
   pub counted : length fields ≡ count
 
--- the name that a first field is, which isn't empty
-pub record IsNameIn (field name : List ℕ) : Type 0 where
-  pub whole : name ≡ field
-  pub some : is_empty name ≡ false
-
--- the fault of an empty first field
-pub record IsUnnamed (field : List ℕ) (fault : LineFault) : Type 0 where
-  pub empty : is_empty field ≡ true
-  pub told : fault ≡ EmptyName
+-- what was read of a field behind others: its value, where no fault came, and else the first fault,
+-- which is this one where the field is the first that couldn't be read
+pub record IsRead {X : Type 0} (found : Option X) (fault : LineFault)
+    (before after : Option LineFault) (value : X) : Type 0 where
+  pub first : after ≡ option_or before (if is_some found then None else Some fault)
+  pub read : after ≡ None → found ≡ Some value

@@ -1,5 +1,5 @@
 -- The text of a list of names, to which names are added (group(5), gshadow(5)).
-use Rattle.std.specs.Prelude.{ℕ, List, [], ◌∷◌, ◌++◌, if◌then◌else◌}
+use Rattle.std.specs.Prelude.{ℕ, List, ◌∷◌, ◌++◌, if◌then◌else◌}
 use Rattle.acct_text.specs.Bytes.{is_empty}
 use Rattle.account_formats.specs.Text.{comma}
 

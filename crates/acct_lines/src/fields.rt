@@ -1,12 +1,13 @@
-// A line cut into its fields where they stand, and what each kind of field holds. Fields are counted
-// from 1.
-ghost use Rattle.std.specs.Prelude.{◌≡◌, ◌++◌, [], ◌∷◌, Some, IfOk, MatchResult, OnOk, bytes_eq, length};
-ghost use Rattle.std.specs.Option.{ok_or};
+// A line cut into its fields where they stand, and read field by field. Fields are counted from 1.
+ghost use Rattle.std.specs.Prelude.{◌≡◌, ◌++◌, [], ◌∷◌, Some, IfOk, MatchOption, OnOk, bytes_eq, length};
+ghost use Rattle.std.specs.Option.{option_or};
+ghost use Rattle.std.specs.Result.{result_err};
+ghost use Rattle.account_formats.specs.Faults.{name_fault};
 ghost use Rattle.account_formats.specs.Records.{read_count, read_days, read_id, read_names};
 ghost use Rattle.account_formats.specs.Text.{is_listed, nonempty};
 ghost use Rattle.acct_text.specs.Numbers.{number_within};
 ghost use Rattle.acct_text.specs.Pieces.{fields_of};
-ghost use Rattle.acct_lines.specs.Fields.{IsNameIn, IsOtherCount, IsTaken, IsUnnamed, fields_left};
+ghost use Rattle.acct_lines.specs.Fields.{IsOtherCount, IsRead, IsTaken, fields_left};
 ghost use Rattle.account_formats.specs.Naming.{first_field as first_of};
 
 use account_formats::{GREATEST_DAYS, GREATEST_ID, LineFault};
@@ -46,17 +47,17 @@ impl<'a> Fields<'a> {
         }
     }
 
-    /// Ends the taking of the line's fields.
-    ///
-    /// `FieldCount` with their number comes where more or fewer were taken. They are counted then
-    /// alone.
-    pub(crate) fn end(self, line: &[u8]) -> Result<(), LineFault>
-        ensures { MatchResult result (λ _. fields_left self.entry ≡ Some [])
+    /// Ends the taking of the line's fields: the fault is their number, where more or fewer were
+    /// taken. They are counted then alone.
+    pub(crate) fn end(self, line: &[u8]) -> Reading
+        ensures { MatchOption result.fault (fields_left self.entry ≡ Some [])
             (IsOtherCount line.now (fields_left self.entry)) }
     {
         match self {
-            Fields::Taken => Ok(()),
-            _ => Err(LineFault::FieldCount(field_count(line))),
+            Fields::Taken => Reading { fault: None },
+            _ => Reading {
+                fault: Some(LineFault::FieldCount(field_count(line))),
+            },
         }
     }
 }
@@ -68,48 +69,68 @@ fn field_count(line: &[u8]) -> usize
     memchr_iter(b':', line).count() + 1
 }
 
-/// The UID, the GID or the first subordinate ID that the field at a place is.
-pub(crate) fn id(place: usize, field: &[u8]) -> Result<u32, LineFault>
-    ensures { result ≡ ok_or (read_id field.now) (LineFault.BadNumber place) }
-{
-    number(place, field, GREATEST_ID)
+/// What the fields of a line tell as they are read, one after another: its first fault.
+#[derive(Drop)]
+pub(crate) struct Reading {
+    /// The first fault, if one came.
+    pub(crate) fault: Option<LineFault>,
 }
 
-/// The number of subordinate IDs that the field at a place is, before the range is tested.
-pub(crate) fn count(place: usize, field: &[u8]) -> Result<u32, LineFault>
-    ensures { result ≡ ok_or (read_count field.now) (LineFault.BadNumber place) }
-{
-    number(place, field, GREATEST_ID + 1)
-}
+impl Reading {
+    ghost use Rattle.account_formats.specs.declared.fault.LineFault.TheVariants.{BadNumber};
 
-// The number, of at most `greatest`, that the field at a place is.
-fn number(place: usize, field: &[u8], greatest: u32) -> Result<u32, LineFault>
-    ensures { result ≡ ok_or (number_within greatest field.now) (LineFault.BadNumber place) }
-{
-    match read_decimal(field, u64::from(greatest)) {
-        Ok(number) => Ok(number as u32),
-        Err(_) => Err(LineFault::BadNumber(place)),
+    /// The UID, the GID or the first subordinate ID that the field at a place is.
+    pub(crate) fn id(&mut self, place: usize, field: &[u8]) -> u32
+        ensures { IsRead (read_id field.now) (BadNumber place) self.old.fault self.new.fault
+            result }
+    {
+        self.number(place, field, GREATEST_ID)
     }
-}
 
-/// The number of days that the field at a place is: none where it is empty or `-1` (shadow(5)).
-pub(crate) fn days(place: usize, field: &[u8]) -> Result<Option<u32>, LineFault>
-    ensures { result ≡ ok_or (read_days field.now) (LineFault.BadNumber place) }
-{
-    if field.is_empty() || field == b"-1".as_slice() {
-        return Ok(None);
+    /// The number of subordinate IDs that the field at a place is, before the range is tested.
+    pub(crate) fn count(&mut self, place: usize, field: &[u8]) -> u32
+        ensures { IsRead (read_count field.now) (BadNumber place) self.old.fault self.new.fault
+            result }
+    {
+        self.number(place, field, GREATEST_ID + 1)
     }
-    Ok(Some(number(place, field, GREATEST_DAYS)?))
-}
 
-/// The first field as a name, which may not be empty.
-pub(crate) fn name(field: &[u8]) -> Result<&[u8], LineFault>
-    ensures { MatchResult result (λ name. IsNameIn field.now name.now) (IsUnnamed field.now) }
-{
-    if field.is_empty() {
-        return Err(LineFault::EmptyName);
+    /// The number of days that the field at a place is: none where it is empty or `-1` (shadow(5)).
+    pub(crate) fn days(&mut self, place: usize, field: &[u8]) -> Option<u32>
+        ensures { IsRead (read_days field.now) (BadNumber place) self.old.fault self.new.fault
+            result }
+    {
+        if field.is_empty() || field == b"-1".as_slice() {
+            return None;
+        }
+        Some(self.number(place, field, GREATEST_DAYS))
     }
-    Ok(field)
+
+    // The number, of at most `greatest`, that the field at a place is; 0 where it is none.
+    fn number(&mut self, place: usize, field: &[u8], greatest: u32) -> u32
+        ensures { IsRead (number_within greatest field.now) (BadNumber place) self.old.fault
+            self.new.fault result }
+    {
+        match read_decimal(field, u64::from(greatest)) {
+            Ok(number) => number as u32,
+            Err(_) => {
+                self.fault = self.fault.or(Some(LineFault::BadNumber(place)));
+                0
+            }
+        }
+    }
+
+    /// Ends the reading with the first field, a name, which may not be empty. The fault is the first
+    /// that came, or else `EmptyName`.
+    pub(crate) fn finish(self, name: &[u8]) -> Result<(), LineFault>
+        ensures { result_err result ≡ option_or self.fault (name_fault (name.now ∷ [])) }
+    {
+        match self.fault {
+            Some(first) => Err(first),
+            None if name.is_empty() => Err(LineFault::EmptyName),
+            None => Ok(()),
+        }
+    }
 }
 
 /// The text in front of the first colon of a line, and the whole line where it has none. Where the

@@ -4,7 +4,7 @@ ghost use Rattle.acct_text.specs.Pieces.{line_of};
 ghost use Rattle.account_formats.specs.Faults.{group_fault};
 ghost use Rattle.account_formats.specs.Records.{group_format};
 
-use crate::fields::{self, Fields};
+use crate::fields::Fields;
 use crate::parts::push_field;
 use crate::walks::{copy_field, copy_fields, print_field, print_fields, read_fields};
 use crate::{GroupRecord, LineFault, ReadFault, TableRecord, cut_names, parts};

@@ -3,7 +3,7 @@ ghost use Rattle.std.specs.Prelude.{◌≡◌, Some, IfOk, MatchResult};
 ghost use Rattle.account_formats.specs.Faults.{passwd_fault};
 ghost use Rattle.account_formats.specs.Records.{passwd_format};
 
-use crate::fields::{self, Fields};
+use crate::fields::Fields;
 use crate::walks::{copy_field, copy_fields, print_field, print_fields, read_fields};
 use crate::{LineFault, PasswdRecord, ReadFault, TableRecord, parts};
 use acct_text::{Bytes, Names, join_fields};

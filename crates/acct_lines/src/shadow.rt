@@ -3,7 +3,7 @@ ghost use Rattle.std.specs.Prelude.{◌≡◌, Some, IfOk, MatchResult};
 ghost use Rattle.account_formats.specs.Faults.{shadow_fault};
 ghost use Rattle.account_formats.specs.Records.{shadow_format};
 
-use crate::fields::{self, Fields};
+use crate::fields::Fields;
 use crate::walks::{copy_field, copy_fields, print_field, print_fields, read_fields};
 use crate::{LineFault, ReadFault, ShadowRecord, TableRecord, parts};
 use acct_text::{Bytes, Names, join_fields};

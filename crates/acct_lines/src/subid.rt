@@ -3,7 +3,7 @@ ghost use Rattle.std.specs.Prelude.{◌≡◌, Some, IfOk, MatchResult};
 ghost use Rattle.account_formats.specs.Faults.{subid_fault};
 ghost use Rattle.account_formats.specs.Records.{is_bad_range, subid_format};
 
-use crate::fields::{self, Fields};
+use crate::fields::Fields;
 use crate::walks::{copy_field, copy_fields, print_field, print_fields, read_fields};
 use crate::{LineFault, ReadFault, SubidRecord, TableRecord, parts};
 use account_formats::GREATEST_ID;

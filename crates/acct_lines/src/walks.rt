@@ -12,9 +12,9 @@ macro_rules! read_fields {
         let mut fields = Fields::Left($line);
         let $name = fields.take();
         $(let $field = fields.take();)+
-        fields.end($line)?;
-        $($(let $field = fields::$kind($place, $field)?;)?)+
-        let $name = fields::name($name)?;
+        let mut reading = fields.end($line);
+        $($(let $field = reading.$kind($place, $field);)?)+
+        reading.finish($name)?;
         $shown { $name, $($field,)+ }
     }};
 }

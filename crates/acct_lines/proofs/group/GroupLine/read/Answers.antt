@@ -1,42 +1,28 @@
 use Rattle.std.proofs.Common.{refl, [], ◌∷◌}
 use Rattle.account_formats.specs.Records.{read_id}
-use Rattle.acct_lines.specs.Fields.{AreFields}
-use Rattle.acct_lines.proofs.FirstFault.{group-first, unnamed, unread, was-read}
+use Rattle.acct_lines.proofs.FirstFault.{all_read, line-fault, was-read}
 use Rattle.acct_lines.proofs.GroupFields.{group-read}
 use Rattle.acct_lines.proofs.Read.{told-first}
-use Rattle.acct_lines.proofs.Taken.{◌before◌, are-taken, no_more}
+use Rattle.acct_lines.proofs.Taken.{◌before◌, AreTakenOf, are-taken, no_more}
 use Rattle.acct_lines.proofs.group.GroupLine.read.Goals as goal
-use Rattle.acct_lines.proofs.group.GroupLine.read.Goals.{In_ok-end}
+use Rattle.acct_lines.proofs.group.GroupLine.read.Goals.{After-end-reading}
 
--- the line has the four fields that were taken
-fields : (c : In_ok-end) → AreFields 4 c.args.line.now (c.take-name.result.now
+-- the line has the four fields that were taken, or another number of them
+taken : (c : After-end-reading) → AreTakenOf 4 c.args.line.now (c.take-name.result.now
     ∷ c.take-password.result.now ∷ c.take-gid.result.now ∷ c.take-members.result.now ∷ [])
-fields c =
-    (are-taken c.args.line.now (c.take-name.ensures before c.take-password.ensures
-    before c.take-gid.ensures before c.take-members.ensures
-    before no_more)).all c.in_ok-end.ensures
+    c.end-reading.result.fault
+taken c =
+    are-taken c.args.line.now c.end-reading.result.fault (c.take-name.ensures
+    before c.take-password.ensures before c.take-gid.ensures before c.take-members.ensures
+    before no_more) c.end-reading.ensures
 
 pub returns : goal.returns
 returns c =
-    group-read c.args.line.now _ _ (fields (goal.at.returns c).In_ok-end)
-    c.in_ok-gid.ensures c.in_ok-name.ensures.whole c.in_ok-name.ensures.some refl refl
+    group-read c.args.line.now _ _ (taken (goal.at.returns c).After-end-reading)
+    c.id-gid.ensures c.in_ok-finish.ensures refl refl refl
 
-pub returns-in_err-end : goal.returns-in_err-end
-returns-in_err-end c =
-    let taken =
-    are-taken c.args.line.now (c.take-name.ensures before c.take-password.ensures
-    before c.take-gid.ensures before c.take-members.ensures before no_more)
-    in
-    told-first _ _ _ _ c.from_residual.ensures.1
-    (rw (taken.other c.in_err-end.ensures.other, c.in_err-end.ensures.told) refl)
-
-pub returns-in_err-gid : goal.returns-in_err-gid
-returns-in_err-gid c = told-first _ _ _ _ c.from_residual-in_err-gid.ensures.1
-    (group-first (fields (goal.at.returns-in_err-gid c).In_ok-end)
-    (unread read_id c.in_err-gid.ensures))
-
-pub returns-in_err-name : goal.returns-in_err-name
-returns-in_err-name c = told-first _ _ _ _ c.from_residual-in_err-name.ensures.1
-    (group-first (fields (goal.at.returns-in_err-name c).In_ok-end)
-    (was-read read_id c.in_ok-gid.ensures
-    (unnamed c.in_err-name.ensures)))
+pub returns-in_err-finish : goal.returns-in_err-finish
+returns-in_err-finish c = told-first _ _ _ _ c.from_residual.ensures.1
+    (line-fault _ (taken (goal.at.returns-in_err-finish c).After-end-reading)
+    (was-read read_id c.id-gid.ensures all_read)
+    c.in_err-finish.ensures)

@@ -1,51 +1,30 @@
 use Rattle.std.proofs.Common.{refl, [], ◌∷◌}
 use Rattle.account_formats.specs.Records.{read_id}
-use Rattle.acct_lines.specs.Fields.{AreFields}
-use Rattle.acct_lines.proofs.FirstFault.{passwd-first, unnamed, unread, was-read}
+use Rattle.acct_lines.proofs.FirstFault.{all_read, line-fault, was-read}
 use Rattle.acct_lines.proofs.PasswdFields.{passwd-read}
 use Rattle.acct_lines.proofs.Read.{told-first}
-use Rattle.acct_lines.proofs.Taken.{◌before◌, are-taken, no_more}
+use Rattle.acct_lines.proofs.Taken.{◌before◌, AreTakenOf, are-taken, no_more}
 use Rattle.acct_lines.proofs.passwd.PasswdLine.read.Goals as goal
-use Rattle.acct_lines.proofs.passwd.PasswdLine.read.Goals.{In_ok-end}
+use Rattle.acct_lines.proofs.passwd.PasswdLine.read.Goals.{After-end-reading}
 
--- the line has the seven fields that were taken
-fields : (c : In_ok-end) → AreFields 7 c.args.line.now (c.take-name.result.now
+-- the line has the seven fields that were taken, or another number of them
+taken : (c : After-end-reading) → AreTakenOf 7 c.args.line.now (c.take-name.result.now
     ∷ c.take-password.result.now ∷ c.take-uid.result.now ∷ c.take-gid.result.now
     ∷ c.take-comment.result.now ∷ c.take-home.result.now ∷ c.take-shell.result.now ∷ [])
-fields c =
-    (are-taken c.args.line.now (c.take-name.ensures before c.take-password.ensures
-    before c.take-uid.ensures before c.take-gid.ensures before c.take-comment.ensures
-    before c.take-home.ensures before c.take-shell.ensures before no_more)).all c.in_ok-end.ensures
+    c.end-reading.result.fault
+taken c =
+    are-taken c.args.line.now c.end-reading.result.fault (c.take-name.ensures
+    before c.take-password.ensures before c.take-uid.ensures before c.take-gid.ensures
+    before c.take-comment.ensures before c.take-home.ensures before c.take-shell.ensures
+    before no_more) c.end-reading.ensures
 
 pub returns : goal.returns
 returns c =
-    passwd-read c.args.line.now _ _ (fields (goal.at.returns c).In_ok-end)
-    c.in_ok-uid.ensures c.in_ok-gid.ensures c.in_ok-name.ensures.whole c.in_ok-name.ensures.some
-    refl refl refl refl
+    passwd-read c.args.line.now _ _ (taken (goal.at.returns c).After-end-reading)
+    c.id-uid.ensures c.id-gid.ensures c.in_ok-finish.ensures refl refl refl refl refl
 
-pub returns-in_err-end : goal.returns-in_err-end
-returns-in_err-end c =
-    let taken =
-    are-taken c.args.line.now (c.take-name.ensures before c.take-password.ensures
-    before c.take-uid.ensures before c.take-gid.ensures before c.take-comment.ensures
-    before c.take-home.ensures before c.take-shell.ensures before no_more)
-    in
-    told-first _ _ _ _ c.from_residual.ensures.1
-    (rw (taken.other c.in_err-end.ensures.other, c.in_err-end.ensures.told) refl)
-
-pub returns-in_err-uid : goal.returns-in_err-uid
-returns-in_err-uid c = told-first _ _ _ _ c.from_residual-in_err-uid.ensures.1
-    (passwd-first (fields (goal.at.returns-in_err-uid c).In_ok-end)
-    (unread read_id c.in_err-uid.ensures))
-
-pub returns-in_err-gid : goal.returns-in_err-gid
-returns-in_err-gid c = told-first _ _ _ _ c.from_residual-in_err-gid.ensures.1
-    (passwd-first (fields (goal.at.returns-in_err-gid c).In_ok-end)
-    (was-read read_id c.in_ok-uid.ensures
-    (unread read_id c.in_err-gid.ensures)))
-
-pub returns-in_err-name : goal.returns-in_err-name
-returns-in_err-name c = told-first _ _ _ _ c.from_residual-in_err-name.ensures.1
-    (passwd-first (fields (goal.at.returns-in_err-name c).In_ok-end)
-    (was-read read_id c.in_ok-uid.ensures (was-read read_id c.in_ok-gid.ensures
-    (unnamed c.in_err-name.ensures))))
+pub returns-in_err-finish : goal.returns-in_err-finish
+returns-in_err-finish c = told-first _ _ _ _ c.from_residual.ensures.1
+    (line-fault _ (taken (goal.at.returns-in_err-finish c).After-end-reading)
+    (was-read read_id c.id-uid.ensures (was-read read_id c.id-gid.ensures all_read))
+    c.in_err-finish.ensures)
