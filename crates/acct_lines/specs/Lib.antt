@@ -1,3 +1,4 @@
+pub mod DaysValues
 pub mod Reading
 pub mod Fields
 pub mod Shown

@@ -5,9 +5,10 @@
 //! `TableRecord` is what the five records share. `PasswdLine` and its likes show the record of a line
 //! where it stands, without memory. `fields` cuts a line and reads its fields, `parts` prints them,
 //! `listed` adds names to the text of a list, and each record has a file of its own, which names its
-//! fields once for `walks`.
+//! fields once for `walks`. `DaysValue` is what a value says of a field of days.
 #![tactic(auto)]
 
+mod days_value;
 mod fields;
 mod group;
 mod gshadow;
@@ -23,6 +24,7 @@ mod walks;
 pub use account_formats::{
     GroupRecord, GshadowRecord, LineFault, PasswdRecord, ShadowRecord, SubidRecord,
 };
+pub use days_value::DaysValue;
 pub use fields::{cut_names, first_field, has_first_field, lists};
 pub use group::GroupLine;
 pub use gshadow::GshadowLine;

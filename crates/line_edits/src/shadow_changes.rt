@@ -1,10 +1,11 @@
 // What the tools do with records of shadow (shadow(5)).
-ghost use Rattle.std.specs.Prelude.{◌≡◌, None, IfOk, OnOk, unwrap_or};
+ghost use Rattle.std.specs.Prelude.{◌≡◌, None, IfOk, OnOk, option_map, unwrap_or};
+ghost use Rattle.acct_lines.specs.DaysValues.{days_held};
 ghost use Rattle.line_edits.specs.ShadowChanges.{given_days, keeps_shadow_name, shadow_after, with_shadow_fields};
 
 use crate::fields::{has_other_name, leaves_name, set_given};
 use crate::{Becoming, ChangedNames, EditedRecord, HashChange, Rewritten};
-use acct_lines::{ShadowRecord, TableRecord};
+use acct_lines::{DaysValue, ShadowRecord, TableRecord};
 use acct_tables::Marks;
 use acct_text::Bytes;
 use std::alloc::{AllocError, Global};
@@ -34,13 +35,13 @@ pub enum DaysChange {
 }
 
 impl DaysChange {
-    /// The change that a value asks for: none asks for nothing, and no number for an empty field.
-    pub fn of_value(value: Option<Option<u32>>) -> Self
-        ensures { given_days result ≡ value }
+    /// The change that a value asks for; none asks for nothing.
+    pub fn of_value(value: Option<DaysValue>) -> Self
+        ensures { given_days result ≡ option_map days_held value }
     {
         match value {
-            Some(Some(days)) => DaysChange::Becomes(days),
-            Some(None) => DaysChange::Empties,
+            Some(DaysValue::Days(days)) => DaysChange::Becomes(days),
+            Some(DaysValue::Empty) => DaysChange::Empties,
             None => DaysChange::Stays,
         }
     }

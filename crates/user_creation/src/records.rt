@@ -87,18 +87,12 @@ fn new_aging(asked: &Asked, settings: &Defs, key: Key) -> Option<u32>
 fn given_inactive(asked: &Asked) -> Option<u32>
     ensures { result ≡ field_value days_value (codes "f") asked.now None }
 {
-    match asked.value(b'f') {
-        Some(text) => read_days(text).unwrap_or(None),
-        None => None,
-    }
+    read_days(asked.value(b'f')?)?.days()
 }
 
 // The date of `-e`.
 fn given_expiration(asked: &Asked) -> Option<u32>
     ensures { result ≡ field_value expiration_value (codes "e") asked.now None }
 {
-    match asked.value(b'e') {
-        Some(text) => read_expiration(text).unwrap_or(None),
-        None => None,
-    }
+    read_expiration(asked.value(b'e')?)?.days()
 }
