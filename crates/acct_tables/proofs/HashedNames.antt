@@ -220,14 +220,6 @@ module _ {X : Type 0} (name_of : X → Option (List ℕ)) where
   taken-named name (x ∷ xs) (suc count) zero is = is
   taken-named name (x ∷ xs) (suc count) (suc at) is = taken-named name xs count at is
 
-module _ (names : List (Option (List ℕ))) (hash : ℕ) (found : HashedLines)
-    (alike : AreAlike names hash found) where
-  -- records that are alike are no more than there are lines
-  pub alike-few : found.count ≤ length names
-  alike-few =
-      subst (λ lines. IfSome lines (λ lines. lines.count ≤ length names)) alike.named
-      (told-within names (λ name. lines_named name names) (λ name. refl) alike.name)
-
 -- records that are told to be alike are so
 pub told-alike :
     (names : List (Option (List ℕ))) (told : ℕ → Option HashedLines) (name : List ℕ) (hash : ℕ)

@@ -9,7 +9,7 @@ use memchr::arch::all::rabinkarp;
 use memchr::{memmem, memrchr};
 
 // In so many bytes a search that is begun at once has ended before a fast one is set up.
-const NEAR: usize = 256;
+const NEAR: usize = 128;
 
 /// Bytes of which each line that is looked for has some.
 #[derive(Clone, Copy)]
@@ -50,7 +50,7 @@ pub fn from_mark<'a>(text: &'a [u8], mark: &[u8]) -> &'a [u8]
 fn first_place(text: &[u8], mark: &[u8]) -> Option<usize>
     ensures { FindsNeedle text.now mark.now 0 result }
 {
-    if text.len() <= 2 * NEAR {
+    if text.len() <= NEAR {
         return rabinkarp::Finder::new(mark).find(text, mark);
     }
     memmem::find(text, mark)
@@ -61,9 +61,12 @@ fn first_place(text: &[u8], mark: &[u8]) -> Option<usize>
 pub fn from_marks<'a>(text: &'a [u8], marks: Marks<'_>) -> &'a [u8]
     ensures { IsFromMarks (marks_in marks.entry) text.now result.now }
 {
-    let mut left = text;
+    if marks.others.is_empty() {
+        return from_mark(text, marks.first);
+    }
     // The first chunk is one line, and each further one is some times as great: a mark that stands
     // nowhere isn't looked for far behind a line that has another one.
+    let mut left = text;
     let mut size = 0usize;
     'chunks: while !left.is_empty() {
         let chunk = chunk_of(left, size);
