@@ -14,7 +14,7 @@ use account_formats::GroupRecord;
 use account_model::Refusal;
 use acct_text::Bytes;
 use command_values::{Asked, Form, ToolFault};
-use line_edits::{Edit, GroupAct, GshadowAct, PasswdAct, PasswdChange};
+use line_edits::{Edit, GroupAct, GshadowAct, PasswdAct, PasswdChange, PrimaryGroup};
 use std::alloc::{AllocError, Global};
 use table_edits::Script;
 use table_lookups::Tables;
@@ -197,7 +197,8 @@ fn set_gid(
     ensures { OnOk result (HasAlso (set_gid group.now gid old.now) script.old script.new) }
 {
     script.change_group(alloc, group, GroupAct::SetGid(gid))?;
-    let change = PasswdChange::OfGroup(old.gid, PasswdAct::SetGid(gid));
+    let users = PrimaryGroup::of(alloc, old.gid)?;
+    let change = PasswdChange::OfGroup(users, PasswdAct::SetGid(gid));
     script.passwd.push(Edit::Become(change))?;
     Ok(())
 }

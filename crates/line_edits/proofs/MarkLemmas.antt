@@ -1,36 +1,43 @@
 -- Claim: a record whose line is without a name doesn't have it (`other-record`, `unlisted-name`), and
 -- a group whose line is without a user doesn't list it (`unlisted-group`, `unlisted-gshadow`), so
 -- acts that take the user from a list leave the group, and those that rename it or let it join other
--- groups (`kept-group`, `kept-gshadow`). Way: the line of a record has its fields, and a field with
--- names has each of these.
+-- groups (`kept-group`, `kept-gshadow`). A user whose line is without the text of a GID has another
+-- primary group (`primary-marks`). Way: the line of a record has its fields, and a field with names has
+-- each of these.
 use Rattle.std.proofs.Common.{◌≡◌, ◌∙◌, ℕ, true, false, inl, inr, List, [], ◌∷◌, refl, sym, ap, subst}
-use Rattle.std.specs.Prelude.{◌||◌, bytes_eq, map, IfSome, Option, Some, None, if◌then◌else◌}
+use Rattle.std.specs.Prelude.{◌==◌, ◌||◌, bytes_eq, map, IfSome, Option, Some, None, if◌then◌else◌}
+use Rattle.std.specs.Fmt.{decimal}
 use Rattle.std.specs.List.{join_with_byte}
 use Rattle.std.specs.Vec.{vec_items}
-use Rattle.std.proofs.lemmas.Bool.{cases_Bool}
+use Rattle.std.proofs.lemmas.Bool.{cases_Bool, eqb-true}
 use Rattle.std.proofs.lemmas.Slice.Eq.{bytes_eq-Decides}
 use Rattle.acct_text.specs.Bytes.{colon}
 use Rattle.account_formats.specs.Format.{Format, is_named}
 use Rattle.account_formats.specs.Naming.{NamesFirst}
 use Rattle.account_formats.specs.Reads.{AreNames}
-use Rattle.account_formats.specs.Records.{group_format, gshadow_format}
+use Rattle.account_formats.specs.Records.{group_format, gshadow_format, passwd_format}
 use Rattle.account_formats.specs.Text.{comma, is_listed, nonempty}
 use Rattle.account_formats.specs.declared.records.GroupRecord.{GroupRecord}
 use Rattle.account_formats.specs.declared.records.GshadowRecord.{GshadowRecord}
+use Rattle.account_formats.specs.declared.records.PasswdRecord.{PasswdRecord}
 use Rattle.account_formats.proofs.NamingLaws.{group-names_first, gshadow-names_first}
 use Rattle.account_formats.proofs.ReadsLaws.{group-is, gshadow-is}
 use Rattle.account_model.specs.Members.{without_name}
 use Rattle.acct_tables.specs.Marks.{Holds, IsWithout, IsWithoutAll, marks_in}
 use Rattle.acct_tables.specs.declared.marks.Marks.{Marks}
-use Rattle.acct_tables.proofs.FieldMarks.{holds-self, joined-first, joined-rest}
+use Rattle.acct_tables.proofs.FieldMarks.{holds-primary, holds-self, joined-first, joined-rest}
 use Rattle.acct_tables.proofs.MarkedRecords.{unnamed}
 use Rattle.line_edits.specs.GroupChanges.{group_after}
 use Rattle.line_edits.specs.GshadowChanges.{gshadow_after}
 use Rattle.line_edits.specs.Memberships.{AreMarksIn, group_by, gshadow_by}
 use Rattle.line_edits.specs.Naming.{AreMarksOf}
+use Rattle.line_edits.specs.PasswdChanges.{passwd_after, passwd_becomes}
 use Rattle.line_edits.specs.declared.group_changes.GroupAct.TheVariants.{RemoveMember}
 use Rattle.line_edits.specs.declared.gshadow_changes.GshadowAct.TheVariants.{RemoveUser}
 use Rattle.line_edits.specs.declared.memberships.Membership.{Membership}
+use Rattle.line_edits.specs.declared.passwd_changes.PasswdAct.{PasswdAct}
+use Rattle.line_edits.specs.declared.passwd_changes.PasswdChange.{PasswdChange}
+use Rattle.line_edits.specs.declared.passwd_changes.PasswdChange.TheVariants.{OfGroup}
 use Rattle.line_edits.proofs.LeftLemmas.{left-group, left-gshadow, without-unlisted}
 
 -- a record whose line is without the name has another
@@ -208,6 +215,30 @@ kept-gshadow (Some marks) membership is = λ line without group read.
     group read without.1)
     (unlisted-administrator membership.user line user group read)
     (unlisted-gshadow membership.user line user group read)
+
+-- a user whose line is without the text of a GID has another primary group
+other-primary :
+    (gid : ℕ) (line : List ℕ) (user : PasswdRecord)
+    → passwd_format.read line ≡ Some user
+    → IsWithout (decimal gid) line
+    → (user.gid == gid) ≡ false
+other-primary gid line user read without = elim (cases_Bool (user.gid == gid)) [
+  | inl same ↦ absurd (without (subst (λ number. Holds (decimal number) line)
+      (eqb-true user.gid gid same) (holds-primary line user read)))
+  | inr other ↦ other
+]
+
+-- an act with the users of a primary group has the text of its GID for its mark
+pub primary-marks :
+    (gid : ℕ) (act : PasswdAct) (change : PasswdChange) (marks : List (List ℕ))
+    → change ≡ OfGroup gid act
+    → marks ≡ decimal gid ∷ []
+    → AreMarksOf passwd_format (passwd_becomes change) marks
+primary-marks gid act change marks change_is is = λ line without user read.
+    ap (λ change. passwd_becomes change user) change_is
+    ∙ ap (λ same. (if same then passwd_after act user else user) ∷ [])
+    (other-primary gid line user read
+    (subst (λ found. IsWithoutAll found line) is without).0)
 
 -- what leaves each record without some marks leaves it alone in its place
 pub alone :

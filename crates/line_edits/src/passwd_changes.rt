@@ -5,7 +5,7 @@ ghost use Rattle.account_formats.specs.declared.records.PasswdRecord.{PasswdReco
 ghost use Rattle.line_edits.specs.PasswdChanges.{keeps_user_name, passwd_after, with_user_fields};
 
 use crate::fields::{fourth_field, has_other_name, leaves_name, set_given};
-use crate::{Becoming, ChangedNames, EditedRecord, HashChange, Rewritten};
+use crate::{Becoming, ChangedNames, EditedRecord, HashChange, PrimaryGroup, Rewritten};
 use account_formats::GREATEST_ID;
 use acct_lines::{PasswdRecord, TableRecord};
 use acct_tables::Marks;
@@ -47,8 +47,8 @@ pub struct UserFields {
 pub enum PasswdChange {
     /// The act is done with the records of the name. Others stay.
     Named(Bytes, PasswdAct),
-    /// The act is done with the records of the GID. Others stay.
-    OfGroup(u32, PasswdAct),
+    /// The act is done with the records of the primary group. Others stay.
+    OfGroup(PrimaryGroup, PasswdAct),
     /// The records of the name go.
     Remove(Bytes),
 }
@@ -66,7 +66,7 @@ impl EditedRecord for PasswdRecord {
             PasswdChange::Named(name, act) if self.name() == name.as_slice() => {
                 Ok(Becoming::Changes(acted(alloc, self, act)?))
             }
-            PasswdChange::OfGroup(gid, act) if self.gid == *gid => {
+            PasswdChange::OfGroup(group, act) if self.gid == group.gid() => {
                 Ok(Becoming::Changes(acted(alloc, self, act)?))
             }
             PasswdChange::Remove(name) if self.name() == name.as_slice() => Ok(Becoming::Goes),
@@ -85,7 +85,7 @@ impl EditedRecord for PasswdRecord {
     fn leaves(change: &PasswdChange, line: &[u8]) -> bool {
         match change {
             PasswdChange::Named(name, _) => has_other_name(line, name.as_slice()),
-            PasswdChange::OfGroup(gid, _) => !has_gid(line, *gid),
+            PasswdChange::OfGroup(group, _) => !has_gid(line, group.gid()),
             PasswdChange::Remove(name) => has_other_name(line, name.as_slice()),
         }
     }
@@ -93,7 +93,7 @@ impl EditedRecord for PasswdRecord {
     fn marks(change: &PasswdChange) -> Option<Marks<'_>> {
         match change {
             PasswdChange::Named(name, _) => Some(Marks::one(name.as_slice())),
-            PasswdChange::OfGroup(..) => None,
+            PasswdChange::OfGroup(group, _) => Some(Marks::one(group.digits())),
             PasswdChange::Remove(name) => Some(Marks::one(name.as_slice())),
         }
     }
