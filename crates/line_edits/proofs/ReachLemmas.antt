@@ -1,22 +1,26 @@
 -- Claim: what edits reach tells from which line on they may touch records (`open-nothing`,
--- `open-marked`, `open-any`), and what is met from there on is what is met in all (`open-met`). Way:
--- a line out of reach is no record that is touched, so it is passed.
-use Rattle.std.proofs.Common.{◌≡◌, ◌∙◌, ℕ, true, false, List, [], ◌∷◌, ◌++◌, ◌≤◌, length, refl, sym, ap, subst, arith, append-nil}
-use Rattle.std.specs.Prelude.{◌==◌, ◌||◌, map, not, IfSome, Option, Some, None, if◌then◌else◌}
+-- `open-marked`, `open-any`), and what is met from there on is what is met in all (`open-met`). A name
+-- that is a mark has its records from there on (`open-from_mark`). Way: a line out of reach is no record
+-- that is touched, so it is passed.
+use Rattle.std.proofs.Common.{◌≡◌, ◌∙◌, ℕ, true, false, inl, inr, List, [], ◌∷◌, ◌++◌, ◌≤◌, length, refl, sym, ap, subst, arith, append-nil}
+use Rattle.std.specs.Prelude.{◌==◌, ◌||◌, bytes_eq, map, not, IfSome, Option, Some, None, if◌then◌else◌}
 use Rattle.std.specs.List.{AllByRecursion}
 use Rattle.std.specs.Vec.{vec_items}
-use Rattle.std.proofs.lemmas.Bool.{ne_eqb}
+use Rattle.std.proofs.lemmas.Bool.{cases_Bool, ne_eqb}
 use Rattle.std.proofs.lemmas.List.{length-append}
+use Rattle.std.proofs.lemmas.Slice.Eq.{bytes_eq-Decides}
 use Rattle.acct_text.specs.Lines.{Line, lines_of}
 use Rattle.account_formats.specs.Edits.{Edit, becoming_touches, touches}
 use Rattle.account_formats.specs.Edits.Edit.{Become}
 use Rattle.account_formats.specs.Format.{Format, records_of}
 use Rattle.account_formats.specs.RecordEdits.{TellsSame}
-use Rattle.acct_tables.specs.Marks.{IsFromMarks, marks_in}
+use Rattle.account_formats.specs.Text.{is_listed}
+use Rattle.acct_tables.specs.Marks.{IsFromMark, IsFromMarks, IsWithout, IsWithoutAll, marks_in}
 use Rattle.acct_tables.specs.declared.marks.Marks.{Marks}
 use Rattle.line_edits.specs.Naming.{AreMarksOf, Leaves}
-use Rattle.line_edits.specs.Reach.{IsOpenTo, IsOutOf, IsUntouched, reach_by}
+use Rattle.line_edits.specs.Reach.{IsOpenTo, IsOpened, IsOutOf, IsUntouched, reach_by}
 use Rattle.line_edits.specs.Touching.{LeavesTo, first_touched, is_met, met_in}
+use Rattle.line_edits.specs.declared.reach.Opened.{Opened}
 use Rattle.line_edits.specs.declared.reach.Reach.{Reach}
 use Rattle.line_edits.specs.declared.reach.Reach.TheVariants.{Nothing, Marked}
 use Rattle.line_edits.proofs.TouchedRecords.{met-untouched, passed-here}
@@ -93,6 +97,12 @@ module _ {R : Type 0} (format : Format R) where
         sym (ap (λ lines. first_touched format edits whole (records_of format lines)) from.joined
         ∙ front-passed whole from.front (lines_of behind) (all-left reach left from.front from.out))
 
+    -- no record in front of the open part is touched
+    pub front-untouched :
+        (file : Opened) (is : IsOpened format edits file)
+        → AllByRecursion (λ line. IsUntouched format edits line.text) is.front.front
+    front-untouched file is = all-left file.reach is.apart is.front.front is.front.out
+
 -- ---- What is in reach
 
 -- no other marks, by how many there are
@@ -142,3 +152,38 @@ pub open-fewer :
 open-fewer reach text behind from =
     let size = ap length from.joined ∙ length-append from.front (lines_of behind) in
     omega (arith, size)
+
+-- ---- Records of a name
+
+-- a text without marks lacks each of them
+pub lacks-listed :
+    (name : List ℕ) (marks : List (List ℕ)) (line : List ℕ)
+    → is_listed name marks ≡ true
+    → IsWithoutAll marks line
+    → IsWithout name line
+lacks-listed name [] line listed without = absurd cc
+lacks-listed name (mark ∷ marks) line listed without = elim (cases_Bool (bytes_eq name mark)) [
+  | inl same ↦ subst (λ text. IsWithout text line)
+      (sym ((bytes_eq-Decides name mark).0 same)) without.0
+  | inr other ↦ lacks-listed name marks line
+      (sym (ap (λ same. same || is_listed name marks) other) ∙ listed) without.1
+]
+
+module _ (reach : Reach) (name : List ℕ)
+    (is_mark : (line : List ℕ) → IsOutOf reach line → IsWithout name line) where
+  -- lines out of reach lack a mark
+  all-without :
+      (lines : List Line)
+      → AllByRecursion (λ line. IsOutOf reach line.text) lines
+      → AllByRecursion (λ line. IsWithout name line.text) lines
+  all-without [] out = tt
+  all-without (line ∷ lines) out = (is_mark line.text out.0, all-without lines out.1)
+
+  -- so the open part begins no later than the first line that has it
+  pub open-from_mark :
+      (text part : List ℕ) → IsOpenTo reach text part → IsFromMark name text part
+  open-from_mark text part from = record {
+    front = from.front;
+    joined = from.joined;
+    without = all-without from.front from.out;
+  }

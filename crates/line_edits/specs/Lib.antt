@@ -1,6 +1,7 @@
 pub mod SeenEdits
 pub mod Places
 pub mod OpenLines
+pub mod CheckedTexts
 pub mod Touching
 pub mod GroupChanges
 pub mod GshadowChanges

@@ -7,6 +7,7 @@ use Rattle.account_formats.specs.Edits.{Edit, touches}
 use Rattle.account_formats.specs.Format.{Format}
 use Rattle.acct_tables.specs.Marks.{IsWithoutAll, marks_in}
 use Rattle.acct_tables.specs.declared.marks.Marks.{Marks}
+use Rattle.line_edits.specs.declared.reach.Opened.{Opened}
 use Rattle.line_edits.specs.declared.reach.Reach.{Reach}
 use Rattle.line_edits.specs.declared.reach.Reach.TheVariants.{Nothing, Marked, Anything}
 
@@ -31,3 +32,9 @@ pub record IsOpenTo (reach : Reach) (text behind : List ℕ) : Type 0 where
   pub front : List Line
   pub joined : lines_of text ≡ front ++ lines_of behind
   pub out : AllByRecursion (λ line. IsOutOf reach line.text) front
+
+-- no line of a file is in reach in front of its open part, and what is out of reach isn't touched
+pub record IsOpened {R : Type 0} (format : Format R) (edits : List (Edit R)) (file : Opened)
+    : Type 0 where
+  pub front : IsOpenTo file.reach file.text.now file.part.now
+  pub apart : (line : List ℕ) → IsOutOf file.reach line → IsUntouched format edits line

@@ -6,11 +6,13 @@
 //! line by its parts alone. `applied` carries edits out in lines that are kept, by the names of the
 //! records that they touch (`named_edits`), at the places of these (`placed_edits`), and in the text
 //! of a file: few of them one after another (`line_changes`), many by names. `multiple` and
-//! `multiple_in` find the first record that they touch and whose name has several.
+//! `multiple_in` find the first record that they touch and whose name has several; `checked` does both
+//! in a text, which it searches for touched records once.
 #![tactic(auto)]
 
 mod applied;
 mod changed_names;
+mod checked;
 mod edit;
 mod fields;
 mod group_changes;
@@ -34,6 +36,7 @@ mod touched;
 
 pub use applied::{apply, edited_text};
 pub use changed_names::ChangedNames;
+pub use checked::{Checked, checked_text};
 pub use edit::{Becoming, Edit, EditedRecord, Rewritten};
 pub use group_changes::{GroupAct, GroupChange};
 pub use gshadow_changes::{GshadowAct, GshadowChange};

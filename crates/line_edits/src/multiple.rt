@@ -10,11 +10,12 @@ ghost use Rattle.account_formats.specs.Format.{count_named, records_of};
 ghost use Rattle.account_formats.specs.RecordEdits.{IsWrittenEdit};
 ghost use Rattle.account_formats.specs.Written.{IsWritten};
 ghost use Rattle.acct_tables.specs.NameIndex.{Tells, line_names, told};
+ghost use Rattle.line_edits.specs.Reach.{IsOpenTo, IsOpened};
 ghost use Rattle.line_edits.specs.SeenEdits.{seen_edit, seen_edits};
 ghost use Rattle.line_edits.specs.Touching.{LacksName, LeavesTo, TouchOnly, met_in, touches_alone};
 
 use crate::fields::has_other_name;
-use crate::reach::{open_to, reach_of_all};
+use crate::reach::{Opened, open_for, open_to, part_with, reach_of_all};
 use crate::touched::touched_names;
 use crate::{Becoming, Edit, EditedRecord};
 use acct_tables::{Lines, MANY, NameIndex, has_several_records, name_of, read_record};
@@ -33,16 +34,28 @@ pub fn first_multiple<R: EditedRecord + Drop>(
     ensures { IfOk result (λ name. name ≡ first_multiple R.format (seen_edits R.becomes edits.now)
         (records_of R.format (lines_of text.now))) }
 {
-    let reach = reach_of_all(edits);
-    let open = open_to(text, reach);
-    let names = &names_for(alloc, text, open, edits)?;
+    multiple_among(alloc, &open_for(text, edits), edits)
+}
+
+/// The same of a file that is opened for the edits.
+pub(crate) fn multiple_among<R: EditedRecord + Drop>(
+    alloc: Global,
+    file: &Opened<'_, '_>,
+    edits: &[Edit<R, R::Change>],
+) -> Result<Option<Bytes>, AllocError>
+    requires written { AllByRecursion (IsWrittenEdit R.format) (seen_edits R.becomes edits.now) }
+    requires opened { IsOpened R.format (seen_edits R.becomes edits.now) file.now }
+    ensures { IfOk result (λ name. name ≡ first_multiple R.format (seen_edits R.becomes edits.now)
+        (records_of R.format (lines_of file.now.text.now))) }
+{
+    let names = &names_for(alloc, file.text, file.part, edits)?;
     let touched = &touched_names(alloc, edits)?;
-    let mut left = Lines::of(open);
+    let mut left = Lines::of(file.part);
     'lines: while let Some(line) = left.take() {
-        if let Some(name) = met_in(alloc, text, edits, names, touched, line.text)? {
+        if let Some(name) = met_in(alloc, file, edits, names, touched, line.text)? {
             return Ok(Some(name));
         }
-        left = Lines::of(open_to(left.bytes(), reach));
+        left = Lines::of(open_to(left.bytes(), file.reach));
     }
     Ok(None)
 }
@@ -84,21 +97,22 @@ fn may_touch_many<R: EditedRecord>(open: &[u8], edits: &[Edit<R, R::Change>]) ->
 // The name of the record that the line is, where its name has several records and the edits touch it.
 fn met_in<R: EditedRecord + Drop>(
     alloc: Global,
-    text: &[u8],
+    file: &Opened<'_, '_>,
     edits: &[Edit<R, R::Change>],
     names: &Option<NameIndex<'_>>,
     touched: &Option<IndexSet<&[u8]>>,
     line: &[u8],
 ) -> Result<Option<Bytes>, AllocError>
+    requires opened { IsOpened R.format (seen_edits R.becomes edits.now) file.now }
     requires edits { AllByRecursion (IsWrittenEdit R.format) (seen_edits R.becomes edits.now) }
     requires told { IfSome names.now (λ names.
-        Tells (line_names R.format (lines_of text.now)) (told names)) }
+        Tells (line_names R.format (lines_of file.now.text.now)) (told names)) }
     requires only { IfSome touched.now (TouchOnly R.format (seen_edits R.becomes edits.now)) }
     requires one_line { Lacks newline line.now }
     ensures { IfOk result (λ name. name ≡ met_in R.format (seen_edits R.becomes edits.now)
-        (records_of R.format (lines_of text.now)) line.now) }
+        (records_of R.format (lines_of file.now.text.now)) line.now) }
 {
-    if !may_meet(text, edits, names, touched, line) {
+    if !may_meet(file, edits, names, touched, line) {
         return Ok(None);
     }
     let Some(item) = read_record::<R>(alloc, line)? else {
@@ -112,19 +126,20 @@ fn met_in<R: EditedRecord + Drop>(
 
 // Whether the line is a record that the edits may touch, and whose name has several records.
 fn may_meet<R: EditedRecord>(
-    text: &[u8],
+    file: &Opened<'_, '_>,
     edits: &[Edit<R, R::Change>],
     names: &Option<NameIndex<'_>>,
     touched: &Option<IndexSet<&[u8]>>,
     line: &[u8],
 ) -> bool
+    requires opened { IsOpened R.format (seen_edits R.becomes edits.now) file.now }
     requires told { IfSome names.now (λ names.
-        Tells (line_names R.format (lines_of text.now)) (told names)) }
+        Tells (line_names R.format (lines_of file.now.text.now)) (told names)) }
     requires only { IfSome touched.now (TouchOnly R.format (seen_edits R.becomes edits.now)) }
     ensures passed { result ≡ false → met_in R.format (seen_edits R.becomes edits.now)
-        (records_of R.format (lines_of text.now)) line.now ≡ None }
+        (records_of R.format (lines_of file.now.text.now)) line.now ≡ None }
     ensures several { result ≡ true → (r : R) → R.format.read line.now ≡ Some r
-        → is_multiple R.format (records_of R.format (lines_of text.now)) r ≡ true }
+        → is_multiple R.format (records_of R.format (lines_of file.now.text.now)) r ≡ true }
 {
     if names.is_none() && leave(edits, line) {
         return false;
@@ -135,7 +150,7 @@ fn may_meet<R: EditedRecord>(
     if !may_touch(touched, name) {
         return false;
     }
-    has_several::<R>(text, names, name)
+    has_several::<R>(file, names, name)
 }
 
 // Whether the edits may touch a record of the name.
@@ -149,15 +164,20 @@ fn may_touch(touched: &Option<IndexSet<&[u8]>>, name: &[u8]) -> bool
 }
 
 // Whether several records have the name, by the index or else by counting them.
-fn has_several<R: EditedRecord>(text: &[u8], names: &Option<NameIndex<'_>>, name: &[u8]) -> bool
-    requires { IfSome names.now (λ names.
-        Tells (line_names R.format (lines_of text.now)) (told names)) }
+fn has_several<R: EditedRecord>(
+    file: &Opened<'_, '_>,
+    names: &Option<NameIndex<'_>>,
+    name: &[u8],
+) -> bool
+    requires front { IsOpenTo file.now.reach file.now.text.now file.now.part.now }
+    requires told { IfSome names.now (λ names.
+        Tells (line_names R.format (lines_of file.now.text.now)) (told names)) }
     ensures { result ≡ nat_le 2
-        (count_named R.format name.now (records_of R.format (lines_of text.now))) }
+        (count_named R.format name.now (records_of R.format (lines_of file.now.text.now))) }
 {
     match names {
         Some(names) => names.has_several(name),
-        None => has_several_records::<R>(text, name),
+        None => has_several_records::<R>(part_with::<R>(file, name), name),
     }
 }
 

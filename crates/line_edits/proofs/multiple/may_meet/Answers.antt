@@ -13,7 +13,7 @@ returns-then-not-may_touch-clause-passed g c = λ no.
     let edits = seen_edits g.R.EditedRecord.becomes c.args.edits.now in
     let here = record-named format (format.read c.args.line.now) c.in-Some.name.now
     c.in-Some.ensures in
-    met-untouched format edits (records_of format (lines_of c.args.text.now))
+    met-untouched format edits (records_of format (lines_of c.args.file.now.text.now))
     c.args.line.now here.item
     here.is
     (untouched format edits here.item c.args.touched.now c.requires.only
@@ -23,7 +23,7 @@ returns-then-not-may_touch-clause-passed g c = λ no.
 pub returns-clause-passed : goal.returns-clause-passed
 returns-clause-passed g c = λ no.
     let format = g.R.TableRecord.format in
-    let records = records_of format (lines_of c.args.text.now) in
+    let records = records_of format (lines_of c.args.file.now.text.now) in
     let here = record-named format (format.read c.args.line.now) c.in-Some.name.now
     c.in-Some.ensures in
     met-single format (seen_edits g.R.EditedRecord.becomes c.args.edits.now) records c.args.line.now
