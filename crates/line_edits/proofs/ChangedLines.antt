@@ -100,7 +100,7 @@ module _ {R : Type 0} (format : Format R) where
         (ap (λ kept. elim kept [ None ↦ line ∷ [] | Some r ↦ line_becomes format line r (f r) ])
         (sym (record-here format lines place inside) ∙ none)))
 
-    -- a line that is left stays
+    -- by what record the line has, if any
     left-by :
         (found : Option R)
         → record_at format lines place ≡ found
@@ -116,6 +116,7 @@ module _ {R : Type 0} (format : Format R) where
         ∙ ap (line_becomes format line r) (left r refl)
         ∙ stays line r (format.same r r) ((tells r r).1 refl)))
 
+    -- a line that the change leaves stays
     pub change-left :
         TellsSame format
         → Leaves format f (text_at lines place)

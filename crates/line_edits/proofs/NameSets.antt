@@ -117,11 +117,12 @@ module _ {K : Type 0} (text : K → List ℕ) where
       (IsDistinct-head (λ x y. bytes_eq (text x) (text y)) key keys apart))
       (keys-apart keys (IsDistinct-tail (λ x y. bytes_eq (text x) (text y)) key keys apart))
 
--- no names, and one name
+-- no names are apart
 pub none-apart : IsDistinct bytes_eq []
 unfolding IsDistinct
 none-apart = tt
 
+-- and so is one name
 pub one-apart : (name : List ℕ) → IsDistinct bytes_eq (name ∷ [])
 one-apart name = IsDistinct-cons bytes_eq name [] tt none-apart
 

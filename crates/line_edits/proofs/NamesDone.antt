@@ -25,13 +25,14 @@ module _ {R : Type 0} (format : Format R) (f : R → List R) (tells : TellsSame 
     (kept : KeepsNames format f) (edit : IsWrittenEdit format (Become f)) where
   -- ---- The change at some names
 
-  -- by whether the record is changed
+  -- it keeps its name, whether it is changed or not
   kept-if :
       (r : R) (listed : Bool)
       → map format.name (if listed then f r else r ∷ []) ≡ format.name r ∷ []
   kept-if r true = kept r
   kept-if r false = refl
 
+  -- what it becomes can be written
   written-if :
       (r : R) (listed : Bool)
       → IsWritten format r
