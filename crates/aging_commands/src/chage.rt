@@ -17,9 +17,10 @@ use crate::listing::aging_report;
 use account_model::Refusal;
 use acct_text::{Bytes, Names};
 use command_values::{Asked, Form, ToolFault, read_date, read_days};
+use hash_edits::{demand_shadow, hash_alone};
 use line_edits::{DaysChange, ShadowAct, ShadowFields};
 use std::alloc::{AllocError, Global};
-use table_edits::{Report, Script, hash_alone};
+use table_edits::{Report, Script};
 use table_lookups::Tables;
 
 /// The script that sets the fields of the user's record in shadow; `-l` changes nothing.
@@ -80,7 +81,7 @@ fn changed_aging(alloc: Global, asked: &Asked, tables: &Tables) -> Result<Script
 {
     let user = asked.operand();
     let mut script = Script::new(alloc);
-    script.demand_shadow(alloc, tables, user)?;
+    demand_shadow(alloc, &mut script, tables, user)?;
     script.change_shadow(alloc, user, ShadowAct::SetFields(aging_fields(asked)))?;
     Ok(script)
 }

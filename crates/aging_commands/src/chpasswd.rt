@@ -11,6 +11,7 @@ ghost use Rattle.aging_commands.specs.HashLines.{hash_script, seen_line};
 use crate::hash_lines::{NewHash, read_hashes};
 use acct_text::{Bytes, lines};
 use command_values::ToolFault;
+use hash_edits::{change_user_hash, demand_indexed};
 use line_edits::{HashChange, ShadowAct};
 use std::alloc::{AllocError, Global};
 use table_edits::Script;
@@ -59,7 +60,7 @@ fn set_hash(
         (HasAlso (hash_script users.now day (seen_line hash.now)) script.old script.new) }
 {
     let change = HashChange::Set(Bytes::of(alloc, hash.hash)?);
-    script.demand_indexed(alloc, users, hash.name)?;
-    script.change_hash(alloc, &users.tables(), hash.name, change)?;
+    demand_indexed(alloc, script, users, hash.name)?;
+    change_user_hash(alloc, script, &users.tables(), hash.name, change)?;
     script.change_shadow(alloc, hash.name, ShadowAct::SetLastChange(day))
 }

@@ -16,11 +16,11 @@ ghost use Rattle.batch_commands.specs.Writing.{IsWrittenBehind, StandWhere, with
 
 use account_model::Refusal;
 use acct_text::{Bytes, Files, NewTables, Tab};
+use carried_tables::CarriedTables;
 use login_defs::Defs;
 use option_words::Parsed;
 use std::alloc::{AllocError, Global};
 use std::marker::Model;
-use table_lookups::CarriedTables;
 use tool_answers::{Decision, Output, ToolFault, decision_by};
 
 // The status of a batch whose lines are all carried out, whatever theirs are.

@@ -9,8 +9,8 @@ use Rattle.account_words.specs.Ids.{is_used}
 use Rattle.acct_tables.specs.declared.name_index.NameIndex.{NameIndex}
 use Rattle.acct_tables.specs.NameIndex.{told}
 use Rattle.acct_tables.proofs.NamedRecords.{told-has}
-use Rattle.table_lookups.specs.TablesOfLines.{lines_in}
-use Rattle.table_lookups.proofs.FileLemmas.{records-in}
+use Rattle.carried_tables.specs.TablesOfLines.{lines_in}
+use Rattle.carried_tables.proofs.FileLemmas.{records-in}
 use Rattle.check_reports.specs.Known.{TellsOf, has_gid}
 
 -- what is told of a name is there where a record of the file has it

@@ -15,7 +15,7 @@ use Rattle.acct_tables.specs.declared.name_index.NameIndex.{NameIndex}
 use Rattle.acct_tables.specs.NameIndex.{Tells, begins_before, line_names, lines_named, told}
 use Rattle.acct_tables.proofs.LinesCounted.{lines-counted}
 use Rattle.acct_tables.proofs.NamedRecords.{told-before}
-use Rattle.table_lookups.specs.TablesOfLines.{lines_in}
+use Rattle.carried_tables.specs.TablesOfLines.{lines_in}
 use Rattle.check_reports.specs.declared.report.Report.{Report}
 use Rattle.check_reports.specs.Known.{TellsBefore}
 use Rattle.check_reports.specs.Reported.{shown, with_problems}

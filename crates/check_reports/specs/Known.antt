@@ -5,7 +5,7 @@ use Rattle.account_formats.specs.declared.records.GroupRecord.{GroupRecord}
 use Rattle.account_formats.specs.Format.{Format, has_named}
 use Rattle.acct_tables.specs.declared.name_index.NameIndex.{NameIndex}
 use Rattle.acct_tables.specs.NameIndex.{Tells, begins_before, line_names, told}
-use Rattle.table_lookups.specs.TablesOfLines.{lines_in}
+use Rattle.carried_tables.specs.TablesOfLines.{lines_in}
 
 -- some of the groups has the GID
 abbrev pub has_gid : List GroupRecord → ℕ → Bool

@@ -10,9 +10,9 @@ use account_formats::{GroupRecord, GshadowRecord, PasswdRecord, ShadowRecord};
 use acct_lines::TableRecord;
 use acct_tables::NameIndex;
 use acct_text::Bytes;
+use carried_tables::{IdsInUse, text_of};
 use std::alloc::{AllocError, Global};
 use std::marker::PhantomData;
-use table_lookups::{IdsInUse, text_of};
 
 /// The file of a table, which may be absent, with the names of its records.
 #[derive(Drop)]

@@ -17,8 +17,8 @@ use crate::problems::Problems;
 use acct_lines::{ReadFault, TableRecord, first_field};
 use acct_tables::{Lines, NameIndex};
 use acct_text::{Bytes, Tab, push_decimal};
+use carried_tables::text_of;
 use std::alloc::{AllocError, Global};
-use table_lookups::text_of;
 use tool_answers::Decision;
 
 // The status of a report with a problem.

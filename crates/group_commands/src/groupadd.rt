@@ -17,6 +17,7 @@ use account_model::Refusal;
 use account_words::IdSort;
 use acct_text::Bytes;
 use command_values::{Asked, Form, ToolFault, check_name, free_id};
+use hash_edits::add_group;
 use login_defs::Defs;
 use std::alloc::{AllocError, Global};
 use table_edits::Script;
@@ -43,7 +44,7 @@ pub fn groupadd(
     let gid = gid_without_conflict(alloc, asked, tables, &settings)?;
     let hash = asked.value_or(b'p', b"!");
     let mut script = Script::new(alloc);
-    script.add_group(alloc, tables, asked.operand(), hash, gid)?;
+    add_group(alloc, &mut script, tables, asked.operand(), hash, gid)?;
     Ok(script)
 }
 

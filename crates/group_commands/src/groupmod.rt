@@ -14,6 +14,7 @@ use account_formats::GroupRecord;
 use account_model::Refusal;
 use acct_text::Bytes;
 use command_values::{Asked, Form, ToolFault};
+use hash_edits::set_group_hash;
 use line_edits::{Edit, GroupAct, GshadowAct, PasswdAct, PasswdChange, PrimaryGroup};
 use std::alloc::{AllocError, Global};
 use table_edits::Script;
@@ -146,7 +147,7 @@ fn write_hash(
         script.old script.new) }
 {
     match asked.value(b'p') {
-        Some(hash) => script.set_group_hash(alloc, tables, group, hash),
+        Some(hash) => set_group_hash(alloc, script, tables, group, hash),
         None => Ok(()),
     }
 }

@@ -9,11 +9,12 @@ ghost use Rattle.suite_tools.specs.Decided.{CarriesUnder};
 use crate::Output;
 use crate::answer::{report_of, script_of};
 use account_model::tools_are_written;
+use carried_tables::CarriedTables;
 use command_values::Asked;
 use login_defs::Defs;
 use option_words::Parsed;
 use std::alloc::Global;
-use table_lookups::{CarriedTables, Tables};
+use table_lookups::Tables;
 use tool_answers::ToolFault;
 
 /// Carries out what a line of a batch asks for on the tables, by the settings and the day, in days since

@@ -50,4 +50,5 @@ pub left-file :
     → table_after subid_format edits file ≡ file
 left-file edits None left = refl
 left-file edits (Some text) left =
-    ap (λ lines. Some (file_bytes lines)) (left (lines_of text)) ∙ ap Some (lines_of-are text).joined
+    ap (λ lines. Some (file_bytes lines)) (left (lines_of text))
+    ∙ ap Some (lines_of-are text).joined

@@ -24,7 +24,8 @@ pub listed-file :
     → after ≡ before ++ adds table file (table_after format (seen_edits becomes slice) file)
     → after ≡ before ++ adds table file (table_after format (seen_edits becomes items) file)
 listed-file format becomes slice items table file before after same is =
-    is ∙ ap (λ edits. before ++ adds table file (table_after format (seen_edits becomes edits) file))
+    is
+    ∙ ap (λ edits. before ++ adds table file (table_after format (seen_edits becomes edits) file))
     same
 
 -- a table stays without edits

@@ -104,7 +104,8 @@ module _ (name : List ℕ) (uid : Option ℕ) where
 
   -- all edits so far, and one more
   pub keep-all :
-      (old new : List ℕ) (first last : ℕ) (edits : List (Edit SubidRecord)) (edit : Edit SubidRecord)
+      (old new : List ℕ) (first last : ℕ) (edits : List (Edit SubidRecord))
+      (edit : Edit SubidRecord)
       → Removes name uid first last edit
       → AddsAll old first last new
       → AllByRecursion (KeepsApart name uid old) edits
@@ -151,6 +152,7 @@ module _ (name : List ℕ) (uid : Option ℕ) where
     none-stay (Put r) keeps = absurd keeps
     none-stay (Arrange key) keeps = absurd keeps
 
+    -- so edits that keep them make none of no lines
     no-lines-stay :
         (edits : List (Edit SubidRecord))
         → AllByRecursion (KeepsApart name uid ids) edits
@@ -188,6 +190,7 @@ module _ (name : List ℕ) (uid : Option ℕ) where
     line-stays (Put r) line lacks apart keeps = absurd keeps
     line-stays (Arrange key) line lacks apart keeps = absurd keeps
 
+    -- and so it stays after all edits
     pub apart-stays :
         (edits : List (Edit SubidRecord)) (line : Line)
         → Lacks newline line.text

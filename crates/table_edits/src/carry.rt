@@ -17,9 +17,9 @@ use crate::left_ranges::leave_all;
 use crate::multiple::multiple_carried;
 use crate::{Report, Script, SubidRecord, edited_ranges};
 use account_words::Tool;
+use carried_tables::{CarriedTables, RangeTable};
 use line_edits::{Edit, SubidChange};
 use std::alloc::{AllocError, Global};
-use table_lookups::{CarriedTables, RangeTable};
 use tool_answers::{Output, ToolFault};
 
 /// Carries out the script of a tool with this report on the tables, and gives what the tool prints.

@@ -3,7 +3,6 @@
 ghost use Rattle.std.specs.Prelude.{[], ◌∷◌, OnOk};
 ghost use Rattle.account_formats.specs.Edits.Edit.{Become};
 ghost use Rattle.account_model.specs.Groupdel.{remove_group as group_removal};
-ghost use Rattle.account_model.specs.Hashes.{set_group_hash as group_hash, demand_gshadow as gshadow_on_demand, make_gshadow as gshadow_line};
 ghost use Rattle.account_model.specs.Members.{add_to_group as addition_to_group};
 ghost use Rattle.account_formats.specs.Tables.{no_edits};
 ghost use Rattle.table_edits.specs.Additions.{HasAlso};
@@ -13,11 +12,9 @@ ghost use Rattle.line_edits.specs.declared.group_changes.GroupChange.TheVariants
 ghost use Rattle.line_edits.specs.declared.gshadow_changes.GshadowChange.TheVariants.{Named as NamedThere};
 
 use crate::Script;
-use acct_lines::{GroupRecord, GshadowRecord};
-use acct_text::{Bytes, Names};
+use acct_text::Bytes;
 use line_edits::{Edit, GroupAct, GroupChange, GshadowAct, GshadowChange};
 use std::alloc::{AllocError, Global};
-use table_lookups::Tables;
 
 impl Script {
     /// Does the act with the records of the group in group(5).
@@ -96,61 +93,4 @@ impl Script {
         self.gshadow.push(Edit::Become(change))?;
         Ok(())
     }
-
-    /// Makes the gshadow line on demand: where gshadow lacks the group, its record goes there, and
-    /// `x` into the password field of group.
-    pub fn demand_gshadow(
-        &mut self,
-        alloc: Global,
-        tables: &Tables,
-        name: &[u8],
-    ) -> Result<(), AllocError>
-        ensures { OnOk result
-            (HasAlso (gshadow_on_demand name.now tables.now) self.old self.new) }
-    {
-        if !tables.has_gshadow_file() || tables.gshadow_named(alloc, name)?.is_some() {
-            return Ok(());
-        }
-        match tables.group_named(alloc, name)? {
-            Some(group) => make_gshadow(alloc, self, &group),
-            None => Ok(()),
-        }
-    }
-
-    /// Sets the hash of the group where it stands: in gshadow, with the line on demand, and without
-    /// gshadow in group.
-    pub fn set_group_hash(
-        &mut self,
-        alloc: Global,
-        tables: &Tables,
-        name: &[u8],
-        hash: &[u8],
-    ) -> Result<(), AllocError>
-        ensures { OnOk result
-            (HasAlso (group_hash name.now hash.now tables.now) self.old self.new) }
-    {
-        self.demand_gshadow(alloc, tables, name)?;
-        let hash = Bytes::of(alloc, hash)?;
-        if tables.has_gshadow_file() {
-            self.change_gshadow(alloc, name, GshadowAct::SetPassword(hash))
-        } else {
-            self.change_group(alloc, name, GroupAct::SetPassword(hash))
-        }
-    }
-}
-
-// Moves the password of the group to a new record of gshadow.
-fn make_gshadow(alloc: Global, script: &mut Script, group: &GroupRecord) -> Result<(), AllocError>
-    ensures { OnOk result (HasAlso (gshadow_line group.now) script.old script.new) }
-{
-    let act = GroupAct::SetPassword(Bytes::of(alloc, b"x")?);
-    script.change_group(alloc, group.name.as_slice(), act)?;
-    let record = GshadowRecord {
-        name: group.name.copy()?,
-        password: group.password.copy()?,
-        administrators: Names::new(alloc),
-        members: group.members.copy()?,
-    };
-    script.gshadow.push(Edit::AddMissing(record))?;
-    Ok(())
 }

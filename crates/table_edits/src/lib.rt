@@ -1,11 +1,11 @@
 //! What a command does to the six tables, as data: a `Script` has for each table the list of its
 //! edits (passwd(5), shadow(5), group(5), gshadow(5), subuid(5), subgid(5)).
 //!
-//! A tool looks up users and groups in the `Tables` for its refusals, and builds a `Script`:
-//! `group_edits`, `user_edits` and `new_groups` have the edits that several tools make. `decide_by`
-//! decides by it: it refuses where an edit touches one of several records of a name (`multiple`), and
-//! else makes the new bytes of each table (`changed_tables`; `range_edits` has the edits of subuid and
-//! subgid). `carry_out` makes the edits in tables that are carried from command to command.
+//! A tool builds a `Script`; `group_edits` and `user_edits` have edits that several tools make.
+//! `decide_by` decides by it: it refuses where an edit touches one of several records of a name
+//! (`multiple`), and else makes the new bytes of each table (`changed_tables`; `range_edits` has the
+//! edits of subuid and subgid). `carry_out` makes the edits in tables that are carried from command to
+//! command.
 #![tactic(auto)]
 
 mod carry;
@@ -14,7 +14,6 @@ mod decide;
 mod group_edits;
 mod left_ranges;
 mod multiple;
-mod new_groups;
 mod range_edits;
 mod report;
 mod script;
@@ -30,4 +29,3 @@ pub use decide::decide_by;
 pub use range_edits::edited_ranges;
 pub use report::Report;
 pub use script::Script;
-pub use user_edits::hash_alone;

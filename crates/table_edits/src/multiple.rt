@@ -13,9 +13,9 @@ ghost use Rattle.table_edits.specs.SeenScript.{seen_script};
 use crate::Script;
 use account_model::Refusal;
 use acct_text::{Bytes, Files, Tab};
+use carried_tables::{CarriedTables, text_of};
 use line_edits::{Edit, EditedRecord, first_multiple};
 use std::alloc::{AllocError, Global};
-use table_lookups::{CarriedTables, text_of};
 
 /// The refusal of the first record that the script touches and whose name has several records in its
 /// table.

@@ -172,7 +172,8 @@ fn text_without(
     edits: &[Edit<SubidRecord, SubidChange>],
     removals: &Removals<'_>,
 ) -> Result<Bytes, AllocError>
-    requires written { AllByRecursion (IsWrittenEdit subid_format) (seen_edits subid_becomes edits.now) }
+    requires written { AllByRecursion (IsWrittenEdit subid_format)
+        (seen_edits subid_becomes edits.now) }
     requires kept { AllByRecursion
         (KeepsApart removals.now.owner.now removals.now.uid removals.now.ids)
         (seen_edits subid_becomes edits.now) }
@@ -196,7 +197,8 @@ fn push_left(
     removals: &Removals<'_>,
 ) -> Result<(), AllocError>
     requires one_line { Lacks newline line.now.text.now }
-    requires written { AllByRecursion (IsWrittenEdit subid_format) (seen_edits subid_becomes edits.now) }
+    requires written { AllByRecursion (IsWrittenEdit subid_format)
+        (seen_edits subid_becomes edits.now) }
     requires kept { AllByRecursion
         (KeepsApart removals.now.owner.now removals.now.uid removals.now.ids)
         (seen_edits subid_becomes edits.now) }

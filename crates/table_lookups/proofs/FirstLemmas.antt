@@ -62,7 +62,8 @@ module _ {R K : Type 0} (format : Format R) (has : K → R → Bool) (asks : K �
   passed :
       (key : K) (told : Option (List ℕ)) (r : R) (rest : List R)
       → (has key r ≡ true → is_some told ≡ true)
-      → or_other format told (find (has key) rest) ≡ or_other format told (find (has key) (r ∷ rest))
+      → or_other format told (find (has key) rest)
+      ≡ or_other format told (find (has key) (r ∷ rest))
   passed key (Some line) r rest known = refl
   passed key None r rest known = elim (cases_Bool (has key r)) [
     | inl is ↦ absurd (true≢false (sym (known is)))
@@ -98,7 +99,8 @@ module _ {R K : Type 0} (format : Format R) (has : K → R → Bool) (asks : K �
     first-noted r own new reads is none put tells = λ key asked.
         noted key (old key) (new key) line r rest (has key r) refl reads
         (λ here. ap old (sym (is key here)) ∙ none) (put key)
-        ∙ ap (λ kept. or_other format (old key) (find (has key) (cons_option kept rest))) (sym reads)
+        ∙ ap (λ kept. or_other format (old key) (find (has key) (cons_option kept rest)))
+        (sym reads)
         ∙ tells key asked
 
     -- another line is told of the key
@@ -110,8 +112,10 @@ module _ {R K : Type 0} (format : Format R) (has : K → R → Bool) (asks : K �
         → Tells format has asks old (cons_option (format.read line) rest) all
         → Tells format has asks old rest all
     first-known r own reads is known tells = λ key asked.
-        passed key (old key) r rest (λ here. ap (λ key. is_some (old key)) (sym (is key here)) ∙ known)
-        ∙ ap (λ kept. or_other format (old key) (find (has key) (cons_option kept rest))) (sym reads)
+        passed key (old key) r rest
+        (λ here. ap (λ key. is_some (old key)) (sym (is key here)) ∙ known)
+        ∙ ap (λ kept. or_other format (old key) (find (has key) (cons_option kept rest)))
+        (sym reads)
         ∙ tells key asked
 
     -- a key that isn't asked for is passed over
@@ -125,7 +129,8 @@ module _ {R K : Type 0} (format : Format R) (has : K → R → Bool) (asks : K �
     first-unasked r own reads is unasked tells = λ key asked.
         passed key (old key) r rest
         (λ here. absurd (true≢false (sym asked ∙ ap asks (sym (is key here)) ∙ unasked)))
-        ∙ ap (λ kept. or_other format (old key) (find (has key) (cons_option kept rest))) (sym reads)
+        ∙ ap (λ kept. or_other format (old key) (find (has key) (cons_option kept rest)))
+        (sym reads)
         ∙ tells key asked
 
     -- other text has no key

@@ -5,10 +5,10 @@ ghost use Rattle.account_formats.specs.Format.{find_named, has_named};
 ghost use Rattle.account_formats.specs.Tables.{table_records};
 ghost use Rattle.table_lookups.specs.FirstLines.{Tells, TellsNames, has_name, is_asked, told_names};
 
-use crate::text_of;
 use acct_lines::{TableRecord, first_field};
 use acct_tables::{Lines, is_record, name_of, read_record};
 use acct_text::Bytes;
+use carried_tables::text_of;
 use indexmap::IndexMap;
 use line_edits::NameSet;
 use std::alloc::{AllocError, Global};

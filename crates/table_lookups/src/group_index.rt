@@ -13,12 +13,12 @@ ghost use Rattle.account_formats.specs.declared.records.GroupRecord.{GroupRecord
 ghost use Rattle.account_words.specs.Ids.{is_used};
 ghost use Rattle.table_lookups.specs.FirstLines.{Tells, TellsGids, TellsNames, has_gid, told_gids};
 
+use crate::Tables;
 use crate::first_lines::FirstOfNames;
-use crate::ids::IdRecord;
-use crate::{Tables, text_of};
 use acct_lines::GroupRecord;
 use acct_tables::{Lines, name_of};
 use acct_text::{Bytes, Names};
+use carried_tables::{IdRecord, text_of};
 use id_choice::UsedIds;
 use indexmap::IndexMap;
 use line_edits::NameSet;
@@ -166,8 +166,8 @@ fn lines_of_gids<'a>(
     text: &'a [u8],
     asked: &UsedIds,
 ) -> Result<IndexMap<u32, &'a [u8]>, AllocError>
-    ensures { IfOk result (λ gids. Tells group_format has_gid (is_used asked.now) (told_gids gids) []
-        (records_of group_format (lines_of text.now))) }
+    ensures { IfOk result (λ gids. Tells group_format has_gid (is_used asked.now) (told_gids gids)
+        [] (records_of group_format (lines_of text.now))) }
 {
     let mut gids = IndexMap::new(alloc);
     let mut left = Lines::of(text);

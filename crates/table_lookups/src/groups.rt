@@ -5,11 +5,10 @@ ghost use Rattle.account_words.specs.Ids.{is_used, used_gids as gids_of};
 ghost use Rattle.account_formats.specs.Tables.{group_records};
 ghost use Rattle.id_choice.specs.Used.{AreThoseOf};
 
-use crate::ids::used_ids;
-use crate::search::{OfGid, first_passing};
+use crate::Tables;
 use crate::tables::Source;
-use crate::{IdsInUse, Tables};
 use acct_lines::GroupRecord;
+use carried_tables::{IdsInUse, OfGid, first_passing, used_ids};
 use std::alloc::{AllocError, Global};
 
 impl<'a> Tables<'a> {
@@ -21,8 +20,8 @@ impl<'a> Tables<'a> {
         let test = &OfGid { gid };
         match self.source() {
             Source::Files(files) => first_passing(alloc, &files.group, test),
-            Source::Carried(tables) if tables.group.lacks(gid) => Ok(None),
-            Source::Carried(tables) => tables.group.table().first_passing(alloc, test),
+            Source::Carried(tables) if tables.group().lacks(gid) => Ok(None),
+            Source::Carried(tables) => tables.group().table().first_passing(alloc, test),
         }
     }
 
@@ -32,7 +31,7 @@ impl<'a> Tables<'a> {
     {
         match self.source() {
             Source::Files(_) => Ok(self.group_of_gid(alloc, gid)?.is_some()),
-            Source::Carried(tables) => tables.group.has_id(alloc, gid),
+            Source::Carried(tables) => tables.group().has_id(alloc, gid),
         }
     }
 
@@ -45,7 +44,7 @@ impl<'a> Tables<'a> {
                 let ids = used_ids::<GroupRecord>(alloc, &files.group)?;
                 Ok(IdsInUse::gathered(ids))
             }
-            Source::Carried(tables) => tables.group.used(alloc),
+            Source::Carried(tables) => tables.group().used(alloc),
         }
     }
 }

@@ -5,12 +5,13 @@ ghost use Rattle.account_model.specs.Refusals.{missing_group};
 ghost use Rattle.account_model.specs.Users.{find_user, find_shadow, group_named as group_of_name, gshadow_named as gshadow_of_name, has_group, has_gshadow, has_shadow, has_user};
 ghost use Rattle.table_lookups.specs.Stopping.{StopsBy};
 
+use crate::Tables;
 use crate::tables::Source;
-use crate::{Tables, text_of};
 use account_model::Refusal;
 use acct_lines::{GroupRecord, GshadowRecord, PasswdRecord, ShadowRecord};
 use acct_tables::{find_record, has_record};
 use acct_text::Bytes;
+use carried_tables::text_of;
 use std::alloc::{AllocError, Global};
 use tool_answers::ToolFault;
 
@@ -21,7 +22,7 @@ impl Tables<'_> {
     {
         match self.source() {
             Source::Files(files) => find_record(alloc, text_of(&files.passwd), name),
-            Source::Carried(tables) => tables.passwd.table().find(alloc, name),
+            Source::Carried(tables) => tables.passwd().table().find(alloc, name),
         }
     }
 
@@ -35,7 +36,7 @@ impl Tables<'_> {
     {
         match self.source() {
             Source::Files(files) => find_record(alloc, text_of(&files.shadow), name),
-            Source::Carried(tables) => tables.shadow.find(alloc, name),
+            Source::Carried(tables) => tables.shadow().find(alloc, name),
         }
     }
 
@@ -45,7 +46,7 @@ impl Tables<'_> {
     {
         match self.source() {
             Source::Files(files) => find_record(alloc, text_of(&files.group), name),
-            Source::Carried(tables) => tables.group.table().find(alloc, name),
+            Source::Carried(tables) => tables.group().table().find(alloc, name),
         }
     }
 
@@ -59,7 +60,7 @@ impl Tables<'_> {
     {
         match self.source() {
             Source::Files(files) => find_record(alloc, text_of(&files.gshadow), name),
-            Source::Carried(tables) => tables.gshadow.find(alloc, name),
+            Source::Carried(tables) => tables.gshadow().find(alloc, name),
         }
     }
 
@@ -69,7 +70,7 @@ impl Tables<'_> {
     {
         match self.source() {
             Source::Files(files) => has_record::<PasswdRecord>(text_of(&files.passwd), name),
-            Source::Carried(tables) => tables.passwd.table().has(name),
+            Source::Carried(tables) => tables.passwd().table().has(name),
         }
     }
 
@@ -79,7 +80,7 @@ impl Tables<'_> {
     {
         match self.source() {
             Source::Files(files) => has_record::<ShadowRecord>(text_of(&files.shadow), name),
-            Source::Carried(tables) => tables.shadow.has(name),
+            Source::Carried(tables) => tables.shadow().has(name),
         }
     }
 
@@ -89,7 +90,7 @@ impl Tables<'_> {
     {
         match self.source() {
             Source::Files(files) => has_record::<GroupRecord>(text_of(&files.group), name),
-            Source::Carried(tables) => tables.group.table().has(name),
+            Source::Carried(tables) => tables.group().table().has(name),
         }
     }
 
@@ -99,7 +100,7 @@ impl Tables<'_> {
     {
         match self.source() {
             Source::Files(files) => has_record::<GshadowRecord>(text_of(&files.gshadow), name),
-            Source::Carried(tables) => tables.gshadow.has(name),
+            Source::Carried(tables) => tables.gshadow().has(name),
         }
     }
 

@@ -2,9 +2,9 @@
 ghost use Rattle.std.specs.Prelude.{◌≡◌, is_some, IfSome};
 ghost use Rattle.table_lookups.specs.Sources.{files_in};
 
-use crate::{CarriedTables, RangeFile};
 use acct_tables::MANY;
 use acct_text::{Bytes, Files};
+use carried_tables::{CarriedTables, RangeFile};
 use std::marker::Model;
 
 /// Where the tables stand.
@@ -84,7 +84,7 @@ impl<'a> Tables<'a> {
     {
         match self.source() {
             Source::Files(files) => files.shadow.is_some(),
-            Source::Carried(tables) => tables.shadow.is_there(),
+            Source::Carried(tables) => tables.shadow().is_there(),
         }
     }
 
@@ -94,7 +94,7 @@ impl<'a> Tables<'a> {
     {
         match self.source() {
             Source::Files(files) => files.gshadow.is_some(),
-            Source::Carried(tables) => tables.gshadow.is_there(),
+            Source::Carried(tables) => tables.gshadow().is_there(),
         }
     }
 
@@ -104,7 +104,7 @@ impl<'a> Tables<'a> {
     {
         match self.source() {
             Source::Files(files) => &files.subuid,
-            Source::Carried(tables) => tables.subuid.file(),
+            Source::Carried(tables) => tables.subuid().file(),
         }
     }
 
@@ -114,7 +114,7 @@ impl<'a> Tables<'a> {
     {
         match self.source() {
             Source::Files(files) => &files.subgid,
-            Source::Carried(tables) => tables.subgid.file(),
+            Source::Carried(tables) => tables.subgid().file(),
         }
     }
 
@@ -124,7 +124,7 @@ impl<'a> Tables<'a> {
     {
         match self.source() {
             Source::Files(files) => RangeFile::of(&files.subuid, None),
-            Source::Carried(tables) => tables.subuid.ranges(),
+            Source::Carried(tables) => tables.subuid().ranges(),
         }
     }
 
@@ -134,7 +134,7 @@ impl<'a> Tables<'a> {
     {
         match self.source() {
             Source::Files(files) => RangeFile::of(&files.subgid, None),
-            Source::Carried(tables) => tables.subgid.ranges(),
+            Source::Carried(tables) => tables.subgid().ranges(),
         }
     }
 }

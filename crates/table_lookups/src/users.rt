@@ -9,14 +9,13 @@ ghost use Rattle.id_choice.specs.Used.{AreThoseOf};
 ghost use Rattle.table_lookups.specs.FirstLines.{TellsNames};
 ghost use Rattle.table_lookups.specs.Stopping.{StopsBy};
 
+use crate::Tables;
 use crate::first_lines::FirstOfNames;
-use crate::ids::used_ids;
-use crate::search::{OfGid, OfUid, first_passing};
 use crate::tables::Source;
-use crate::{IdsInUse, RecordTest, Tables};
 use account_model::Refusal;
 use acct_lines::PasswdRecord;
 use acct_text::{Bytes, Names};
+use carried_tables::{IdsInUse, OfGid, OfUid, RecordTest, first_passing, used_ids};
 use line_edits::NameSet;
 use std::alloc::{AllocError, Global};
 use tool_answers::ToolFault;
@@ -41,7 +40,7 @@ impl<'a> Tables<'a> {
     {
         match self.source() {
             Source::Files(files) => first_passing(alloc, &files.passwd, test),
-            Source::Carried(tables) => tables.passwd.table().first_passing(alloc, test),
+            Source::Carried(tables) => tables.passwd().table().first_passing(alloc, test),
         }
     }
 
@@ -51,7 +50,7 @@ impl<'a> Tables<'a> {
     {
         match self.source() {
             Source::Files(_) => Ok(self.first_user(alloc, &OfUid { uid })?.is_some()),
-            Source::Carried(tables) => tables.passwd.has_id(alloc, uid),
+            Source::Carried(tables) => tables.passwd().has_id(alloc, uid),
         }
     }
 
@@ -64,7 +63,7 @@ impl<'a> Tables<'a> {
                 let ids = used_ids::<PasswdRecord>(alloc, &files.passwd)?;
                 Ok(IdsInUse::gathered(ids))
             }
-            Source::Carried(tables) => tables.passwd.used(alloc),
+            Source::Carried(tables) => tables.passwd().used(alloc),
         }
     }
 

@@ -10,6 +10,7 @@ ghost use Rattle.line_edits.specs.HashChanges.{hash_by};
 
 use acct_text::Bytes;
 use command_values::Asked;
+use hash_edits::{change_user_hash, demand_shadow};
 use line_edits::HashChange;
 use std::alloc::{AllocError, Global};
 use table_edits::Script;
@@ -42,7 +43,7 @@ fn write_line(
         script.old script.new) }
 {
     if sets_hash(asked) || sets_aging(asked) {
-        return script.demand_shadow(alloc, tables, asked.operand());
+        return demand_shadow(alloc, script, tables, asked.operand());
     }
     Ok(())
 }
@@ -63,7 +64,7 @@ fn change_hash(
         return Ok(());
     }
     let change = hash_change(alloc, asked)?;
-    script.change_hash(alloc, tables, asked.operand(), change)
+    change_user_hash(alloc, script, tables, asked.operand(), change)
 }
 
 // The hash of `-p`, and else what `-L` and `-U` make of the old one.

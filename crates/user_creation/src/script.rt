@@ -17,6 +17,7 @@ use account_model::{Allotment, Plan};
 use acct_text::Bytes;
 use command_values::Asked;
 use given_groups::{group_name, group_words, groups_asked};
+use hash_edits::add_group;
 use line_edits::{Edit, SubidChange};
 use std::alloc::{AllocError, Global};
 use table_edits::Script;
@@ -80,7 +81,7 @@ fn add_own_group(
     if !plan.own_group {
         return Ok(());
     }
-    script.add_group(alloc, tables, asked.operand(), b"!", ids.gid)
+    add_group(alloc, script, tables, asked.operand(), b"!", ids.gid)
 }
 
 // The user joins the groups of `-G`.

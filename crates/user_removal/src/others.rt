@@ -6,8 +6,9 @@ ghost use Rattle.user_removal.specs.Others.{has_id};
 
 use account_formats::PasswdRecord;
 use acct_lines::PasswdLine;
+use carried_tables::RecordTest;
 use std::alloc::{AllocError, Global};
-use table_lookups::{RecordTest, Tables};
+use table_lookups::Tables;
 
 /// An ID of a user.
 #[derive(Clone, Copy)]

@@ -11,6 +11,7 @@ ghost use Rattle.table_edits.specs.Additions.{HasAlso};
 
 use acct_text::{Bytes, Names};
 use command_values::{Asked, list_value};
+use hash_edits::{demand_gshadow, set_group_hash};
 use line_edits::{GroupAct, GshadowAct};
 use std::alloc::{AllocError, Global};
 use table_edits::Script;
@@ -103,7 +104,7 @@ fn remove_password(
     if !asked.has(b'r') {
         return Ok(());
     }
-    script.set_group_hash(alloc, tables, asked.operand(), b"")
+    set_group_hash(alloc, script, tables, asked.operand(), b"")
 }
 
 // `-R` sets the hash `!`.
@@ -120,7 +121,7 @@ fn restrict(
     if !asked.has(b'R') {
         return Ok(());
     }
-    script.set_group_hash(alloc, tables, asked.operand(), b"!")
+    set_group_hash(alloc, script, tables, asked.operand(), b"!")
 }
 
 // The administrators of the group become these in gshadow, where a line is made on demand.
@@ -134,6 +135,6 @@ fn set_administrators(
     ensures { OnOk result (HasAlso (set_administrators name.now administrators tables.now)
         script.old script.new) }
 {
-    script.demand_gshadow(alloc, tables, name)?;
+    demand_gshadow(alloc, script, tables, name)?;
     script.change_gshadow(alloc, name, GshadowAct::SetAdministrators(administrators))
 }

@@ -13,8 +13,8 @@ returns c =
     let name = c.args.hash.now.name.now in
     let hash = c.args.hash.now.hash.now in
     let files = c.args.users.now in
-    let demanded = seen_script c.demand_indexed.new.self in
-    let changed = c.in_ok-change_hash.ensures {u = tt}
+    let demanded = seen_script c.demand_indexed.new.script in
+    let changed = c.in_ok-change_user_hash.ensures {u = tt}
     ∙ ap (λ (h : List ℕ). followed_by demanded (each_user_hash name (λ old. h) c.tables.result))
     (c.in_ok-of.ensures {u = tt})
     ∙ ap (λ (f : Files). followed_by demanded (each_user_hash name (λ old. hash) f))
@@ -22,5 +22,5 @@ returns c =
     on_ok_weaker c.change_shadow.result
     (three-also (demand_shadow name files) (each_user_hash name (λ old. hash) files)
     (set_last_change name c.args.day) (seen_script c.args.script.now) demanded
-    (seen_script c.change_hash.new.self) (seen_script c.change_shadow.new.self)
+    (seen_script c.change_user_hash.new.script) (seen_script c.change_shadow.new.self)
     (c.in_ok-demand_indexed.ensures {u = tt}) changed) c.change_shadow.ensures

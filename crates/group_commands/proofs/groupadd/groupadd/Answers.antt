@@ -43,5 +43,5 @@ returns c = λ settings has.
     ∙ ap (λ name. add_group name hash gid files) c.operand.ensures
     ∙ ap (λ hash. add_group (operand asked) hash gid files) c.value_or-hash.ensures in
     made-group (operand asked) asked files settings (is_content (operand asked) asked files) gid
-    c.add_group.new.self (sym c.is_content.ensures ∙ c.if-is_content.false)
+    c.add_group.new.script (sym c.is_content.ensures ∙ c.if-is_content.false)
     words.refused chosen.0 chosen.1 seen

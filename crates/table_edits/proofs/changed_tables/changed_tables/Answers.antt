@@ -31,22 +31,23 @@ returns c =
     let six = c.push_ranges-2.new.changed in
     all-listed old new six
     (listed-on old new Subgid [] five six
-    (listed-file subid_format subid_becomes c.deref-6.result.now script.subgid.items Subgid files.subgid
-    five six c.deref-6.ensures.value (c.in_ok-push_ranges-2.ensures {u = tt}))
+    (listed-file subid_format subid_becomes c.deref-6.result.now script.subgid.items
+    Subgid files.subgid five six c.deref-6.ensures.value (c.in_ok-push_ranges-2.ensures {u = tt}))
     (listed-on old new Subuid (Subgid ∷ []) four five
-    (listed-file subid_format subid_becomes c.deref-5.result.now script.subuid.items Subuid files.subuid
-    four five c.deref-5.ensures.value (c.in_ok-push_ranges.ensures {u = tt}))
+    (listed-file subid_format subid_becomes c.deref-5.result.now script.subuid.items
+    Subuid files.subuid four five c.deref-5.ensures.value (c.in_ok-push_ranges.ensures {u = tt}))
     (listed-on old new Gshadow (Subuid ∷ Subgid ∷ []) three four
-    (listed-file gshadow_format gshadow_becomes c.deref-4.result.now script.gshadow.items Gshadow files.gshadow
-    three four c.deref-4.ensures.value (c.in_ok-push_edited-4.ensures {u = tt}))
+    (listed-file gshadow_format gshadow_becomes c.deref-4.result.now script.gshadow.items
+    Gshadow files.gshadow three four c.deref-4.ensures.value
+    (c.in_ok-push_edited-4.ensures {u = tt}))
     (listed-on old new Group (Gshadow ∷ Subuid ∷ Subgid ∷ []) two three
-    (listed-file group_format group_becomes c.deref-3.result.now script.group.items Group files.group
-    two three c.deref-3.ensures.value (c.in_ok-push_edited-3.ensures {u = tt}))
+    (listed-file group_format group_becomes c.deref-3.result.now script.group.items
+    Group files.group two three c.deref-3.ensures.value (c.in_ok-push_edited-3.ensures {u = tt}))
     (listed-on old new Shadow (Group ∷ Gshadow ∷ Subuid ∷ Subgid ∷ []) one two
-    (listed-file shadow_format shadow_becomes c.deref-2.result.now script.shadow.items Shadow files.shadow
-    one two c.deref-2.ensures.value (c.in_ok-push_edited-2.ensures {u = tt}))
+    (listed-file shadow_format shadow_becomes c.deref-2.result.now script.shadow.items
+    Shadow files.shadow one two c.deref-2.ensures.value (c.in_ok-push_edited-2.ensures {u = tt}))
     (listed-on old new Passwd (Shadow ∷ Group ∷ Gshadow ∷ Subuid ∷ Subgid ∷ []) none one
-    (listed-file passwd_format passwd_becomes c.deref.result.now script.passwd.items Passwd files.passwd
-    none one c.deref.ensures.value (c.in_ok-push_edited.ensures {u = tt}))
+    (listed-file passwd_format passwd_becomes c.deref.result.now script.passwd.items
+    Passwd files.passwd none one c.deref.ensures.value (c.in_ok-push_edited.ensures {u = tt}))
     (subst (λ (listed : List NewTable). AreListedBefore old new all_tables listed)
     (sym c.none-changed.ensures) (none-listed old new))))))))

@@ -13,7 +13,8 @@ edits-preserved c = λ lines.
     let edits = c.args.edits.now in
     let index = c.edits.edit-index in
     let edit = c.edit-item.result in
-    rest-left (seen_edit subid_becomes edit) (seen_edits subid_becomes (drop (index + 1) edits)) lines
+    rest-left (seen_edit subid_becomes edit) (seen_edits subid_becomes (drop (index + 1) edits))
+    lines
     (c.leaves_all.ensures c.if-not-leaves_all.false)
     ∙ sym (ap (λ left. edited_by subid_format left lines)
     (seen-from subid_becomes edits index edit (omega arith) c.edit-item.is))

@@ -6,7 +6,7 @@ use Rattle.account_formats.specs.Tables.{table_records}
 use Rattle.line_edits.specs.SeenEdits.{seen_edits}
 use Rattle.line_edits.proofs.EditLists.{no-edits}
 use Rattle.line_edits.proofs.TouchedRecords.{none-met}
-use Rattle.table_lookups.proofs.FileLemmas.{records-in}
+use Rattle.carried_tables.proofs.FileLemmas.{records-in}
 use Rattle.table_edits.proofs.multiple.multiple_in.Goals as goal
 
 pub returns-then-is_empty : goal.returns-then-is_empty

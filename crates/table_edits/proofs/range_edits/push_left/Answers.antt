@@ -30,7 +30,8 @@ returns c =
     (λ pushed. pushed ∙ ap (λ bytes. c.args.made.now ++ bytes)
     (c.as_slice-2.ensures ∙ c.in_ok-left.ensures
     ∙ ap (λ lines. file_bytes (edited_by subid_format edits lines))
-    (ap lines_of (c.as_slice.ensures ∙ c.in_ok-push_to.ensures ∙ ap (λ front. front ++ line_bytes line) c.new-alone.ensures
+    (ap lines_of (c.as_slice.ensures ∙ c.in_ok-push_to.ensures
+    ∙ ap (λ front. front ++ line_bytes line) c.new-alone.ensures
     ∙ sym (append-nil (line_bytes line)))
     ∙ alone-found line c.requires.one_line (c.loses.ensures.range c.if-not-loses.false))))
     c.push.ensures.ok

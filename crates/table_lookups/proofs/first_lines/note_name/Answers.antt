@@ -7,6 +7,7 @@ use Rattle.table_lookups.specs.FirstLines.{has_name, is_asked, told_names}
 use Rattle.table_lookups.proofs.FirstLemmas.{first-known, first-noted, first-other, is-none, line-unasked, mapped-if, none-of, some-mapped, told-of}
 use Rattle.table_lookups.proofs.first_lines.note_name.Goals as goal
 
+-- a name that isn't asked for is passed over
 pub returns-then-not-is_asked : goal.returns-then-not-is_asked
 returns-then-not-is_asked g c = λ rest all.
     let format = g.R.TableRecord.format in
@@ -18,6 +19,7 @@ returns-then-not-is_asked g c = λ rest all.
     (ap (is_asked c.args.asked.now) (sym c.first_field.ensures)
     ∙ sym c.is_asked.ensures ∙ c.if-not-is_asked.true)
 
+-- other text is passed over
 pub returns-in_default : goal.returns-in_default
 returns-in_default g c = λ rest all.
     let format = g.R.TableRecord.format in
@@ -26,6 +28,7 @@ returns-in_default g c = λ rest all.
     (told_names c.args.lines.now) rest all
     (none-of format.name (format.read line) c.in_default.ensures)
 
+-- a line in front has the name
 pub returns-then-contains_key : goal.returns-then-contains_key
 returns-then-contains_key g c = λ rest all.
     let format = g.R.TableRecord.format in
@@ -37,6 +40,7 @@ returns-then-contains_key g c = λ rest all.
     (λ key is. sym here.has ∙ (bytes_eq-Decides (format.name here.item) key).0 is)
     (some-mapped (λ line. line.now) _ ∙ sym c.contains_key.ensures ∙ c.if-contains_key.true)
 
+-- the line is the first of its name
 pub returns : goal.returns
 returns g c = λ rest all.
     let format = g.R.TableRecord.format in

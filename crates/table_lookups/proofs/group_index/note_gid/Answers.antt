@@ -7,12 +7,14 @@ use Rattle.table_lookups.specs.FirstLines.{has_gid, told_gids}
 use Rattle.table_lookups.proofs.FirstLemmas.{first-known, first-noted, first-other, first-unasked, is-none, mapped-if, none-of, some-mapped, told-of}
 use Rattle.table_lookups.proofs.group_index.note_gid.Goals as goal
 
+-- other text is passed over
 pub returns-in_default : goal.returns-in_default
 returns-in_default c = λ rest all.
     first-other group_format has_gid (is_used c.args.asked.now) c.args.line.now
     (told_gids c.args.gids.now) rest all
     (none-of (λ group. group.gid) (group_format.read c.args.line.now) c.in_default.ensures)
 
+-- a GID that isn't asked for is passed over
 pub returns-then-not-holds : goal.returns-then-not-holds
 returns-then-not-holds c = λ rest all.
     let line = c.args.line.now in
@@ -23,6 +25,7 @@ returns-then-not-holds c = λ rest all.
     (λ key is. sym here.has ∙ eqb-true here.item.gid key is)
     (sym c.holds.ensures ∙ c.if-not-holds.true)
 
+-- a line in front has the GID
 pub returns-then-contains_key : goal.returns-then-contains_key
 returns-then-contains_key c = λ rest all.
     let line = c.args.line.now in
@@ -33,6 +36,7 @@ returns-then-contains_key c = λ rest all.
     (λ key is. sym here.has ∙ eqb-true here.item.gid key is)
     (some-mapped (λ line. line.now) _ ∙ sym c.contains_key.ensures ∙ c.if-contains_key.true)
 
+-- the line is the first with its GID
 pub returns : goal.returns
 returns c = λ rest all.
     let line = c.args.line.now in

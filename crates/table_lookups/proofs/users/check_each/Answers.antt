@@ -8,6 +8,7 @@ use Rattle.table_lookups.specs.Stopping.{StopsBy}
 use Rattle.table_lookups.proofs.StoppingLemmas.{handed-stops, stopped-first}
 use Rattle.table_lookups.proofs.users.check_each.Goals as goal
 
+-- the name that refuses is the first unknown one of all
 pub returns-in_err-check_in : goal.returns-in_err-check_in
 returns-in_err-check_in c =
     let names = c.args.names.now in

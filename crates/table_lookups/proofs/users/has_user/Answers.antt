@@ -5,6 +5,7 @@ use Rattle.account_formats.specs.Tables.{passwd_records}
 use Rattle.table_lookups.specs.FirstLines.{TellsNames}
 use Rattle.table_lookups.proofs.users.has_user.Goals as goal
 
+-- the index tells of the name, as it was asked for
 pub returns-in-Some : goal.returns-in-Some
 returns-in-Some c =
     let records = passwd_records c.args.tables.now in

@@ -16,8 +16,9 @@ returns c =
     let sets : sets_hash asked ≡ true = sym c.sets_hash.ensures ∙ c.if-not-sets_hash.false in
     let edits = each_user_hash user (hash_after asked) files in
     subst
-    (λ edits. OnOk c.change_hash.result (HasAlso edits c.args.script.now c.change_hash.new.self))
+    (λ edits. OnOk c.change_user_hash.result
+    (HasAlso edits c.args.script.now c.change_user_hash.new.script))
     (ap (λ name. each_user_hash name (hash_by c.in_ok-change.change) files) c.operand.ensures
     ∙ ap (λ f. each_user_hash user f files) (c.in_ok-change.ensures {u = tt})
     ∙ sym (ap (λ set. if set then edits else no_edits) sets))
-    c.change_hash.ensures
+    c.change_user_hash.ensures

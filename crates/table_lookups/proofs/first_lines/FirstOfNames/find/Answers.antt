@@ -4,6 +4,7 @@ use Rattle.std.proofs.lemmas.Result.{IfOk-weaker}
 use Rattle.table_lookups.specs.FirstLines.{or_other}
 use Rattle.table_lookups.proofs.first_lines.FirstOfNames.find.Goals as goal
 
+-- the line that is told reads as the first record of the name
 pub returns-in-Some : goal.returns-in-Some
 returns-in-Some g c =
     let format = g.R.TableRecord.format in
@@ -13,6 +14,7 @@ returns-in-Some g c =
     ∙ tells c.args.name.now asked)
     c.read_record.ensures.found
 
+-- no line is told of the name
 pub returns-in-None : goal.returns-in-None
 returns-in-None g c = λ records tells asked.
     let format = g.R.TableRecord.format in

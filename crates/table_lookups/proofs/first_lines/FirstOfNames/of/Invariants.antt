@@ -8,8 +8,8 @@ use Rattle.table_lookups.proofs.first_lines.FirstOfNames.of.Given as goal
 abbrev pub invariant-lines : goal.invariant-lines
 invariant-lines g l =
     let format = g.R.TableRecord.format in
-    Tells format (has_name format) (is_asked l.asked) (told_names l.lines) (records_of format l.left)
-    (table_records format l.file)
+    Tells format (has_name format) (is_asked l.asked) (told_names l.lines)
+    (records_of format l.left) (table_records format l.file)
 
 abbrev pub decreases-lines : goal.decreases-lines
 decreases-lines g l = length l.left

@@ -6,10 +6,11 @@ use Rattle.account_formats.specs.declared.records.GroupRecord.{GroupRecord}
 use Rattle.account_model.specs.GivenGroups.{find_gid}
 use Rattle.table_lookups.specs.FirstLines.{TellsGids}
 use Rattle.table_lookups.proofs.FirstLemmas.{some-mapped}
-use Rattle.table_lookups.proofs.KeptIdLemmas.{used-found}
+use Rattle.carried_tables.proofs.KeptIdLemmas.{used-found}
 use Rattle.table_lookups.proofs.group_index.GroupIndex.has_gid.Goals as goal
 use denote.Ref.{Bor}
 
+-- the index tells of the GID, as it was asked for
 pub returns-in-Some : goal.returns-in-Some
 returns-in-Some c =
     let records = group_records c.self.inside.tables in
@@ -20,6 +21,7 @@ returns-in-Some c =
     ∙ some-mapped (λ (group : GroupRecord). group.name) (find_gid c.args.gid records)
     ∙ ap (λ files. is_some (find_gid c.args.gid (group_records files))) c.self.view_is
 
+-- the tables tell of a GID that wasn't asked for
 pub returns-in_default : goal.returns-in_default
 returns-in_default c =
     IfOk-weaker c.is_gid_used.result _ _ (λ has is.

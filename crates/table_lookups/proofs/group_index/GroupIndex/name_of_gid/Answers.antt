@@ -7,6 +7,7 @@ use Rattle.account_model.specs.GivenGroups.{find_gid}
 use Rattle.table_lookups.specs.FirstLines.{TellsGids}
 use Rattle.table_lookups.proofs.group_index.GroupIndex.name_of_gid.Goals as goal
 
+-- the index tells the name, as the GID was asked for
 pub returns-in-Some : goal.returns-in-Some
 returns-in-Some c =
     let records = group_records c.self.inside.tables in

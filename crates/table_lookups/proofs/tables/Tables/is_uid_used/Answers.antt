@@ -2,9 +2,10 @@ use Rattle.std.proofs.Common.{◌∙◌, ap}
 use Rattle.std.specs.Prelude.{is_some}
 use Rattle.account_formats.specs.Tables.{passwd_records}
 use Rattle.account_formats.specs.declared.records.PasswdRecord.{PasswdRecord}
-use Rattle.table_lookups.proofs.KeptIdLemmas.{used-found}
+use Rattle.carried_tables.proofs.KeptIdLemmas.{used-found}
 use Rattle.table_lookups.proofs.tables.Tables.is_uid_used.Goals as goal
 
+-- in files the UID is used where a user is found
 pub returns-in_ok-first_user-in-Files : goal.returns-in_ok-first_user-in-Files
 returns-in_ok-first_user-in-Files c =
     c.is_some.ensures

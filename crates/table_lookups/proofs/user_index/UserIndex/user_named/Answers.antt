@@ -7,6 +7,7 @@ use Rattle.account_formats.specs.Tables.{passwd_records}
 use Rattle.table_lookups.specs.FirstLines.{AreUsers}
 use Rattle.table_lookups.proofs.user_index.UserIndex.user_named.Goals as goal
 
+-- the index tells of the name in passwd
 pub returns-in-Some : goal.returns-in-Some
 returns-in-Some c =
     let files = c.self.inside.tables in

@@ -1,0 +1,5 @@
+pub mod RecordLemmas
+pub mod FileLemmas
+pub mod NumberLemmas
+pub mod KeptIdLemmas
+pub mod CarriedLemmas

@@ -1,0 +1,5 @@
+pub mod TablesOfLines
+pub mod Accepting
+pub mod InUse
+pub mod KeptIds
+pub mod TableEdits

@@ -1,0 +1,134 @@
+// A table that is carried from command to command: the lines of its file, which edits change where
+// they stand (passwd(5), shadow(5), group(5), gshadow(5)).
+ghost use Rattle.std.specs.Prelude.{◌≡◌, None, find, is_some, IfOk, OnOk};
+ghost use Rattle.account_formats.specs.Format.{find_named, has_named};
+ghost use Rattle.account_formats.specs.Tables.{table_records};
+ghost use Rattle.carried_tables.specs.TableEdits.{AreWritten, multiple_by, table_by};
+
+use crate::search::{RecordTest, first_passing};
+use acct_tables::EditedLines;
+use acct_text::Bytes;
+use line_edits::{Edit, EditedRecord, apply, first_multiple_in};
+use std::alloc::{AllocError, Global};
+use std::marker::Model;
+
+/// A table of the records R. Look-ups and edits by name take no pass over its lines. Contracts see it
+/// as the bytes of its file, and none where the file is absent.
+#[derive(Drop)]
+pub struct CarriedTable<R: EditedRecord> {
+    // each line has its own bytes, so that the file needn't stay
+    lines: Option<EditedLines<'static, R>>,
+}
+
+impl<R: EditedRecord> Model for CarriedTable<R> {
+    ghost use Rattle.std.specs.Prelude.{ℕ, List, Option, option_map, IfSome};
+    ghost use Rattle.acct_text.specs.Lines.{file_bytes};
+    ghost use Rattle.acct_tables.specs.SeenLines.{AreOfFile};
+
+    ghost Value = { Option (List ℕ) };
+
+    ghost view = { λ table. option_map file_bytes table.lines };
+
+    ghost invariant = { λ table. IfSome table.lines AreOfFile };
+}
+
+impl<R: EditedRecord + Drop> CarriedTable<R> {
+    /// The table of no file.
+    pub(crate) fn absent() -> Self
+        ensures { result ≡ None }
+    {
+        CarriedTable { lines: None }
+    }
+
+    /// The table of the file, in one pass.
+    pub(crate) fn of(alloc: Global, file: &Option<Bytes>) -> Result<Self, AllocError>
+        ensures { IfOk result (λ table. table ≡ file.now) }
+    {
+        match file {
+            Some(text) => {
+                let lines = EditedLines::copied(alloc, text.as_slice())?;
+                Ok(CarriedTable { lines: Some(lines) })
+            }
+            None => Ok(CarriedTable::absent()),
+        }
+    }
+
+    /// Whether there is a file.
+    pub fn is_there(&self) -> bool
+        ensures { result ≡ is_some self.now }
+    {
+        self.lines.is_some()
+    }
+
+    /// The bytes of the file; none where it is absent.
+    pub(crate) fn file(&self) -> Result<Option<Bytes>, AllocError>
+        ensures { IfOk result (λ file. file ≡ self.now) }
+    {
+        match &self.lines {
+            Some(lines) => Ok(Some(lines.text()?)),
+            None => Ok(None),
+        }
+    }
+
+    /// The first record that has the name. It takes no pass over the lines.
+    pub fn find(&self, alloc: Global, name: &[u8]) -> Result<Option<R>, AllocError>
+        ensures { IfOk result (λ found.
+            found ≡ find_named R.format name.now (table_records R.format self.now)) }
+    {
+        match &self.lines {
+            Some(lines) => lines.find(alloc, name),
+            None => Ok(None),
+        }
+    }
+
+    /// Whether a record has the name. It takes no memory and no pass over the lines.
+    pub fn has(&self, name: &[u8]) -> bool
+        ensures { result ≡ has_named R.format name.now (table_records R.format self.now) }
+    {
+        match &self.lines {
+            Some(lines) => lines.get(name).is_some(),
+            None => false,
+        }
+    }
+
+    /// The first record that passes the test, by a pass over the bytes.
+    pub fn first_passing<T: RecordTest<R>>(
+        &self,
+        alloc: Global,
+        test: &T,
+    ) -> Result<Option<R>, AllocError>
+        ensures { IfOk result (λ found.
+            found ≡ find (T.accepts test.now) (table_records R.format self.now)) }
+    {
+        first_passing(alloc, &self.file()?, test)
+    }
+
+    /// The name of the first record that the edits touch and whose name has several records.
+    pub fn first_multiple(
+        &self,
+        alloc: Global,
+        edits: &[Edit<R, R::Change>],
+    ) -> Result<Option<Bytes>, AllocError>
+        requires { AreWritten R.format R.becomes edits.now }
+        ensures { IfOk result (λ name. name ≡
+            multiple_by R.format R.becomes edits.now (table_records R.format self.now)) }
+    {
+        match &self.lines {
+            Some(lines) => first_multiple_in(alloc, lines, edits),
+            None => Ok(None),
+        }
+    }
+
+    /// Carries the edits out, in their order. At `AllocError` the table is gone.
+    pub fn edit(&mut self, alloc: Global, edits: &[Edit<R, R::Change>]) -> Result<(), AllocError>
+        requires { AreWritten R.format R.becomes edits.now }
+        ensures { OnOk result (self.new ≡ table_by R.format R.becomes edits.now self.old) }
+    {
+        let Some(mut lines) = self.lines.take() else {
+            return Ok(());
+        };
+        apply(alloc, &mut lines, edits)?;
+        self.lines = Some(lines);
+        Ok(())
+    }
+}

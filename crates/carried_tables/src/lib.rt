@@ -1,0 +1,29 @@
+//! The six tables that commands carry from one to the next, and what is found in the file of a table
+//! (passwd(5), shadow(5), group(5), gshadow(5), subuid(5), subgid(5)).
+//!
+//! `CarriedTables` stand in the place of the files for commands that follow one another: each table
+//! keeps its lines with an index of their names (`carried_table`), and the IDs that are used
+//! (`id_table`), and edits change them where they stand. Subordinate ranges are asked for as a
+//! `range_file`, and of carried ones the index is kept (`range_table`).
+//!
+//! `search` finds the first record of a file that passes a test, and `ids` gathers the IDs that are
+//! used; `in_use` is how they are answered.
+#![tactic(auto)]
+
+mod carried_table;
+mod carried_tables;
+mod id_table;
+mod ids;
+mod in_use;
+mod range_file;
+mod range_table;
+mod search;
+
+pub use carried_table::CarriedTable;
+pub use carried_tables::CarriedTables;
+pub use id_table::IdTable;
+pub use ids::{IdRecord, used_ids};
+pub use in_use::IdsInUse;
+pub use range_file::RangeFile;
+pub use range_table::RangeTable;
+pub use search::{OfGid, OfUid, RecordTest, first_passing, text_of};
