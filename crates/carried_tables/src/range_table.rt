@@ -22,7 +22,7 @@ use subid_ranges::RangeIndex;
 /// and none where the file is absent.
 pub struct RangeTable {
     file: Option<Bytes>,
-    // none until a range is added, and after any other edit
+    // none until a range is added or it is gathered, and after any other edit
     index: Option<RangeIndex>,
 }
 
@@ -79,6 +79,30 @@ impl RangeTable {
         ensures { result ≡ self.now }
     {
         RangeFile::of(&self.file, self.index.as_ref())
+    }
+
+    /// The file as it is asked, where the index of its ranges is known: then no answer takes a pass
+    /// over the lines.
+    pub fn indexed(&self) -> Option<RangeFile<'_>>
+        ensures { IfSome result (λ ranges. ranges ≡ self.now) }
+    {
+        match &self.index {
+            Some(index) => Some(RangeFile::of(&self.file, Some(index))),
+            None => None,
+        }
+    }
+
+    /// Gathers the index of the ranges in a pass over the lines, where it isn't known.
+    pub fn gather(&mut self, alloc: Global) -> Result<(), AllocError>
+        ensures { OnOk result (self.new ≡ self.old) }
+    {
+        let known = self.index.take();
+        let Some(text) = &self.file else {
+            return Ok(());
+        };
+        let index = known_or_gathered(alloc, known, text.as_slice())?;
+        self.index = Some(index);
+        Ok(())
     }
 
     /// Adds a range behind the last line; an absent file stays absent. At `AllocError` the table is

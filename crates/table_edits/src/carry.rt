@@ -13,7 +13,7 @@ ghost use Rattle.table_edits.specs.Deciding.{CarriesAs};
 ghost use Rattle.table_edits.specs.SeenScript.{seen_script};
 
 use crate::decide::output_of;
-use crate::left_ranges::leave_all;
+use crate::left_ranges::{leave_all, leave_indexed};
 use crate::multiple::multiple_carried;
 use crate::{Report, Script, SubidRecord, edited_ranges};
 use account_words::Tool;
@@ -67,7 +67,7 @@ fn edit_tables(alloc: Global, tables: &mut CarriedTables, script: &Script) -> Re
 }
 
 // Makes the edits of subuid or subgid. A range that is added alone takes no pass over the lines, nor do
-// edits that leave all ranges.
+// edits that leave all ranges, where the index of these is known.
 fn edit_ranges(
     alloc: Global,
     table: &mut RangeTable,
@@ -83,11 +83,31 @@ fn edit_ranges(
     if leave_all(edits) {
         return Ok(());
     }
+    if leave_indexed(table, edits) {
+        return Ok(());
+    }
+    remake_ranges(alloc, table, edits)
+}
+
+// Makes the edits in a pass over the lines. Where these stay, another pass gathers the index, so that
+// the next edits for owners without a range take none.
+fn remake_ranges(
+    alloc: Global,
+    table: &mut RangeTable,
+    edits: &[Edit<SubidRecord, SubidChange>],
+) -> Result<(), AllocError>
+    requires { AllByRecursion (IsWrittenEdit subid_format) (seen_edits subid_becomes edits.now) }
+    ensures { OnOk result (table.new
+        ≡ table_after subid_format (seen_edits subid_becomes edits.now) table.old) }
+{
     let Some(text) = table.file() else {
         return Ok(())
     };
-    let text = edited_ranges(alloc, text.as_slice(), edits)?;
-    table.put(text);
+    let new = edited_ranges(alloc, text.as_slice(), edits)?;
+    if new.as_slice() == text.as_slice() {
+        return table.gather(alloc);
+    }
+    table.put(new);
     Ok(())
 }
 

@@ -4,6 +4,7 @@ use Rattle.std.proofs.lemmas.Result.{on_ok_weaker}
 use Rattle.account_formats.specs.RecordEdits.{IsWrittenEdit}
 use Rattle.account_formats.specs.Records.{subid_format}
 use Rattle.account_formats.specs.Tables.{table_after}
+use Rattle.carried_tables.specs.TablesOfLines.{lines_in}
 use Rattle.line_edits.specs.SeenEdits.{seen_edits}
 use Rattle.line_edits.specs.SubidChanges.{subid_becomes}
 use Rattle.table_edits.proofs.LeftLemmas.{left-file}
@@ -22,5 +23,9 @@ returns-in-Some c =
 
 pub returns-then-leave_all : goal.returns-then-leave_all
 returns-then-leave_all c =
-    sym (left-file (seen_edits subid_becomes c.args.edits.now) c.args.table.now
-    (c.leave_all.ensures c.if-leave_all.true))
+    let file = c.args.table.now in
+    sym (left-file (seen_edits subid_becomes c.args.edits.now) file
+    (c.leave_all.ensures c.if-leave_all.true (lines_in file)))
+
+pub returns-then-leave_indexed : goal.returns-then-leave_indexed
+returns-then-leave_indexed c = sym (c.leave_indexed.ensures c.if-leave_indexed.true)

@@ -15,7 +15,7 @@ edits-preserved c = λ lines.
     let edit = c.edit-item.result in
     rest-left (seen_edit subid_becomes edit) (seen_edits subid_becomes (drop (index + 1) edits))
     lines
-    (c.leaves_all.ensures c.if-not-leaves_all.false)
+    (c.leaves_all.ensures c.if-not-leaves_all.false lines)
     ∙ sym (ap (λ left. edited_by subid_format left lines)
     (seen-from subid_becomes edits index edit (omega arith) c.edit-item.is))
     ∙ c.edits.invariant lines
