@@ -2,3 +2,4 @@ pub mod ActingLemmas
 pub mod LeftLemmas
 pub mod ListedFile
 pub mod RemovalLemmas
+pub mod CutLemmas

@@ -1,11 +1,13 @@
 -- Removals of IDs from the ranges of one owner, made in one pass over the lines (usermod(8), `-V` and
 -- `-W`; subuid(5), subgid(5)).
-use Rattle.std.specs.Prelude.{◌≡◌, ℕ, ◌<◌, ◌≤◌, true, false, List, [], ◌∷◌, Option, if◌then◌else◌}
+use Rattle.std.specs.Prelude.{◌≡◌, ℕ, ◌<◌, ◌≤◌, true, false, List, [], ◌∷◌, Option, ⊤, if◌then◌else◌}
 use Rattle.account_formats.specs.declared.records.SubidRecord.{SubidRecord}
-use Rattle.account_formats.specs.Edits.{Edit}
+use Rattle.acct_text.specs.Lines.{Line}
+use Rattle.account_formats.specs.Edits.{Edit, printed_line}
 use Rattle.account_formats.specs.Edits.Edit.{Become}
 use Rattle.account_words.specs.Ids.{is_used}
-use Rattle.account_formats.specs.Records.{last_id}
+use Rattle.account_formats.specs.Records.{last_id, subid_format}
+use Rattle.account_formats.specs.Written.{IsWritten}
 use Rattle.account_words.specs.SubidOwner.{is_owned, left_without}
 
 -- none of the numbers from the first to the last is there
@@ -28,3 +30,13 @@ pub record Removes (name : List ℕ) (uid : Option ℕ) (first last : ℕ) (edit
     : Type 0 where
   pub ordered : first ≤ last
   pub is : edit ≡ Become (λ r. if is_owned name uid r then left_without first last r else r ∷ [])
+
+-- the edit makes records of each record
+abbrev pub MakesRecords : {R : Type 0} → Edit R → Type 0
+MakesRecords (Become f) = ⊤
+MakesRecords _ = ⊥
+
+-- the line is that of the range, as it's printed
+pub record IsLineOf (line : Line) (range : SubidRecord) : Type 0 where
+  pub written : IsWritten subid_format range
+  pub printed : line ≡ printed_line subid_format range

@@ -4,12 +4,13 @@
 //! A tool builds a `Script`; `group_edits` and `user_edits` have edits that several tools make.
 //! `decide_by` decides by it: it refuses where an edit touches one of several records of a name
 //! (`multiple`), and else makes the new bytes of each table (`changed_tables`; `range_edits` has the
-//! edits of subuid and subgid). `carry_out` makes the edits in tables that are carried from command to
-//! command.
+//! edits of subuid and subgid, `cut_ranges` what they leave of one range). `carry_out` makes the
+//! edits in tables that are carried from command to command.
 #![tactic(auto)]
 
 mod carry;
 mod changed_tables;
+mod cut_ranges;
 mod decide;
 mod group_edits;
 mod left_ranges;

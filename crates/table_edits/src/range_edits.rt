@@ -16,6 +16,7 @@ ghost use Rattle.table_edits.specs.RangeRemovals.{HasNone, IsApart, KeepsApart, 
 ghost use Rattle.line_edits.specs.SeenEdits.{seen_edit, seen_edits};
 ghost use Rattle.line_edits.specs.SubidChanges.{subid_becomes};
 
+use crate::cut_ranges::{canonical_range, push_left_of};
 use acct_lines::{SubidLine, SubidRecord};
 use acct_tables::{FileLine, Lines, is_owner};
 use acct_text::Bytes;
@@ -208,6 +209,27 @@ fn push_left(
     if !loses(removals, line.text) {
         return line.push_to(made);
     }
+    match canonical_range(alloc, line)? {
+        Some(range) => push_left_of(alloc, made, range, edits),
+        None => push_edited(alloc, made, line, edits),
+    }
+}
+
+// Adds what is left of a line that is a range, whose text goes from edit to edit: a line that isn't
+// canonical, or lacks its end, stays so for as long as its range is one and whole.
+fn push_edited(
+    alloc: Global,
+    made: &mut Bytes,
+    line: &FileLine<'_>,
+    edits: &[Edit<SubidRecord, SubidChange>],
+) -> Result<(), AllocError>
+    requires one_line { Lacks newline line.now.text.now }
+    requires range { IsSome (subid_format.read line.now.text.now) }
+    requires written { AllByRecursion (IsWrittenEdit subid_format)
+        (seen_edits subid_becomes edits.now) }
+    ensures { OnOk result (made.new ≡ made.old ++ file_bytes
+        (edited_by subid_format (seen_edits subid_becomes edits.now) (seen_line line.now ∷ []))) }
+{
     let mut alone = Bytes::new(alloc);
     line.push_to(&mut alone)?;
     let left = edited_text(alloc, alone.as_slice(), edits)?;

@@ -1,13 +1,13 @@
-use Rattle.std.proofs.Common.{◌∙◌, ◌++◌, ◌∷◌, [], sym, ap, append-nil}
+use Rattle.std.proofs.Common.{◌∙◌, ◌++◌, ◌∷◌, [], ap}
 use Rattle.std.proofs.lemmas.Result.{on_ok_weaker}
-use Rattle.acct_text.specs.Lines.{file_bytes, line_bytes, lines_of}
 use Rattle.account_formats.specs.Edits.{edited_by}
 use Rattle.account_formats.specs.Records.{subid_format}
 use Rattle.acct_tables.specs.SeenLines.{seen_line}
 use Rattle.line_edits.specs.SeenEdits.{seen_edits}
 use Rattle.line_edits.specs.SubidChanges.{subid_becomes}
 use Rattle.line_edits.proofs.ChangedLines.{stays-bytes}
-use Rattle.table_edits.proofs.RemovalLemmas.{alone-found, apart-stays}
+use Rattle.table_edits.proofs.RemovalLemmas.{apart-stays}
+use Rattle.table_edits.proofs.CutLemmas.{all-make}
 use Rattle.table_edits.proofs.range_edits.push_left.Goals as goal
 
 pub returns-then-not-loses : goal.returns-then-not-loses
@@ -22,16 +22,8 @@ returns-then-not-loses c =
     (c.loses.ensures.stays c.if-not-loses.true) c.requires.kept)))
     c.push_to.ensures
 
-pub returns : goal.returns
-returns c =
-    let line = seen_line c.args.line.now in
-    let edits = seen_edits subid_becomes c.args.edits.now in
-    on_ok_weaker c.push.result
-    (λ pushed. pushed ∙ ap (λ bytes. c.args.made.now ++ bytes)
-    (c.as_slice-2.ensures ∙ c.in_ok-left.ensures
-    ∙ ap (λ lines. file_bytes (edited_by subid_format edits lines))
-    (ap lines_of (c.as_slice.ensures ∙ c.in_ok-push_to.ensures
-    ∙ ap (λ front. front ++ line_bytes line) c.new-alone.ensures
-    ∙ sym (append-nil (line_bytes line)))
-    ∙ alone-found line c.requires.one_line (c.loses.ensures.range c.if-not-loses.false))))
-    c.push.ensures.ok
+pub push_left_of-requires-clause-records : goal.push_left_of-requires-clause-records
+push_left_of-requires-clause-records c =
+    let removals = c.args.removals.now in
+    all-make removals.owner.now removals.uid removals.ids
+    (seen_edits subid_becomes c.args.edits.now) c.requires.kept
