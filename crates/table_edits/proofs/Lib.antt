@@ -3,3 +3,4 @@ pub mod LeftLemmas
 pub mod ListedFile
 pub mod RemovalLemmas
 pub mod CutLemmas
+pub mod CheckedTables

@@ -5,8 +5,7 @@ ghost use Rattle.account_formats.specs.WrittenScript.{IsWrittenScript};
 ghost use Rattle.table_edits.specs.Deciding.{DecidesAs};
 ghost use Rattle.table_edits.specs.SeenScript.{seen_script};
 
-use crate::changed_tables::changed_tables;
-use crate::multiple::multiple_entries;
+use crate::checked_tables::{Changes, checked_tables};
 use crate::{Report, Script};
 use account_words::Tool;
 use acct_text::Files;
@@ -27,12 +26,10 @@ pub fn decide_by(
     requires { IsWrittenScript (seen_script script.now) }
     ensures { IfOk result (DecidesAs tool files.now script.now report) }
 {
-    if let Some(refusal) = multiple_entries(alloc, files, script)? {
-        return refuse(alloc, tool, refusal);
+    match checked_tables(alloc, files, script)? {
+        Changes::Refused(refusal) => refuse(alloc, tool, refusal),
+        Changes::Tables(changed) => Ok(decision_by(changed, output_of(alloc, tool, report)?)),
     }
-    let output = output_of(alloc, tool, report)?;
-    let changed = changed_tables(alloc, files, script)?;
-    Ok(decision_by(changed, output))
 }
 
 /// What a tool prints that doesn't refuse, with its status.

@@ -2,14 +2,14 @@
 //! edits (passwd(5), shadow(5), group(5), gshadow(5), subuid(5), subgid(5)).
 //!
 //! A tool builds a `Script`; `group_edits` and `user_edits` have edits that several tools make.
-//! `decide_by` decides by it: it refuses where an edit touches one of several records of a name
-//! (`multiple`), and else makes the new bytes of each table (`changed_tables`; `range_edits` has the
-//! edits of subuid and subgid, `cut_ranges` what they leave of one range). `carry_out` makes the
-//! edits in tables that are carried from command to command.
+//! `decide_by` decides by it: it refuses where an edit touches one of several records of a name, and
+//! else makes the new bytes of each table (`checked_tables`; `range_edits` has the edits of subuid and
+//! subgid, `cut_ranges` what they leave of one range). `carry_out` does the same (`multiple`) in tables
+//! that are carried from command to command.
 #![tactic(auto)]
 
 mod carry;
-mod changed_tables;
+mod checked_tables;
 mod cut_ranges;
 mod decide;
 mod group_edits;

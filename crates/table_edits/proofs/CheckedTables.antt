@@ -1,0 +1,170 @@
+-- Claim: the refusal of a table that refuses, behind others that don't, is that of all
+-- (`refused-first` and its likes), and where no table refuses they are all changed (`none-refused`); so
+-- with edits that were read from slices (`read-in`). Such an answer tells the outcome of an action with
+-- the script (`outcome-refused`, `outcome-made`) and what it prints (`reported`). Way: table by table.
+use Rattle.std.proofs.Common.{◌≡◌, ◌∙◌, ℕ, List, [], ◌∷◌, ap, refl, sym}
+use Rattle.std.specs.Prelude.{Option, Some, None, Ok, Err}
+use Rattle.acct_text.specs.declared.files.Files.{Files}
+use Rattle.acct_text.specs.declared.Tab.{Tab}
+use Rattle.acct_text.specs.declared.new_tables.NewTable.{NewTable}
+use Rattle.account_formats.specs.Format.{Format}
+use Rattle.account_formats.specs.Text.{first_some}
+use Rattle.account_model.specs.Action.{Action, made_by, multiple_entries, multiple_in, outcome_of}
+use Rattle.account_model.specs.Batch.{written_by}
+use Rattle.account_model.specs.Messages.{messages}
+use Rattle.account_model.specs.declared.refusal.Refusal.{Refusal}
+use Rattle.account_words.specs.declared.tool.Tool.{Tool}
+use Rattle.tool_answers.specs.Decisions.{written_output}
+use Rattle.tool_answers.specs.declared.decision.Output.{Output}
+use Rattle.line_edits.specs.declared.edit.Edit.{Edit}
+use Rattle.line_edits.specs.SeenEdits.{seen_edits}
+use Rattle.table_edits.specs.Acting.{IsReportOf, IsScriptOf}
+use Rattle.table_edits.specs.CheckedTables.{changes_as}
+use Rattle.table_edits.specs.SeenScript.{seen_script}
+use Rattle.table_edits.specs.declared.checked_tables.Changes.{Changes}
+use Rattle.table_edits.specs.declared.checked_tables.Changes.TheVariants.{Refused, Tables}
+use Rattle.table_edits.specs.declared.report.Report.{Report}
+use Rattle.table_edits.specs.declared.script.Script.{Script}
+
+-- what a tool prints
+abbrev pub printed : Tool → ℕ → List ℕ → List (List ℕ) → Output
+printed tool status out notices = record {
+  status = status;
+  out = out;
+  err = messages tool notices;
+}
+
+-- the refusal of a table by edits that were read from a slice of them
+pub read-in :
+    {R C : Type 0} (format : Format R) (becomes : C → R → List R) (slice items : List (Edit R C))
+    (table : Tab) (records : List R) (found answer : Option Refusal)
+    → slice ≡ items
+    → found ≡ multiple_in table format (seen_edits becomes slice) records
+    → found ≡ answer
+    → multiple_in table format (seen_edits becomes items) records ≡ answer
+read-in format becomes slice items table records found answer same is told =
+    sym (is ∙ ap (λ edits. multiple_in table format (seen_edits becomes edits) records) same) ∙ told
+
+module _ (passwd shadow group gshadow : Option Refusal) (tables : List NewTable) where
+  -- what is answered by the refusals of the four tables
+  abbrev pub answered :
+      Option Refusal → Option Refusal → Option Refusal → Option Refusal → Changes
+  answered one two three four = changes_as (first_some (one ∷ two ∷ three ∷ four ∷ [])) tables
+
+  module _ (refusal : Refusal) where
+    -- passwd refuses
+    pub refused-first :
+        passwd ≡ Some refusal → Refused refusal ≡ answered passwd shadow group gshadow
+    refused-first is = sym (ap (λ one. answered one shadow group gshadow) is)
+
+  module _ (first : passwd ≡ None) where
+    -- shadow does, and passwd doesn't
+    pub refused-second :
+        (refusal : Refusal)
+        → shadow ≡ Some refusal
+        → Refused refusal ≡ answered passwd shadow group gshadow
+    refused-second refusal is =
+        sym (ap (λ one. answered one shadow group gshadow) first
+        ∙ ap (λ two. answered None two group gshadow) is)
+
+    module _ (second : shadow ≡ None) where
+      -- group does, and the two before don't
+      pub refused-third :
+          (refusal : Refusal)
+          → group ≡ Some refusal
+          → Refused refusal ≡ answered passwd shadow group gshadow
+      refused-third refusal is =
+          sym (ap (λ one. answered one shadow group gshadow) first
+          ∙ ap (λ two. answered None two group gshadow) second
+          ∙ ap (λ three. answered None None three gshadow) is)
+
+      module _ (third : group ≡ None) where
+        -- gshadow does, and the three before don't
+        pub refused-fourth :
+            (refusal : Refusal)
+            → gshadow ≡ Some refusal
+            → Refused refusal ≡ answered passwd shadow group gshadow
+        refused-fourth refusal is =
+            sym (ap (λ one. answered one shadow group gshadow) first
+            ∙ ap (λ two. answered None two group gshadow) second
+            ∙ ap (λ three. answered None None three gshadow) third
+            ∙ ap (λ four. answered None None None four) is)
+
+        -- none does
+        pub none-refused : gshadow ≡ None → Tables tables ≡ answered passwd shadow group gshadow
+        none-refused fourth =
+            sym (ap (λ one. answered one shadow group gshadow) first
+            ∙ ap (λ two. answered None two group gshadow) second
+            ∙ ap (λ three. answered None None three gshadow) third
+            ∙ ap (λ four. answered None None None four) fourth)
+
+-- ---- What was answered
+
+-- a refusal that is told is that of the tables
+pub told-refused :
+    (found : Option Refusal) (tables : List NewTable) (refusal : Refusal)
+    → Refused refusal ≡ changes_as found tables
+    → found ≡ Some refusal
+told-refused None tables refusal is = absurd cc
+told-refused (Some first) tables refusal is = cc
+
+-- where tables are told none refuses
+pub told-unrefused :
+    (found : Option Refusal) (tables changed : List NewTable)
+    → Tables changed ≡ changes_as found tables
+    → found ≡ None
+told-unrefused None tables changed is = refl
+told-unrefused (Some first) tables changed is = absurd cc
+
+-- and they are those that are changed
+pub told-tables :
+    (found : Option Refusal) (tables changed : List NewTable)
+    → Tables changed ≡ changes_as found tables
+    → changed ≡ tables
+told-tables None tables changed is = cc
+told-tables (Some first) tables changed is = absurd cc
+
+-- an action with this script, of which no refusal is there
+module _ (action : Action) (script : Script) (files : Files) (is : IsScriptOf action script) where
+  -- its outcome, by whether its edits touch a multiple entry
+  outcome-by :
+      (found : Option Refusal)
+      → multiple_entries (seen_script script) files ≡ found
+      → outcome_of action files
+      ≡ (elim found [ Some refusal ↦ Err refusal | None ↦ Ok (made_by action files) ])
+  outcome-by found told =
+      ap (λ first. elim first [
+        | Some refusal ↦ Err refusal
+        | None ↦ elim (multiple_entries action.script files) [
+          | Some refusal ↦ Err refusal
+          | None ↦ Ok (made_by action files)
+        ]
+      ]) is.unrefused
+      ∙ ap (λ met. elim met [
+        | Some refusal ↦ Err refusal
+        | None ↦ Ok (made_by action files)
+      ]) (sym (ap (λ edits. multiple_entries edits files) is.edits) ∙ told)
+
+  -- it refuses, where they do
+  pub outcome-refused :
+      (refusal : Refusal)
+      → multiple_entries (seen_script script) files ≡ Some refusal
+      → outcome_of action files ≡ Err refusal
+  outcome-refused refusal told = outcome-by (Some refusal) told
+
+  -- and else is what they make
+  pub outcome-made :
+      multiple_entries (seen_script script) files ≡ None
+      → outcome_of action files ≡ Ok (made_by action files)
+  outcome-made told = outcome-by None told
+
+-- what is printed by the report of an action
+pub reported :
+    (tool : Tool) (files : Files) (action : Action) (report : Report)
+    → IsReportOf action report
+    → printed tool report.status report.out report.notices
+    ≡ written_output (written_by tool (made_by action files))
+reported tool files action report is =
+    ap (λ status. printed tool status report.out report.notices) is.status
+    ∙ ap (λ out. printed tool action.status out report.notices) is.output
+    ∙ ap (printed tool action.status action.output) is.notices

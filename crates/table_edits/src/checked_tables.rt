@@ -1,0 +1,112 @@
+// The tables that a command's edits change, unless they touch a multiple entry (passwd(5), shadow(5),
+// group(5), gshadow(5), subuid(5), subgid(5)).
+ghost use Rattle.std.specs.Prelude.{◌≡◌, ◌++◌, [], None, IfOk, OnOk};
+ghost use Rattle.std.specs.List.{AllByRecursion};
+ghost use Rattle.acct_text.specs.ChangedTables.{changed_bytes, with_new_table};
+ghost use Rattle.account_model.specs.Action.{multiple_in};
+ghost use Rattle.account_formats.specs.RecordEdits.{IsWrittenEdit};
+ghost use Rattle.account_formats.specs.Records.{subid_format};
+ghost use Rattle.account_formats.specs.Tables.{table_after, table_records};
+ghost use Rattle.account_formats.specs.WrittenScript.{IsWrittenScript};
+ghost use Rattle.line_edits.specs.SeenEdits.{seen_edits};
+ghost use Rattle.table_edits.specs.CheckedTables.{changes_by};
+ghost use Rattle.table_edits.specs.SeenScript.{seen_script};
+ghost use Rattle.line_edits.specs.SubidChanges.{subid_becomes};
+
+use crate::left_ranges::leave_all;
+use crate::{Refusal, Script, SubidRecord, edited_ranges};
+use acct_text::{Bytes, Files, NewTables, Tab};
+use line_edits::{Checked, Edit, EditedRecord, SubidChange, checked_text};
+use std::alloc::{AllocError, Global};
+
+/// What the edits of a script make of the tables.
+#[derive(Drop)]
+pub(crate) enum Changes {
+    /// Nothing: they touch a record whose name has several, and this is the refusal of the first.
+    Refused(Refusal),
+    /// These tables get other bytes. An absent one stays absent.
+    Tables(NewTables),
+}
+
+/// The tables that the edits of the script change, with their new bytes, or the refusal of the first
+/// record that the script touches and whose name has several records in its table.
+pub(crate) fn checked_tables(
+    alloc: Global,
+    files: &Files,
+    script: &Script,
+) -> Result<Changes, AllocError>
+    requires { IsWrittenScript (seen_script script.now) }
+    ensures { IfOk result (λ changes. changes ≡ changes_by (seen_script script.now) files.now) }
+{
+    let mut new = NewTables::none(alloc);
+    if let Some(found) = add(alloc, &mut new, Tab::Passwd, &files.passwd, &script.passwd)? {
+        return Ok(Changes::Refused(found));
+    }
+    if let Some(found) = add(alloc, &mut new, Tab::Shadow, &files.shadow, &script.shadow)? {
+        return Ok(Changes::Refused(found));
+    }
+    if let Some(found) = add(alloc, &mut new, Tab::Group, &files.group, &script.group)? {
+        return Ok(Changes::Refused(found));
+    }
+    if let Some(found) = add(
+        alloc,
+        &mut new,
+        Tab::Gshadow,
+        &files.gshadow,
+        &script.gshadow,
+    )? {
+        return Ok(Changes::Refused(found));
+    }
+    add_ranges(alloc, &mut new, Tab::Subuid, &files.subuid, &script.subuid)?;
+    add_ranges(alloc, &mut new, Tab::Subgid, &files.subgid, &script.subgid)?;
+    Ok(Changes::Tables(new))
+}
+
+// Adds the table where its edits change it, and answers the refusal of the first multiple entry that
+// they touch. No bytes are made of a table that is absent or has no edits.
+fn add<R: EditedRecord + Drop>(
+    alloc: Global,
+    new: &mut NewTables,
+    table: Tab,
+    file: &Option<Bytes>,
+    edits: &[Edit<R, R::Change>],
+) -> Result<Option<Refusal>, AllocError>
+    requires { AllByRecursion (IsWrittenEdit R.format) (seen_edits R.becomes edits.now) }
+    ensures refusal { IfOk result (λ refusal. refusal ≡ multiple_in table R.format
+        (seen_edits R.becomes edits.now) (table_records R.format file.now)) }
+    ensures added { IfOk result (λ refusal. refusal ≡ None
+        → new.new ≡ new.old ++ with_new_table table (changed_bytes file.now
+        (table_after R.format (seen_edits R.becomes edits.now) file.now)) []) }
+{
+    let Some(text) = file else { return Ok(None) };
+    if edits.is_empty() {
+        return Ok(None);
+    }
+    match checked_text(alloc, text.as_slice(), edits)? {
+        Checked::Multiple(name) => Ok(Some(Refusal::Multiple(table, name))),
+        Checked::Edited(bytes) => {
+            new.push(table, text, bytes)?;
+            Ok(None)
+        }
+    }
+}
+
+// The same for subuid or subgid.
+fn add_ranges(
+    alloc: Global,
+    new: &mut NewTables,
+    table: Tab,
+    file: &Option<Bytes>,
+    edits: &[Edit<SubidRecord, SubidChange>],
+) -> Result<(), AllocError>
+    requires { AllByRecursion (IsWrittenEdit subid_format) (seen_edits subid_becomes edits.now) }
+    ensures { OnOk result (new.new ≡ new.old ++ with_new_table table (changed_bytes file.now
+        (table_after subid_format (seen_edits subid_becomes edits.now) file.now)) []) }
+{
+    let Some(text) = file else { return Ok(()) };
+    if leave_all(edits) {
+        return Ok(());
+    }
+    let bytes = edited_ranges(alloc, text.as_slice(), edits)?;
+    new.push(table, text, bytes)
+}
