@@ -17,6 +17,7 @@ ghost use Rattle.line_edits.specs.SeenEdits.{seen_edit, seen_edits};
 ghost use Rattle.line_edits.specs.SubidChanges.{subid_becomes};
 
 use crate::cut_ranges::{canonical_range, push_left_of};
+use crate::removed_owner::text_without_owner;
 use acct_lines::{SubidLine, SubidRecord};
 use acct_tables::{FileLine, Lines, is_owner};
 use acct_text::Bytes;
@@ -41,8 +42,27 @@ pub(crate) struct Removals<'a> {
 /// don't touch keep their bytes.
 ///
 /// The first removals in a row of IDs from one owner take one pass over the file in all, in which
-/// only a line that loses an ID is edited; each other edit takes one.
+/// only a line that loses an ID is edited; so does the removal of all ranges of an owner, where it is
+/// the only edit, and reads no line into memory. Each other edit takes a pass.
 pub fn edited_ranges(
+    alloc: Global,
+    text: &[u8],
+    edits: &[Edit<SubidRecord, SubidChange>],
+) -> Result<Bytes, AllocError>
+    requires { AllByRecursion (IsWrittenEdit subid_format) (seen_edits subid_becomes edits.now) }
+    ensures { IfOk result (λ bytes. bytes ≡ file_bytes
+        (edited_by subid_format (seen_edits subid_becomes edits.now) (lines_of text.now))) }
+{
+    match edits {
+        [Edit::Become(SubidChange::Remove(owner, uid))] => {
+            text_without_owner(alloc, text, owner, *uid)
+        }
+        _ => edited_by_cuts(alloc, text, edits),
+    }
+}
+
+// The same of any edits, of which some may remove IDs.
+fn edited_by_cuts(
     alloc: Global,
     text: &[u8],
     edits: &[Edit<SubidRecord, SubidChange>],

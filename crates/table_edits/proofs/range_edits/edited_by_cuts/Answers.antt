@@ -9,7 +9,7 @@ use Rattle.account_formats.specs.Records.{subid_format}
 use Rattle.line_edits.specs.SeenEdits.{seen_edits}
 use Rattle.line_edits.specs.SubidChanges.{subid_becomes}
 use Rattle.line_edits.proofs.EditLists.{edited-apart, edits-from, edits-up_to}
-use Rattle.table_edits.proofs.range_edits.edited_ranges.Goals as goal
+use Rattle.table_edits.proofs.range_edits.edited_by_cuts.Goals as goal
 
 pub edited_text-requires : goal.edited_text-requires
 edited_text-requires c =
