@@ -5,9 +5,14 @@
 use Rattle.std.proofs.Common.{◌≡◌, ◌∙◌, ℕ, List, [], ◌∷◌, ap, refl, sym}
 use Rattle.std.specs.Prelude.{Option, Some, None, Ok, Err}
 use Rattle.acct_text.specs.declared.files.Files.{Files}
+use Rattle.acct_text.specs.ChangedTables.{changed_tables}
+use Rattle.acct_text.specs.Files.{table_of}
 use Rattle.acct_text.specs.declared.Tab.{Tab}
+use Rattle.acct_text.specs.declared.Tab.TheVariants.{Passwd, Shadow, Group, Gshadow}
 use Rattle.acct_text.specs.declared.new_tables.NewTable.{NewTable}
 use Rattle.account_formats.specs.Format.{Format}
+use Rattle.account_formats.specs.Records.{passwd_format, shadow_format, group_format, gshadow_format}
+use Rattle.account_formats.specs.Tables.{files_after, passwd_records, shadow_records, group_records, gshadow_records}
 use Rattle.account_formats.specs.Text.{first_some}
 use Rattle.account_model.specs.Action.{Action, made_by, multiple_entries, multiple_in, outcome_of}
 use Rattle.account_model.specs.Batch.{written_by}
@@ -19,7 +24,7 @@ use Rattle.tool_answers.specs.declared.decision.Output.{Output}
 use Rattle.line_edits.specs.declared.edit.Edit.{Edit}
 use Rattle.line_edits.specs.SeenEdits.{seen_edits}
 use Rattle.table_edits.specs.Acting.{IsReportOf, IsScriptOf}
-use Rattle.table_edits.specs.CheckedTables.{changes_as}
+use Rattle.table_edits.specs.CheckedTables.{changes_as, changes_by}
 use Rattle.table_edits.specs.SeenScript.{seen_script}
 use Rattle.table_edits.specs.declared.checked_tables.Changes.{Changes}
 use Rattle.table_edits.specs.declared.checked_tables.Changes.TheVariants.{Refused, Tables}
@@ -45,24 +50,42 @@ pub read-in :
 read-in format becomes slice items table records found answer same is told =
     sym (is ∙ ap (λ edits. multiple_in table format (seen_edits becomes edits) records) same) ∙ told
 
-module _ (passwd shadow group gshadow : Option Refusal) (tables : List NewTable) where
+module _ (script : Script) (files : Files) where
+  -- the refusal of each table
+  abbrev pub passwd : Option Refusal
+  passwd = multiple_in Passwd passwd_format (seen_script script).passwd (passwd_records files)
+
+  abbrev pub shadow : Option Refusal
+  shadow = multiple_in Shadow shadow_format (seen_script script).shadow (shadow_records files)
+
+  abbrev pub group : Option Refusal
+  group = multiple_in Group group_format (seen_script script).group (group_records files)
+
+  abbrev pub gshadow : Option Refusal
+  gshadow = multiple_in Gshadow gshadow_format (seen_script script).gshadow (gshadow_records files)
+
+  -- the tables that change
+  abbrev pub tables : List NewTable
+  tables = changed_tables (table_of files) (table_of (files_after (seen_script script) files))
+
   -- what is answered by the refusals of the four tables
   abbrev pub answered :
       Option Refusal → Option Refusal → Option Refusal → Option Refusal → Changes
   answered one two three four = changes_as (first_some (one ∷ two ∷ three ∷ four ∷ [])) tables
 
-  module _ (refusal : Refusal) where
-    -- passwd refuses
-    pub refused-first :
-        passwd ≡ Some refusal → Refused refusal ≡ answered passwd shadow group gshadow
-    refused-first is = sym (ap (λ one. answered one shadow group gshadow) is)
+  -- what the edits of the script make of the tables
+  abbrev pub made : Changes
+  made = changes_by (seen_script script) files
+
+  -- passwd refuses
+  pub refused-first :
+      (refusal : Refusal) → passwd ≡ Some refusal → Refused refusal ≡ made
+  refused-first refusal is = sym (ap (λ one. answered one shadow group gshadow) is)
 
   module _ (first : passwd ≡ None) where
     -- shadow does, and passwd doesn't
     pub refused-second :
-        (refusal : Refusal)
-        → shadow ≡ Some refusal
-        → Refused refusal ≡ answered passwd shadow group gshadow
+        (refusal : Refusal) → shadow ≡ Some refusal → Refused refusal ≡ made
     refused-second refusal is =
         sym (ap (λ one. answered one shadow group gshadow) first
         ∙ ap (λ two. answered None two group gshadow) is)
@@ -70,9 +93,7 @@ module _ (passwd shadow group gshadow : Option Refusal) (tables : List NewTable)
     module _ (second : shadow ≡ None) where
       -- group does, and the two before don't
       pub refused-third :
-          (refusal : Refusal)
-          → group ≡ Some refusal
-          → Refused refusal ≡ answered passwd shadow group gshadow
+          (refusal : Refusal) → group ≡ Some refusal → Refused refusal ≡ made
       refused-third refusal is =
           sym (ap (λ one. answered one shadow group gshadow) first
           ∙ ap (λ two. answered None two group gshadow) second
@@ -81,9 +102,7 @@ module _ (passwd shadow group gshadow : Option Refusal) (tables : List NewTable)
       module _ (third : group ≡ None) where
         -- gshadow does, and the three before don't
         pub refused-fourth :
-            (refusal : Refusal)
-            → gshadow ≡ Some refusal
-            → Refused refusal ≡ answered passwd shadow group gshadow
+            (refusal : Refusal) → gshadow ≡ Some refusal → Refused refusal ≡ made
         refused-fourth refusal is =
             sym (ap (λ one. answered one shadow group gshadow) first
             ∙ ap (λ two. answered None two group gshadow) second
@@ -91,7 +110,7 @@ module _ (passwd shadow group gshadow : Option Refusal) (tables : List NewTable)
             ∙ ap (λ four. answered None None None four) is)
 
         -- none does
-        pub none-refused : gshadow ≡ None → Tables tables ≡ answered passwd shadow group gshadow
+        pub none-refused : gshadow ≡ None → Tables tables ≡ made
         none-refused fourth =
             sym (ap (λ one. answered one shadow group gshadow) first
             ∙ ap (λ two. answered None two group gshadow) second

@@ -2,12 +2,10 @@ use Rattle.std.proofs.Common.{[], ◌∷◌, ◌∙◌, List, ap, sym, subst}
 use Rattle.std.specs.Prelude.{Some, None}
 use Rattle.acct_text.specs.declared.Tab.TheVariants.{Passwd, Shadow, Group, Gshadow, Subuid, Subgid}
 use Rattle.acct_text.specs.declared.new_tables.NewTable.{NewTable}
-use Rattle.acct_text.specs.ChangedTables.{changed_tables}
 use Rattle.acct_text.specs.Files.{table_of}
 use Rattle.acct_text.specs.Tables.{all_tables}
 use Rattle.account_formats.specs.Records.{passwd_format, shadow_format, group_format, gshadow_format, subid_format}
 use Rattle.account_formats.specs.Tables.{files_after, passwd_records, shadow_records, group_records, gshadow_records}
-use Rattle.account_model.specs.Action.{multiple_in}
 use Rattle.line_edits.specs.GroupChanges.{group_becomes}
 use Rattle.line_edits.specs.GshadowChanges.{gshadow_becomes}
 use Rattle.line_edits.specs.PasswdChanges.{passwd_becomes}
@@ -25,49 +23,31 @@ pub returns-in-Some : goal.returns-in-Some
 returns-in-Some c =
     let script = c.args.script.now in
     let files = c.args.files.now in
-    let seen = seen_script script in
-    let passwd = multiple_in Passwd passwd_format seen.passwd (passwd_records files) in
-    let shadow = multiple_in Shadow shadow_format seen.shadow (shadow_records files) in
-    let group = multiple_in Group group_format seen.group (group_records files) in
-    let gshadow = multiple_in Gshadow gshadow_format seen.gshadow (gshadow_records files) in
-    let tables = changed_tables (table_of files) (table_of (files_after seen files)) in
-    refused-first passwd shadow group gshadow tables c.in-Some.found
+    refused-first script files c.in-Some.found
     (read-in passwd_format passwd_becomes c.deref.result.now script.passwd.items Passwd
-    (passwd_records files) _ (Some c.in-Some.found) c.deref.ensures.value c.in_ok-found.ensures.refusal
-    c.in-Some.is)
+    (passwd_records files) _ (Some c.in-Some.found) c.deref.ensures.value
+    c.in_ok-found.ensures.refusal c.in-Some.is)
 
 -- shadow refuses
 pub returns-in-Some-2 : goal.returns-in-Some-2
 returns-in-Some-2 c =
     let script = c.args.script.now in
     let files = c.args.files.now in
-    let seen = seen_script script in
-    let passwd = multiple_in Passwd passwd_format seen.passwd (passwd_records files) in
-    let shadow = multiple_in Shadow shadow_format seen.shadow (shadow_records files) in
-    let group = multiple_in Group group_format seen.group (group_records files) in
-    let gshadow = multiple_in Gshadow gshadow_format seen.gshadow (gshadow_records files) in
-    let tables = changed_tables (table_of files) (table_of (files_after seen files)) in
-    refused-second passwd shadow group gshadow tables
+    refused-second script files
     (read-in passwd_format passwd_becomes c.deref.result.now script.passwd.items Passwd
     (passwd_records files) _ None c.deref.ensures.value c.in_ok-found.ensures.refusal
     c.in_default.is)
     c.in-Some-2.found
     (read-in shadow_format shadow_becomes c.deref-2.result.now script.shadow.items Shadow
-    (shadow_records files) _ (Some c.in-Some-2.found) c.deref-2.ensures.value c.in_ok-found-2.ensures.refusal
-    c.in-Some-2.is)
+    (shadow_records files) _ (Some c.in-Some-2.found) c.deref-2.ensures.value
+    c.in_ok-found-2.ensures.refusal c.in-Some-2.is)
 
 -- group refuses
 pub returns-in-Some-3 : goal.returns-in-Some-3
 returns-in-Some-3 c =
     let script = c.args.script.now in
     let files = c.args.files.now in
-    let seen = seen_script script in
-    let passwd = multiple_in Passwd passwd_format seen.passwd (passwd_records files) in
-    let shadow = multiple_in Shadow shadow_format seen.shadow (shadow_records files) in
-    let group = multiple_in Group group_format seen.group (group_records files) in
-    let gshadow = multiple_in Gshadow gshadow_format seen.gshadow (gshadow_records files) in
-    let tables = changed_tables (table_of files) (table_of (files_after seen files)) in
-    refused-third passwd shadow group gshadow tables
+    refused-third script files
     (read-in passwd_format passwd_becomes c.deref.result.now script.passwd.items Passwd
     (passwd_records files) _ None c.deref.ensures.value c.in_ok-found.ensures.refusal
     c.in_default.is)
@@ -76,21 +56,15 @@ returns-in-Some-3 c =
     c.in_default-2.is)
     c.in-Some-3.found
     (read-in group_format group_becomes c.deref-3.result.now script.group.items Group
-    (group_records files) _ (Some c.in-Some-3.found) c.deref-3.ensures.value c.in_ok-found-3.ensures.refusal
-    c.in-Some-3.is)
+    (group_records files) _ (Some c.in-Some-3.found) c.deref-3.ensures.value
+    c.in_ok-found-3.ensures.refusal c.in-Some-3.is)
 
 -- gshadow refuses
 pub returns-in-Some-4 : goal.returns-in-Some-4
 returns-in-Some-4 c =
     let script = c.args.script.now in
     let files = c.args.files.now in
-    let seen = seen_script script in
-    let passwd = multiple_in Passwd passwd_format seen.passwd (passwd_records files) in
-    let shadow = multiple_in Shadow shadow_format seen.shadow (shadow_records files) in
-    let group = multiple_in Group group_format seen.group (group_records files) in
-    let gshadow = multiple_in Gshadow gshadow_format seen.gshadow (gshadow_records files) in
-    let tables = changed_tables (table_of files) (table_of (files_after seen files)) in
-    refused-fourth passwd shadow group gshadow tables
+    refused-fourth script files
     (read-in passwd_format passwd_becomes c.deref.result.now script.passwd.items Passwd
     (passwd_records files) _ None c.deref.ensures.value c.in_ok-found.ensures.refusal
     c.in_default.is)
@@ -102,22 +76,16 @@ returns-in-Some-4 c =
     c.in_default-3.is)
     c.in-Some-4.found
     (read-in gshadow_format gshadow_becomes c.deref-4.result.now script.gshadow.items Gshadow
-    (gshadow_records files) _ (Some c.in-Some-4.found) c.deref-4.ensures.value c.in_ok-found-4.ensures.refusal
-    c.in-Some-4.is)
+    (gshadow_records files) _ (Some c.in-Some-4.found) c.deref-4.ensures.value
+    c.in_ok-found-4.ensures.refusal c.in-Some-4.is)
 
 -- table after table is listed
 pub returns : goal.returns
 returns c =
     let script = c.args.script.now in
     let files = c.args.files.now in
-    let seen = seen_script script in
-    let passwd = multiple_in Passwd passwd_format seen.passwd (passwd_records files) in
-    let shadow = multiple_in Shadow shadow_format seen.shadow (shadow_records files) in
-    let group = multiple_in Group group_format seen.group (group_records files) in
-    let gshadow = multiple_in Gshadow gshadow_format seen.gshadow (gshadow_records files) in
-    let tables = changed_tables (table_of files) (table_of (files_after seen files)) in
     let old = table_of files in
-    let new = table_of (files_after seen files) in
+    let new = table_of (files_after (seen_script script) files) in
     let none = c.none-new.result in
     let one = c.add.new.new in
     let two = c.add-2.new.new in
@@ -150,7 +118,7 @@ returns c =
     (c.in_ok-found.ensures.added c.in_default.is))
     (subst (λ (listed : List NewTable). AreListedBefore old new all_tables listed)
     (sym c.none-new.ensures) (none-listed old new)))))))))
-    ∙ none-refused passwd shadow group gshadow tables
+    ∙ none-refused script files
     (read-in passwd_format passwd_becomes c.deref.result.now script.passwd.items Passwd
     (passwd_records files) _ None c.deref.ensures.value c.in_ok-found.ensures.refusal
     c.in_default.is)
