@@ -13,7 +13,7 @@ use Rattle.id_choice.specs.Runs.{AddsAll}
 use Rattle.id_choice.proofs.RunLemmas.{lies-used, used-lies}
 
 -- the same value at two tests that agree
-tests-agree : (a b : Bool) → (a ≡ true → b ≡ true) → (b ≡ true → a ≡ true) → a ≡ b
+pub tests-agree : (a b : Bool) → (a ≡ true → b ≡ true) → (b ≡ true → a ≡ true) → a ≡ b
 tests-agree true b there back = sym (there refl)
 tests-agree false true there back = back refl
 tests-agree false false there back = refl

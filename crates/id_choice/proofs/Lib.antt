@@ -1,4 +1,5 @@
 pub mod AddedRuns
 pub mod ChoiceLemmas
+pub mod RemovedRuns
 pub mod RunLemmas
 pub mod UsedLemmas

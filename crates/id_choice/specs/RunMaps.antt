@@ -1,6 +1,6 @@
 -- Runs of numbers as a map keeps them, from the first number of each to its last, and what the
 -- steps of an addition say of such maps.
-use Rattle.std.specs.Prelude.{◌≡◌, ℕ, ◌+◌, ◌-◌, ◌^◌, ◌<◌, ◌≤◌, List, Some, None, IsSome}
+use Rattle.std.specs.Prelude.{◌≡◌, ℕ, ◌+◌, ◌-◌, ◌^◌, ◌<◌, ◌≤◌, List, Option, Some, None, IsSome, nat_lt, if◌then◌else◌}
 use Rattle.std.specs.List.{flat_map, range_with_len}
 use Rattle.std.specs.BTreeMap.{BTreeMap, IsOrdered, get}
 use Rattle.std.specs.Ordering.{nat_cmp}
@@ -84,4 +84,23 @@ pub record IsWithout (old new : BTreeMap ℕ ℕ) (number end : ℕ) : Type 0 wh
   pub removed : HasNoneBehind new number end
   pub before : (first : ℕ) → first ≤ number → get nat_cmp new first ≡ get nat_cmp old first
   pub past : (first : ℕ) → end < first → get nat_cmp new first ≡ get nat_cmp old first
+  pub ordered : IsOrdered nat_cmp new
+
+-- the run has the number
+pub record IsWithin (run : Run) (number : ℕ) : Type 0 where
+  pub begins : run.first ≤ number
+  pub ends : number ≤ run.last
+
+-- where a run ends that begins at the first number and ends before the other; none where it is empty
+abbrev pub last_before : ℕ → ℕ → Option ℕ
+last_before first number = if nat_lt first number then Some (number - 1) else None
+
+-- the new map has, in the place of the run, what the run has before the number and behind it
+pub record IsSplit (old new : BTreeMap ℕ ℕ) (run : Run) (number : ℕ) : Type 0 where
+  pub before : get nat_cmp new run.first ≡ last_before run.first number
+  pub behind : number < run.last → get nat_cmp new (number + 1) ≡ Some run.last
+  pub beside : (first : ℕ)
+      → (first ≡ run.first → ⊥) → (first ≡ number + 1 → ⊥)
+      → get nat_cmp new first ≡ get nat_cmp old first
+  pub at_end : run.last ≡ number → get nat_cmp new (number + 1) ≡ get nat_cmp old (number + 1)
   pub ordered : IsOrdered nat_cmp new

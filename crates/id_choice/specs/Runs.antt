@@ -1,6 +1,6 @@
 -- What the contracts of `Runs` say: a set of numbers is told by its members. A run is as long as it
 -- can be.
-use Rattle.std.specs.Prelude.{◌≡◌, ℕ, ◌+◌, ◌<◌, ◌≤◌, Bool, true, false, ◌||◌, List}
+use Rattle.std.specs.Prelude.{◌≡◌, ℕ, ◌+◌, ◌<◌, ◌≤◌, Bool, true, false, not, ◌&&◌, ◌||◌, ◌==◌, List}
 use Rattle.std.specs.List.{list_any}
 use Rattle.account_words.specs.Ids.{in_range, is_used}
 use Rattle.id_choice.specs.declared.runs.Run.{Run}
@@ -9,6 +9,11 @@ use Rattle.id_choice.specs.declared.runs.Run.{Run}
 abbrev pub AddsAll : List ℕ → ℕ → ℕ → List ℕ → Type 0
 AddsAll old first last new =
     (number : ℕ) → is_used new number ≡ (in_range first last number || is_used old number)
+
+-- the new numbers are the old ones without this one
+abbrev pub LosesOne : List ℕ → ℕ → List ℕ → Type 0
+LosesOne old lost new =
+    (number : ℕ) → is_used new number ≡ (is_used old number && not (number == lost))
 
 -- whether one of the runs has the number
 abbrev pub is_run : List Run → ℕ → Bool

@@ -1,10 +1,10 @@
 // Numbers as runs of those that follow one another, of which no two touch. Contracts see them as a
 // set: they name members, and no order.
-ghost use Rattle.std.specs.Prelude.{◌≡◌, ◌≤◌, [], All, IfOk, MatchOption, OnOk, OnErr};
-ghost use Rattle.std.specs.BTreeMap.{IsOrdered};
+ghost use Rattle.std.specs.Prelude.{◌≡◌, ◌≤◌, [], All, IfOk, IsSome, MatchOption, OnOk, OnErr};
+ghost use Rattle.std.specs.BTreeMap.{IsOrdered, IsUnchanged, Updates, get};
 ghost use Rattle.std.specs.Ordering.{nat_cmp};
 ghost use Rattle.account_words.specs.Ids.{is_used};
-ghost use Rattle.id_choice.specs.RunMaps.{AreApart, BeginsAt, EndsAt, HasBehind, HasFrom, HasNoneBehind, HasNoneFrom, HasNoneUpTo, HasUpTo, IsWithout};
+ghost use Rattle.id_choice.specs.RunMaps.{AreApart, BeginsAt, EndsAt, HasBehind, HasFrom, HasNoneBehind, HasNoneFrom, HasNoneUpTo, HasRun, HasUpTo, IsSplit, IsWithin, IsWithout, last_before};
 
 use std::alloc::{AllocError, Global};
 use std::collections::BTreeMap;
@@ -19,8 +19,7 @@ pub struct Run {
     pub last: u32,
 }
 
-/// A set of numbers, which grows. Its memory and its time go by the runs of numbers that follow one
-/// another.
+/// A set of numbers. Its memory and its time go by the runs of numbers that follow one another.
 #[derive(Drop)]
 pub struct Runs {
     // from the first number of each run to its last
@@ -39,7 +38,7 @@ impl Model for Runs {
 }
 
 impl Runs {
-    ghost use Rattle.id_choice.specs.Runs.{AddsAll, AreThoseOfRuns, HasNothingFrom, HasNothingUpTo, IsFirstFrom, IsLastUpTo};
+    ghost use Rattle.id_choice.specs.Runs.{AddsAll, AreThoseOfRuns, HasNothingFrom, HasNothingUpTo, IsFirstFrom, IsLastUpTo, LosesOne};
 
     /// No number. It allocates nothing before the first `add`.
     pub fn new(alloc: Global) -> Runs
@@ -77,6 +76,18 @@ impl Runs {
         self.runs.insert(begin, end)?;
         remove_behind(&mut self.runs, begin, end);
         Ok(())
+    }
+
+    /// Takes the number out, which may be missing. The run that holds it is split. At `AllocError` the
+    /// set is as before.
+    pub fn remove(&mut self, number: u32) -> Result<(), AllocError>
+        ensures removed { OnOk result (LosesOne self.old number self.new) }
+        ensures unchanged { OnErr result (self.new ≡ self.old) }
+    {
+        match run_up_to(&self.runs, number) {
+            Some(run) if number <= run.last => split_run(&mut self.runs, run, number),
+            _ => Ok(()),
+        }
     }
 
     /// Whether the number is there.
@@ -176,6 +187,35 @@ fn end_of(runs: &BTreeMap<u32, u32>, number: u32) -> u32
     match run_up_to(runs, number.saturating_add(1)) {
         Some(run) => number.max(run.last),
         None => number,
+    }
+}
+
+// Splits the run that holds a number into what is before the number and what is behind it. The part
+// behind comes first, as it alone may want memory.
+fn split_run(runs: &mut BTreeMap<u32, u32>, run: Run, number: u32) -> Result<(), AllocError>
+    requires has { HasRun runs.old run.first run.last }
+    requires within { IsWithin run number }
+    ensures split { OnOk result (IsSplit runs.old runs.new run number) }
+    ensures unchanged { OnErr result (IsUnchanged runs.old runs.new) }
+{
+    if number < run.last {
+        runs.insert(number + 1, run.last)?;
+    }
+    end_before(runs, run.first, number);
+    Ok(())
+}
+
+// Lets a run that is there end before a number; one that begins there goes.
+fn end_before(runs: &mut BTreeMap<u32, u32>, first: u32, number: u32)
+    requires { IsSome (get nat_cmp runs.old first) }
+    ensures updated { Updates nat_cmp runs.old runs.new first (last_before first number) }
+    ensures ordered { IsOrdered nat_cmp runs.new }
+{
+    if first < number {
+        // its first number is there, so this takes no memory
+        let _replaced = runs.insert(first, number - 1);
+    } else {
+        runs.remove(&first);
     }
 }
 

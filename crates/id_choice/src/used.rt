@@ -2,6 +2,7 @@
 // groupadd(8)). Contracts see them as a set: they name members, and no order.
 ghost use Rattle.std.specs.Prelude.{◌≡◌, List, ℕ, [], ◌∷◌, IfOk, OnOk, OnErr};
 ghost use Rattle.account_words.specs.Ids.{is_used};
+ghost use Rattle.id_choice.specs.Runs.{LosesOne};
 ghost use Rattle.id_choice.specs.Used.{AreThoseOf, Gives, id_for};
 
 use crate::Runs;
@@ -10,7 +11,7 @@ use account_words::Kind;
 use std::alloc::{AllocError, Global};
 use std::marker::Model;
 
-/// A set of used IDs, which grows.
+/// A set of used IDs.
 #[derive(Drop)]
 pub struct UsedIds {
     ids: Runs,
@@ -52,6 +53,14 @@ impl UsedIds {
         ensures unchanged { OnErr result (self.new ≡ self.old) }
     {
         self.ids.add(id, id)
+    }
+
+    /// Takes the ID out, which may be unused. At `AllocError` the set is as before.
+    pub fn remove(&mut self, id: u32) -> Result<(), AllocError>
+        ensures removed { OnOk result (LosesOne self.old id self.new) }
+        ensures unchanged { OnErr result (self.new ≡ self.old) }
+    {
+        self.ids.remove(id)
     }
 
     /// Whether the ID is used.
