@@ -2,7 +2,7 @@
 -- `Defs` holds (`number-adds`, `flag-adds`, `unknown-adds`). Way: a setting behind others is the
 -- last of its key, and leaves the last of every other; a key is told by its name and its place.
 use Rattle.std.proofs.Common.{length-set, ◌≡◌, ◌≢◌, ℕ, ◌<◌, true, false, List, [], ◌∷◌, ◌++◌, length, refl, sym, ◌∙◌, ap, subst, arith, inl, inr, Some, None}
-use Rattle.std.specs.Prelude.{Option, find, filter, map, bytes_eq, slice_set, slice_get, slice_index_or, codes, option_and_then}
+use Rattle.std.specs.Prelude.{Option, find, filter, map, bytes_eq, slice_set, slice_get, codes, option_and_then}
 use Rattle.std.proofs.lemmas.Bool.{cases_Bool}
 use Rattle.std.proofs.lemmas.Bool.Decides.{eqb_tells}
 use Rattle.std.proofs.lemmas.List.{get_or-set_same, get_or-set_other}
@@ -11,8 +11,10 @@ use Rattle.acct_text.proofs.NumberLaws.{some-inj}
 use Rattle.account_words.specs.declared.settings.Key.{Key}
 use Rattle.account_words.specs.declared.settings.Key.TheVariants.{UidMin}
 use Rattle.account_formats.specs.Text.{last_of}
-use Rattle.account_words.specs.Settings.{Setting, keys, key_name, find_key, user_groups_key, allowed_value, last_setting_value, given_value, is_yes}
+use Rattle.account_words.specs.Settings.{Setting, keys, key_name, find_key, user_groups_key, allowed_value, last_setting_value, is_yes}
 use Rattle.login_defs.specs.declared.defs.Defs.{Defs}
+use Rattle.login_defs.specs.declared.values.KeyValue.{KeyValue}
+use Rattle.login_defs.specs.KeyValues.{value_number}
 use Rattle.login_defs.specs.Places.{key_place}
 use Rattle.login_defs.specs.Held.{Adds}
 
@@ -148,52 +150,45 @@ flag-adds old new word value is_flag same flag = λ settings has.
     let word_is = (bytes_eq-Decides word user_groups_key).0 is_flag in
     record {
       counted = ap length same ∙ has.counted;
-      values = λ key. ap (λ values. slice_index_or values (key_place key) None) same
-          ∙ has.values key ∙ sym (ap (option_and_then (allowed_value key))
+      values = λ key. rw same (has.values key) ∙ sym (ap (option_and_then (allowed_value key))
           (last-other (key_name key) setting settings
           (ap (λ w. bytes_eq w (key_name key)) word_is ∙ flag-apart key)));
       flag = flag ∙ sym (ap is_yes (last-given user_groups_key setting settings is_flag));
     }
 
--- a number adds itself
+-- a numeric setting adds itself
 pub number-adds :
-    (old new : Defs) (word value : List ℕ) (key : Key) (number : Option ℕ)
+    (old new : Defs) (word value : List ℕ) (key : Key) (held : KeyValue)
     → bytes_eq word user_groups_key ≡ false
     → find_key word ≡ Some key
-    → allowed_value key value ≡ Some number
+    → allowed_value key value ≡ Some (value_number held)
     → key_place key < 17
-    → new.values ≡ slice_set old.values (key_place key) (Some number)
+    → new.values ≡ slice_set old.values (key_place key) (Some held)
     → new.user_groups ≡ old.user_groups
     → Adds old new (record { key = word; value = value })
-number-adds old new word value key number no_flag found allowed place set flag = λ settings has.
+number-adds old new word value key held no_flag found allowed place set flag = λ settings has.
     let setting : Setting = record { key = word; value = value } in
     let low : key_place key < length old.values = omega (arith, place, has.counted) in
     record {
-      counted = ap length set ∙ length-set old.values (key_place key) (Some number) ∙ has.counted;
-      values = λ other. ap (λ values. slice_index_or values (key_place other) None) set
-          ∙ elim (eqb_tells (key_place other) (key_place key)) [
-            | inl same ↦
-                let one : other ≡ key = one-place other key same.1 in
-                let named : bytes_eq word (key_name key) ≡ true =
-                (bytes_eq-Decides word (key_name key)).1 (name-found word key found)
-                in subst (λ k.
-                slice_index_or (slice_set old.values (key_place key) (Some number)) (key_place k)
-                None
-                ≡ given_value k (settings ++ setting ∷ [])) (sym one)
-                (get_or-set_same old.values (key_place key) (Some number) None low
-                ∙ sym (ap (option_and_then (allowed_value key))
-                (last-given (key_name key) setting settings named)
-                ∙ allowed))
-            | inr other_is ↦
-                let away : bytes_eq word (key_name other) ≡ false =
-                apart word (Some key) other found
-                (λ e. other_is.1 (ap key_place (sym (some-inj e))))
-                in get_or-set_other old.values (key_place key) (key_place other) (Some number) None
-                other_is.1
-                ∙ has.values other
-                ∙ sym (ap (option_and_then (allowed_value other))
-                (last-other (key_name other) setting settings away))
-          ];
+      counted = ap length set ∙ length-set old.values (key_place key) (Some held) ∙ has.counted;
+      values = λ other. rw set (elim (eqb_tells (key_place other) (key_place key)) [
+        | inl same ↦
+            let named : bytes_eq word (key_name key) ≡ true =
+            (bytes_eq-Decides word (key_name key)).1 (name-found word key found) in
+            let here = get_or-set_same old.values (key_place key) (Some held) None low in
+            rw (one-place other key same.1, here) (sym (ap (option_and_then (allowed_value key))
+            (last-given (key_name key) setting settings named)
+            ∙ allowed))
+        | inr other_is ↦
+            let away : bytes_eq word (key_name other) ≡ false =
+            apart word (Some key) other found
+            (λ e. other_is.1 (ap key_place (sym (some-inj e)))) in
+            let there = get_or-set_other old.values (key_place key) (key_place other) (Some held)
+            None other_is.1 in
+            rw there (has.values other
+            ∙ sym (ap (option_and_then (allowed_value other))
+            (last-other (key_name other) setting settings away)))
+      ]);
       flag = flag ∙ has.flag
           ∙ sym (ap is_yes (last-other user_groups_key setting settings no_flag));
     }

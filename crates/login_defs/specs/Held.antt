@@ -1,13 +1,14 @@
 -- Which settings `Defs` holds: of each key what the last setting of the key gave (login.defs(5)).
-use Rattle.std.specs.Prelude.{◌≡◌, ℕ, List, [], ◌∷◌, ◌++◌, length, Option, None, Some, slice_index_or, ℤ, pos, negsuc}
+use Rattle.std.specs.Prelude.{◌≡◌, ℕ, List, [], ◌∷◌, ◌++◌, length, Option, None, Some, option_map, slice_index_or, ℤ, pos, negsuc}
 use Rattle.account_words.specs.declared.settings.Key.{Key}
 use Rattle.account_words.specs.Settings.{Setting, keys, given_value, user_groups}
 use Rattle.login_defs.specs.declared.defs.Defs.{Defs}
+use Rattle.login_defs.specs.KeyValues.{value_number}
 use Rattle.login_defs.specs.Places.{key_place}
 
 -- what stands at a key: nothing, -1 as none, or a number
 abbrev pub held_value : Defs → Key → Option (Option ℕ)
-held_value defs key = slice_index_or defs.values (key_place key) None
+held_value defs key = option_map value_number (slice_index_or defs.values (key_place key) None)
 
 -- the settings of which these are what each key was given, and the flag
 pub record HasSettings (defs : Defs) (settings : List Setting) : Type 0 where

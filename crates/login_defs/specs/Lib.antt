@@ -1,4 +1,5 @@
 pub mod Places
+pub mod KeyValues
 pub mod Held
 pub mod LineSetting
 pub mod Faults

@@ -1,5 +1,5 @@
 // What the settings give, and what a command takes from them (login.defs(5)).
-ghost use Rattle.std.specs.Prelude.{◌≡◌, ◌≤◌, List, [], length, IfOk, OnOk, OnErr};
+ghost use Rattle.std.specs.Prelude.{◌≡◌, ◌≤◌, List, [], length, unwrap_or, IfOk, OnOk, OnErr};
 ghost use Rattle.acct_text.specs.Limits.{table_limit};
 ghost use Rattle.account_words.specs.Settings.{Setting, settings_of, bad_line, number as number_of, range as range_of, user_groups, default_value, range_between, one_less as lessened};
 ghost use Rattle.login_defs.specs.Places.{key_place};
@@ -10,7 +10,7 @@ ghost use Rattle.std.specs.Result.{result_err};
 
 use crate::keys::{COUNT, find_key, place_of};
 use crate::lines::setting_of;
-use crate::values::allowed_value;
+use crate::values::{KeyValue, allowed_value};
 use crate::{IdSort, Key, Kind};
 use acct_text::cut_once;
 
@@ -37,8 +37,8 @@ const USER_GROUPS: &[u8] = b"USERGROUPS_ENAB";
 /// The settings of login.defs: of each key what its last line gave.
 #[derive(Clone, Copy, Drop)]
 pub struct Defs {
-    // by the place of the key: nothing, -1 as `None`, or a number
-    values: [Option<Option<u32>>; COUNT],
+    // by the place of the key; none where it isn't given
+    values: [Option<KeyValue>; COUNT],
     user_groups: bool,
 }
 
@@ -145,10 +145,7 @@ impl Defs {
     pub fn value(&self, key: Key) -> Option<u32>
         ensures { Gives self.now (number_of key) result }
     {
-        match self.given(key) {
-            Some(value) => value,
-            None => self.default(key),
-        }
+        self.given_or(key, self.default(key))
     }
 
     // The number of a key that isn't given; -1 is none.
@@ -159,8 +156,8 @@ impl Defs {
             Key::UidMin | Key::GidMin => Some(1000),
             Key::UidMax | Key::GidMax => Some(60000),
             Key::SysUidMin | Key::SysGidMin => Some(101),
-            Key::SysUidMax => one_less(self.given(Key::UidMin).unwrap_or(Some(1000))),
-            Key::SysGidMax => one_less(self.given(Key::GidMin).unwrap_or(Some(1000))),
+            Key::SysUidMax => one_less(self.given_or(Key::UidMin, Some(1000))),
+            Key::SysGidMax => one_less(self.given_or(Key::GidMin, Some(1000))),
             Key::SubUidMin | Key::SubGidMin => Some(100000),
             Key::SubUidMax | Key::SubGidMax => Some(600100000),
             Key::SubUidCount | Key::SubGidCount => Some(65536),
@@ -168,11 +165,15 @@ impl Defs {
         }
     }
 
-    // What the key was given: nothing, -1 as `None`, or a number.
-    fn given(&self, key: Key) -> Option<Option<u32>>
-        ensures { result ≡ held_value self.now key }
+    // The number that the key was given, none in place of -1, and else the default.
+    fn given_or(&self, key: Key, default: Option<u32>) -> Option<u32>
+        ensures { result ≡ unwrap_or (held_value self.now key) default }
     {
-        self.values[place_of(key)]
+        match self.values[place_of(key)] {
+            Some(KeyValue::Number(number)) => Some(number),
+            Some(KeyValue::Empty) => None,
+            None => default,
+        }
     }
 
     // Takes the setting of a line of the file, if it has one.

@@ -1,23 +1,33 @@
 // Numbers as login.defs writes them: decimal, octal after `0`, hexadecimal after `0x` or `0X`
 // (login.defs(5); the bases are those of strtol(3)).
-ghost use Rattle.std.specs.Prelude.{◌≡◌, ◌≤◌, ◌<◌, ◌^◌};
+ghost use Rattle.std.specs.Prelude.{◌≡◌, ◌≤◌, ◌<◌, ◌^◌, option_map};
 ghost use Rattle.account_words.specs.Settings.{allowed_value as value_allowed, setting_number, radix_number, within};
+ghost use Rattle.login_defs.specs.KeyValues.{value_number};
 
 use crate::keys::is_days_key;
 use account_formats::{GREATEST_DAYS, GREATEST_ID};
 use account_words::Key;
 
-/// The value that the text gives the key: `None` within for -1, and none where it isn't allowed.
-pub(crate) fn allowed_value(key: Key, text: &[u8]) -> Option<Option<u32>>
-    ensures { result ≡ value_allowed key text.now }
+/// The value of a numeric key.
+#[derive(Clone, Copy)]
+pub(crate) enum KeyValue {
+    /// -1, which stands for an empty number of days.
+    Empty,
+    /// This ID, or this number of IDs or days.
+    Number(u32),
+}
+
+/// The value that the text gives the key, and none where it isn't allowed.
+pub(crate) fn allowed_value(key: Key, text: &[u8]) -> Option<KeyValue>
+    ensures { option_map value_number result ≡ value_allowed key text.now }
 {
     if !is_days_key(key) {
-        return number(text, GREATEST_ID).map(Some);
+        return number(text, GREATEST_ID).map(KeyValue::Number);
     }
     if text == b"-1".as_slice() {
-        return Some(None);
+        return Some(KeyValue::Empty);
     }
-    number(text, GREATEST_DAYS).map(Some)
+    number(text, GREATEST_DAYS).map(KeyValue::Number)
 }
 
 // The number that the text writes, of at most `greatest`.
