@@ -1,8 +1,9 @@
 -- Claim: what stands beside the texts of lines is so of them after each edit: of those of a file
--- (`file-lacks`), with one more (`pushed-indexed`), without it again (`same-indexed`), and with a record
--- in the text of one of its name (`put-indexed`). Way: the names follow the texts.
-use Rattle.std.proofs.Common.{◌≡◌, ◌∙◌, ℕ, ◌-◌, ◌<◌, Bool, List, [], ◌∷◌, ◌++◌, ◌+◌, length, take, sym, ap, subst, arith, length-append}
-use Rattle.std.specs.Prelude.{All, Some, Result, Ok, Err, OnOk, OnErr, option_map, set, slice_get}
+-- (`file-lacks`), with one more (`pushed-indexed`), without it again (`same-indexed`), with a record
+-- in the text of one of its name (`put-indexed`), and with one of another name where the index follows
+-- (`renamed-indexed`). Way: the names follow the texts.
+use Rattle.std.proofs.Common.{◌≡◌, ◌∙◌, ℕ, ◌-◌, ◌<◌, Bool, false, List, [], ◌∷◌, ◌++◌, ◌+◌, length, take, sym, ap, subst, arith, length-append}
+use Rattle.std.specs.Prelude.{All, Some, None, Result, Ok, Err, OnOk, OnErr, option_map, set, slice_get}
 use Rattle.std.proofs.Math.Seq.{take-append_seam}
 use Rattle.std.proofs.lemmas.List.{take_all}
 use Rattle.std.proofs.lemmas.List.Elements.{All-from_recursion, All-get_or, All-map, All-push, All-set}
@@ -13,11 +14,13 @@ use Rattle.acct_text.specs.Pieces.{Lacks}
 use Rattle.acct_text.proofs.LinesLaws.{lines_of-are}
 use Rattle.account_formats.specs.Format.{Format}
 use Rattle.account_formats.specs.Written.{IsWritten}
+use Rattle.acct_tables.specs.declared.name_hashes.HashChange.{HashChange}
 use Rattle.acct_tables.specs.declared.name_hashes.NameHashes.{NameHashes}
 use Rattle.acct_tables.specs.EditedLines.{AreIndexed, lines_with, text_names}
-use Rattle.acct_tables.specs.NameHashes.{TellsHashes, told_hashes}
+use Rattle.acct_tables.specs.NameHashes.{IsHashChange, TellsHashes, TellsInstead, told_hashes}
 use Rattle.acct_tables.specs.TableLines.{record_at}
-use Rattle.acct_tables.proofs.PutLines.{put-names}
+use Rattle.acct_tables.proofs.PutLines.{put-names, renamed-names}
+use Rattle.acct_tables.proofs.RenamedNames.{renamed-tells}
 
 -- the texts of the lines of a file are one line each
 pub file-lacks : (text : List ℕ) → All (Lacks newline) (texts_of (lines_of text))
@@ -122,3 +125,26 @@ module _ {R : Type 0} (format : Format R) (texts : List (List ℕ)) (names : Nam
       (put-in lacks place item text inside written is named)
   put-indexed (Err fault) now lacks place item text inside written is named made kept =
       subst (λ t. AreIndexed format t names) (sym kept) indexed
+
+  -- a record of another name in the text of one, with an index that tells of both hashes before it
+  -- forgets the old one
+  pub renamed-indexed :
+      (place : ℕ) (item : R) (text : List ℕ) (now : List (List ℕ)) (change : HashChange)
+      (noted after : NameHashes)
+      → place < length texts
+      → IsWritten format item
+      → text ≡ format.print item
+      → now ≡ set texts place text
+      → IsHashChange format texts (told_hashes names) place (format.name item) change
+      → TellsInstead change.to (Some change.lines) (told_hashes names) (told_hashes noted)
+      → TellsInstead change.from None (told_hashes noted) (told_hashes after)
+      → AreIndexed format now after
+  renamed-indexed place item text now change noted after inside written printed made is told gone =
+      subst (λ t. AreIndexed format t after) (sym made) (record {
+        one_line = All-set (Lacks newline) texts place text
+            (subst (Lacks newline) (sym printed) written.one_line) indexed.one_line;
+        told = subst (λ found. TellsHashes found (told_hashes after))
+            (sym (renamed-names format false texts place inside item written text printed))
+            (renamed-tells format texts (told_hashes names) indexed.told place (format.name item)
+            change is (told_hashes noted) told (told_hashes after) gone);
+      })

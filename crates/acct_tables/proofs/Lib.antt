@@ -22,7 +22,9 @@ pub mod ToldLines
 pub mod EditedNames
 pub mod MarkLemmas
 pub mod FrontLines
+pub mod BehindLines
 pub mod MarkedRecords
 pub mod KnownLines
 pub mod FieldMarks
 pub mod HashedNames
+pub mod RenamedNames

@@ -50,6 +50,24 @@ newline-cut front behind =
     ∙ ap (λ lines. lines ++ lines_of behind)
     (sym (found [] ∙ append-nil (ended_lines pieces)))
 
+-- a text is cut at a newline of it
+pub cut-there :
+    (text : List ℕ) (end : ℕ)
+    → end < length text
+    → slice_index text end ≡ newline
+    → text ≡ take end text ++ newline ∷ drop (end + 1) text
+cut-there text end low at =
+    sym (take-append-drop end text)
+    ∙ ap (λ back. take end text ++ back) (drop_more text end 0 low)
+    ∙ ap (λ byte. take end text ++ byte ∷ drop (end + 1) text) at
+
+-- all that is behind a place
+pub all-behind :
+    (text : List ℕ) (place : ℕ) → take (length text - place) (drop place text) ≡ drop place text
+all-behind text place =
+    let left : length (drop place text) ≡ length text - place = length-drop place text in
+    take_all (length text - place) (drop place text) (omega (arith, left))
+
 module _ (mark : List ℕ) where
   -- a text has what its front has
   pub holds-front : (text more : List ℕ) → Holds mark text → Holds mark (text ++ more)
@@ -143,14 +161,15 @@ module _ (mark : List ℕ) where
   pub without-before :
       (text front more : List ℕ) (place : ℕ)
       → text ≡ front ++ more
-      → length front < place
+      → length front < place + length mark
       → Nowhere (OccursAt text mark) 0 place
       → IsWithout mark front
   unfolding holds-front
   without-before text front more place is short nowhere = λ holds.
       let size : length front ≡ length holds.before + length (mark ++ holds.behind) =
       ap length holds.is ∙ length-append holds.before (mark ++ holds.behind) in
-      nowhere (length holds.before) (omega arith) (omega (arith, size, short))
+      let inside = length-append mark holds.behind in
+      nowhere (length holds.before) (omega arith) (omega (arith, size, inside, short))
       (occurs text holds.before (holds.behind ++ more) (is ∙ (holds-front front more holds).is))
 
   -- behind the last newline in front of the first mark
@@ -171,14 +190,8 @@ module _ (mark : List ℕ) where
       let seen : slice_index (take place text) end
       ≡ slice_index text end = grind (arith, common_steps) in
       sym seen ∙ eqb-true (slice_index (take place text) end) newline last.1 in
-      let whole : text ≡ take end text ++ newline ∷ rest =
-      sym (take-append-drop end text)
-      ∙ ap (λ back. take end text ++ back) (drop_more text end 0 low)
-      ∙ ap (λ byte. take end text ++ byte ∷ rest) at in
-      let all : take (length text - (end + 1)) rest ≡ rest =
-      let left : length rest ≡ length text - (end + 1) = length-drop (end + 1) text in
-      take_all (length text - (end + 1)) rest (omega (arith, left)) in
+      let whole = cut-there text end low at in
       let without = without-before text (take end text) (newline ∷ rest) place whole
       (omega (arith, size)) first.0.before in
-      subst (IsFromMark mark text) (sym all)
+      subst (IsFromMark mark text) (sym (all-behind text (end + 1)))
       (subst (λ t. IsFromMark mark t rest) (sym whole) (from-newline (take end text) rest without))

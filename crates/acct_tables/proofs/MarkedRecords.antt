@@ -1,6 +1,7 @@
--- Claim: what is found and counted by a name among the records of a text is so among those of the
--- text from the name on (`marked-found`, `marked-counted`). Way: a record's line begins with its
--- name (`holds-name`), so a line without the name is no record of it (`unnamed`).
+-- Claim: what is found and counted by a name among the records of a text is so among those behind
+-- lines that are no records of the name (`behind-found`, `behind-counted`), as a text from the name
+-- on is (`marked-behind`, `marked-counted`). Way: a record's line begins with its name
+-- (`holds-name`), so a line without the name is no record of it (`unnamed`).
 use Rattle.std.proofs.Common.{◌≡◌, ◌∙◌, ℕ, ◌+◌, ◌<◌, false, inl, inr, List, [], ◌∷◌, ◌++◌, length, refl, sym, ap, subst, lt_irrefl, append-nil, zero-add}
 use Rattle.std.specs.Prelude.{Option, Some, None, if◌then◌else◌}
 use Rattle.std.specs.List.{AllByRecursion, join_with_byte}
@@ -13,8 +14,9 @@ use Rattle.acct_text.proofs.Cut.{cut_at-is}
 use Rattle.account_formats.specs.Faults.{field_at}
 use Rattle.account_formats.specs.Format.{Format, count_named, find_named, is_named, records_of}
 use Rattle.account_formats.specs.Naming.{NamesFirst, first_field}
-use Rattle.acct_tables.specs.Marks.{Holds, IsFromMark, IsWithout}
+use Rattle.acct_tables.specs.Marks.{Holds, IsBehindAll, IsFromMark, IsWithout}
 use Rattle.acct_tables.specs.TableLines.{text_is_named}
+use Rattle.acct_tables.proofs.BehindLines.{behind-weaker, mark-behind}
 use Rattle.acct_tables.proofs.RecordLines.{counted-by, passed-by}
 
 -- fields that are joined begin with the first
@@ -35,6 +37,53 @@ pub holds-first : (text : List ℕ) → Holds (first_field text) text
 holds-first text =
     let are = cut_at-is colon text in
     subst (Holds (first_field text)) are.joined (first-joined (fields_of text) are.some)
+
+module _ {R : Type 0} (format : Format R) (name : List ℕ) where
+  -- the line is no record of the name
+  abbrev pub IsOther : List ℕ → Type 0
+  IsOther line = text_is_named format name line ≡ false
+
+  -- others are found behind such lines as without them
+  front-found :
+      (front later : List Line)
+      → AllByRecursion (λ line. IsOther line.text) front
+      → find_named format name (records_of format (front ++ later))
+      ≡ find_named format name (records_of format later)
+  front-found [] later passed = refl
+  front-found (line ∷ front) later passed =
+      passed-by format name (format.read line.text) (records_of format (front ++ later)) passed.0
+      ∙ front-found front later passed.1
+
+  -- they count for nothing
+  front-counted :
+      (front later : List Line)
+      → AllByRecursion (λ line. IsOther line.text) front
+      → count_named format name (records_of format (front ++ later))
+      ≡ count_named format name (records_of format later)
+  front-counted [] later passed = refl
+  front-counted (line ∷ front) later passed =
+      let count = count_named format name (records_of format (front ++ later)) in
+      counted-by format name (format.read line.text) (records_of format (front ++ later))
+      ∙ ap (λ test. (if test then 1 else 0) + count) passed.0
+      ∙ zero-add count
+      ∙ front-counted front later passed.1
+
+  module _ (text rest : List ℕ) (from : IsBehindAll IsOther text rest) where
+    -- what is found behind such lines is what is found in all
+    pub behind-found :
+        find_named format name (records_of format (lines_of rest))
+        ≡ find_named format name (records_of format (lines_of text))
+    behind-found =
+        sym (ap (λ lines. find_named format name (records_of format lines)) from.joined
+        ∙ front-found from.front (lines_of rest) from.passed)
+
+    -- and so with how many there are
+    pub behind-counted :
+        count_named format name (records_of format (lines_of rest))
+        ≡ count_named format name (records_of format (lines_of text))
+    behind-counted =
+        sym (ap (λ lines. count_named format name (records_of format lines)) from.joined
+        ∙ front-counted from.front (lines_of rest) from.passed)
 
 module _ {R : Type 0} (format : Format R) (names_first : NamesFirst format) where
   -- a record's line has its name
@@ -60,45 +109,20 @@ module _ {R : Type 0} (format : Format R) (names_first : NamesFirst format) wher
     pub unnamed : (text : List ℕ) → IsWithout name text → text_is_named format name text ≡ false
     unnamed text without = unnamed-by text (format.read text) refl without
 
-    -- lines without the name have no record of it in front of others
-    front-found :
-        (front later : List Line)
-        → AllByRecursion (λ line. IsWithout name line.text) front
-        → find_named format name (records_of format (front ++ later))
-        ≡ find_named format name (records_of format later)
-    front-found [] later without = refl
-    front-found (line ∷ front) later without =
-        passed-by format name (format.read line.text) (records_of format (front ++ later))
-        (unnamed line.text without.0)
-        ∙ front-found front later without.1
+    -- a text from the name on is behind lines that are no records of it
+    pub marked-behind :
+        (text rest : List ℕ)
+        → IsFromMark name text rest
+        → IsBehindAll (IsOther format name) text rest
+    marked-behind text rest from =
+        behind-weaker (IsWithout name) (IsOther format name) unnamed text rest
+        (mark-behind name text rest from)
 
-    -- and they count for nothing
-    front-counted :
-        (front later : List Line)
-        → AllByRecursion (λ line. IsWithout name line.text) front
-        → count_named format name (records_of format (front ++ later))
-        ≡ count_named format name (records_of format later)
-    front-counted [] later without = refl
-    front-counted (line ∷ front) later without =
-        let count = count_named format name (records_of format (front ++ later)) in
-        counted-by format name (format.read line.text) (records_of format (front ++ later))
-        ∙ ap (λ test. (if test then 1 else 0) + count) (unnamed line.text without.0)
-        ∙ zero-add count
-        ∙ front-counted front later without.1
-
-    module _ (text rest : List ℕ) (from : IsFromMark name text rest) where
-      -- what is found from the name on is what is found in all
-      pub marked-found :
-          find_named format name (records_of format (lines_of rest))
-          ≡ find_named format name (records_of format (lines_of text))
-      marked-found =
-          sym (ap (λ lines. find_named format name (records_of format lines)) from.joined
-          ∙ front-found from.front (lines_of rest) from.without)
-
-      -- and so with how many there are
-      pub marked-counted :
-          count_named format name (records_of format (lines_of rest))
-          ≡ count_named format name (records_of format (lines_of text))
-      marked-counted =
-          sym (ap (λ lines. count_named format name (records_of format lines)) from.joined
-          ∙ front-counted from.front (lines_of rest) from.without)
+    -- as many records have the name from there on as in all
+    pub marked-counted :
+        (text rest : List ℕ)
+        → IsFromMark name text rest
+        → count_named format name (records_of format (lines_of rest))
+        ≡ count_named format name (records_of format (lines_of text))
+    marked-counted text rest from =
+        behind-counted format name text rest (marked-behind text rest from)

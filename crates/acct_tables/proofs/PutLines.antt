@@ -1,19 +1,21 @@
 -- Claim: a record that is put into the text of a line of its name is put into the line (`put-lines`),
--- which it leaves where it is the same one (`kept-lines`), and the names stay (`put-names`). Way: the
--- line at the place has the text at the place.
-use Rattle.std.proofs.Common.{◌≡◌, ◌∙◌, ℕ, ◌<◌, Bool, false, List, [], length, get_or, refl, sym, ap, arith}
-use Rattle.std.specs.Prelude.{Option, Some, None, IfSome, bytes_eq, option_map, set}
+-- which it leaves where it is the same one (`kept-lines`), and the names stay (`put-names`); one of
+-- another name is put into the line, too (`renamed-lines`), which has its name then
+-- (`renamed-names`). Way: the line at the place has the text at the place.
+use Rattle.std.proofs.Common.{◌≡◌, ◌≢◌, ◌∙◌, ℕ, ◌<◌, Bool, false, List, [], length, get_or, refl, sym, ap, arith}
+use Rattle.std.specs.Prelude.{Option, Some, None, IfSome, bytes_eq, option_and_then, option_map, set}
 use Rattle.std.proofs.Math.Seq.{map-set_same}
-use Rattle.std.proofs.lemmas.List.{set-get_or}
+use Rattle.std.proofs.lemmas.List.{map-set, set-get_or}
 use Rattle.std.proofs.lemmas.Option.{slice_get-get_or}
 use Rattle.acct_text.specs.Lines.{Line}
 use Rattle.account_formats.specs.Format.{Format}
 use Rattle.account_formats.specs.RecordEdits.{TellsSame}
 use Rattle.account_formats.specs.Written.{IsWritten}
 use Rattle.acct_tables.specs.EditedLines.{lines_with, text_names}
+use Rattle.acct_tables.specs.NameHashes.{name_at}
 use Rattle.acct_tables.specs.TableLines.{changed_at, record_at, with_record}
 use Rattle.acct_tables.proofs.KeptLines.{lines-found, lines-many, lines-set}
-use Rattle.acct_tables.proofs.KnownLines.{put-other, put-same}
+use Rattle.acct_tables.proofs.KnownLines.{put-other, put-renamed, put-same}
 use Rattle.acct_tables.proofs.LinesHere.{blank_line, line_here, record-here}
 use Rattle.acct_tables.proofs.PlaceLemmas.{set-changes}
 
@@ -65,6 +67,40 @@ module _ {R : Type 0} (format : Format R) (lacks : Bool) (texts : List (List ℕ
         ∙ ap (option_map format.name) written.reads
         ∙ sym named
         ∙ ap (option_map format.name) text-reads)
+
+    -- the line has the name of the record
+    pub renamed-names :
+        text_names format (set texts place text)
+        ≡ set (text_names format texts) place (Some (format.name item))
+    renamed-names =
+        let name_of : List ℕ → Option (List ℕ) =
+        λ text. option_map format.name (format.read text) in
+        map-set name_of texts place text
+        ∙ ap (set (text_names format texts) place)
+        (ap name_of is ∙ ap (option_map format.name) written.reads)
+
+    -- a record of another name takes the line
+    pub renamed-lines :
+        (name : List ℕ)
+        → TellsSame format
+        → name_at format texts place ≡ Some name
+        → name ≢ format.name item
+        → lines_with lacks (set texts place text)
+        ≡ changed_at (with_record format item) place lines
+    renamed-lines name tells named differs =
+        let name_of : List ℕ → Option (List ℕ) =
+        λ text. option_map format.name (format.read text) in
+        let here_named : option_map format.name (format.read here.text) ≡ Some name =
+        ap (option_map format.name)
+        (sym (record-here format lines place line-inside) ∙ text-reads)
+        ∙ sym (ap (option_and_then name_of) (slice_get-get_or texts place [] inside))
+        ∙ named in
+        lines-set lacks texts place here text inside is-here
+        ∙ set-changes (with_record format item) lines place here (record here { text = text })
+        line-inside is-here
+        (ap (λ (text : List ℕ). record here { text = text }) is
+        ∙ put-renamed format tells item here (format.read here.text) name refl here_named
+        differs)
 
     module _ (tells : TellsSame format) (kept : List ℕ)
         (known : option_map format.print (record_at format lines place) ≡ Some kept) where

@@ -1,6 +1,6 @@
 -- Bytes by which a line is told that may matter: the lines in front of the first that has them are
 -- passed over at once (passwd(5), and likewise the other five tables).
-use Rattle.std.specs.Prelude.{◌≡◌, ℕ, List, ◌∷◌, ◌++◌, map}
+use Rattle.std.specs.Prelude.{◌≡◌, ◌≢◌, ℕ, List, ◌∷◌, ◌++◌, map}
 use Rattle.std.specs.List.{AllByRecursion}
 use Rattle.std.specs.Vec.{vec_items}
 use Rattle.acct_text.specs.Lines.{Line, lines_of}
@@ -47,3 +47,16 @@ pub record IsFrontWithout (marks : List (List ℕ)) (text front : List ℕ) : Ty
   pub joined : text ≡ front ++ behind
   pub cut : lines_of text ≡ lines_of front ++ lines_of behind
   pub without : AllByRecursion (λ line. IsWithoutAll marks line.text) (lines_of front)
+
+-- ---- Lines that are passed over
+
+-- the text doesn't begin with these bytes
+abbrev pub BeginsOtherwise : List ℕ → List ℕ → Type 0
+BeginsOtherwise begin text = (behind : List ℕ) → text ≢ begin ++ behind
+
+-- the text of a file from one of its lines on, where each line in front is such a one
+pub record IsBehindAll (IsPassed : List ℕ → Type 0) (text rest : List ℕ) : Type 0 where
+  -- the lines in front
+  pub front : List Line
+  pub joined : lines_of text ≡ front ++ lines_of rest
+  pub passed : AllByRecursion (λ line. IsPassed line.text) front

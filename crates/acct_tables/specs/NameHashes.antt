@@ -1,8 +1,9 @@
 -- What an index of a table's lines tells by the hashes of their names (passwd(5), shadow(5),
 -- group(5), gshadow(5), subuid(5), subgid(5)). Places count the lines from 0.
-use Rattle.std.specs.Prelude.{◌≡◌, ℕ, ◌*◌, ◌%◌, ◌^◌, true, false, bit_xor, List, [], ◌∷◌, Option, None, Some, bytes_eq, nat_eq, option_and_then, option_map, slice_get}
+use Rattle.std.specs.Prelude.{◌≡◌, ℕ, ◌*◌, ◌%◌, ◌^◌, true, false, bit_xor, List, [], ◌∷◌, Option, None, Some, bytes_eq, cond, nat_eq, option_and_then, option_map, slice_get}
 use Rattle.std.specs.HashMap.{get}
 use Rattle.account_formats.specs.Format.{Format}
+use Rattle.acct_tables.specs.declared.name_hashes.HashChange.{HashChange}
 use Rattle.acct_tables.specs.declared.name_hashes.HashedLines.{HashedLines}
 use Rattle.acct_tables.specs.declared.name_hashes.NameHashes.{NameHashes}
 use Rattle.acct_tables.specs.NameIndex.{lines_named}
@@ -50,3 +51,24 @@ told_hashes index = get nat_eq index.hashes
 -- it is so of each
 abbrev pub TellsHashes : List (Option (List ℕ)) → (ℕ → Option HashedLines) → Type 0
 TellsHashes names told = (hash : ℕ) → IsToldOf names hash (told hash)
+
+-- ---- A record that takes another name where it stands
+
+-- this is told of one hash in place of what was told, and of each other what was told
+abbrev pub TellsInstead :
+    ℕ → Option HashedLines → (ℕ → Option HashedLines) → (ℕ → Option HashedLines) → Type 0
+TellsInstead hash answer old new =
+    (other : ℕ) → new other ≡ cond (nat_eq hash other) answer (old other)
+
+-- the hashes of the record at this place, the only one of its hash, and of a name that it takes,
+-- whose hash no record has
+pub record IsHashChange {R : Type 0} (format : Format R) (texts : List (List ℕ))
+    (told : ℕ → Option HashedLines) (place : ℕ) (name : List ℕ) (change : HashChange)
+    : Type 0 where
+  pub old : List ℕ
+  pub here : name_at format texts place ≡ Some old
+  pub from : change.from ≡ name_hash old
+  pub to : change.to ≡ name_hash name
+  pub lines : change.lines ≡ record { first = place; count = 1; alike = true }
+  pub taken : told change.from ≡ Some change.lines
+  pub free : told change.to ≡ None

@@ -1,5 +1,5 @@
 // The lines of a table's file while edits change them.
-ghost use Rattle.std.specs.Prelude.{◌≡◌, ◌<◌, Some, get_or, length, nat_le, option_map, IfOk, IfSome, OnOk, OnErr};
+ghost use Rattle.std.specs.Prelude.{◌≡◌, ◌<◌, Some, get_or, if◌then◌else◌, length, nat_le, option_map, IfOk, IfSome, OnOk, OnErr};
 ghost use Rattle.acct_text.specs.Bytes.{newline};
 ghost use Rattle.acct_text.specs.Lines.{Line, file_bytes, lines_of};
 ghost use Rattle.acct_text.specs.Pieces.{Lacks};
@@ -191,6 +191,30 @@ impl<'a, R: TableRecord + Drop> EditedLines<'a, R> {
             self.texts.put(place, text)?;
         }
         Ok(())
+    }
+
+    /// Puts a record of another name in place of that at a place, and tells whether it did. It takes
+    /// no pass over the lines, and leaves them where there is no record, where others have its name
+    /// or one of the same hash, and where one has the new name or one of that hash. The line keeps
+    /// its end. At `AllocError` the lines are as before.
+    pub fn rename_at(&mut self, place: usize, item: &R) -> Result<bool, AllocError>
+        requires inside { place < length self.old }
+        requires written { IsWritten R.format item.now }
+        ensures renamed { IfOk result (λ is_made. self.new ≡ (if is_made
+            then changed_at (with_record R.format item.now) place self.old else self.old)) }
+        ensures unchanged { OnErr result (self.new ≡ self.old) }
+    {
+        let Some(change) = self.names.hash_change::<R>(&self.texts, place, item.name()) else {
+            return Ok(false);
+        };
+        let text = item.print(self.texts.allocator())?;
+        self.names.tell(change.to, change.lines)?;
+        if let Err(fault) = self.texts.put(place, text) {
+            self.names.forget(change.to);
+            return Err(fault);
+        }
+        self.names.forget(change.from);
+        Ok(true)
     }
 
     /// The bytes of the lines, one behind the other.

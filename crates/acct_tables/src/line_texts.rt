@@ -1,6 +1,6 @@
 // The texts of the lines of a table's file while edits change them (passwd(5), and likewise the other
 // five tables). Lines are counted from 0.
-ghost use Rattle.std.specs.Prelude.{◌≡◌, ◌+◌, ◌-◌, ◌^◌, ◌<◌, ◌++◌, ◌∷◌, [], length, map, set, option_and_then, option_map, slice_get, take, IfOk, OnOk, OnErr};
+ghost use Rattle.std.specs.Prelude.{◌≡◌, ◌+◌, ◌-◌, ◌^◌, ◌<◌, ◌≤◌, ◌++◌, ◌∷◌, [], length, map, set, option_and_then, option_map, slice_get, take, IfOk, OnOk, OnErr};
 ghost use Rattle.std.specs.Option.{option_copied};
 ghost use Rattle.acct_text.specs.Bytes.{part_of};
 ghost use Rattle.acct_text.specs.Lines.{lines_of, texts_of};
@@ -11,6 +11,7 @@ use crate::line::name_of;
 use acct_lines::TableRecord;
 use acct_text::Bytes;
 use indexmap::IndexMap;
+use memchr::memchr_iter;
 use std::alloc::{AllocError, Global};
 use std::marker::Model;
 
@@ -138,7 +139,8 @@ impl<'a> LineTexts<'a> {
     }
 }
 
-// Where the lines of a file stand in its bytes. Of 4 GiB or more it is answered as want of memory.
+// Where the lines of a file stand in its bytes, with room for some more. A file of 4 GiB or more is
+// answered as want of memory.
 fn places_of(alloc: Global, text: &[u8]) -> Result<Vec<LinePlace>, AllocError>
     ensures texts { IfOk result (λ places.
         map (λ place. part_of text.now (ends_of place)) places.items
@@ -148,7 +150,8 @@ fn places_of(alloc: Global, text: &[u8]) -> Result<Vec<LinePlace>, AllocError>
     if text.len() > u32::MAX as usize {
         return Err(AllocError);
     }
-    let mut places = Vec::new(alloc);
+    let lines = memchr_iter(b'\n', text).count();
+    let mut places = Vec::with_capacity(alloc, with_more(lines))?;
     let mut begin = 0;
     let mut left = Lines::of(text);
     'lines: while let Some(line) = left.take() {
@@ -159,4 +162,12 @@ fn places_of(alloc: Global, text: &[u8]) -> Result<Vec<LinePlace>, AllocError>
         begin = text.len() - left.bytes().len();
     }
     Ok(places)
+}
+
+/// Room for so many lines and for a few that edits add, so that the first of these doubles nothing.
+/// They are few, as an index rounds its room up to 9 times a power of two.
+pub(crate) fn with_more(lines: usize) -> usize
+    ensures { lines ≤ result }
+{
+    lines.saturating_add(lines / 64 + 64)
 }

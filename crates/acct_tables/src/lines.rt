@@ -9,7 +9,7 @@ ghost use Rattle.account_formats.specs.Written.{IsWritten};
 ghost use Rattle.acct_tables.specs.SeenLines.{end_for, lacks_end, missing_end, seen_line};
 
 use crate::line::{is_named, read_record};
-use crate::marks::from_mark;
+use crate::name_search::from_name;
 use acct_lines::TableRecord;
 use acct_text::{Bytes, cut_once};
 use std::alloc::{AllocError, Global};
@@ -128,11 +128,12 @@ fn line_of_name<'a, R: TableRecord>(text: &'a [u8], name: &[u8]) -> Option<&'a [
     ensures reads { IfSome result (λ line. is_some (R.format.read line.now) ≡ true) }
     ensures one_line { IfSome result (λ line. Lacks newline line.now) }
 {
-    let mut left = Lines::of(from_mark(text, name));
+    let mut left = Lines::of(from_name::<R>(text, name));
     'lines: while let Some(line) = left.take() {
         if is_named::<R>(line.text, name) {
             return Some(line.text);
         }
+        left = Lines::of(from_name::<R>(left.bytes(), name));
     }
     None
 }
@@ -143,13 +144,14 @@ pub fn has_several_records<R: TableRecord>(text: &[u8], name: &[u8]) -> bool
         (count_named R.format name.now (records_of R.format (lines_of text.now))) }
 {
     let mut is_found = false;
-    let mut left = Lines::of(from_mark(text, name));
+    let mut left = Lines::of(from_name::<R>(text, name));
     'lines: while let Some(line) = left.take() {
         let is_one = is_named::<R>(line.text, name);
         if is_one && is_found {
             return true;
         }
         is_found = is_found || is_one;
+        left = Lines::of(from_name::<R>(left.bytes(), name));
     }
     false
 }

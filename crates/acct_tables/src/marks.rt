@@ -46,8 +46,8 @@ pub fn from_mark<'a>(text: &'a [u8], mark: &[u8]) -> &'a [u8]
     }
 }
 
-// The first place of a mark in a text.
-fn first_place(text: &[u8], mark: &[u8]) -> Option<usize>
+/// The first place of a mark in a text.
+pub(crate) fn first_place(text: &[u8], mark: &[u8]) -> Option<usize>
     ensures { FindsNeedle text.now mark.now 0 result }
 {
     if text.len() <= NEAR {

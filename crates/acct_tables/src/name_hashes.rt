@@ -1,11 +1,11 @@
 // Where the records of each name stand among the lines of a table, by the hashes of their names
 // (passwd(5), and likewise the other five tables). The names stay where they are, in the lines.
-ghost use Rattle.std.specs.Prelude.{◌≡◌, ◌+◌, ◌*◌, ◌%◌, ◌^◌, ◌<◌, [], Some, bit_xor, length, take, IfOk, OnOk, OnErr};
+ghost use Rattle.std.specs.Prelude.{◌≡◌, ◌+◌, ◌*◌, ◌%◌, ◌^◌, ◌<◌, true, [], None, Some, bit_xor, length, take, IfOk, IfSome, IsTrue, OnOk, OnErr};
 ghost use Rattle.acct_tables.specs.EditedLines.{text_names};
-ghost use Rattle.acct_tables.specs.NameHashes.{IsToldOf, TellsHashes, name_at, name_hash, next_hash, told_hashes};
+ghost use Rattle.acct_tables.specs.NameHashes.{IsHashChange, IsToldOf, TellsHashes, TellsInstead, name_at, name_hash, next_hash, told_hashes};
 ghost use Rattle.acct_tables.specs.NameIndex.{has_name, lines_named};
 
-use crate::line_texts::LineTexts;
+use crate::line_texts::{LineTexts, with_more};
 use crate::name_index::{NamedLines, with_last};
 use acct_lines::TableRecord;
 use indexmap::IndexMap;
@@ -19,13 +19,24 @@ const FACTOR: u64 = 1_099_511_628_211;
 
 // The records whose names have one hash.
 #[derive(Clone, Copy, Drop)]
-struct HashedLines {
+pub(crate) struct HashedLines {
     // the line of the first
     first: u32,
     // how many they are, where all have one name
     count: u32,
     // whether all have one name
     alike: bool,
+}
+
+/// The hashes of the names of a record that takes another name where it stands.
+#[derive(Clone, Copy, Drop)]
+pub(crate) struct HashChange {
+    /// That of the name it has.
+    pub(crate) from: u64,
+    /// That of the name it takes.
+    pub(crate) to: u64,
+    /// The record, as either tells of it.
+    pub(crate) lines: HashedLines,
 }
 
 /// For each hash that the name of a record of a table has, the line of the first, how many there are,
@@ -45,8 +56,8 @@ impl NameHashes {
         Ok(NameHashes { hashes })
     }
 
-    /// The index of the records that these texts are. 2^32 lines or more are answered as want of
-    /// memory.
+    /// The index of the records that these texts are, with room for a few more. 2^32 lines or more
+    /// are answered as want of memory.
     pub(crate) fn of<R: TableRecord>(
         alloc: Global,
         texts: &LineTexts<'_>,
@@ -54,7 +65,7 @@ impl NameHashes {
         ensures { IfOk result (λ index.
             TellsHashes (text_names R.format texts.now) (told_hashes index)) }
     {
-        let mut index = NameHashes::with_room(alloc, texts.len())?;
+        let mut index = NameHashes::with_room(alloc, with_more(texts.len()))?;
         'places: for place in 0..texts.len() {
             index.note::<R>(texts, place)?;
         }
@@ -109,6 +120,47 @@ impl NameHashes {
         })
     }
 
+    /// The hashes of the record at a place that takes the name; none where no record is there, where
+    /// others have its hash, and where a record's name has the new hash.
+    pub(crate) fn hash_change<R: TableRecord>(
+        &self,
+        texts: &LineTexts<'_>,
+        place: usize,
+        name: &[u8],
+    ) -> Option<HashChange>
+        ensures { IfSome result
+            (IsHashChange R.format texts.now (told_hashes self.now) place name.now) }
+    {
+        let from = name_hash(texts.name::<R>(place)?);
+        let lines = self.get_hash(from)?;
+        if !is_alone_at(lines, place) {
+            return None;
+        }
+        let to = name_hash(name);
+        match self.get_hash(to) {
+            Some(_) => None,
+            None => Some(HashChange { from, to, lines }),
+        }
+    }
+
+    /// Tells of the records by the hash, in place of what was told. At `AllocError` the index is as
+    /// before.
+    pub(crate) fn tell(&mut self, hash: u64, lines: HashedLines) -> Result<(), AllocError>
+        ensures told { OnOk result (TellsInstead hash (Some lines)
+            (told_hashes self.old) (told_hashes self.new)) }
+        ensures unchanged { OnErr result (told_hashes self.new ≡ told_hashes self.old) }
+    {
+        self.hashes.insert(hash, lines)?;
+        Ok(())
+    }
+
+    /// Tells of no record by the hash.
+    pub(crate) fn forget(&mut self, hash: u64)
+        ensures { TellsInstead hash None (told_hashes self.old) (told_hashes self.new) }
+    {
+        self.hashes.swap_remove(&hash);
+    }
+
     // The records whose names have the hash; none where no record's has.
     fn get_hash(&self, hash: u64) -> Option<HashedLines>
         ensures { result ≡ told_hashes self.now hash }
@@ -117,8 +169,15 @@ impl NameHashes {
     }
 }
 
-// The hash of a name, FNV-1a.
-fn name_hash(name: &[u8]) -> u64
+// Whether this is one record, which stands at a place.
+fn is_alone_at(lines: HashedLines, place: usize) -> bool
+    ensures { IsTrue result → lines ≡ record { first = place; count = 1; alike = true } }
+{
+    lines.alike && lines.count == 1 && lines.first as usize == place
+}
+
+/// The hash of a name, FNV-1a, by which an index of lines finds its records.
+pub fn name_hash(name: &[u8]) -> u64
     ensures { result ≡ name_hash name.now }
 {
     let mut hash = NO_BYTES;

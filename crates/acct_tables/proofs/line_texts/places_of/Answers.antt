@@ -25,8 +25,8 @@ lines-init c =
     let text = c.args.text.now in
     record {
       texts = ap₂ (λ places lines. map (text_of text) places ++ texts_of lines)
-          c.new-places.ensures.items c.of-left.ensures;
-      within = subst (All (IsIn text)) (sym c.new-places.ensures.items) (All-nil (IsIn text));
+          c.in_ok-places.ensures.items c.of-left.ensures;
+      within = subst (All (IsIn text)) (sym c.in_ok-places.ensures.items) (All-nil (IsIn text));
       left_bytes = sym (lines_of-are text).joined ∙ ap file_bytes (sym c.of-left.ensures);
       inside = omega arith;
     }
