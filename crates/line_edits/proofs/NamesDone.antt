@@ -16,7 +16,7 @@ use Rattle.account_formats.specs.RecordEdits.{IsWrittenEdit, TellsSame}
 use Rattle.account_formats.specs.Text.{is_listed}
 use Rattle.account_formats.specs.Written.{IsWritten}
 use Rattle.acct_tables.specs.NameIndex.{has_name, line_name}
-use Rattle.line_edits.specs.Naming.{ChangesOnly, KeepsNames, on_named}
+use Rattle.line_edits.specs.Naming.{KeepsNames, TouchesOnly, on_named}
 use Rattle.line_edits.specs.WrittenLines.{AreWritten, IsWrittenRead}
 use Rattle.line_edits.proofs.ChangedLines.{other-line, record-line, stays}
 use Rattle.line_edits.proofs.NamedLemmas.{IsKeptAs, MakesWritten, kept-line, made_by, only, other-named}
@@ -179,7 +179,7 @@ all-by f r false others = sym (others refl)
 -- is done with them where it is done with all
 pub names-all :
     {R : Type 0} (format : Format R) (f : R → List R) (names : List (List ℕ))
-    → ChangesOnly format f names
+    → TouchesOnly format f names
     → on_named format names f ≡ f
 names-all format f names only = λ i r.
     all-by f r (is_listed (format.name r) names) (only.others r) i

@@ -1,10 +1,10 @@
--- Claim: an act that leaves the name of a user or a group touches only the records of the name it is
--- done with (`only-user`, `only-shadow`, `only-group`, `only-gshadow`), and a membership only those of
--- the groups that the user joins where it leaves none and keeps its name (`joined-group`,
--- `joined-gshadow`). Way: act by act.
+-- Claim: a change of the records of a name touches these alone (`touches-named`, `touches-removed`), or
+-- they go by it (`removes-told`); it leaves the names where its act leaves that name (`user-keeps`, `shadow-keeps`,
+-- `group-keeps`, `gshadow-keeps`). A membership touches only the groups that the user joins where it
+-- leaves none and keeps its name (`joined-group`, `joined-gshadow`). Way: act by act.
 use Rattle.std.proofs.Common.{◌≡◌, ◌∙◌, ℕ, Bool, true, false, List, [], ◌∷◌, map, refl, sym, ap, if◌then◌else◌}
 use Rattle.std.specs.List.{IsDistinct}
-use Rattle.std.specs.Prelude.{◌&&◌, not, bytes_eq, IfSome, Option, Some, None, unwrap_or}
+use Rattle.std.specs.Prelude.{◌==◌, ◌&&◌, not, bytes_eq, IfSome, Option, Some, None, unwrap_or}
 use Rattle.std.proofs.lemmas.Slice.Eq.{bytes_eq-Decides}
 use Rattle.account_formats.specs.declared.records.GroupRecord.{GroupRecord}
 use Rattle.account_formats.specs.declared.records.GshadowRecord.{GshadowRecord}
@@ -16,12 +16,13 @@ use Rattle.account_formats.specs.Records.{group_format, gshadow_format, passwd_f
 use Rattle.account_formats.specs.RecordEdits.{TellsSame}
 use Rattle.account_formats.specs.Text.{is_listed}
 use Rattle.account_model.specs.Members.{in_place_of, name_once, renamed_in, with_name}
-use Rattle.line_edits.specs.GroupChanges.{group_after, group_becomes, keeps_group_name}
-use Rattle.line_edits.specs.GshadowChanges.{gshadow_after, gshadow_becomes, keeps_gshadow_name}
+use Rattle.line_edits.specs.GroupChanges.{group_after, group_becomes}
+use Rattle.line_edits.specs.GshadowChanges.{gshadow_after, gshadow_becomes}
+use Rattle.line_edits.specs.KeptNames.{keeps_group_name, keeps_gshadow_name, keeps_shadow_name, keeps_user_name}
 use Rattle.line_edits.specs.Memberships.{ChangesOnlyIn, members_by, members_with}
-use Rattle.line_edits.specs.Naming.{ChangesOnly, leaves_name, names_in}
-use Rattle.line_edits.specs.PasswdChanges.{keeps_user_name, passwd_after, passwd_becomes}
-use Rattle.line_edits.specs.ShadowChanges.{keeps_shadow_name, shadow_after, shadow_becomes}
+use Rattle.line_edits.specs.Naming.{KeepsNames, Removes, TouchesOnly, changed_named, leaves_name, names_in, without_named}
+use Rattle.line_edits.specs.PasswdChanges.{passwd_after, passwd_becomes}
+use Rattle.line_edits.specs.ShadowChanges.{shadow_after, shadow_becomes}
 use Rattle.line_edits.specs.declared.group_changes.GroupAct.{GroupAct}
 use Rattle.line_edits.specs.declared.group_changes.GroupAct.TheVariants.{SetGid as GroupSetGid, Rename as GroupRename, SetPassword as GroupSetPassword, AddMember as GroupAddMember, RemoveMember as GroupRemoveMember, SetMembers as GroupSetMembers, SetMembership as GroupSetMembership}
 use Rattle.line_edits.specs.declared.group_changes.GroupChange.TheVariants.{All as AllGroups, Named as NamedGroup}
@@ -32,7 +33,7 @@ use Rattle.line_edits.specs.declared.memberships.Membership.{Membership}
 use Rattle.line_edits.specs.declared.memberships.UserGroups.TheVariants.{Also, Kept}
 use Rattle.line_edits.specs.declared.passwd_changes.PasswdAct.{PasswdAct}
 use Rattle.line_edits.specs.declared.passwd_changes.PasswdAct.TheVariants.{SetPassword, SetGid, ChangePassword, SetFields as SetUserFields}
-use Rattle.line_edits.specs.declared.passwd_changes.PasswdChange.TheVariants.{Named as NamedUser}
+use Rattle.line_edits.specs.declared.passwd_changes.PasswdChange.TheVariants.{Named as NamedUser, OfGroup}
 use Rattle.line_edits.specs.declared.shadow_changes.ShadowAct.{ShadowAct}
 use Rattle.line_edits.specs.declared.shadow_changes.ShadowAct.TheVariants.{SetHash, SetLastChange, ChangeHash, SetFields as SetShadowFields}
 use Rattle.line_edits.specs.declared.shadow_changes.ShadowChange.TheVariants.{Named as NamedShadow}
@@ -116,49 +117,111 @@ pub unnamed :
     (name other : List ℕ) → is_listed name (other ∷ []) ≡ false → bytes_eq name other ≡ false
 unnamed name other unlisted = (neither (bytes_eq name other) false unlisted).0
 
--- what is done with the records of a name, and leaves that name, touches these alone
-only-named :
+-- a change that is told, of which the name is told
+module _ {R C : Type 0} (format : Format R) (becomes : C → R → List R) (change told : C)
+    (name text : List ℕ) (is : change ≡ told) (named : text ≡ name) where
+  -- touches the records of the name alone, where it leaves each other one
+  touches-told :
+      (f : Bool → R → List R)
+      → ((r : R) → becomes told r ≡ f (is_named format name r) r)
+      → ((r : R) → f false r ≡ r ∷ [])
+      → TouchesOnly format (becomes change) (text ∷ [])
+  touches-told f gives same = record {
+    others = λ r other.
+        ap (λ change. becomes change r) is
+        ∙ gives r
+        ∙ ap (λ named. f named r)
+        (ap (bytes_eq (format.name r)) (sym named) ∙ unnamed (format.name r) text other)
+        ∙ same r;
+    apart = one-apart text;
+  }
+
+  -- so does an act with them
+  pub touches-named :
+      (after : R → R)
+      → ((r : R) → becomes told r ≡ changed_named format name after r)
+      → TouchesOnly format (becomes change) (text ∷ [])
+  touches-named after gives =
+      touches-told (λ named r. (if named then after r else r) ∷ []) gives (λ r. refl)
+
+  -- and their removal
+  pub touches-removed :
+      ((r : R) → becomes told r ≡ without_named format name r)
+      → TouchesOnly format (becomes change) (text ∷ [])
+  touches-removed gives =
+      touches-told (λ named r. if named then [] else r ∷ []) gives (λ r. refl)
+
+  -- which removes them
+  pub removes-told :
+      ((r : R) → becomes told r ≡ without_named format name r)
+      → Removes format (becomes change) text
+  removes-told gives = λ r.
+      ap (λ change. becomes change r) is
+      ∙ gives r
+      ∙ ap (λ name. without_named format name r) (sym named)
+
+-- an act with the records of a name, which leaves that name, leaves all names
+keeps-named :
     {R : Type 0} (format : Format R) (name : List ℕ) (after : R → R)
     → ((r : R) → is_named format name r ≡ true → format.name (after r) ≡ format.name r)
-    → ChangesOnly format (λ r. (if is_named format name r then after r else r) ∷ []) (name ∷ [])
-only-named format name after keeps = record {
-  others = λ r other. ap (λ named. (if named then after r else r) ∷ [])
-      (unnamed (format.name r) name other);
-  kept = λ r. one-name format (is_named format name r) (after r) r (keeps r);
-  apart = one-apart name;
-}
+    → KeepsNames format (changed_named format name after)
+keeps-named format name after keeps = λ r.
+    one-name format (is_named format name r) (after r) r (keeps r)
 
 -- in passwd
-pub only-user :
+pub user-keeps :
     (name : List ℕ) (act : PasswdAct)
     → keeps_user_name name act ≡ true
-    → ChangesOnly passwd_format (passwd_becomes (NamedUser name act)) (name ∷ [])
-only-user name act keeps =
-    only-named passwd_format name (passwd_after act) (λ r. user-name name act r keeps)
+    → KeepsNames passwd_format (passwd_becomes (NamedUser name act))
+user-keeps name act keeps =
+    keeps-named passwd_format name (passwd_after act) (λ r. user-name name act r keeps)
+
+-- in passwd, with the users of a primary group, where the act leaves any name
+pub users-keep :
+    (gid : ℕ) (act : PasswdAct)
+    → ((name : List ℕ) → keeps_user_name name act ≡ true)
+    → KeepsNames passwd_format (passwd_becomes (OfGroup gid act))
+users-keep gid act keeps = λ r.
+    one-name passwd_format (r.gid == gid) (passwd_after act r) r
+    (λ has. user-name r.name act r (keeps r.name) ((bytes_eq-Decides r.name r.name).1 refl))
 
 -- in shadow
-pub only-shadow :
+pub shadow-keeps :
     (name : List ℕ) (act : ShadowAct)
     → keeps_shadow_name name act ≡ true
-    → ChangesOnly shadow_format (shadow_becomes (NamedShadow name act)) (name ∷ [])
-only-shadow name act keeps =
-    only-named shadow_format name (shadow_after act) (λ r. shadow-name name act r keeps)
+    → KeepsNames shadow_format (shadow_becomes (NamedShadow name act))
+shadow-keeps name act keeps =
+    keeps-named shadow_format name (shadow_after act) (λ r. shadow-name name act r keeps)
 
 -- in group
-pub only-group :
+pub group-keeps :
     (name : List ℕ) (act : GroupAct)
     → keeps_group_name act ≡ true
-    → ChangesOnly group_format (group_becomes (NamedGroup name act)) (name ∷ [])
-only-group name act keeps =
-    only-named group_format name (group_after act) (λ r named. group-name act r keeps)
+    → KeepsNames group_format (group_becomes (NamedGroup name act))
+group-keeps name act keeps =
+    keeps-named group_format name (group_after act) (λ r named. group-name act r keeps)
+
+-- with all groups
+pub group-all-keeps :
+    (act : GroupAct)
+    → keeps_group_name act ≡ true
+    → KeepsNames group_format (group_becomes (AllGroups act))
+group-all-keeps act keeps = λ r. ap (λ name. name ∷ []) (group-name act r keeps)
 
 -- in gshadow
-pub only-gshadow :
+pub gshadow-keeps :
     (name : List ℕ) (act : GshadowAct)
     → keeps_gshadow_name act ≡ true
-    → ChangesOnly gshadow_format (gshadow_becomes (NamedGshadow name act)) (name ∷ [])
-only-gshadow name act keeps =
-    only-named gshadow_format name (gshadow_after act) (λ r named. gshadow-name act r keeps)
+    → KeepsNames gshadow_format (gshadow_becomes (NamedGshadow name act))
+gshadow-keeps name act keeps =
+    keeps-named gshadow_format name (gshadow_after act) (λ r named. gshadow-name act r keeps)
+
+-- with all groups
+pub gshadow-all-keeps :
+    (act : GshadowAct)
+    → keeps_gshadow_name act ≡ true
+    → KeepsNames gshadow_format (gshadow_becomes (AllGshadows act))
+gshadow-all-keeps act keeps = λ r. ap (λ name. name ∷ []) (gshadow-name act r keeps)
 
 -- ---- Memberships
 
@@ -221,17 +284,16 @@ module _ (membership : Membership) (groups : List (List ℕ))
 
   -- in group
   only-groups :
-      ChangesOnly group_format (group_becomes (AllGroups (GroupSetMembership membership))) groups
+      TouchesOnly group_format (group_becomes (AllGroups (GroupSetMembership membership))) groups
   only-groups = record {
     others = λ r other. ap (λ members. record r { members = members } ∷ [])
         (members-stay r.name r.members other);
-    kept = λ r. refl;
     apart = only.apart;
   }
 
   -- in gshadow
   only-gshadows :
-      ChangesOnly gshadow_format (gshadow_becomes (AllGshadows (GshadowSetMembership membership)))
+      TouchesOnly gshadow_format (gshadow_becomes (AllGshadows (GshadowSetMembership membership)))
       groups
   only-gshadows = record {
     others = λ r other.
@@ -240,7 +302,6 @@ module _ (membership : Membership) (groups : List (List ℕ))
           members = members_by membership r.name r.members;
         } ∷ []) (same-renamed membership.user membership.new_name r.administrators only.name)
         ∙ ap (λ members. record r { members = members } ∷ []) (members-stay r.name r.members other);
-    kept = λ r. refl;
     apart = only.apart;
   }
 
@@ -248,7 +309,7 @@ module _ (membership : Membership) (groups : List (List ℕ))
 pub joined-group :
     (membership : Membership) (names : Option ChangedNames)
     → IfSome names (λ names. ChangesOnlyIn membership (names_in names))
-    → IfSome names (λ names. ChangesOnly group_format
+    → IfSome names (λ names. TouchesOnly group_format
     (group_becomes (AllGroups (GroupSetMembership membership))) (names_in names))
 joined-group membership None only = tt
 joined-group membership (Some names) only = only-groups membership (names_in names) only
@@ -257,7 +318,7 @@ joined-group membership (Some names) only = only-groups membership (names_in nam
 pub joined-gshadow :
     (membership : Membership) (names : Option ChangedNames)
     → IfSome names (λ names. ChangesOnlyIn membership (names_in names))
-    → IfSome names (λ names. ChangesOnly gshadow_format
+    → IfSome names (λ names. TouchesOnly gshadow_format
     (gshadow_becomes (AllGshadows (GshadowSetMembership membership))) (names_in names))
 joined-gshadow membership None only = tt
 joined-gshadow membership (Some names) only = only-gshadows membership (names_in names) only
@@ -268,7 +329,7 @@ joined-gshadow membership (Some names) only = only-gshadows membership (names_in
 pub only-leaves :
     {R : Type 0} (format : Format R) (f : R → List R) (names : Option ChangedNames)
     → TellsSame format
-    → IfSome names (λ names. ChangesOnly format f (names_in names))
+    → IfSome names (λ names. TouchesOnly format f (names_in names))
     → IfSome names (λ names. LeavesOthers format (Become f) (names_in names))
 only-leaves format f None tells only = tt
 only-leaves format f (Some names) tells only = λ r other.

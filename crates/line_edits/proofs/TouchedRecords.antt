@@ -1,12 +1,12 @@
 -- Claim: the first record that is met among those of lines is that of the first line, or else the first
 -- behind it (`met-here`, `passed-here`); one whose name has no other isn't met (`met-single`), nor one
 -- that isn't touched (`met-untouched`); without edits none is (`none-met`), nor where they touch no
--- name that has several (`none-touched`); and a name is that of a record (`record-named`). Way: by what
--- the line reads as.
-use Rattle.std.proofs.Common.{◌≡◌, ℕ, Bool, true, false, inl, inr, List, [], ◌∷◌, refl, sym, ◌∙◌, ap}
+-- record whose name has several (`none-touched`, place by place `multiple-next`); and a name is that of
+-- a record (`record-named`). Way: by what the line reads as.
+use Rattle.std.proofs.Common.{◌≡◌, ℕ, suc, ◌+◌, ◌<◌, Bool, true, false, inl, inr, List, [], ◌∷◌, length, refl, sym, ◌∙◌, ap, subst, arith}
 use Rattle.std.specs.Prelude.{◌&&◌, ◌||◌, bytes_eq, IfSome, Option, Some, None, option_map, find, if◌then◌else◌}
 use Rattle.std.specs.List.{cons_option, list_any}
-use Rattle.std.proofs.lemmas.Bool.{cases_Bool}
+use Rattle.std.proofs.lemmas.Bool.{cases_Bool, cases_eq}
 use Rattle.std.proofs.lemmas.Slice.Eq.{bytes_eq-Decides}
 use Rattle.acct_text.specs.Lines.{Line}
 use Rattle.account_formats.specs.Format.{Format, records_of}
@@ -14,7 +14,8 @@ use Rattle.account_formats.specs.Edits.{Edit, first_multiple, is_multiple, touch
 use Rattle.account_formats.specs.Text.{is_listed}
 use Rattle.std.specs.HashSet.{HashSet}
 use denote.Ref.{Bor}
-use Rattle.line_edits.specs.Touching.{LacksName, TouchOnly, is_met, first_touched, met_in}
+use Rattle.acct_tables.specs.TableLines.{record_at}
+use Rattle.line_edits.specs.Touching.{HoldsOfMultiple, HoldsOfMultipleAt, LacksName, TouchOnly, is_met, first_touched, met_in}
 use Rattle.line_edits.proofs.LeftLemmas.{neither}
 
 -- what was found is a record of this name
@@ -161,24 +162,49 @@ unmet-if true true untouched = untouched refl
 unmet-if true false untouched = refl
 unmet-if false several untouched = refl
 
--- where no element passes, none is found
+-- by whether the first line is a record
+none-by :
+    {R : Type 0} (test : R → Bool) (kept : Option R) (records : List R)
+    → ((r : R) → kept ≡ Some r → test r ≡ false)
+    → find test records ≡ None
+    → find test (cons_option kept records) ≡ None
+none-by test None records first others = others
+none-by test (Some r) records first others =
+    ap (λ passes. if passes then Some r else find test records) (first r refl) ∙ others
+
+-- where no record of the lines passes, none is found
 none-found :
-    {X : Type 0} (test : X → Bool) (xs : List X)
-    → ((x : X) → test x ≡ false)
-    → find test xs ≡ None
-none-found test [] none = refl
-none-found test (x ∷ xs) none =
-    ap (λ passes. if passes then Some x else find test xs) (none x) ∙ none-found test xs none
+    {R : Type 0} (format : Format R) (test : R → Bool) (lines : List Line)
+    → ((place : ℕ) → place < length lines → (r : R) → record_at format lines place ≡ Some r
+    → test r ≡ false)
+    → find test (records_of format lines) ≡ None
+none-found format test [] none = refl
+none-found format test (line ∷ rest) none =
+    none-by test (format.read line.text) (records_of format rest) (none 0 (omega arith))
+    (none-found format test rest (λ place inside. none (suc place) (omega arith)))
 
 -- where the edits touch no record whose name has several, none is met
 pub none-touched :
-    {R : Type 0} (format : Format R) (edits : List (Edit R)) (records : List R)
-    → ((r : R) → is_multiple format records r ≡ true → touches format edits r ≡ false)
-    → first_multiple format edits records ≡ None
-none-touched format edits records untouched =
+    {R : Type 0} (format : Format R) (edits : List (Edit R)) (lines : List Line)
+    → HoldsOfMultiple format lines (λ r. touches format edits r ≡ false)
+    → first_multiple format edits (records_of format lines) ≡ None
+none-touched format edits lines untouched =
+    let records = records_of format lines in
     ap (option_map format.name)
-    (none-found (is_met format edits records) records
-    (λ r. unmet-if (touches format edits r) (is_multiple format records r) (untouched r)))
+    (none-found format (is_met format edits records) lines
+    (λ place inside r found. unmet-if (touches format edits r) (is_multiple format records r)
+    (untouched place inside r found)))
+
+-- what holds of the records at the places before one, and of that at it, holds before the next
+pub multiple-next :
+    {R : Type 0} (format : Format R) (lines : List Line) (P : R → Type 0) (place : ℕ)
+    → ((below : ℕ) → below < place → HoldsOfMultipleAt format lines P below)
+    → HoldsOfMultipleAt format lines P place
+    → (below : ℕ) → below < place + 1 → HoldsOfMultipleAt format lines P below
+multiple-next format lines P place before here below under = elim (cases_eq below place) [
+  | inl same ↦ subst (HoldsOfMultipleAt format lines P) (sym same) here
+  | inr apart ↦ before below (omega arith)
+]
 
 -- no edit touches a record
 pub none-met :

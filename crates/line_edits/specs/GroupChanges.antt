@@ -1,10 +1,10 @@
 -- What the changes of groups make of a record of group (group(5)).
-use Rattle.std.specs.Prelude.{Bool, true, false, List, [], ◌∷◌, if◌then◌else◌}
+use Rattle.std.specs.Prelude.{List, [], ◌∷◌}
 use Rattle.account_formats.specs.declared.records.GroupRecord.{GroupRecord}
-use Rattle.account_formats.specs.Format.{is_named}
 use Rattle.account_model.specs.Members.{with_name, without_name}
 use Rattle.account_formats.specs.Records.{group_format}
 use Rattle.line_edits.specs.Memberships.{group_by}
+use Rattle.line_edits.specs.Naming.{changed_named, without_named}
 use Rattle.line_edits.specs.declared.group_changes.GroupAct.{GroupAct}
 use Rattle.line_edits.specs.declared.group_changes.GroupAct.TheVariants.{SetGid, Rename, SetPassword, AddMember, RemoveMember, SetMembers, SetMembership}
 use Rattle.line_edits.specs.declared.group_changes.GroupChange.{GroupChange}
@@ -20,14 +20,8 @@ group_after (RemoveMember user) r = record r { members = without_name user r.mem
 group_after (SetMembers members) r = record r { members = members }
 group_after (SetMembership membership) r = group_by membership r
 
--- whether the act leaves the name
-abbrev pub keeps_group_name : GroupAct → Bool
-keeps_group_name (Rename name) = false
-keeps_group_name _ = true
-
 -- the records that a record becomes by a change
 abbrev pub group_becomes : GroupChange → GroupRecord → List GroupRecord
-group_becomes (Named name act) r =
-    (if is_named group_format name r then group_after act r else r) ∷ []
+group_becomes (Named name act) r = changed_named group_format name (group_after act) r
 group_becomes (All act) r = group_after act r ∷ []
-group_becomes (Remove name) r = if is_named group_format name r then [] else r ∷ []
+group_becomes (Remove name) r = without_named group_format name r

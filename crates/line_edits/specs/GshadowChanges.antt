@@ -1,10 +1,10 @@
 -- What the changes of groups make of a record of gshadow (gshadow(5)).
-use Rattle.std.specs.Prelude.{ℕ, Bool, true, false, List, [], ◌∷◌, if◌then◌else◌}
+use Rattle.std.specs.Prelude.{ℕ, List, [], ◌∷◌}
 use Rattle.account_formats.specs.declared.records.GshadowRecord.{GshadowRecord}
-use Rattle.account_formats.specs.Format.{is_named}
 use Rattle.account_model.specs.Members.{with_name, without_name}
 use Rattle.account_formats.specs.Records.{gshadow_format}
 use Rattle.line_edits.specs.Memberships.{gshadow_by}
+use Rattle.line_edits.specs.Naming.{changed_named, without_named}
 use Rattle.line_edits.specs.declared.gshadow_changes.GshadowAct.{GshadowAct}
 use Rattle.line_edits.specs.declared.gshadow_changes.GshadowAct.TheVariants.{Rename, SetPassword, SetAdministrators, AddMember, RemoveMember, SetMembers, RemoveUser, SetMembership}
 use Rattle.line_edits.specs.declared.gshadow_changes.GshadowChange.{GshadowChange}
@@ -28,14 +28,8 @@ gshadow_after (SetMembers members) r = record r { members = members }
 gshadow_after (RemoveUser user) r = without_user user r
 gshadow_after (SetMembership membership) r = gshadow_by membership r
 
--- whether the act leaves the name
-abbrev pub keeps_gshadow_name : GshadowAct → Bool
-keeps_gshadow_name (Rename name) = false
-keeps_gshadow_name _ = true
-
 -- the records that a record becomes by a change
 abbrev pub gshadow_becomes : GshadowChange → GshadowRecord → List GshadowRecord
-gshadow_becomes (Named name act) r =
-    (if is_named gshadow_format name r then gshadow_after act r else r) ∷ []
+gshadow_becomes (Named name act) r = changed_named gshadow_format name (gshadow_after act) r
 gshadow_becomes (All act) r = gshadow_after act r ∷ []
-gshadow_becomes (Remove name) r = if is_named gshadow_format name r then [] else r ∷ []
+gshadow_becomes (Remove name) r = without_named gshadow_format name r

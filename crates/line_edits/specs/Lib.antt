@@ -11,6 +11,7 @@ pub mod SubidChanges
 pub mod HashChanges
 pub mod Memberships
 pub mod Naming
+pub mod KeptNames
 pub mod WrittenLines
 pub mod NameSets
 pub mod Reach

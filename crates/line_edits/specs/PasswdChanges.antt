@@ -1,10 +1,9 @@
 -- What the changes of users make of a record of passwd (passwd(5)).
-use Rattle.std.specs.Prelude.{ℕ, Bool, true, List, [], ◌∷◌, ◌==◌, unwrap_or, if◌then◌else◌}
+use Rattle.std.specs.Prelude.{List, [], ◌∷◌, ◌==◌, unwrap_or, if◌then◌else◌}
 use Rattle.account_formats.specs.declared.records.PasswdRecord.{PasswdRecord}
-use Rattle.account_formats.specs.Format.{is_named}
 use Rattle.account_formats.specs.Records.{passwd_format}
 use Rattle.line_edits.specs.HashChanges.{hash_by}
-use Rattle.line_edits.specs.Naming.{leaves_name}
+use Rattle.line_edits.specs.Naming.{changed_named, without_named}
 use Rattle.line_edits.specs.declared.passwd_changes.UserFields.{UserFields}
 use Rattle.line_edits.specs.declared.passwd_changes.PasswdAct.{PasswdAct}
 use Rattle.line_edits.specs.declared.passwd_changes.PasswdAct.TheVariants.{SetPassword, SetGid, ChangePassword, SetFields}
@@ -29,14 +28,8 @@ passwd_after (SetGid gid) r = record r { gid = gid }
 passwd_after (ChangePassword change) r = record r { password = hash_by change r.password }
 passwd_after (SetFields fields) r = with_user_fields fields r
 
--- whether the act leaves this name of a record
-abbrev pub keeps_user_name : List ℕ → PasswdAct → Bool
-keeps_user_name name (SetFields fields) = leaves_name name fields.name
-keeps_user_name name _ = true
-
 -- the records that a record becomes by a change
 abbrev pub passwd_becomes : PasswdChange → PasswdRecord → List PasswdRecord
-passwd_becomes (Named name act) r =
-    (if is_named passwd_format name r then passwd_after act r else r) ∷ []
+passwd_becomes (Named name act) r = changed_named passwd_format name (passwd_after act) r
 passwd_becomes (OfGroup gid act) r = (if r.gid == gid then passwd_after act r else r) ∷ []
-passwd_becomes (Remove name) r = if is_named passwd_format name r then [] else r ∷ []
+passwd_becomes (Remove name) r = without_named passwd_format name r

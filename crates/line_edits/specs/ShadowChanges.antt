@@ -1,10 +1,9 @@
 -- What the changes of users make of a record of shadow (shadow(5)).
-use Rattle.std.specs.Prelude.{ℕ, Bool, true, List, [], ◌∷◌, Option, None, Some, unwrap_or, if◌then◌else◌}
+use Rattle.std.specs.Prelude.{ℕ, List, Option, None, Some, unwrap_or}
 use Rattle.account_formats.specs.declared.records.ShadowRecord.{ShadowRecord}
-use Rattle.account_formats.specs.Format.{is_named}
 use Rattle.account_formats.specs.Records.{shadow_format}
 use Rattle.line_edits.specs.HashChanges.{hash_by}
-use Rattle.line_edits.specs.Naming.{leaves_name}
+use Rattle.line_edits.specs.Naming.{changed_named, without_named}
 use Rattle.line_edits.specs.declared.shadow_changes.DaysChange.{DaysChange}
 use Rattle.line_edits.specs.declared.shadow_changes.DaysChange.TheVariants.{Stays, Empties, Becomes}
 use Rattle.line_edits.specs.declared.shadow_changes.ShadowFields.{ShadowFields}
@@ -38,13 +37,7 @@ shadow_after (SetLastChange day) r = record r { last_change = Some day }
 shadow_after (ChangeHash change) r = record r { hash = hash_by change r.hash }
 shadow_after (SetFields fields) r = with_shadow_fields fields r
 
--- whether the act leaves this name of a record
-abbrev pub keeps_shadow_name : List ℕ → ShadowAct → Bool
-keeps_shadow_name name (SetFields fields) = leaves_name name fields.name
-keeps_shadow_name name _ = true
-
 -- the records that a record becomes by a change
 abbrev pub shadow_becomes : ShadowChange → ShadowRecord → List ShadowRecord
-shadow_becomes (Named name act) r =
-    (if is_named shadow_format name r then shadow_after act r else r) ∷ []
-shadow_becomes (Remove name) r = if is_named shadow_format name r then [] else r ∷ []
+shadow_becomes (Named name act) r = changed_named shadow_format name (shadow_after act) r
+shadow_becomes (Remove name) r = without_named shadow_format name r

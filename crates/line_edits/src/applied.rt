@@ -19,8 +19,10 @@ use std::mem::replace;
 
 /// Carries out the edits in their order. At `AllocError` the first of them may be made.
 ///
-/// An edit that tells the names of the records that it may touch, of which none has several, takes a
-/// look-up of each name. Each other one takes a pass over the lines.
+/// An edit that leaves the names of records is carried out where they stand: by a look-up of each name
+/// where it tells the names of those that it may touch, none of which has several, and else by a pass
+/// over the lines. So is a renaming, by a look-up, where no other record has the old name or the new
+/// one. Any other edit makes the lines anew, but for that of a single name which no record has.
 pub fn apply<R: EditedRecord + Drop>(
     alloc: Global,
     lines: &mut EditedLines<'_, R>,
@@ -60,8 +62,8 @@ pub fn edited_text<R: EditedRecord + Drop>(
     lines.text()
 }
 
-// Whether one of the edits tells the names of the records that it touches: without any, an index of
-// the names is of no use.
+// Whether one of the edits tells the names of the records that it touches, and leaves them: without
+// any, an index of the names is of no use.
 fn tell_names<R: EditedRecord>(edits: &[Edit<R, R::Change>]) -> bool {
     'edits: for edit in edits {
         if tells_names(edit) {
@@ -71,10 +73,10 @@ fn tell_names<R: EditedRecord>(edits: &[Edit<R, R::Change>]) -> bool {
     false
 }
 
-// Whether the edit tells the names of the records that it touches.
+// Whether the edit tells the names of the records that it touches, and leaves them.
 fn tells_names<R: EditedRecord>(edit: &Edit<R, R::Change>) -> bool {
     match edit {
-        Edit::Become(change) => R::only_names(change).is_some(),
+        Edit::Become(change) => R::keeps_names(change) && R::touched_names(change).is_some(),
         Edit::Add(_) | Edit::AddMissing(_) | Edit::Put(_) => true,
     }
 }

@@ -2,7 +2,7 @@
 ghost use Rattle.std.specs.Prelude.{◌≡◌, true, List, [], None, IfOk, IfSome};
 ghost use Rattle.account_formats.specs.Written.{IsWritten};
 ghost use Rattle.acct_tables.specs.Marks.{marks_in};
-ghost use Rattle.line_edits.specs.Naming.{AreMarksOf, ChangesOnly, Leaves, names_in};
+ghost use Rattle.line_edits.specs.Naming.{AreMarksOf, KeepsNames, Leaves, Removes, TouchesOnly, names_in};
 ghost use Rattle.line_edits.specs.Rewriting.{IsRewritten};
 ghost use Rattle.line_edits.specs.SeenEdits.{records_in};
 
@@ -81,11 +81,19 @@ pub trait EditedRecord: TableRecord {
         ensures { IfSome result (λ marks.
             AreMarksOf Self.format (becomes change.now) (marks_in marks)) };
 
-    /// The names of all records that the change may touch, where it leaves their names; none where
-    /// it may touch others.
-    fn only_names(change: &Self::Change) -> Option<ChangedNames<'_>>
+    /// The names of all records that the change may touch, whatever becomes of them; none where it may
+    /// touch records of any name.
+    fn touched_names(change: &Self::Change) -> Option<ChangedNames<'_>>
         ensures { IfSome result (λ names.
-            ChangesOnly Self.format (becomes change.now) (names_in names)) };
+            TouchesOnly Self.format (becomes change.now) (names_in names)) };
+
+    /// Whether the change surely leaves one record for each, of its name.
+    fn keeps_names(change: &Self::Change) -> bool
+        ensures { result ≡ true → KeepsNames Self.format (becomes change.now) };
+
+    /// The name of the records that go by the change, where it does nothing else; none at others.
+    fn removed(change: &Self::Change) -> Option<&[u8]>
+        ensures { IfSome result (λ name. Removes Self.format (becomes change.now) name.now) };
 
     // an empty line is no record
     ghost no_blank: { Self.TableRecord.format.read [] ≡ None };

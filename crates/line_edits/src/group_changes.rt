@@ -4,9 +4,10 @@ ghost use Rattle.account_formats.specs.Records.{group_format};
 ghost use Rattle.account_formats.specs.Text.{is_listed};
 ghost use Rattle.account_formats.specs.declared.records.GroupRecord.{GroupRecord};
 ghost use Rattle.acct_tables.specs.Marks.{IsWithoutAll, marks_in};
-ghost use Rattle.line_edits.specs.GroupChanges.{group_after, group_becomes, keeps_group_name};
+ghost use Rattle.line_edits.specs.GroupChanges.{group_after, group_becomes};
+ghost use Rattle.line_edits.specs.KeptNames.{keeps_group_name};
 ghost use Rattle.line_edits.specs.Memberships.{group_by};
-ghost use Rattle.line_edits.specs.Naming.{ChangesOnly, names_in};
+ghost use Rattle.line_edits.specs.Naming.{TouchesOnly, names_in};
 ghost use Rattle.line_edits.specs.declared.group_changes.GroupChange.TheVariants.{All};
 
 use crate::fields::{fourth_field, has_other_name};
@@ -96,12 +97,25 @@ impl EditedRecord for GroupRecord {
         }
     }
 
-    fn only_names(change: &GroupChange) -> Option<ChangedNames<'_>> {
+    fn touched_names(change: &GroupChange) -> Option<ChangedNames<'_>> {
         match change {
-            GroupChange::Named(name, act) if keeps_name(act) => {
-                Some(ChangedNames::One(name.as_slice()))
-            }
+            GroupChange::Named(name, _) => Some(ChangedNames::One(name.as_slice())),
+            GroupChange::Remove(name) => Some(ChangedNames::One(name.as_slice())),
             GroupChange::All(act) => act_names(act),
+        }
+    }
+
+    fn keeps_names(change: &GroupChange) -> bool {
+        match change {
+            GroupChange::Named(_, act) => keeps_name(act),
+            GroupChange::All(act) => keeps_name(act),
+            GroupChange::Remove(_) => false,
+        }
+    }
+
+    fn removed(change: &GroupChange) -> Option<&[u8]> {
+        match change {
+            GroupChange::Remove(name) => Some(name.as_slice()),
             _ => None,
         }
     }
@@ -119,11 +133,10 @@ fn keeps_name(act: &GroupAct) -> bool
     }
 }
 
-// The names of all groups that the act may touch, where it leaves their names; none where it may
-// touch others.
+// The names of all groups that the act may touch; none where it may touch others.
 fn act_names(act: &GroupAct) -> Option<ChangedNames<'_>>
     ensures { IfSome result (λ names.
-        ChangesOnly group_format (group_becomes (All act.now)) (names_in names)) }
+        TouchesOnly group_format (group_becomes (All act.now)) (names_in names)) }
 {
     match act {
         GroupAct::SetMembership(membership) => membership.only_groups(),

@@ -4,9 +4,10 @@ ghost use Rattle.account_formats.specs.declared.records.GshadowRecord.{GshadowRe
 ghost use Rattle.account_formats.specs.Records.{gshadow_format};
 ghost use Rattle.account_formats.specs.Text.{is_listed};
 ghost use Rattle.acct_tables.specs.Marks.{IsWithoutAll, marks_in};
-ghost use Rattle.line_edits.specs.GshadowChanges.{gshadow_after, gshadow_becomes, keeps_gshadow_name, without_user};
+ghost use Rattle.line_edits.specs.GshadowChanges.{gshadow_after, gshadow_becomes, without_user};
+ghost use Rattle.line_edits.specs.KeptNames.{keeps_gshadow_name};
 ghost use Rattle.line_edits.specs.Memberships.{gshadow_by};
-ghost use Rattle.line_edits.specs.Naming.{ChangesOnly, names_in};
+ghost use Rattle.line_edits.specs.Naming.{TouchesOnly, names_in};
 ghost use Rattle.line_edits.specs.declared.gshadow_changes.GshadowChange.TheVariants.{All};
 
 use crate::fields::{fourth_field, has_other_name, third_field};
@@ -98,12 +99,25 @@ impl EditedRecord for GshadowRecord {
         }
     }
 
-    fn only_names(change: &GshadowChange) -> Option<ChangedNames<'_>> {
+    fn touched_names(change: &GshadowChange) -> Option<ChangedNames<'_>> {
         match change {
-            GshadowChange::Named(name, act) if keeps_name(act) => {
-                Some(ChangedNames::One(name.as_slice()))
-            }
+            GshadowChange::Named(name, _) => Some(ChangedNames::One(name.as_slice())),
+            GshadowChange::Remove(name) => Some(ChangedNames::One(name.as_slice())),
             GshadowChange::All(act) => act_names(act),
+        }
+    }
+
+    fn keeps_names(change: &GshadowChange) -> bool {
+        match change {
+            GshadowChange::Named(_, act) => keeps_name(act),
+            GshadowChange::All(act) => keeps_name(act),
+            GshadowChange::Remove(_) => false,
+        }
+    }
+
+    fn removed(change: &GshadowChange) -> Option<&[u8]> {
+        match change {
+            GshadowChange::Remove(name) => Some(name.as_slice()),
             _ => None,
         }
     }
@@ -121,11 +135,10 @@ fn keeps_name(act: &GshadowAct) -> bool
     }
 }
 
-// The names of all groups that the act may touch, where it leaves their names; none where it may
-// touch others.
+// The names of all groups that the act may touch; none where it may touch others.
 fn act_names(act: &GshadowAct) -> Option<ChangedNames<'_>>
     ensures { IfSome result (λ names.
-        ChangesOnly gshadow_format (gshadow_becomes (All act.now)) (names_in names)) }
+        TouchesOnly gshadow_format (gshadow_becomes (All act.now)) (names_in names)) }
 {
     match act {
         GshadowAct::SetMembership(membership) => membership.only_groups(),

@@ -3,9 +3,10 @@
 //!
 //! `edit` has the edits of a table as data, and what a record has so that they can be made of it;
 //! `group_changes` and its like what becomes of a record, and `joined_texts` what becomes of a group's
-//! line by its parts alone. `applied` carries edits out in lines that are kept, by the names of the
-//! records that they touch (`named_edits`), at the places of these (`placed_edits`), and in the text
-//! of a file: few of them one after another (`line_changes`), many by names. `multiple` and
+//! line by its parts alone. `applied` carries edits out in lines that are kept, where their records
+//! stand: by the names of these where an edit tells them (`named_edits`), and place by place where it
+//! doesn't (`placed_edits`). In the text of a file it carries out few of them one after another
+//! (`line_changes`), many by names, and so those that take records away. `multiple` and
 //! `multiple_in` find the first record that they touch and whose name has several; `checked` does both
 //! in a text, which it searches for touched records once.
 #![tactic(auto)]

@@ -1,5 +1,5 @@
 // A list of names, of which each is found without a pass over all.
-ghost use Rattle.std.specs.Prelude.{◌≡◌, ℕ, List, bytes_eq, map, IfOk};
+ghost use Rattle.std.specs.Prelude.{◌≡◌, ◌↔◌, ℕ, List, [], bytes_eq, map, IfOk, IsTrue};
 ghost use Rattle.std.specs.List.{IsDistinct};
 ghost use Rattle.std.specs.Vec.{vec_items};
 ghost use Rattle.account_formats.specs.Text.{is_listed};
@@ -41,6 +41,13 @@ impl NameSet {
     {
         let texts = texts_of(alloc, names.as_slice())?;
         Ok(NameSet { names, texts })
+    }
+
+    /// Whether the list has no names.
+    pub fn is_empty(&self) -> bool
+        ensures { IsTrue result ↔ (self.now ≡ []) }
+    {
+        self.names.is_empty()
     }
 
     /// Whether it is one of the names.

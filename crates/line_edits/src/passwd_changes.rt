@@ -1,8 +1,9 @@
 // What the tools do with records of passwd (passwd(5)).
-ghost use Rattle.std.specs.Prelude.{◌≡◌, ◌==◌, Some, IfOk, OnOk};
+ghost use Rattle.std.specs.Prelude.{◌≡◌, ◌==◌, ℕ, true, List, Some, IfOk, OnOk};
 ghost use Rattle.account_formats.specs.Records.{passwd_format};
 ghost use Rattle.account_formats.specs.declared.records.PasswdRecord.{PasswdRecord};
-ghost use Rattle.line_edits.specs.PasswdChanges.{keeps_user_name, passwd_after, with_user_fields};
+ghost use Rattle.line_edits.specs.PasswdChanges.{passwd_after, with_user_fields};
+ghost use Rattle.line_edits.specs.KeptNames.{keeps_user_name};
 
 use crate::fields::{fourth_field, has_other_name, leaves_name, set_given};
 use crate::{Becoming, ChangedNames, EditedRecord, HashChange, PrimaryGroup, Rewritten};
@@ -98,11 +99,25 @@ impl EditedRecord for PasswdRecord {
         }
     }
 
-    fn only_names(change: &PasswdChange) -> Option<ChangedNames<'_>> {
+    fn touched_names(change: &PasswdChange) -> Option<ChangedNames<'_>> {
         match change {
-            PasswdChange::Named(name, act) if keeps_name(name, act) => {
-                Some(ChangedNames::One(name.as_slice()))
-            }
+            PasswdChange::Named(name, _) => Some(ChangedNames::One(name.as_slice())),
+            PasswdChange::Remove(name) => Some(ChangedNames::One(name.as_slice())),
+            PasswdChange::OfGroup(..) => None,
+        }
+    }
+
+    fn keeps_names(change: &PasswdChange) -> bool {
+        match change {
+            PasswdChange::Named(name, act) => keeps_name(name, act),
+            PasswdChange::OfGroup(_, act) => keeps_all_names(act),
+            PasswdChange::Remove(_) => false,
+        }
+    }
+
+    fn removed(change: &PasswdChange) -> Option<&[u8]> {
+        match change {
+            PasswdChange::Remove(name) => Some(name.as_slice()),
             _ => None,
         }
     }
@@ -127,6 +142,16 @@ fn keeps_name(name: &Bytes, act: &PasswdAct) -> bool
 {
     match act {
         PasswdAct::SetFields(fields) => leaves_name(&fields.name, name),
+        _ => true,
+    }
+}
+
+// Whether the act leaves the names of all users.
+fn keeps_all_names(act: &PasswdAct) -> bool
+    ensures { result ≡ true → (name : List ℕ) → keeps_user_name name act.now ≡ true }
+{
+    match act {
+        PasswdAct::SetFields(fields) => fields.name.is_none(),
         _ => true,
     }
 }

@@ -33,7 +33,7 @@ impl PrimaryGroup {
     }
 
     /// The GID.
-    pub(crate) fn gid(&self) -> u32
+    pub fn gid(&self) -> u32
         ensures { result ≡ self.now }
     {
         self.gid

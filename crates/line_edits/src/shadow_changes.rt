@@ -1,7 +1,8 @@
 // What the tools do with records of shadow (shadow(5)).
 ghost use Rattle.std.specs.Prelude.{◌≡◌, None, IfOk, OnOk, option_map, unwrap_or};
 ghost use Rattle.acct_lines.specs.DaysValues.{days_held};
-ghost use Rattle.line_edits.specs.ShadowChanges.{given_days, keeps_shadow_name, shadow_after, with_shadow_fields};
+ghost use Rattle.line_edits.specs.ShadowChanges.{given_days, shadow_after, with_shadow_fields};
+ghost use Rattle.line_edits.specs.KeptNames.{keeps_shadow_name};
 
 use crate::fields::{has_other_name, leaves_name, set_given};
 use crate::{Becoming, ChangedNames, EditedRecord, HashChange, Rewritten};
@@ -151,12 +152,24 @@ impl EditedRecord for ShadowRecord {
         }
     }
 
-    fn only_names(change: &ShadowChange) -> Option<ChangedNames<'_>> {
+    fn touched_names(change: &ShadowChange) -> Option<ChangedNames<'_>> {
         match change {
-            ShadowChange::Named(name, act) if keeps_name(name, act) => {
-                Some(ChangedNames::One(name.as_slice()))
-            }
-            _ => None,
+            ShadowChange::Named(name, _) => Some(ChangedNames::One(name.as_slice())),
+            ShadowChange::Remove(name) => Some(ChangedNames::One(name.as_slice())),
+        }
+    }
+
+    fn keeps_names(change: &ShadowChange) -> bool {
+        match change {
+            ShadowChange::Named(name, act) => keeps_name(name, act),
+            ShadowChange::Remove(_) => false,
+        }
+    }
+
+    fn removed(change: &ShadowChange) -> Option<&[u8]> {
+        match change {
+            ShadowChange::Remove(name) => Some(name.as_slice()),
+            ShadowChange::Named(..) => None,
         }
     }
 

@@ -89,7 +89,15 @@ impl EditedRecord for SubidRecord {
         }
     }
 
-    fn only_names(_change: &SubidChange) -> Option<ChangedNames<'_>> {
+    fn touched_names(_change: &SubidChange) -> Option<ChangedNames<'_>> {
+        None
+    }
+
+    fn keeps_names(_change: &SubidChange) -> bool {
+        false
+    }
+
+    fn removed(_change: &SubidChange) -> Option<&[u8]> {
         None
     }
 

@@ -41,7 +41,7 @@ pub(crate) fn touched_by<R: EditedRecord + Drop>(
         LeavesOthers R.format (seen_edit R.becomes edit.now) (names_in names)) }
 {
     match edit {
-        Edit::Become(change) => R::only_names(change),
+        Edit::Become(change) => R::touched_names(change),
         Edit::Put(item) => Some(ChangedNames::One(item.name())),
         Edit::Add(_) | Edit::AddMissing(_) => Some(ChangedNames::Each(&[])),
     }

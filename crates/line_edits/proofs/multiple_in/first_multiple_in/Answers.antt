@@ -9,9 +9,8 @@ use Rattle.line_edits.proofs.multiple_in.first_multiple_in.Goals as goal
 
 pub returns-then-touch_single : goal.returns-then-touch_single
 returns-then-touch_single g c =
-    let format = g.R.TableRecord.format in
-    sym (none-touched format (seen_edits g.R.EditedRecord.becomes c.args.edits.now)
-    (records_of format c.args.lines.now)
+    sym (none-touched g.R.TableRecord.format
+    (seen_edits g.R.EditedRecord.becomes c.args.edits.now) c.args.lines.now
     (c.touch_single.ensures c.if-touch_single.true))
 
 pub returns : goal.returns

@@ -3,14 +3,14 @@ use Rattle.line_edits.proofs.EditLists.{left-all, left-behind}
 use Rattle.line_edits.proofs.multiple_in.touch_single.Goals as goal
 
 pub edits-preserved : goal.edits-preserved
-edits-preserved g c = λ r several.
+edits-preserved g c = λ place inside r found several.
     left-behind g.R.EditedRecord.becomes g.R.TableRecord.format c.args.edits.now r
     c.edits.edit-index c.edit-item.result (omega arith) c.edit-item.is
-    (c.touches_single.ensures c.if-not-touches_single.false r several)
-    ∙ c.edits.invariant r several
+    (c.touches_single.ensures c.if-not-touches_single.false place inside r found several)
+    ∙ c.edits.invariant place inside r found several
 
 pub returns : goal.returns
-returns g c = λ all r several.
-    sym (c.edits.invariant r several)
+returns g c = λ all place inside r found several.
+    sym (c.edits.invariant place inside r found several)
     ∙ left-all g.R.EditedRecord.becomes g.R.TableRecord.format c.args.edits.now r
     c.edits.edit-index (omega arith)

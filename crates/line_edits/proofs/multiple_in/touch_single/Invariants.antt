@@ -1,7 +1,7 @@
-use Rattle.std.proofs.Common.{◌≡◌, true, drop}
-use Rattle.account_formats.specs.Edits.{is_multiple, touches}
-use Rattle.account_formats.specs.Format.{records_of}
+use Rattle.std.proofs.Common.{◌≡◌, drop}
+use Rattle.account_formats.specs.Edits.{touches}
 use Rattle.line_edits.specs.SeenEdits.{seen_edits}
+use Rattle.line_edits.specs.Touching.{HoldsOfMultiple}
 use Rattle.line_edits.proofs.multiple_in.touch_single.Given as goal
 
 -- the edits left touch a record whose name has several where one of all does
@@ -9,6 +9,5 @@ abbrev pub invariant-edits : goal.invariant-edits
 invariant-edits g l =
     let format = g.R.TableRecord.format in
     let seen = seen_edits g.R.EditedRecord.becomes in
-    (r : _)
-    → is_multiple format (records_of format l.lines) r ≡ true
-    → touches format (seen (drop l.edit-index l.edits)) r ≡ touches format (seen l.edits) r
+    HoldsOfMultiple format l.lines (λ r.
+    touches format (seen (drop l.edit-index l.edits)) r ≡ touches format (seen l.edits) r)

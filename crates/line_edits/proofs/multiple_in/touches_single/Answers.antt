@@ -6,7 +6,7 @@ use Rattle.line_edits.proofs.TouchedRecords.{passes-unlisted}
 use Rattle.line_edits.proofs.multiple_in.touches_single.Goals as goal
 
 pub returns-in-Some : goal.returns-in-Some
-returns-in-Some g c = λ single r several.
+returns-in-Some g c = λ single place inside r found several.
     let format = g.R.TableRecord.format in
     c.in-Some.ensures r
     (passes-unlisted (has_several format c.args.lines.now) (format.name r)

@@ -13,7 +13,7 @@ use Rattle.line_edits.proofs.named_edits.change_each.Goals as goal
 pub names-init : goal.names-init
 names-init g c =
     sym (names-none g.R.TableRecord.format (g.R.EditedRecord.becomes c.args.change.now)
-    g.met.R.TableRecord.is_line_format.same c.requires.only.kept c.requires.written
+    g.met.R.TableRecord.is_line_format.same c.requires.kept c.requires.written
     c.args.lines.now)
 
 pub names-preserved : goal.names-preserved
@@ -31,7 +31,7 @@ names-preserved g c =
     ∙ ap (λ name. flat_map (becomes format (on_named format (name ∷ []) change)) c.names.lines)
     c.at.ensures
     ∙ ap (flat_map (becomes format (on_named format (name ∷ []) change))) c.names.invariant
-    ∙ names-more format change g.met.R.TableRecord.is_line_format.same c.requires.only.kept
+    ∙ names-more format change g.met.R.TableRecord.is_line_format.same c.requires.kept
     c.requires.written done name
     (distinct-before names c.names.index c.requires.only.apart inside) lines written
     ∙ ap (λ names. flat_map (becomes format (on_named format names change)) lines)

@@ -11,11 +11,11 @@ use Rattle.line_edits.proofs.touched.touched_by.Goals as goal
 pub returns-in-Become : goal.returns-in-Become
 returns-in-Become g c =
     let format = g.R.TableRecord.format in
-    subst (λ edit. IfSome c.only_names.result (λ names.
+    subst (λ edit. IfSome c.touched_names.result (λ names.
     LeavesOthers format (seen_edit g.R.EditedRecord.becomes edit) (names_in names)))
     (sym c.in-Become.is)
-    (only-leaves format (g.R.EditedRecord.becomes c.in-Become.change) c.only_names.result
-    g.met.R.TableRecord.is_line_format.same c.only_names.ensures)
+    (only-leaves format (g.R.EditedRecord.becomes c.in-Become.change) c.touched_names.result
+    g.met.R.TableRecord.is_line_format.same c.touched_names.ensures)
 
 pub returns-in-Put : goal.returns-in-Put
 returns-in-Put g c =
