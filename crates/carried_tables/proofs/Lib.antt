@@ -3,3 +3,10 @@ pub mod FileLemmas
 pub mod NumberLemmas
 pub mod KeptIdLemmas
 pub mod CarriedLemmas
+pub mod GoneLemmas
+pub mod GoneEdits
+pub mod SieveLemmas
+pub mod ToldLemmas
+pub mod MemberKeys
+pub mod ChangeKeys
+pub mod KeyedEdits

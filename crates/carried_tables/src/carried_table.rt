@@ -1,23 +1,23 @@
 // A table that is carried from command to command: the lines of its file, which edits change where
-// they stand (passwd(5), shadow(5), group(5), gshadow(5)).
-ghost use Rattle.std.specs.Prelude.{◌≡◌, None, find, is_some, IfOk, OnOk};
-ghost use Rattle.account_formats.specs.Format.{find_named, has_named};
+// they stand, with the names of the records that are gone (passwd(5), shadow(5), group(5), gshadow(5)).
+ghost use Rattle.std.specs.Prelude.{◌≡◌, None, find, is_some, nat_le, IfOk, OnOk};
+ghost use Rattle.account_formats.specs.Format.{count_named, find_named, has_named};
 ghost use Rattle.account_formats.specs.Tables.{table_records};
 ghost use Rattle.carried_tables.specs.TableEdits.{AreWritten, multiple_by, table_by};
 
+use crate::left_lines::LeftLines;
 use crate::search::{RecordTest, first_passing};
-use acct_tables::EditedLines;
 use acct_text::Bytes;
-use line_edits::{Edit, EditedRecord, apply, first_multiple_in};
+use line_edits::{Edit, EditedRecord};
 use std::alloc::{AllocError, Global};
 use std::marker::Model;
+use std::mem::replace;
 
 /// A table of the records R. Look-ups and edits by name take no pass over its lines. Contracts see it
 /// as the bytes of its file, and none where the file is absent.
 #[derive(Drop)]
 pub struct CarriedTable<R: EditedRecord> {
-    // each line has its own bytes, so that the file needn't stay
-    lines: Option<EditedLines<'static, R>>,
+    lines: Option<LeftLines<R>>,
 }
 
 impl<R: EditedRecord> Model for CarriedTable<R> {
@@ -46,7 +46,7 @@ impl<R: EditedRecord + Drop> CarriedTable<R> {
     {
         match file {
             Some(text) => {
-                let lines = EditedLines::copied(alloc, text.as_slice())?;
+                let lines = LeftLines::of(alloc, text.as_slice())?;
                 Ok(CarriedTable { lines: Some(lines) })
             }
             None => Ok(CarriedTable::absent()),
@@ -70,7 +70,16 @@ impl<R: EditedRecord + Drop> CarriedTable<R> {
         }
     }
 
-    /// The first record that has the name. It takes no pass over the lines.
+    /// Takes the bytes of the file out, and lets the rest go; none where it is absent.
+    pub(crate) fn take_file(&mut self) -> Result<Option<Bytes>, AllocError>
+        ensures { IfOk result (λ file. file ≡ self.old) }
+    {
+        let taken = replace(self, CarriedTable::absent());
+        taken.file()
+    }
+
+    /// The first record that has the name. It takes no pass over the lines, but where two names among
+    /// them have the same hash of 64 bits.
     pub fn find(&self, alloc: Global, name: &[u8]) -> Result<Option<R>, AllocError>
         ensures { IfOk result (λ found.
             found ≡ find_named R.format name.now (table_records R.format self.now)) }
@@ -81,12 +90,23 @@ impl<R: EditedRecord + Drop> CarriedTable<R> {
         }
     }
 
-    /// Whether a record has the name. It takes no memory and no pass over the lines.
+    /// Whether a record has the name, which is found as by `find`. It takes no memory.
     pub fn has(&self, name: &[u8]) -> bool
         ensures { result ≡ has_named R.format name.now (table_records R.format self.now) }
     {
         match &self.lines {
-            Some(lines) => lines.get(name).is_some(),
+            Some(lines) => lines.has(name),
+            None => false,
+        }
+    }
+
+    /// Whether several records have the name, which are found as by `find`.
+    pub(crate) fn has_several(&self, name: &[u8]) -> bool
+        ensures { result ≡ nat_le 2
+            (count_named R.format name.now (table_records R.format self.now)) }
+    {
+        match &self.lines {
+            Some(lines) => lines.has_several(name),
             None => false,
         }
     }
@@ -114,21 +134,22 @@ impl<R: EditedRecord + Drop> CarriedTable<R> {
             multiple_by R.format R.becomes edits.now (table_records R.format self.now)) }
     {
         match &self.lines {
-            Some(lines) => first_multiple_in(alloc, lines, edits),
+            Some(lines) => lines.first_multiple(alloc, edits),
             None => Ok(None),
         }
     }
 
-    /// Carries the edits out, in their order. At `AllocError` the table is gone.
+    /// Carries the edits out, in their order: those that take records out by their names, and those
+    /// of records by their names, take no pass over the lines. At `AllocError` the table is gone.
     pub fn edit(&mut self, alloc: Global, edits: &[Edit<R, R::Change>]) -> Result<(), AllocError>
         requires { AreWritten R.format R.becomes edits.now }
         ensures { OnOk result (self.new ≡ table_by R.format R.becomes edits.now self.old) }
     {
-        let Some(mut lines) = self.lines.take() else {
+        let Some(lines) = self.lines.take() else {
             return Ok(());
         };
-        apply(alloc, &mut lines, edits)?;
-        self.lines = Some(lines);
+        let edited = lines.edited(alloc, edits)?;
+        self.lines = Some(edited);
         Ok(())
     }
 }

@@ -8,8 +8,7 @@ ghost use Rattle.line_edits.specs.PasswdChanges.{passwd_becomes};
 ghost use Rattle.line_edits.specs.ShadowChanges.{shadow_becomes};
 ghost use Rattle.carried_tables.specs.TableEdits.{AreWritten, table_by};
 
-use crate::range_table::copy_of;
-use crate::{CarriedTable, IdTable, RangeTable};
+use crate::{CarriedTable, IdTable, KeyedTable, RangeTable};
 use acct_lines::{GroupRecord, GshadowRecord, PasswdRecord, ShadowRecord};
 use acct_text::Files;
 use line_edits::{Edit, GroupChange, GshadowChange, PasswdChange, ShadowChange};
@@ -24,7 +23,7 @@ pub struct CarriedTables {
     passwd: IdTable<PasswdRecord>,
     shadow: CarriedTable<ShadowRecord>,
     group: IdTable<GroupRecord>,
-    gshadow: CarriedTable<GshadowRecord>,
+    gshadow: KeyedTable<GshadowRecord>,
     subuid: RangeTable,
     subgid: RangeTable,
 }
@@ -67,7 +66,7 @@ impl CarriedTables {
             passwd: IdTable::absent(),
             shadow: CarriedTable::absent(),
             group: IdTable::absent(),
-            gshadow: CarriedTable::absent(),
+            gshadow: KeyedTable::absent(),
             subuid: RangeTable::absent(),
             subgid: RangeTable::absent(),
         };
@@ -83,7 +82,7 @@ impl CarriedTables {
         self.passwd = IdTable::of(alloc, &files.passwd)?;
         self.shadow = CarriedTable::of(alloc, &files.shadow)?;
         self.group = IdTable::of(alloc, &files.group)?;
-        self.gshadow = CarriedTable::of(alloc, &files.gshadow)?;
+        self.gshadow = KeyedTable::of(alloc, &files.gshadow)?;
         self.subuid = RangeTable::of(&files.subuid)?;
         self.subgid = RangeTable::of(&files.subgid)?;
         Ok(())
@@ -111,7 +110,7 @@ impl CarriedTables {
     }
 
     /// The table gshadow(5).
-    pub fn gshadow(&self) -> &CarriedTable<GshadowRecord>
+    pub fn gshadow(&self) -> &KeyedTable<GshadowRecord>
         ensures { result.now ≡ self.now.gshadow }
     {
         &self.gshadow
@@ -188,17 +187,18 @@ impl CarriedTables {
         self.subgid = table;
     }
 
-    /// The files that the tables make now, in a pass over each.
-    pub fn files(&self) -> Result<Files, AllocError>
-        ensures { IfOk result (λ files. files ≡ self.now) }
+    /// Takes the files out that the tables make now, in a pass over each table. What a table holds is
+    /// let go before the file of the next is made. At `AllocError` some of the tables are gone.
+    pub fn take_files(&mut self) -> Result<Files, AllocError>
+        ensures { IfOk result (λ files. files ≡ self.old) }
     {
         Ok(Files {
-            passwd: self.passwd.table().file()?,
-            shadow: self.shadow.file()?,
-            group: self.group.table().file()?,
-            gshadow: self.gshadow.file()?,
-            subuid: copy_of(self.subuid.file())?,
-            subgid: copy_of(self.subgid.file())?,
+            passwd: self.passwd.take_file()?,
+            shadow: self.shadow.take_file()?,
+            group: self.group.take_file()?,
+            gshadow: self.gshadow.take_file()?,
+            subuid: self.subuid.take_file(),
+            subgid: self.subgid.take_file(),
         })
     }
 }

@@ -1,41 +1,44 @@
 // A carried table whose records have IDs, beside which the used IDs are kept (passwd(5), group(5)).
-ghost use Rattle.std.specs.Prelude.{◌≡◌, [], ◌∷◌, None, false, true, map, IfOk, IfSome, OnOk};
-ghost use Rattle.account_formats.specs.Tables.{table_records};
+ghost use Rattle.std.specs.Prelude.{◌≡◌, ◌≤◌, List, ◌∷◌, [], None, false, true, is_some, length, map, option_map, IfOk, IfSome, OnOk};
+ghost use Rattle.account_formats.specs.Edits as model;
+ghost use Rattle.account_formats.specs.Format.{find_named};
+ghost use Rattle.account_formats.specs.RecordEdits.{IsWrittenEdit};
+ghost use Rattle.account_formats.specs.Tables.{table_after, table_records};
 ghost use Rattle.account_words.specs.Ids.{is_used};
 ghost use Rattle.id_choice.specs.Used.{AreThoseOf};
-ghost use Rattle.line_edits.specs.SeenEdits.{seen_edit, seen_edits};
-ghost use Rattle.carried_tables.specs.KeptIds.{Follow, FollowKnown};
+ghost use Rattle.line_edits.specs.SeenEdits.{seen_edit};
+ghost use Rattle.carried_tables.specs.KeptIds.{AreIdsOf, FollowEdit, FollowSwap, Renumbers, new_ids, table_counts};
 ghost use Rattle.carried_tables.specs.TableEdits.{AreWritten, table_by};
 
 use crate::IdsInUse;
-use crate::carried_table::CarriedTable;
-use crate::ids::{IdRecord, used_ids};
+use crate::ids::{IdRecord, Renumbering, listed_ids, used_ids};
+use crate::kept_ids::KeptIds;
+use crate::keyed_table::KeyedTable;
 use acct_text::Bytes;
-use id_choice::UsedIds;
 use line_edits::Edit;
 use std::alloc::{AllocError, Global};
 use std::marker::Model;
+use std::mem::replace;
 
 /// A table of the records R, and their IDs. Contracts see it as the bytes of its file, and none where
 /// the file is absent.
 #[derive(Drop)]
 pub struct IdTable<R: IdRecord> {
-    table: CarriedTable<R>,
+    table: KeyedTable<R>,
     // none only where memory was wanting while they changed
-    ids: Option<UsedIds>,
+    ids: Option<KeptIds>,
 }
 
 impl<R: IdRecord> Model for IdTable<R> {
-    ghost use Rattle.std.specs.Prelude.{ℕ, List, Option, IfSome, map};
-    ghost use Rattle.account_formats.specs.Tables.{table_records};
-    ghost use Rattle.id_choice.specs.Used.{AreThoseOf};
+    ghost use Rattle.std.specs.Prelude.{ℕ, List, Option, IfSome};
+    ghost use Rattle.carried_tables.specs.KeptIds.{AreIdsOf, table_counts};
 
     ghost Value = { Option (List ℕ) };
 
     ghost view = { λ t. t.table };
 
     ghost invariant = { λ t. IfSome t.ids (λ ids.
-        AreThoseOf ids (map R.id_of (table_records R.format t.table))) };
+        AreIdsOf ids (table_counts R.format R.id_of t.table)) };
 }
 
 impl<R: IdRecord + Drop> IdTable<R> {
@@ -44,7 +47,7 @@ impl<R: IdRecord + Drop> IdTable<R> {
         ensures { result ≡ None }
     {
         IdTable {
-            table: CarriedTable::absent(),
+            table: KeyedTable::absent(),
             ids: None,
         }
     }
@@ -53,16 +56,24 @@ impl<R: IdRecord + Drop> IdTable<R> {
     pub(crate) fn of(alloc: Global, file: &Option<Bytes>) -> Result<Self, AllocError>
         ensures { IfOk result (λ table. table ≡ file.now) }
     {
-        let table = CarriedTable::of(alloc, file)?;
-        let ids = used_ids::<R>(alloc, file)?;
+        let table = KeyedTable::of(alloc, file)?;
+        let ids = ids_of::<R>(alloc, file)?;
         Ok(IdTable {
             table,
             ids: Some(ids),
         })
     }
 
+    /// Takes the bytes of the file out, and lets the rest go; none where it is absent.
+    pub(crate) fn take_file(&mut self) -> Result<Option<Bytes>, AllocError>
+        ensures { IfOk result (λ file. file ≡ self.old) }
+    {
+        let taken = replace(self, IdTable::absent());
+        taken.table.file()
+    }
+
     /// The table, for what doesn't ask for IDs.
-    pub fn table(&self) -> &CarriedTable<R>
+    pub fn table(&self) -> &KeyedTable<R>
         ensures { result.now ≡ self.now }
     {
         &self.table
@@ -74,8 +85,11 @@ impl<R: IdRecord + Drop> IdTable<R> {
             AreThoseOf used (map R.id_of (table_records R.format self.now))) }
     {
         match &self.ids {
-            Some(ids) => Ok(IdsInUse::kept(ids)),
-            None => Ok(IdsInUse::gathered(gathered(alloc, &self.table)?)),
+            Some(ids) => Ok(IdsInUse::kept(&ids.used)),
+            None => {
+                let file = self.table.file()?;
+                Ok(IdsInUse::gathered(used_ids::<R>(alloc, &file)?))
+            }
         }
     }
 
@@ -93,12 +107,24 @@ impl<R: IdRecord + Drop> IdTable<R> {
             → is_used (map R.id_of (table_records R.format self.now)) id ≡ false }
     {
         match &self.ids {
-            Some(ids) => !ids.holds(id),
+            Some(ids) => !ids.used.holds(id),
             None => false,
         }
     }
 
-    /// Carries the edits out, in their order. At `AllocError` some of them may be.
+    /// Whether it is known that no two records have the ID.
+    pub fn is_alone(&self, id: u32) -> bool
+        ensures { result ≡ true → table_counts R.format R.id_of self.now id ≤ 1 }
+    {
+        match &self.ids {
+            Some(ids) => !ids.shared.holds(id),
+            None => false,
+        }
+    }
+
+    /// Carries the edits out, in their order. The IDs follow an added record, and one whose ID goes or
+    /// changes where no other has its name or its ID; behind other edits they are gathered anew. At
+    /// `AllocError` some of the edits may be made.
     pub fn edit(&mut self, alloc: Global, edits: &[Edit<R, R::Change>]) -> Result<(), AllocError>
         requires { AreWritten R.format R.becomes edits.now }
         ensures { OnOk result (self.new ≡ table_by R.format R.becomes edits.now self.old) }
@@ -106,76 +132,144 @@ impl<R: IdRecord + Drop> IdTable<R> {
         if !self.table.is_there() {
             return Ok(());
         }
-        let known = ids_after::<R>(self.ids.take(), edits)?;
-        self.table.edit(alloc, edits)?;
-        let ids = known_or_gathered(alloc, known, &self.table)?;
+        let mut left = edits;
+        'edits: while !left.is_empty() {
+            let (one, later) = left.split_at(1);
+            self.edit_one(alloc, one)?;
+            left = later;
+        }
+        self.gather(alloc)
+    }
+
+    // Carries out the only edit of a list. Where the IDs don't follow it, they are unknown behind it.
+    fn edit_one(&mut self, alloc: Global, one: &[Edit<R, R::Change>]) -> Result<(), AllocError>
+        requires there { is_some self.old ≡ true }
+        requires written { AreWritten R.format R.becomes one.now }
+        requires single { length one.now ≡ 1 }
+        ensures { OnOk result (self.new ≡ table_by R.format R.becomes one.now self.old) }
+    {
+        let known = ids_after(alloc, self.ids.take(), &self.table, &one[0])?;
+        self.table.edit(alloc, one)?;
+        self.ids = known;
+        Ok(())
+    }
+
+    // Gathers the IDs where they are unknown.
+    fn gather(&mut self, alloc: Global) -> Result<(), AllocError>
+        ensures { OnOk result (self.new ≡ self.old) }
+    {
+        if self.ids.is_some() {
+            return Ok(());
+        }
+        let file = self.table.file()?;
+        let ids = ids_of::<R>(alloc, &file)?;
         self.ids = Some(ids);
         Ok(())
     }
 }
 
-// The IDs of all records of the table.
-fn gathered<R: IdRecord + Drop>(
-    alloc: Global,
-    table: &CarriedTable<R>,
-) -> Result<UsedIds, AllocError>
-    ensures { IfOk result (λ ids.
-        AreThoseOf ids (map R.id_of (table_records R.format table.now))) }
+// The IDs of all records of the file.
+fn ids_of<R: IdRecord>(alloc: Global, file: &Option<Bytes>) -> Result<KeptIds, AllocError>
+    ensures { IfOk result (λ ids. AreIdsOf ids (table_counts R.format R.id_of file.now)) }
 {
-    used_ids::<R>(alloc, &table.file()?)
+    let ids = listed_ids::<R>(alloc, file)?;
+    KeptIds::of(alloc, ids)
 }
 
-// The IDs where they are known, and else those that the table tells.
-fn known_or_gathered<R: IdRecord + Drop>(
-    alloc: Global,
-    known: Option<UsedIds>,
-    table: &CarriedTable<R>,
-) -> Result<UsedIds, AllocError>
-    requires { IfSome known (λ ids.
-        AreThoseOf ids (map R.id_of (table_records R.format table.now))) }
-    ensures { IfOk result (λ ids.
-        AreThoseOf ids (map R.id_of (table_records R.format table.now))) }
-{
-    match known {
-        Some(ids) => Ok(ids),
-        None => gathered(alloc, table),
-    }
-}
-
-// The IDs after the edits, where these tell them by those before; none else.
+// The IDs after the edit, where those before tell them; none else.
 fn ids_after<R: IdRecord + Drop>(
-    before: Option<UsedIds>,
-    edits: &[Edit<R, R::Change>],
-) -> Result<Option<UsedIds>, AllocError>
-    ensures { IfOk result (λ after. IfSome after (λ after.
-        FollowKnown R.format R.id_of (seen_edits R.becomes edits.now) before after)) }
+    alloc: Global,
+    before: Option<KeptIds>,
+    table: &KeyedTable<R>,
+    edit: &Edit<R, R::Change>,
+) -> Result<Option<KeptIds>, AllocError>
+    requires there { is_some table.now ≡ true }
+    requires written { IsWrittenEdit R.format (seen_edit R.becomes edit.now) }
+    requires before { IfSome before (λ ids.
+        AreIdsOf ids (table_counts R.format R.id_of table.now)) }
+    ensures { IfOk result (λ after. IfSome after (λ ids. AreIdsOf ids (table_counts R.format
+        R.id_of (table_after R.format (seen_edit R.becomes edit.now ∷ []) table.now)))) }
 {
     let Some(mut ids) = before else {
         return Ok(None);
     };
-    'edits: for index in 0..edits.len() {
-        if !note_edit::<R>(&mut ids, &edits[index])? {
-            return Ok(None);
-        }
+    if !follow(alloc, &mut ids, table, edit)? {
+        return Ok(None);
     }
     Ok(Some(ids))
 }
 
-// Makes of the IDs before the edit those after it, where it adds a record or leaves all IDs; tells
-// whether it does.
-fn note_edit<R: IdRecord + Drop>(
-    ids: &mut UsedIds,
+// Makes of the IDs before the edit those after it, where it tells them; answers whether it does.
+fn follow<R: IdRecord + Drop>(
+    alloc: Global,
+    ids: &mut KeptIds,
+    table: &KeyedTable<R>,
     edit: &Edit<R, R::Change>,
 ) -> Result<bool, AllocError>
-    ensures { IfOk result (λ told. told ≡ true
-        → Follow R.format R.id_of (seen_edit R.becomes edit.now ∷ []) ids.old ids.new) }
+    ensures { IfOk result (λ is_known. is_known ≡ true → FollowEdit R.format R.id_of ids.old ids.new
+        (table_records R.format table.now) (seen_edit R.becomes edit.now)) }
 {
     match edit {
         Edit::Add(item) => {
             ids.add(item.id())?;
             Ok(true)
         }
-        Edit::Become(change) => Ok(R::keeps_ids(change)),
-        _ => Ok(false),
+        Edit::Become(change) => follow_change(alloc, ids, table, change),
+        Edit::AddMissing(_) | Edit::Put(_) => Ok(false),
+    }
+}
+
+// The same of a change.
+fn follow_change<R: IdRecord + Drop>(
+    alloc: Global,
+    ids: &mut KeptIds,
+    table: &KeyedTable<R>,
+    change: &R::Change,
+) -> Result<bool, AllocError>
+    ensures { IfOk result (λ is_known. is_known ≡ true → FollowEdit R.format R.id_of ids.old ids.new
+        (table_records R.format table.now) (model.Become (R.becomes change.now))) }
+{
+    if R::keeps_ids(change) {
+        return Ok(true);
+    }
+    match R::renumbers(change) {
+        Some(renumbering) => renumber(alloc, ids, table, renumbering),
+        None => Ok(false),
+    }
+}
+
+// The same of one that changes the IDs of a name alone: a name that has no record changes nothing.
+fn renumber<R: IdRecord + Drop>(
+    alloc: Global,
+    ids: &mut KeptIds,
+    table: &KeyedTable<R>,
+    renumbering: Renumbering<'_>,
+) -> Result<bool, AllocError>
+    ensures { IfOk result (λ is_known. is_known ≡ true → (f : R → List R)
+        → Renumbers R.format R.id_of f renumbering.entry.name.now renumbering.entry.new_id
+        → FollowEdit R.format R.id_of ids.old ids.new
+        (table_records R.format table.now) (model.Become f)) }
+{
+    let Some(lost) = id_named(alloc, table, renumbering.name)? else {
+        return Ok(true);
+    };
+    if table.has_several(renumbering.name) {
+        return Ok(false);
+    }
+    ids.swap(lost, renumbering.new_id)
+}
+
+// The ID of the first record of the name.
+fn id_named<R: IdRecord + Drop>(
+    alloc: Global,
+    table: &KeyedTable<R>,
+    name: &[u8],
+) -> Result<Option<u32>, AllocError>
+    ensures { IfOk result (λ id. id ≡
+        option_map R.id_of (find_named R.format name.now (table_records R.format table.now))) }
+{
+    match table.find(alloc, name)? {
+        Some(found) => Ok(Some(found.id())),
+        None => Ok(None),
     }
 }

@@ -1,20 +1,29 @@
 // The IDs that users and groups have by their records (passwd(5), group(5)).
-ghost use Rattle.std.specs.Prelude.{◌≡◌, ◌++◌, ℕ, true, [], map, option_map, IfOk, OnOk};
+ghost use Rattle.std.specs.Prelude.{◌≡◌, ◌++◌, ℕ, true, [], map, option_map, IfOk, IfSome, IsSome, OnOk};
 ghost use Rattle.std.specs.List.{cons_option};
 ghost use Rattle.account_formats.specs.Tables.{table_records};
 ghost use Rattle.id_choice.specs.Used.{AreThoseOf};
-ghost use Rattle.carried_tables.specs.KeptIds.{KeepsIds, keeps_gid, keeps_uid};
+ghost use Rattle.carried_tables.specs.KeptIds.{KeepsIds, Renumbers, keeps_gid, keeps_uid};
 
-use crate::text_of;
+use crate::{KeyedRecord, text_of};
 use acct_lines::{GroupLine, GroupRecord, PasswdLine, PasswdRecord};
 use acct_tables::Lines;
 use acct_text::Bytes;
 use id_choice::UsedIds;
-use line_edits::{EditedRecord, GroupAct, GroupChange, PasswdAct, PasswdChange};
+use line_edits::{GroupAct, GroupChange, PasswdAct, PasswdChange};
 use std::alloc::{AllocError, Global};
 
+/// What a change does with the IDs of the records of one name.
+#[derive(Clone, Copy)]
+pub struct Renumbering<'e> {
+    /// The name.
+    pub name: &'e [u8],
+    /// The ID that each of them gets; none where they go.
+    pub new_id: Option<u32>,
+}
+
 /// A record with an ID of its own.
-pub trait IdRecord: EditedRecord {
+pub trait IdRecord: KeyedRecord {
     // its ID
     ghost id_of: { Self → ℕ };
 
@@ -29,6 +38,12 @@ pub trait IdRecord: EditedRecord {
     /// Whether the change surely leaves a record with its ID in the place of each.
     fn keeps_ids(change: &Self::Change) -> bool
         ensures { result ≡ true → KeepsIds id_of (Self.becomes change.now) };
+
+    /// The name of the only records whose IDs the change may change or take out, and what it makes of
+    /// these IDs; none where it may change those of records of any name.
+    fn renumbers(change: &Self::Change) -> Option<Renumbering<'_>>
+        ensures { IfSome result (λ renumbering. Renumbers Self.format id_of
+            (Self.becomes change.now) renumbering.name.now renumbering.new_id) };
 }
 
 impl IdRecord for PasswdRecord {
@@ -50,6 +65,17 @@ impl IdRecord for PasswdRecord {
             PasswdChange::Named(_, act) => keeps_uid(act),
             PasswdChange::OfGroup(_, act) => keeps_uid(act),
             PasswdChange::Remove(_) => false,
+        }
+    }
+
+    fn renumbers(change: &PasswdChange) -> Option<Renumbering<'_>> {
+        match change {
+            PasswdChange::Named(name, PasswdAct::SetFields(fields)) => renumbered(name, fields.uid),
+            PasswdChange::Remove(name) => Some(Renumbering {
+                name: name.as_slice(),
+                new_id: None,
+            }),
+            _ => None,
         }
     }
 }
@@ -75,6 +101,29 @@ impl IdRecord for GroupRecord {
             GroupChange::Remove(_) => false,
         }
     }
+
+    fn renumbers(change: &GroupChange) -> Option<Renumbering<'_>> {
+        match change {
+            GroupChange::Named(name, GroupAct::SetGid(gid)) => renumbered(name, Some(*gid)),
+            GroupChange::Remove(name) => Some(Renumbering {
+                name: name.as_slice(),
+                new_id: None,
+            }),
+            _ => None,
+        }
+    }
+}
+
+// That the records of the name get the ID; none where it isn't given.
+fn renumbered(name: &Bytes, id: Option<u32>) -> Option<Renumbering<'_>>
+    ensures name { IfSome result (λ renumbering. renumbering.name.now ≡ name.now) }
+    ensures id { IfSome result (λ renumbering. renumbering.new_id ≡ id) }
+    ensures given { IfSome result (λ renumbering. IsSome id) }
+{
+    Some(Renumbering {
+        name: name.as_slice(),
+        new_id: Some(id?),
+    })
 }
 
 // Whether the act leaves the UID of the user.
@@ -106,8 +155,11 @@ pub fn used_ids<R: IdRecord>(alloc: Global, file: &Option<Bytes>) -> Result<Used
     UsedIds::of(alloc, ids)
 }
 
-// The IDs of all records of the file, in the order of lines.
-fn listed_ids<R: IdRecord>(alloc: Global, file: &Option<Bytes>) -> Result<Vec<u32>, AllocError>
+/// The IDs of all records of the file, in the order of lines.
+pub(crate) fn listed_ids<R: IdRecord>(
+    alloc: Global,
+    file: &Option<Bytes>,
+) -> Result<Vec<u32>, AllocError>
     ensures { IfOk result (λ ids.
         ids.items ≡ map R.id_of (table_records R.format file.now)) }
 {

@@ -2,9 +2,11 @@
 //! (passwd(5), shadow(5), group(5), gshadow(5), subuid(5), subgid(5)).
 //!
 //! `CarriedTables` stand in the place of the files for commands that follow one another: each table
-//! keeps its lines with an index of their names (`carried_table`), and the IDs that are used
-//! (`id_table`), and edits change them where they stand. Subordinate ranges are asked for as a
-//! `range_file`, and of carried ones the index is kept (`range_table`).
+//! keeps its lines with an index of their names (`carried_table`), of which those of records that are
+//! gone stay a while (`left_lines`), and the IDs that are used (`id_table`, `kept_ids`), and edits
+//! change them where they stand. What lists hold, and which primary groups users have, is told by a
+//! sieve of `keys` (`keyed_table`), so that what concerns no record takes no pass. Subordinate ranges
+//! are asked for as a `range_file`, and of carried ones the index is kept (`range_table`).
 //!
 //! `search` finds the first record of a file that passes a test, and `ids` gathers the IDs that are
 //! used; `in_use` is how they are answered.
@@ -12,9 +14,16 @@
 
 mod carried_table;
 mod carried_tables;
+mod gone_names;
 mod id_table;
 mod ids;
 mod in_use;
+mod kept_ids;
+mod key_names;
+mod key_sieve;
+mod keyed_table;
+mod keys;
+mod left_lines;
 mod range_file;
 mod range_table;
 mod search;
@@ -22,8 +31,11 @@ mod search;
 pub use carried_table::CarriedTable;
 pub use carried_tables::CarriedTables;
 pub use id_table::IdTable;
-pub use ids::{IdRecord, used_ids};
+pub use ids::{IdRecord, Renumbering, used_ids};
 pub use in_use::IdsInUse;
+pub use key_sieve::{KeySieve, Most};
+pub use keyed_table::KeyedTable;
+pub use keys::KeyedRecord;
 pub use range_file::RangeFile;
 pub use range_table::RangeTable;
 pub use search::{OfGid, OfUid, RecordTest, first_passing, text_of};

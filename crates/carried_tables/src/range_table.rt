@@ -74,6 +74,14 @@ impl RangeTable {
         &self.file
     }
 
+    /// Takes the bytes of the file out; none where it is absent.
+    pub(crate) fn take_file(&mut self) -> Option<Bytes>
+        ensures { result ≡ self.old }
+    {
+        self.index = None;
+        self.file.take()
+    }
+
     /// The file as it is asked.
     pub fn ranges(&self) -> RangeFile<'_>
         ensures { result ≡ self.now }
@@ -157,8 +165,8 @@ fn known_or_gathered(
     }
 }
 
-/// The file once more, absent where it is.
-pub(crate) fn copy_of(file: &Option<Bytes>) -> Result<Option<Bytes>, AllocError>
+// The file once more, absent where it is.
+fn copy_of(file: &Option<Bytes>) -> Result<Option<Bytes>, AllocError>
     ensures { IfOk result (λ copy. copy ≡ file.now) }
 {
     match file {

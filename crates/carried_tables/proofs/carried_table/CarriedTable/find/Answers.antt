@@ -13,4 +13,4 @@ returns-in-Some g c =
     ∙ ap (find_named format c.args.name.now)
     (kept-records c.self.inside.lines c.in-Some.lines c.in-Some.is c.self.invariant format
     c.args.self.now c.self.view_is))
-    c.find.ensures.found
+    c.find.ensures

@@ -2,23 +2,16 @@ use Rattle.std.proofs.Common.{◌∙◌, ap}
 use Rattle.std.proofs.lemmas.Result.{IfOk-weaker}
 use Rattle.account_formats.specs.Edits.{first_multiple}
 use Rattle.line_edits.specs.SeenEdits.{seen_edits}
-use Rattle.carried_tables.proofs.CarriedLemmas.{kept-of_file, kept-records}
+use Rattle.carried_tables.proofs.CarriedLemmas.{kept-records}
 use Rattle.carried_tables.proofs.carried_table.CarriedTable.first_multiple.Goals as goal
 
--- the lines that are kept are those of a file
-pub first_multiple_in-requires : goal.first_multiple_in-requires
-first_multiple_in-requires g c = record {
-  of_file = kept-of_file c.self.inside.lines c.in-Some.lines c.in-Some.is c.self.invariant;
-  written = c.requires;
-}
-
--- the records of the lines are those of the file
+-- the records of the lines that are left are those of the file
 pub returns-in-Some : goal.returns-in-Some
 returns-in-Some g c =
     let format = g.R.TableRecord.format in
-    IfOk-weaker c.first_multiple_in.result _ _ (λ name is.
+    IfOk-weaker c.first_multiple.result _ _ (λ name is.
     is
     ∙ ap (first_multiple format (seen_edits g.R.EditedRecord.becomes c.args.edits.now))
     (kept-records c.self.inside.lines c.in-Some.lines c.in-Some.is c.self.invariant format
     c.args.self.now c.self.view_is))
-    c.first_multiple_in.ensures
+    c.first_multiple.ensures

@@ -1,21 +1,54 @@
-use Rattle.std.proofs.Common.{◌≡◌, true, map, sym, subst, rules}
-use Rattle.std.specs.Prelude.{IfSome, is_some}
-use Rattle.account_formats.specs.Tables.{table_records}
-use Rattle.id_choice.specs.Used.{AreThoseOf}
+use Rattle.std.proofs.Common.{◌≡◌, ◌∙◌, [], drop, take, ap, sym, subst}
+use Rattle.std.specs.Prelude.{is_some}
+use Rattle.std.proofs.lemmas.Result.{on_ok_weaker}
+use Rattle.account_formats.specs.RecordEdits.{IsWrittenEdit}
 use Rattle.line_edits.specs.SeenEdits.{seen_edits}
-use Rattle.carried_tables.proofs.KeptIdLemmas.{known-after}
+use Rattle.line_edits.proofs.EditLists.{edits-from, edits-up_to, no-edits}
+use Rattle.carried_tables.specs.TableEdits.{AreWritten, table_by}
+use Rattle.carried_tables.proofs.KeptIdLemmas.{table-there, table-two}
+use Rattle.carried_tables.proofs.KeyedEdits.{no-edit}
 use Rattle.carried_tables.proofs.id_table.IdTable.edit.Goals as goal
 
--- IDs that follow the edits are those of the table after them
-pub known_or_gathered-requires : goal.known_or_gathered-requires
-known_or_gathered-requires g c =
+-- the first of those left may print what all may
+pub edit_one-requires-clause-written : goal.edit_one-requires-clause-written
+edit_one-requires-clause-written g c =
     let format = g.R.TableRecord.format in
-    let number = g.R.IdRecord.id_of in
-    let edits = seen_edits g.R.EditedRecord.becomes c.args.edits.now in
-    let file = c.self.inside.table in
-    let there : is_some file ≡ true = search rules in
-    known-after format number edits file c.edit.new.self c.take.result c.in_ok-known.known
-    g.met.R.TableRecord.is_line_format.same g.met.R.EditedRecord.no_blank c.requires there
-    (subst (λ ids. IfSome ids (λ ids. AreThoseOf ids (map number (table_records format file))))
-    (sym c.take.ensures.value) c.self.invariant)
-    (c.in_ok-known.ensures {u = tt}) (c.in_ok-edit.ensures {u = tt})
+    let becomes = g.R.EditedRecord.becomes in
+    subst (AreWritten format becomes) (sym c.split_at.ensures.front)
+    (edits-up_to becomes (IsWrittenEdit format) c.edits.left.now 1 c.edits.invariant.written)
+
+-- it is made, and the others are left
+pub edits-preserved : goal.edits-preserved
+edits-preserved g c =
+    let format = g.R.TableRecord.format in
+    let becomes = g.R.EditedRecord.becomes in
+    let left = c.edits.left.now in
+    let before = c.edits.self in
+    let made = c.in_ok-edit_one.ensures
+    ∙ ap (λ one. table_by format becomes one before) c.split_at.ensures.front in
+    record {
+      made = ap (λ later. table_by format becomes later c.edit_one.new.self)
+          c.split_at.ensures.back
+          ∙ ap (table_by format becomes (drop 1 left)) made
+          ∙ table-two becomes format left before g.met.R.EditedRecord.no_blank
+          c.edits.invariant.written
+          ∙ c.edits.invariant.made;
+      there = ap is_some made ∙ table-there format (seen_edits becomes (take 1 left)) before
+          c.edits.invariant.there;
+      written = subst (AreWritten format becomes) (sym c.split_at.ensures.back)
+          (edits-from becomes (IsWrittenEdit format) left 1 c.edits.invariant.written);
+    }
+
+-- no edit is left
+pub returns : goal.returns
+returns g c =
+    let format = g.R.TableRecord.format in
+    let becomes = g.R.EditedRecord.becomes in
+    let none : c.edits.left.now ≡ [] =
+    no-edits c.edits.left.now (sym c.is_empty.ensures ∙ c.edits-test.false) in
+    on_ok_weaker c.gather.result (λ same.
+    same
+    ∙ no-edit format c.edits.self
+    ∙ ap (λ left. table_by format becomes left c.edits.self) (sym none)
+    ∙ c.edits.invariant.made)
+    c.gather.ensures
