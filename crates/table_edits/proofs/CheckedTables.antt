@@ -1,7 +1,8 @@
 -- Claim: the refusal of a table that refuses, behind others that don't, is that of all
--- (`refused-first` and its likes), and where no table refuses they are all changed (`none-refused`); so
--- with edits that were read from slices (`read-in`). Such an answer tells the outcome of an action with
--- the script (`outcome-refused`, `outcome-made`) and what it prints (`reported`). Way: table by table.
+-- (`refused-first` and its likes), and where no table refuses they are all changed (`none-refused`);
+-- so with edits that were read from slices (`passwd-read` and its likes). Such an answer tells the
+-- outcome of an action with the script (`outcome-refused`, `outcome-made`) and what it prints
+-- (`reported`). Way: table by table.
 use Rattle.std.proofs.Common.{◌≡◌, ◌∙◌, ℕ, List, [], ◌∷◌, ap, refl, sym}
 use Rattle.std.specs.Prelude.{Option, Some, None, Ok, Err}
 use Rattle.acct_text.specs.declared.files.Files.{Files}
@@ -22,6 +23,10 @@ use Rattle.account_words.specs.declared.tool.Tool.{Tool}
 use Rattle.tool_answers.specs.Decisions.{written_output}
 use Rattle.tool_answers.specs.declared.decision.Output.{Output}
 use Rattle.line_edits.specs.declared.edit.Edit.{Edit}
+use Rattle.line_edits.specs.GroupChanges.{group_becomes}
+use Rattle.line_edits.specs.GshadowChanges.{gshadow_becomes}
+use Rattle.line_edits.specs.PasswdChanges.{passwd_becomes}
+use Rattle.line_edits.specs.ShadowChanges.{shadow_becomes}
 use Rattle.line_edits.specs.SeenEdits.{seen_edits}
 use Rattle.table_edits.specs.Acting.{IsReportOf, IsScriptOf}
 use Rattle.table_edits.specs.CheckedTables.{changes_as, changes_by}
@@ -39,15 +44,21 @@ printed tool status out notices = record {
   err = messages tool notices;
 }
 
--- the refusal of a table by edits that were read from a slice of them
-pub read-in :
-    {R C : Type 0} (format : Format R) (becomes : C → R → List R) (slice items : List (Edit R C))
-    (table : Tab) (records : List R) (found answer : Option Refusal)
+-- what a slice of these edits was answered of the table is the refusal by these
+abbrev pub IsRead :
+    {R C : Type 0} → Format R → (C → R → List R) → Tab → List (Edit R C) → List R → Type 0
+IsRead {R = R} {C = C} format becomes table items records =
+    (slice : List (Edit R C)) (found answer : Option Refusal)
     → slice ≡ items
     → found ≡ multiple_in table format (seen_edits becomes slice) records
     → found ≡ answer
     → multiple_in table format (seen_edits becomes items) records ≡ answer
-read-in format becomes slice items table records found answer same is told =
+
+read-in :
+    {R C : Type 0} (format : Format R) (becomes : C → R → List R) (table : Tab)
+    (items : List (Edit R C)) (records : List R)
+    → IsRead format becomes table items records
+read-in format becomes table items records slice found answer same is told =
     sym (is ∙ ap (λ edits. multiple_in table format (seen_edits becomes edits) records) same) ∙ told
 
 module _ (script : Script) (files : Files) where
@@ -63,6 +74,27 @@ module _ (script : Script) (files : Files) where
 
   abbrev pub gshadow : Option Refusal
   gshadow = multiple_in Gshadow gshadow_format (seen_script script).gshadow (gshadow_records files)
+
+  -- the same, as it was answered for edits that were read from a slice of them
+  pub passwd-read :
+      IsRead passwd_format passwd_becomes Passwd script.passwd.items (passwd_records files)
+  passwd-read =
+      read-in passwd_format passwd_becomes Passwd script.passwd.items (passwd_records files)
+
+  pub shadow-read :
+      IsRead shadow_format shadow_becomes Shadow script.shadow.items (shadow_records files)
+  shadow-read =
+      read-in shadow_format shadow_becomes Shadow script.shadow.items (shadow_records files)
+
+  pub group-read :
+      IsRead group_format group_becomes Group script.group.items (group_records files)
+  group-read =
+      read-in group_format group_becomes Group script.group.items (group_records files)
+
+  pub gshadow-read :
+      IsRead gshadow_format gshadow_becomes Gshadow script.gshadow.items (gshadow_records files)
+  gshadow-read =
+      read-in gshadow_format gshadow_becomes Gshadow script.gshadow.items (gshadow_records files)
 
   -- the tables that change
   abbrev pub tables : List NewTable

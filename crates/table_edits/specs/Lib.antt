@@ -1,5 +1,3 @@
-pub mod LeftRanges
-pub mod RangeRemovals
 pub mod SeenScript
 pub mod Acting
 pub mod Additions

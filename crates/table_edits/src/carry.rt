@@ -1,24 +1,23 @@
 // What a command does with carried tables, by the script of its tool, once none of the tool's refusals
 // is there.
 ghost use Rattle.std.specs.Prelude.{◌≡◌, [], ◌∷◌, IfSome, OnOk};
-ghost use Rattle.std.specs.List.{AllByRecursion};
 ghost use Rattle.account_formats.specs.Edits.Edit.{Add};
-ghost use Rattle.account_formats.specs.RecordEdits.{IsWrittenEdit};
 ghost use Rattle.account_formats.specs.Records.{subid_format};
-ghost use Rattle.account_formats.specs.Tables.{files_after, table_after};
+ghost use Rattle.account_formats.specs.Tables.{files_after};
 ghost use Rattle.account_formats.specs.WrittenScript.{IsWrittenScript};
+ghost use Rattle.carried_tables.specs.TableEdits.{AreWritten, table_by};
 ghost use Rattle.line_edits.specs.SeenEdits.{seen_edits};
 ghost use Rattle.line_edits.specs.SubidChanges.{subid_becomes};
 ghost use Rattle.table_edits.specs.Deciding.{CarriesAs};
 ghost use Rattle.table_edits.specs.SeenScript.{seen_script};
 
 use crate::decide::output_of;
-use crate::left_ranges::{leave_all, leave_indexed};
 use crate::multiple::multiple_carried;
-use crate::{Report, Script, SubidRecord, edited_ranges};
+use crate::{Report, Script, SubidRecord};
 use account_words::Tool;
 use carried_tables::{CarriedTables, RangeTable};
 use line_edits::{Edit, SubidChange};
+use range_edits::{edited_ranges, leave_all, leave_indexed};
 use std::alloc::{AllocError, Global};
 use tool_answers::{Output, ToolFault};
 
@@ -73,9 +72,8 @@ fn edit_ranges(
     table: &mut RangeTable,
     edits: &[Edit<SubidRecord, SubidChange>],
 ) -> Result<(), AllocError>
-    requires { AllByRecursion (IsWrittenEdit subid_format) (seen_edits subid_becomes edits.now) }
-    ensures { OnOk result (table.new
-        ≡ table_after subid_format (seen_edits subid_becomes edits.now) table.old) }
+    requires { AreWritten subid_format subid_becomes edits.now }
+    ensures { OnOk result (table.new ≡ table_by subid_format subid_becomes edits.now table.old) }
 {
     if let Some(range) = added_alone(edits) {
         return table.add(alloc, range);
@@ -96,9 +94,8 @@ fn remake_ranges(
     table: &mut RangeTable,
     edits: &[Edit<SubidRecord, SubidChange>],
 ) -> Result<(), AllocError>
-    requires { AllByRecursion (IsWrittenEdit subid_format) (seen_edits subid_becomes edits.now) }
-    ensures { OnOk result (table.new
-        ≡ table_after subid_format (seen_edits subid_becomes edits.now) table.old) }
+    requires { AreWritten subid_format subid_becomes edits.now }
+    ensures { OnOk result (table.new ≡ table_by subid_format subid_becomes edits.now table.old) }
 {
     let Some(text) = table.file() else {
         return Ok(())

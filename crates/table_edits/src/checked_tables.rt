@@ -13,10 +13,10 @@ ghost use Rattle.table_edits.specs.CheckedTables.{changes_by};
 ghost use Rattle.table_edits.specs.SeenScript.{seen_script};
 ghost use Rattle.line_edits.specs.SubidChanges.{subid_becomes};
 
-use crate::left_ranges::leave_all;
-use crate::{Refusal, Script, SubidRecord, edited_ranges};
+use crate::{Refusal, Script, SubidRecord};
 use acct_text::{Bytes, Files, NewTables, Tab};
 use line_edits::{Checked, Edit, EditedRecord, SubidChange, checked_text};
+use range_edits::{edited_ranges, leave_all};
 use std::alloc::{AllocError, Global};
 
 /// What the edits of a script make of the tables.

@@ -3,20 +3,15 @@
 //!
 //! A tool builds a `Script`; `group_edits` and `user_edits` have edits that several tools make.
 //! `decide_by` decides by it: it refuses where an edit touches one of several records of a name, and
-//! else makes the new bytes of each table (`checked_tables`; `range_edits` has the edits of subuid and
-//! subgid, `cut_ranges` what they leave of one range, `removed_owner` the file without an owner's).
-//! `carry_out` does the same (`multiple`) in tables that are carried from command to command.
+//! else makes the new bytes of each table (`checked_tables`). `carry_out` does the same (`multiple`) in
+//! tables that are carried from command to command.
 #![tactic(auto)]
 
 mod carry;
 mod checked_tables;
-mod cut_ranges;
 mod decide;
 mod group_edits;
-mod left_ranges;
 mod multiple;
-mod range_edits;
-mod removed_owner;
 mod report;
 mod script;
 mod user_edits;
@@ -28,6 +23,5 @@ pub use acct_lines::{
 };
 pub use carry::carry_out;
 pub use decide::decide_by;
-pub use range_edits::edited_ranges;
 pub use report::Report;
 pub use script::Script;

@@ -18,9 +18,9 @@ use account_model::Refusal;
 use account_words::IdSort;
 use acct_text::{Bytes, Tab};
 use command_values::{Asked, IdRange, ToolFault};
+use range_edits::edited_ranges;
 use std::alloc::{AllocError, Global};
 use subid_ranges::{RangeFault, Ranges};
-use table_edits::edited_ranges;
 use table_lookups::Tables;
 
 /// Refuses the first new range of `-v`, or of `-w`, that meets a line of subuid, or of subgid, as it

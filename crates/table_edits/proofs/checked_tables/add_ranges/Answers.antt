@@ -3,7 +3,7 @@ use Rattle.account_formats.specs.Tables.{table_after}
 use Rattle.carried_tables.specs.TablesOfLines.{lines_in}
 use Rattle.line_edits.specs.SeenEdits.{seen_edits}
 use Rattle.line_edits.specs.SubidChanges.{subid_becomes}
-use Rattle.table_edits.proofs.LeftLemmas.{left-file}
+use Rattle.range_edits.proofs.LeftLemmas.{left-file}
 use Rattle.table_edits.proofs.ListedFile.{stays-unlisted}
 use Rattle.table_edits.proofs.checked_tables.add_ranges.Goals as goal
 

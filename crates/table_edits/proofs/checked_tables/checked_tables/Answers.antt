@@ -5,7 +5,7 @@ use Rattle.acct_text.specs.declared.new_tables.NewTable.{NewTable}
 use Rattle.acct_text.specs.Files.{table_of}
 use Rattle.acct_text.specs.Tables.{all_tables}
 use Rattle.account_formats.specs.Records.{passwd_format, shadow_format, group_format, gshadow_format, subid_format}
-use Rattle.account_formats.specs.Tables.{files_after, passwd_records, shadow_records, group_records, gshadow_records}
+use Rattle.account_formats.specs.Tables.{files_after}
 use Rattle.line_edits.specs.GroupChanges.{group_becomes}
 use Rattle.line_edits.specs.GshadowChanges.{gshadow_becomes}
 use Rattle.line_edits.specs.PasswdChanges.{passwd_becomes}
@@ -14,7 +14,7 @@ use Rattle.line_edits.specs.SubidChanges.{subid_becomes}
 use Rattle.tool_answers.proofs.ListedTables.{AreListedBefore, all-listed, listed-on, none-listed}
 use Rattle.table_edits.specs.SeenScript.{seen_script}
 use Rattle.table_edits.specs.declared.checked_tables.Changes.TheVariants.{Tables}
-use Rattle.table_edits.proofs.CheckedTables.{none-refused, read-in, refused-first, refused-fourth, refused-second, refused-third}
+use Rattle.table_edits.proofs.CheckedTables.{group-read, gshadow-read, none-refused, passwd-read, refused-first, refused-fourth, refused-second, refused-third, shadow-read}
 use Rattle.table_edits.proofs.ListedFile.{listed-file}
 use Rattle.table_edits.proofs.checked_tables.checked_tables.Goals as goal
 
@@ -24,9 +24,8 @@ returns-in-Some c =
     let script = c.args.script.now in
     let files = c.args.files.now in
     refused-first script files c.in-Some.found
-    (read-in passwd_format passwd_becomes c.deref.result.now script.passwd.items Passwd
-    (passwd_records files) _ (Some c.in-Some.found) c.deref.ensures.value
-    c.in_ok-found.ensures.refusal c.in-Some.is)
+    (passwd-read script files c.deref.result.now _ (Some c.in-Some.found)
+    c.deref.ensures.value c.in_ok-found.ensures.refusal c.in-Some.is)
 
 -- shadow refuses
 pub returns-in-Some-2 : goal.returns-in-Some-2
@@ -34,13 +33,11 @@ returns-in-Some-2 c =
     let script = c.args.script.now in
     let files = c.args.files.now in
     refused-second script files
-    (read-in passwd_format passwd_becomes c.deref.result.now script.passwd.items Passwd
-    (passwd_records files) _ None c.deref.ensures.value c.in_ok-found.ensures.refusal
-    c.in_default.is)
+    (passwd-read script files c.deref.result.now _ None c.deref.ensures.value
+    c.in_ok-found.ensures.refusal c.in_default.is)
     c.in-Some-2.found
-    (read-in shadow_format shadow_becomes c.deref-2.result.now script.shadow.items Shadow
-    (shadow_records files) _ (Some c.in-Some-2.found) c.deref-2.ensures.value
-    c.in_ok-found-2.ensures.refusal c.in-Some-2.is)
+    (shadow-read script files c.deref-2.result.now _ (Some c.in-Some-2.found)
+    c.deref-2.ensures.value c.in_ok-found-2.ensures.refusal c.in-Some-2.is)
 
 -- group refuses
 pub returns-in-Some-3 : goal.returns-in-Some-3
@@ -48,16 +45,13 @@ returns-in-Some-3 c =
     let script = c.args.script.now in
     let files = c.args.files.now in
     refused-third script files
-    (read-in passwd_format passwd_becomes c.deref.result.now script.passwd.items Passwd
-    (passwd_records files) _ None c.deref.ensures.value c.in_ok-found.ensures.refusal
-    c.in_default.is)
-    (read-in shadow_format shadow_becomes c.deref-2.result.now script.shadow.items Shadow
-    (shadow_records files) _ None c.deref-2.ensures.value c.in_ok-found-2.ensures.refusal
-    c.in_default-2.is)
+    (passwd-read script files c.deref.result.now _ None c.deref.ensures.value
+    c.in_ok-found.ensures.refusal c.in_default.is)
+    (shadow-read script files c.deref-2.result.now _ None c.deref-2.ensures.value
+    c.in_ok-found-2.ensures.refusal c.in_default-2.is)
     c.in-Some-3.found
-    (read-in group_format group_becomes c.deref-3.result.now script.group.items Group
-    (group_records files) _ (Some c.in-Some-3.found) c.deref-3.ensures.value
-    c.in_ok-found-3.ensures.refusal c.in-Some-3.is)
+    (group-read script files c.deref-3.result.now _ (Some c.in-Some-3.found)
+    c.deref-3.ensures.value c.in_ok-found-3.ensures.refusal c.in-Some-3.is)
 
 -- gshadow refuses
 pub returns-in-Some-4 : goal.returns-in-Some-4
@@ -65,19 +59,15 @@ returns-in-Some-4 c =
     let script = c.args.script.now in
     let files = c.args.files.now in
     refused-fourth script files
-    (read-in passwd_format passwd_becomes c.deref.result.now script.passwd.items Passwd
-    (passwd_records files) _ None c.deref.ensures.value c.in_ok-found.ensures.refusal
-    c.in_default.is)
-    (read-in shadow_format shadow_becomes c.deref-2.result.now script.shadow.items Shadow
-    (shadow_records files) _ None c.deref-2.ensures.value c.in_ok-found-2.ensures.refusal
-    c.in_default-2.is)
-    (read-in group_format group_becomes c.deref-3.result.now script.group.items Group
-    (group_records files) _ None c.deref-3.ensures.value c.in_ok-found-3.ensures.refusal
-    c.in_default-3.is)
+    (passwd-read script files c.deref.result.now _ None c.deref.ensures.value
+    c.in_ok-found.ensures.refusal c.in_default.is)
+    (shadow-read script files c.deref-2.result.now _ None c.deref-2.ensures.value
+    c.in_ok-found-2.ensures.refusal c.in_default-2.is)
+    (group-read script files c.deref-3.result.now _ None c.deref-3.ensures.value
+    c.in_ok-found-3.ensures.refusal c.in_default-3.is)
     c.in-Some-4.found
-    (read-in gshadow_format gshadow_becomes c.deref-4.result.now script.gshadow.items Gshadow
-    (gshadow_records files) _ (Some c.in-Some-4.found) c.deref-4.ensures.value
-    c.in_ok-found-4.ensures.refusal c.in-Some-4.is)
+    (gshadow-read script files c.deref-4.result.now _ (Some c.in-Some-4.found)
+    c.deref-4.ensures.value c.in_ok-found-4.ensures.refusal c.in-Some-4.is)
 
 -- table after table is listed
 pub returns : goal.returns
@@ -119,15 +109,11 @@ returns c =
     (subst (λ (listed : List NewTable). AreListedBefore old new all_tables listed)
     (sym c.none-new.ensures) (none-listed old new)))))))))
     ∙ none-refused script files
-    (read-in passwd_format passwd_becomes c.deref.result.now script.passwd.items Passwd
-    (passwd_records files) _ None c.deref.ensures.value c.in_ok-found.ensures.refusal
-    c.in_default.is)
-    (read-in shadow_format shadow_becomes c.deref-2.result.now script.shadow.items Shadow
-    (shadow_records files) _ None c.deref-2.ensures.value c.in_ok-found-2.ensures.refusal
-    c.in_default-2.is)
-    (read-in group_format group_becomes c.deref-3.result.now script.group.items Group
-    (group_records files) _ None c.deref-3.ensures.value c.in_ok-found-3.ensures.refusal
-    c.in_default-3.is)
-    (read-in gshadow_format gshadow_becomes c.deref-4.result.now script.gshadow.items Gshadow
-    (gshadow_records files) _ None c.deref-4.ensures.value c.in_ok-found-4.ensures.refusal
-    c.in_default-4.is)
+    (passwd-read script files c.deref.result.now _ None c.deref.ensures.value
+    c.in_ok-found.ensures.refusal c.in_default.is)
+    (shadow-read script files c.deref-2.result.now _ None c.deref-2.ensures.value
+    c.in_ok-found-2.ensures.refusal c.in_default-2.is)
+    (group-read script files c.deref-3.result.now _ None c.deref-3.ensures.value
+    c.in_ok-found-3.ensures.refusal c.in_default-3.is)
+    (gshadow-read script files c.deref-4.result.now _ None c.deref-4.ensures.value
+    c.in_ok-found-4.ensures.refusal c.in_default-4.is)

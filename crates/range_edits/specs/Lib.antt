@@ -1,0 +1,2 @@
+pub mod LeftRanges
+pub mod RangeRemovals
