@@ -1,10 +1,13 @@
 // Users that a command looks for in passwd(5). An absent table has none.
-ghost use Rattle.std.specs.Prelude.{◌≡◌, ◌==◌, find, IfOk, IfSome};
+ghost use Rattle.std.specs.Prelude.{◌≡◌, ◌≤◌, ◌==◌, true, None, find, IfOk, IfSome, IsSomeAnd};
 ghost use Rattle.account_words.specs.Ids.{is_used, used_uids as uids_of};
 ghost use Rattle.account_formats.specs.Records.{passwd_format};
 ghost use Rattle.account_model.specs.Refusals.{missing_user, missing_users};
 ghost use Rattle.account_formats.specs.Tables.{passwd_records};
-ghost use Rattle.account_model.specs.Users.{has_user};
+ghost use Rattle.account_model.specs.Users.{find_user, has_user, other_users};
+ghost use Rattle.carried_tables.specs.KeptIds.{table_counts};
+ghost use Rattle.carried_tables.specs.Keys.{user_keys};
+ghost use Rattle.carried_tables.specs.Sieves.{IsMost, count_with};
 ghost use Rattle.id_choice.specs.Used.{AreThoseOf};
 ghost use Rattle.table_lookups.specs.FirstLines.{TellsNames};
 ghost use Rattle.table_lookups.specs.Stopping.{StopsBy};
@@ -15,18 +18,99 @@ use crate::tables::Source;
 use account_model::Refusal;
 use acct_lines::PasswdRecord;
 use acct_text::{Bytes, Names};
-use carried_tables::{IdsInUse, OfGid, OfUid, RecordTest, first_passing, used_ids};
+use carried_tables::{IdsInUse, Most, OfGid, OfUid, RecordTest, first_passing, used_ids};
 use line_edits::NameSet;
 use std::alloc::{AllocError, Global};
 use tool_answers::ToolFault;
 
 impl<'a> Tables<'a> {
-    /// The first user whose primary group has the GID.
+    /// The first user whose primary group has the GID. In carried tables that surely have none it takes
+    /// no pass.
     pub fn user_of_gid(&self, alloc: Global, gid: u32) -> Result<Option<PasswdRecord>, AllocError>
         ensures { IfOk result (λ found.
             found ≡ find (λ user. user.gid == gid) (passwd_records self.now)) }
     {
-        self.first_user(alloc, &OfGid { gid })
+        match self.most_of_gid(gid) {
+            Most::Nothing => Ok(None),
+            Most::One | Most::Any => self.first_user(alloc, &OfGid { gid }),
+        }
+    }
+
+    /// Whether surely no user with another name has the primary group of the GID. It takes no pass; files
+    /// tell nothing.
+    pub fn lacks_other_of_gid(
+        &self,
+        alloc: Global,
+        name: &[u8],
+        gid: u32,
+    ) -> Result<bool, AllocError>
+        ensures { IfOk result (λ lacks. lacks ≡ true
+            → find (λ user. user.gid == gid) (other_users name.now self.now) ≡ None) }
+    {
+        match self.most_of_gid(gid) {
+            Most::Nothing => Ok(true),
+            Most::One => self.is_of_gid(alloc, name, gid),
+            Most::Any => Ok(false),
+        }
+    }
+
+    // How many users have the primary group of the GID, at most; files tell nothing.
+    fn most_of_gid(&self, gid: u32) -> Most
+        ensures { IsMost result (count_with user_keys gid (passwd_records self.now)) }
+    {
+        match self.source() {
+            Source::Files(_) => Most::Any,
+            Source::Carried(tables) => tables.passwd().table().most_with(u64::from(gid)),
+        }
+    }
+
+    // Whether the user of the name has the primary group of the GID.
+    fn is_of_gid(&self, alloc: Global, name: &[u8], gid: u32) -> Result<bool, AllocError>
+        ensures { IfOk result (λ is. is ≡ true
+            → IsSomeAnd (find_user name.now self.now) (λ user. (user.gid == gid) ≡ true)) }
+    {
+        match self.user_named(alloc, name)? {
+            Some(user) => Ok(user.gid == gid),
+            None => Ok(false),
+        }
+    }
+
+    /// Whether surely no user with another name has the UID. It takes no pass; files tell nothing.
+    pub fn lacks_other_of_uid(
+        &self,
+        alloc: Global,
+        name: &[u8],
+        uid: u32,
+    ) -> Result<bool, AllocError>
+        ensures { IfOk result (λ lacks. lacks ≡ true
+            → find (λ user. user.uid == uid) (other_users name.now self.now) ≡ None) }
+    {
+        if self.is_uid_alone(uid) {
+            return self.is_of_uid(alloc, name, uid);
+        }
+        Ok(false)
+    }
+
+    // Whether surely no two users have the UID; files tell nothing.
+    fn is_uid_alone(&self, uid: u32) -> bool
+        ensures { result ≡ true
+            → table_counts passwd_format (λ user. user.uid) self.now.passwd uid ≤ 1 }
+    {
+        match self.source() {
+            Source::Files(_) => false,
+            Source::Carried(tables) => tables.passwd().is_alone(uid),
+        }
+    }
+
+    // Whether the user of the name has the UID.
+    fn is_of_uid(&self, alloc: Global, name: &[u8], uid: u32) -> Result<bool, AllocError>
+        ensures { IfOk result (λ is. is ≡ true
+            → IsSomeAnd (find_user name.now self.now) (λ user. (user.uid == uid) ≡ true)) }
+    {
+        match self.user_named(alloc, name)? {
+            Some(user) => Ok(user.uid == uid),
+            None => Ok(false),
+        }
     }
 
     /// The first user that passes the test.

@@ -1,6 +1,6 @@
 -- Claim: the ID that is asked for is the number of the test for another user with it (`uid-of-other`,
 -- `gid-of-other`): the line of a user has its UID and its primary GID in decimal.
-use Rattle.std.proofs.Common.{◌≡◌, ◌∙◌, ℕ, Bool, true, List, not, sym, ap}
+use Rattle.std.proofs.Common.{◌≡◌, ◌∙◌, ℕ, true, List, not, sym, ap}
 use Rattle.std.proofs.lemmas.Bool.{and_parts, eqb-true}
 use Rattle.account_formats.specs.Format.{is_named}
 use Rattle.account_formats.specs.Records.{passwd_format}

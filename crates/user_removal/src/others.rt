@@ -1,5 +1,5 @@
 // Users with another name that a user shares an ID with (userdel(8)).
-ghost use Rattle.std.specs.Prelude.{◌≡◌, IfOk, find};
+ghost use Rattle.std.specs.Prelude.{◌≡◌, true, None, IfOk, find};
 ghost use Rattle.account_model.specs.Users.{other_users};
 ghost use Rattle.acct_lines.specs.Shown.{passwd_shown};
 ghost use Rattle.user_removal.specs.Others.{has_id};
@@ -19,7 +19,8 @@ pub(crate) enum AccountId {
     Gid(u32),
 }
 
-/// The first user with another name that has the ID.
+/// The first user with another name that has the ID. Where carried tables surely have none, it takes no
+/// pass.
 pub(crate) fn first_other(
     alloc: Global,
     tables: &Tables,
@@ -29,7 +30,27 @@ pub(crate) fn first_other(
     ensures { IfOk result (λ found.
         found ≡ find (has_id id) (other_users name.now tables.now)) }
 {
+    let lacks = lacks_other(alloc, tables, name, id)?;
+    if lacks {
+        return Ok(None);
+    }
     tables.first_user(alloc, &OtherWith { name, id })
+}
+
+// Whether surely no user with another name has the ID.
+fn lacks_other(
+    alloc: Global,
+    tables: &Tables,
+    name: &[u8],
+    id: AccountId,
+) -> Result<bool, AllocError>
+    ensures { IfOk result (λ lacks. lacks ≡ true
+        → find (has_id id) (other_users name.now tables.now) ≡ None) }
+{
+    match id {
+        AccountId::Uid(uid) => tables.lacks_other_of_uid(alloc, name, uid),
+        AccountId::Gid(gid) => tables.lacks_other_of_gid(alloc, name, gid),
+    }
 }
 
 // That a user has another name, and the ID.

@@ -1,4 +1,4 @@
-use Rattle.std.proofs.Common.{Bool, ◌∙◌, not}
+use Rattle.std.proofs.Common.{Bool, ◌∙◌, not, sym}
 use Rattle.std.proofs.lemmas.Result.{IfOk-weaker}
 use Rattle.account_formats.specs.declared.records.PasswdRecord.{PasswdRecord}
 use Rattle.account_formats.specs.Format.{is_named}
@@ -7,6 +7,10 @@ use Rattle.account_formats.specs.Tables.{passwd_records}
 use Rattle.user_removal.specs.Others.{has_id}
 use Rattle.user_removal.proofs.UserdelLemmas.{others-found}
 use Rattle.user_removal.proofs.others.first_other.Goals as goal
+
+-- none of the others has it
+pub returns-then-lacks : goal.returns-then-lacks
+returns-then-lacks c = sym (c.in_ok-lacks.ensures {u = tt} c.if-lacks.true)
 
 pub returns : goal.returns
 returns c =
