@@ -1,7 +1,7 @@
--- Claim: a tool that changes nothing decides as its report says (`told-decides`), and one that sorts
--- two tables lists those that differ then (`tables-sorted`), as pwck and grpck do (`users-sorted`,
--- `groups-sorted`). Way: without edits no name has multiple entries, and the files stay; a sort
--- touches no record.
+-- Claim: a tool that changes nothing decides as its report says (`told-decides`), and one that
+-- sorts two tables lists those that differ then (`tables-sorted`), as pwck and grpck do
+-- (`users-sorted`, `groups-sorted`). Way: without edits no name has multiple entries, and the files
+-- stay; a sort touches no record.
 use Rattle.std.proofs.Common.{◌≡◌, ◌∙◌, ◌++◌, ℕ, true, List, [], ◌∷◌, refl, sym, ap, ap₂}
 use Rattle.std.specs.Prelude.{Option, Some, None, Ok}
 use Rattle.acct_text.specs.declared.files.Files.{Files}

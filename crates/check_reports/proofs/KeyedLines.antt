@@ -1,5 +1,5 @@
--- Claim: lines stay where no text is left for them (`placed-none`), and behind the last line all texts
--- are placed (`placed-end`).
+-- Claim: lines stay where no text is left for them (`placed-none`), and behind the last line all
+-- texts are placed (`placed-end`).
 use Rattle.std.proofs.Common.{◌≡◌, ◌∙◌, ℕ, List, [], ◌∷◌, ◌++◌, refl, sym, ap, append-nil, append_assoc}
 use Rattle.std.specs.Prelude.{None, slice_get}
 use Rattle.acct_text.specs.Lines.{Line, file_bytes, line_bytes}

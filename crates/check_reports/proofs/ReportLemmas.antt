@@ -1,5 +1,5 @@
--- Claim: a report of two tables decides as their problems say (`told-both`). Way: it has those of the
--- one and then those of the other, and is clean where both are (`both-reported`).
+-- Claim: a report of two tables decides as their problems say (`told-both`). Way: it has those of
+-- the one and then those of the other, and is clean where both are (`both-reported`).
 use Rattle.std.proofs.Common.{◌≡◌, ◌∙◌, Bool, true, List, [], ◌++◌, ap, subst}
 use Rattle.acct_text.specs.declared.files.Files.{Files}
 use Rattle.acct_text.specs.declared.Tab.{Tab}

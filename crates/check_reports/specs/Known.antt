@@ -1,19 +1,35 @@
 -- What a check looks up beside the line that it looks at, and how that is kept (pwck(8), grpck(8)).
-use Rattle.std.specs.Prelude.{◌≡◌, ℕ, Bool, ◌==◌, List, Option, Some}
+use Rattle.std.specs.Prelude.{◌≡◌, ℕ, Bool, true, false, ◌==◌, List, Option, Some, if◌then◌else◌}
 use Rattle.std.specs.List.{list_any}
+use Rattle.acct_text.specs.Lines.{Line}
 use Rattle.account_formats.specs.declared.records.GroupRecord.{GroupRecord}
 use Rattle.account_formats.specs.Format.{Format, has_named}
 use Rattle.acct_tables.specs.declared.name_index.NameIndex.{NameIndex}
-use Rattle.acct_tables.specs.NameIndex.{Tells, begins_before, line_names, told}
+use Rattle.acct_tables.specs.NameIndex.{IsLineNoted, Tells, begins_before, line_names, told}
 use Rattle.carried_tables.specs.TablesOfLines.{lines_in}
+use Rattle.check_reports.specs.declared.known.NamedFile.{NamedFile}
 
 -- some of the groups has the GID
 abbrev pub has_gid : List GroupRecord → ℕ → Bool
 has_gid groups gid = list_any (λ group. group.gid == gid) groups
 
--- the index tells of the names of a file's records; an absent file has none
-abbrev pub TellsOf : {R : Type 0} → Format R → Option (List ℕ) → NameIndex → Type 0
-TellsOf format file names = Tells (line_names format (lines_in file)) (told names)
+-- the lines whose names are kept: all of the file, or those that were checked
+abbrev pub kept_lines : NamedFile → List Line → List Line
+kept_lines table done = if table.is_whole then lines_in table.file.now else done
+
+-- the names that are kept are those of the lines that were checked, or of all
+abbrev pub HasNoted : {R : Type 0} → Format R → List Line → NamedFile → Type 0
+HasNoted format done table = Tells (line_names format (kept_lines table done)) (told table.names)
+
+-- the names that are kept are those of all records
+abbrev pub IsWhole : {R : Type 0} → Format R → NamedFile → Type 0
+IsWhole format table = Tells (line_names format (lines_in table.file.now)) (told table.names)
+
+-- the line at this place is noted by its name, or by none, where the names of all aren't there
+pub record NotesLine (name : Option (List ℕ)) (place : ℕ) (old new : NamedFile) : Type 0 where
+  pub stays : new ≡ record old { names = new.names }
+  pub whole : old.is_whole ≡ true → told new.names ≡ told old.names
+  pub noted : old.is_whole ≡ false → IsLineNoted name place (told old.names) (told new.names)
 
 -- of a record with this text it is told whether one of those before it has its name
 abbrev pub TellsBefore : {R : Type 0} → Format R → NameIndex → ℕ → List R → List ℕ → Type 0

@@ -5,27 +5,38 @@ use Rattle.acct_text.specs.declared.files.Files.{Files}
 use Rattle.acct_text.specs.Files.{no_files}
 use Rattle.account_model.specs.Grpck.{unknown_users}
 use Rattle.account_model.specs.Problems as model
-use Rattle.check_reports.specs.declared.known.KnownGroups.{KnownGroups}
-use Rattle.check_reports.specs.declared.known.KnownUsers.{KnownUsers}
+use Rattle.check_reports.specs.declared.known.GroupChecks.{GroupChecks}
+use Rattle.check_reports.specs.declared.known.GroupHashChecks.{GroupHashChecks}
+use Rattle.check_reports.specs.declared.known.NamedFile.{NamedFile}
 use Rattle.check_reports.specs.declared.problem.Listing.{Listing}
 use Rattle.check_reports.specs.declared.problem.Listing.TheVariants.{Administrator, Member}
 use Rattle.check_reports.specs.declared.problem.Problem.{Problem}
 use Rattle.check_reports.specs.declared.problem.Problem.TheVariants.{InvalidEntry, DuplicateName, InvalidUserName, NoPrimaryGroup, NoShadowEntry, PasswordNotInShadow, NoPasswdEntry, ChangeInFuture, InvalidGroupName, NoGshadowEntry, NoGroupEntry, UnknownAdministrator, UnknownMember}
+use Rattle.check_reports.specs.declared.known.UserChecks.{UserChecks}
 
--- the tables that pwck knows; it looks at no other
-abbrev pub users_seen : KnownUsers → Files
-users_seen known = record no_files {
-  passwd = known.users.file.now;
-  shadow = known.hashes.file.now;
+-- the tables that the check of passwd looks at
+abbrev pub beside_users : UserChecks → Files
+beside_users known = record no_files {
+  shadow = known.hashes.now.file.now;
   group = known.groups.now;
 }
 
--- the tables that grpck knows
-abbrev pub groups_seen : KnownGroups → Files
-groups_seen known = record no_files {
-  passwd = known.users.file.now;
-  group = known.groups.file.now;
-  gshadow = known.hashes.file.now;
+-- passwd alone, as the check of shadow and members of groups look at it
+abbrev pub users_seen : NamedFile → Files
+users_seen users = record no_files { passwd = users.file.now }
+
+-- the tables that the check of group looks at
+abbrev pub beside_groups : GroupChecks → Files
+beside_groups known = record no_files {
+  passwd = known.users.now.file.now;
+  gshadow = known.hashes.now.file.now;
+}
+
+-- the tables that the check of gshadow looks at
+abbrev pub beside_group_hashes : GroupHashChecks → Files
+beside_group_hashes known = record no_files {
+  passwd = known.users.now.file.now;
+  group = known.groups.now.file.now;
 }
 
 -- the problem

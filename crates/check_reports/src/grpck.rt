@@ -1,19 +1,19 @@
 // grpck (grpck(8)): reports the problems of group and gshadow (`-r`), or sorts them (`-s`).
 ghost use Rattle.std.specs.Prelude.{◌≡◌, ◌++◌, [], ◌∷◌, IfOk, OnOk};
-ghost use Rattle.acct_text.specs.declared.files.Files.{Files};
-ghost use Rattle.account_formats.specs.Records.{read_names};
+ghost use Rattle.account_formats.specs.Records.{passwd_format, read_names};
 ghost use Rattle.account_formats.specs.Text.{nonempty};
 ghost use Rattle.account_model.specs.Grpck.{grpck, grpck_report};
 ghost use Rattle.check_reports.specs.Decided.{DecidesBy};
-ghost use Rattle.check_reports.specs.Seen.{groups_seen, unknown_problems};
+ghost use Rattle.check_reports.specs.Known.{IsWhole};
+ghost use Rattle.check_reports.specs.Seen.{unknown_problems, users_seen};
 
 use crate::decision::sort_tables;
-use crate::known::{KnownGroups, NamedFile};
+use crate::known::{GroupChecks, GroupHashChecks, NamedFile};
 use crate::problem::{Listing, Problem};
 use crate::problems::Problems;
 use crate::report::{Checks, Report};
 use crate::sorting::ById;
-use account_formats::{GroupRecord, GshadowRecord};
+use account_formats::{GroupRecord, GshadowRecord, PasswdRecord};
 use acct_lines::{GroupLine, GshadowLine, ReadFault, is_valid_name};
 use acct_text::{Files, Tab, cut_once};
 use command_values::Asked;
@@ -28,71 +28,83 @@ pub fn grpck(alloc: Global, asked: &Asked, files: &Files) -> Result<Decision, Al
         let (main, hashes) = (Tab::Group, Tab::Gshadow);
         return sort_tables::<GroupRecord, GshadowRecord, ById>(alloc, files, main, hashes, &ById);
     }
-    let known = KnownGroups {
-        users: NamedFile::of(alloc, &files.passwd)?,
-        groups: NamedFile::of(alloc, &files.group)?,
-        hashes: NamedFile::of(alloc, &files.gshadow)?,
-    };
-    report_groups(alloc, asked, &known)
+    report_groups(alloc, asked, files)
 }
 
 // Reports the problems of group and gshadow, in the order of lines.
-fn report_groups(alloc: Global, asked: &Asked, known: &KnownGroups) -> Result<Decision, AllocError>
-    ensures { IfOk result (λ decision. (files : Files)
-        → DecidesBy asked.now.tool (grpck_report (groups_seen known.now)) files decision) }
+fn report_groups(alloc: Global, asked: &Asked, files: &Files) -> Result<Decision, AllocError>
+    ensures { IfOk result (DecidesBy asked.now.tool (grpck_report files.now) files.now) }
 {
+    let users = &NamedFile::of::<PasswdRecord>(alloc, &files.passwd)?;
+    let mut hashes = NamedFile::of::<GshadowRecord>(alloc, &files.gshadow)?;
+    let mut groups = NamedFile::unread::<GroupRecord>(alloc, &files.group);
     let mut report = Report::new(alloc, false);
-    report.push_table(alloc, known, &known.groups, Tab::Group)?;
-    report.push_table(alloc, known, &known.hashes, Tab::Gshadow)?;
+    let known = GroupChecks {
+        users,
+        hashes: &hashes,
+    };
+    report.push_table(alloc, &known, &mut groups, Tab::Group)?;
+    let known = GroupHashChecks {
+        users,
+        groups: &groups,
+    };
+    report.push_table(alloc, &known, &mut hashes, Tab::Gshadow)?;
     Ok(report.told(alloc))
 }
 
-impl<'a> Checks<GroupRecord> for KnownGroups<'a> {
+impl<'u, 'n, 'a> Checks<GroupRecord> for GroupChecks<'u, 'n, 'a> {
     ghost use Rattle.std.proofs.Common.{append_assoc, rules};
     ghost use Rattle.account_model.specs.Grpck.{group_problems};
-    ghost use Rattle.check_reports.specs.Seen.{groups_seen};
+    ghost use Rattle.check_reports.specs.Seen.{beside_groups};
 
-    ghost problems = { λ known. group_problems (groups_seen known) };
+    ghost problems = { λ known. group_problems (beside_groups known) };
 
     fn note<'t>(
         &self,
         found: &mut Problems<'t>,
         place: usize,
         text: &'t [u8],
-    ) -> Result<(), ReadFault> {
+    ) -> Result<&'t [u8], ReadFault> {
         let group = GroupLine::read(text)?;
         let name = group.name;
+        let hashes = self.hashes;
+        let lacks_entry = hashes.file.is_some() && !hashes.has_near::<GshadowRecord>(name, place);
         found.note_if(!is_valid_name(name), Problem::InvalidGroupName(name))?;
-        note_unknown(found, self, name, Listing::Member, group.members)?;
-        let lacks_entry = self.hashes.file.is_some() && !self.hashes.has_near(name, place);
+        note_unknown(found, self.users, name, Listing::Member, group.members)?;
         found.note_if(lacks_entry, Problem::NoGshadowEntry(name))?;
-        Ok(())
+        Ok(name)
     }
 
     ghost tells_repeated = { Prim.search (rules, append_assoc) };
 }
 
-impl<'a> Checks<GshadowRecord> for KnownGroups<'a> {
+impl<'u, 'n, 'a> Checks<GshadowRecord> for GroupHashChecks<'u, 'n, 'a> {
     ghost use Rattle.std.proofs.Common.{append_assoc, rules};
     ghost use Rattle.account_model.specs.Grpck.{gshadow_problems};
-    ghost use Rattle.check_reports.specs.Seen.{groups_seen};
+    ghost use Rattle.check_reports.specs.Seen.{beside_group_hashes};
 
-    ghost problems = { λ known. gshadow_problems (groups_seen known) };
+    ghost problems = { λ known. gshadow_problems (beside_group_hashes known) };
 
     fn note<'t>(
         &self,
         found: &mut Problems<'t>,
         place: usize,
         text: &'t [u8],
-    ) -> Result<(), ReadFault> {
+    ) -> Result<&'t [u8], ReadFault> {
         let group = GshadowLine::read(text)?;
         let name = group.name;
-        let lacks_entry = !self.groups.has_near(name, place);
+        let lacks_entry = !self.groups.has_near::<GroupRecord>(name, place);
         found.note_if(lacks_entry, Problem::NoGroupEntry(name))?;
         let administrators = group.administrators;
-        note_unknown(found, self, name, Listing::Administrator, administrators)?;
-        note_unknown(found, self, name, Listing::Member, group.members)?;
-        Ok(())
+        note_unknown(
+            found,
+            self.users,
+            name,
+            Listing::Administrator,
+            administrators,
+        )?;
+        note_unknown(found, self.users, name, Listing::Member, group.members)?;
+        Ok(name)
     }
 
     ghost tells_repeated = { Prim.search (rules, append_assoc) };
@@ -102,13 +114,14 @@ impl<'a> Checks<GshadowRecord> for KnownGroups<'a> {
 // between them.
 fn note_unknown<'t>(
     problems: &mut Problems<'t>,
-    known: &KnownGroups,
+    known: &NamedFile<'_>,
     group: &'t [u8],
     listing: Listing,
     users: &'t [u8],
 ) -> Result<(), AllocError>
+    requires { IsWhole passwd_format known.now }
     ensures { OnOk result (problems.new ≡ problems.old
-        ++ unknown_problems listing group.now (groups_seen known.now) (read_names users.now)) }
+        ++ unknown_problems listing group.now (users_seen known.now) (read_names users.now)) }
 {
     let mut rest = users;
     'users: while let Some(cut) = cut_once(b',', rest) {
@@ -122,14 +135,15 @@ fn note_unknown<'t>(
 // commas is no user.
 fn note_user<'t>(
     problems: &mut Problems<'t>,
-    known: &KnownGroups,
+    known: &NamedFile<'_>,
     group: &'t [u8],
     listing: Listing,
     user: &'t [u8],
 ) -> Result<(), AllocError>
+    requires { IsWhole passwd_format known.now }
     ensures { OnOk result (problems.new ≡ problems.old
-        ++ unknown_problems listing group.now (groups_seen known.now) (nonempty (user.now ∷ []))) }
+        ++ unknown_problems listing group.now (users_seen known.now) (nonempty (user.now ∷ []))) }
 {
-    let is_unknown = !user.is_empty() && !known.users.has(user);
+    let is_unknown = !user.is_empty() && !known.has::<PasswdRecord>(user);
     problems.note_if(is_unknown, listing.problem(group, user))
 }

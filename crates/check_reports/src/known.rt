@@ -1,42 +1,73 @@
 // What checks look up in the tables, found without a search of them (pwck(8), grpck(8), `-r`).
-ghost use Rattle.std.specs.Prelude.{◌≡◌, map, IfOk};
+ghost use Rattle.std.specs.Prelude.{◌≡◌, ◌+◌, ◌^◌, ◌<◌, [], false, map, IfOk, OnOk};
+ghost use Rattle.std.specs.Option.{option_copied};
 ghost use Rattle.account_formats.specs.Format.{has_named};
-ghost use Rattle.account_formats.specs.Records.{group_format};
+ghost use Rattle.account_formats.specs.Records.{group_format, gshadow_format, passwd_format, shadow_format};
 ghost use Rattle.account_formats.specs.Tables.{table_records};
+ghost use Rattle.acct_tables.specs.NameIndex.{TellsAtMost, told};
 ghost use Rattle.id_choice.specs.Used.{AreThoseOf};
-ghost use Rattle.check_reports.specs.Known.{TellsOf, has_gid};
+ghost use Rattle.check_reports.specs.Known.{HasNoted, IsWhole, NotesLine, has_gid};
 
-use account_formats::{GroupRecord, GshadowRecord, PasswdRecord, ShadowRecord};
 use acct_lines::TableRecord;
 use acct_tables::NameIndex;
 use acct_text::Bytes;
 use carried_tables::{IdsInUse, text_of};
 use std::alloc::{AllocError, Global};
-use std::marker::PhantomData;
 
 /// The file of a table, which may be absent, with the names of its records.
 #[derive(Drop)]
-pub(crate) struct NamedFile<'a, R: TableRecord> {
+pub(crate) struct NamedFile<'a> {
     pub(crate) file: &'a Option<Bytes>,
     pub(crate) names: NameIndex<'a>,
-    records: PhantomData<R>,
-    ghost tells: { TellsOf R.format file.now names },
+    // whether the names of all records are there, or of those alone whose lines were checked
+    is_whole: bool,
 }
 
-impl<'a, R: TableRecord> NamedFile<'a, R> {
-    /// The file with its names.
-    pub(crate) fn of(alloc: Global, file: &'a Option<Bytes>) -> Result<Self, AllocError>
-        ensures { IfOk result (λ named. named.file.now ≡ file.now) }
+impl<'a> NamedFile<'a> {
+    /// The file without names: they are noted as its lines are checked.
+    pub(crate) fn unread<R: TableRecord>(alloc: Global, file: &'a Option<Bytes>) -> Self
+        ensures of_file { result.file.now ≡ file.now }
+        ensures noted { HasNoted R.format [] result }
+    {
+        NamedFile {
+            file,
+            names: NameIndex::new(alloc),
+            is_whole: false,
+        }
+    }
+
+    /// The file with the names of all its records.
+    pub(crate) fn of<R: TableRecord>(
+        alloc: Global,
+        file: &'a Option<Bytes>,
+    ) -> Result<Self, AllocError>
+        ensures of_file { IfOk result (λ named. named.file.now ≡ file.now) }
+        ensures whole { IfOk result (IsWhole R.format) }
+        ensures noted { IfOk result (HasNoted R.format []) }
     {
         Ok(NamedFile {
             file,
             names: NameIndex::of::<R>(alloc, text_of(file))?,
-            records: PhantomData,
+            is_whole: true,
         })
     }
 
+    /// Notes the line at this place, counted from 0, behind those that are noted: its name where it
+    /// is a record. Where all names are there, nothing changes.
+    pub(crate) fn note(&mut self, name: Option<&'a [u8]>, place: usize) -> Result<(), AllocError>
+        requires behind { self.old.is_whole ≡ false → TellsAtMost place (told self.old.names) }
+        requires room { place + 1 < 2 ^ 64 }
+        ensures { OnOk result (NotesLine (option_copied name.entry) place self.old self.new) }
+    {
+        match name {
+            Some(name) if !self.is_whole => self.names.add(name, place),
+            _ => Ok(()),
+        }
+    }
+
     /// Whether a record has the name.
-    pub(crate) fn has(&self, name: &[u8]) -> bool
+    pub(crate) fn has<R: TableRecord>(&self, name: &[u8]) -> bool
+        requires { IsWhole R.format self.now }
         ensures { result ≡ has_named R.format name.now (table_records R.format self.now.file.now) }
     {
         self.names.has(name)
@@ -44,27 +75,26 @@ impl<'a, R: TableRecord> NamedFile<'a, R> {
 
     /// Whether a record has the name, which is found soonest at this place, counted from 0: mostly
     /// a table and that of its hashes have their lines in one order.
-    pub(crate) fn has_near(&self, name: &[u8], place: usize) -> bool
+    pub(crate) fn has_near<R: TableRecord>(&self, name: &[u8], place: usize) -> bool
+        requires { IsWhole R.format self.now }
         ensures { result ≡ has_named R.format name.now (table_records R.format self.now.file.now) }
     {
         self.names.has_near(name, place)
     }
 }
 
-/// What the check of passwd and shadow knows (pwck(8)).
+/// What the check of passwd knows of other tables (pwck(8)).
 #[derive(Drop)]
-pub(crate) struct KnownUsers<'a> {
-    pub(crate) users: NamedFile<'a, PasswdRecord>,
-    pub(crate) hashes: NamedFile<'a, ShadowRecord>,
+pub(crate) struct UserChecks<'h, 'g, 'a> {
+    pub(crate) hashes: &'h NamedFile<'a>,
     pub(crate) groups: &'a Option<Bytes>,
-    pub(crate) gids: IdsInUse<'a>,
-    /// Today, in days since 1970-01-01.
-    pub(crate) today: u32,
-    ghost of_gids: { AreThoseOf gids
+    pub(crate) gids: &'g IdsInUse<'a>,
+    ghost of_hashes: { IsWhole shadow_format hashes.now },
+    ghost of_gids: { AreThoseOf gids.now
         (map (λ group. group.gid) (table_records group_format groups.now)) },
 }
 
-impl<'a> KnownUsers<'a> {
+impl<'h, 'g, 'a> UserChecks<'h, 'g, 'a> {
     /// Whether a group has the GID.
     pub(crate) fn has_gid(&self, gid: u32) -> bool
         ensures { result ≡ has_gid (table_records group_format self.now.groups.now) gid }
@@ -73,10 +103,29 @@ impl<'a> KnownUsers<'a> {
     }
 }
 
-/// What the check of group and gshadow knows (grpck(8)).
+/// What the check of shadow knows (pwck(8)).
 #[derive(Drop)]
-pub(crate) struct KnownGroups<'a> {
-    pub(crate) users: NamedFile<'a, PasswdRecord>,
-    pub(crate) groups: NamedFile<'a, GroupRecord>,
-    pub(crate) hashes: NamedFile<'a, GshadowRecord>,
+pub(crate) struct HashChecks<'n, 'a> {
+    pub(crate) users: &'n NamedFile<'a>,
+    /// Today, in days since 1970-01-01.
+    pub(crate) today: u32,
+    ghost of_users: { IsWhole passwd_format users.now },
+}
+
+/// What the check of group knows of other tables (grpck(8)).
+#[derive(Drop)]
+pub(crate) struct GroupChecks<'u, 'n, 'a> {
+    pub(crate) users: &'u NamedFile<'a>,
+    pub(crate) hashes: &'n NamedFile<'a>,
+    ghost of_users: { IsWhole passwd_format users.now },
+    ghost of_hashes: { IsWhole gshadow_format hashes.now },
+}
+
+/// What the check of gshadow knows (grpck(8)).
+#[derive(Drop)]
+pub(crate) struct GroupHashChecks<'u, 'n, 'a> {
+    pub(crate) users: &'u NamedFile<'a>,
+    pub(crate) groups: &'n NamedFile<'a>,
+    ghost of_users: { IsWhole passwd_format users.now },
+    ghost of_groups: { IsWhole group_format groups.now },
 }

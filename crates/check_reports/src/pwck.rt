@@ -1,12 +1,10 @@
 // pwck (pwck(8)): reports the problems of passwd and shadow (`-r`), or sorts them (`-s`).
 ghost use Rattle.std.specs.Prelude.{◌≡◌, IfOk};
-ghost use Rattle.acct_text.specs.declared.files.Files.{Files};
 ghost use Rattle.account_model.specs.Pwck.{is_after, pwck, pwck_report};
 ghost use Rattle.check_reports.specs.Decided.{DecidesBy};
-ghost use Rattle.check_reports.specs.Seen.{users_seen};
 
 use crate::decision::sort_tables;
-use crate::known::{KnownUsers, NamedFile};
+use crate::known::{HashChecks, NamedFile, UserChecks};
 use crate::problem::Problem;
 use crate::problems::Problems;
 use crate::report::{Checks, Report};
@@ -29,77 +27,87 @@ pub fn pwck(alloc: Global, asked: &Asked, files: &Files, today: u32) -> Result<D
         let (main, hashes) = (Tab::Passwd, Tab::Shadow);
         return sort_tables::<PasswdRecord, ShadowRecord, ById>(alloc, files, main, hashes, &ById);
     }
-    let known = KnownUsers {
-        users: NamedFile::of(alloc, &files.passwd)?,
-        hashes: NamedFile::of(alloc, &files.shadow)?,
-        groups: &files.group,
-        gids: Tables::of(files).used_gids(alloc)?,
-        today,
-    };
-    report_users(alloc, asked, &known)
+    report_users(alloc, asked, files, today)
 }
 
 // Reports the problems of passwd and shadow, in the order of lines. Notices are left out with
 // `-q`, and count for the status all the same.
-fn report_users(alloc: Global, asked: &Asked, known: &KnownUsers) -> Result<Decision, AllocError>
-    ensures { IfOk result (λ decision. (files : Files) → DecidesBy asked.now.tool
-        (pwck_report asked.now (users_seen known.now) known.now.today) files decision) }
+fn report_users(
+    alloc: Global,
+    asked: &Asked,
+    files: &Files,
+    today: u32,
+) -> Result<Decision, AllocError>
+    ensures { IfOk result
+        (DecidesBy asked.now.tool (pwck_report asked.now files.now today) files.now) }
 {
     let mut report = Report::new(alloc, asked.has(b'q'));
-    report.push_table(alloc, known, &known.users, Tab::Passwd)?;
-    report.push_table(alloc, known, &known.hashes, Tab::Shadow)?;
+    let mut users = NamedFile::unread::<PasswdRecord>(alloc, &files.passwd);
+    let mut hashes = NamedFile::of::<ShadowRecord>(alloc, &files.shadow)?;
+    let gids = Tables::of(files).used_gids(alloc)?;
+    let known = UserChecks {
+        hashes: &hashes,
+        groups: &files.group,
+        gids: &gids,
+    };
+    report.push_table(alloc, &known, &mut users, Tab::Passwd)?;
+    let known = HashChecks {
+        users: &users,
+        today,
+    };
+    report.push_table(alloc, &known, &mut hashes, Tab::Shadow)?;
     Ok(report.told(alloc))
 }
 
-impl<'a> Checks<PasswdRecord> for KnownUsers<'a> {
+impl<'h, 'g, 'a> Checks<PasswdRecord> for UserChecks<'h, 'g, 'a> {
     ghost use Rattle.std.proofs.Common.{append_assoc, rules};
     ghost use Rattle.account_model.specs.Pwck.{user_problems};
-    ghost use Rattle.check_reports.specs.Seen.{users_seen};
+    ghost use Rattle.check_reports.specs.Seen.{beside_users};
 
-    ghost problems = { λ known. user_problems (users_seen known) };
+    ghost problems = { λ known. user_problems (beside_users known) };
 
     fn note<'t>(
         &self,
         found: &mut Problems<'t>,
         place: usize,
         text: &'t [u8],
-    ) -> Result<(), ReadFault> {
+    ) -> Result<&'t [u8], ReadFault> {
         let user = PasswdLine::read(text)?;
         let name = user.name;
         found.note_if(!is_valid_name(name), Problem::InvalidUserName(name))?;
         let lacks_group = !self.has_gid(user.gid);
         found.note_if(lacks_group, Problem::NoPrimaryGroup(name, user.gid))?;
         let has_hashes = self.hashes.file.is_some();
-        let lacks_entry = has_hashes && !self.hashes.has_near(name, place);
+        let lacks_entry = has_hashes && !self.hashes.has_near::<ShadowRecord>(name, place);
         found.note_if(lacks_entry, Problem::NoShadowEntry(name))?;
         let keeps_password = has_hashes && user.password != b"x".as_slice();
         found.note_if(keeps_password, Problem::PasswordNotInShadow(name))?;
-        Ok(())
+        Ok(name)
     }
 
     ghost tells_repeated = { Prim.search (rules, append_assoc) };
 }
 
-impl<'a> Checks<ShadowRecord> for KnownUsers<'a> {
+impl<'n, 'a> Checks<ShadowRecord> for HashChecks<'n, 'a> {
     ghost use Rattle.std.proofs.Common.{append_assoc, rules};
     ghost use Rattle.account_model.specs.Pwck.{shadow_problems};
     ghost use Rattle.check_reports.specs.Seen.{users_seen};
 
-    ghost problems = { λ known. shadow_problems (users_seen known) known.today };
+    ghost problems = { λ known. shadow_problems (users_seen known.users.now) known.today };
 
     fn note<'t>(
         &self,
         found: &mut Problems<'t>,
         place: usize,
         text: &'t [u8],
-    ) -> Result<(), ReadFault> {
+    ) -> Result<&'t [u8], ReadFault> {
         let hash = ShadowLine::read(text)?;
         let name = hash.name;
-        let lacks_entry = !self.users.has_near(name, place);
+        let lacks_entry = !self.users.has_near::<PasswdRecord>(name, place);
         found.note_if(lacks_entry, Problem::NoPasswdEntry(name))?;
         let is_future = is_after(self.today, hash.last_change);
         found.note_if(is_future, Problem::ChangeInFuture(name))?;
-        Ok(())
+        Ok(name)
     }
 
     ghost tells_repeated = { Prim.search (rules, append_assoc) };

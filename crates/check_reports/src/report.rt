@@ -1,20 +1,21 @@
 // The report of a check: the problems of its tables, line after line (pwck(8), grpck(8), `-r`).
 ghost use Rattle.std.specs.Prelude.{◌≡◌, ◌+◌, ◌^◌, ◌<◌, ◌++◌, ◌∷◌, [], List, Some, true, option_map, IfOk, OnOk};
+ghost use Rattle.std.specs.Option.{option_copied};
 ghost use Rattle.acct_text.specs.declared.files.Files.{Files};
 ghost use Rattle.account_words.specs.declared.tool.Tool.{Tool};
 ghost use Rattle.account_model.specs.Action.{reports};
 ghost use Rattle.account_model.specs.Problems.{RecordProblems, at_line, duplicate_name, is_nis, problem_line, problems_of_line, table_problems};
 ghost use Rattle.acct_lines.specs.Reading.{MatchRead};
 ghost use Rattle.check_reports.specs.Decided.{DecidesBy};
-ghost use Rattle.check_reports.specs.Known.{TellsBefore};
-ghost use Rattle.check_reports.specs.Reported.{status_of, with_problems};
+ghost use Rattle.check_reports.specs.Known.{HasNoted, IsWhole, TellsBefore};
+ghost use Rattle.check_reports.specs.Reported.{IsChecked, repeated_name, status_of, with_problems};
 ghost use Rattle.check_reports.specs.Seen.{seen_problem};
 
 use crate::decision::told;
 use crate::known::NamedFile;
 use crate::problem::Problem;
 use crate::problems::Problems;
-use acct_lines::{ReadFault, TableRecord, first_field};
+use acct_lines::{ReadFault, TableRecord};
 use acct_tables::{Lines, NameIndex};
 use acct_text::{Bytes, Tab, push_decimal};
 use carried_tables::text_of;
@@ -29,16 +30,18 @@ pub(crate) trait Checks<R: TableRecord> {
     // the problems of a record behind the earlier ones
     ghost problems: { Self → RecordProblems R };
 
-    /// Adds the problems of the record that the line at a place is, counted from 0 over all lines,
-    /// but for that an earlier one has its name. At `Line` it is other text; the line is read where
-    /// it stands.
+    /// The name of the record that the line at a place is, counted from 0 over all lines. Its
+    /// problems are added, but for that an earlier one has its name. At `Line` it is other text;
+    /// the line is read where it stands.
     fn note<'t>(
         &self,
         found: &mut Problems<'t>,
         place: usize,
         text: &'t [u8],
-    ) -> Result<(), ReadFault>
-        ensures { MatchRead result
+    ) -> Result<&'t [u8], ReadFault>
+        ensures named { IfOk result
+            (λ name. Some name.now ≡ option_map R.format.name (R.format.read text.now)) }
+        ensures noted { MatchRead result
             (λ _. Some found.new ≡ option_map (λ r. found.old ++ problems self.now [] r)
             (R.format.read text.now))
             (λ first. R.fault text.now ≡ Some first) };
@@ -46,6 +49,15 @@ pub(crate) trait Checks<R: TableRecord> {
     // of earlier records it matters only that one has the name, which is told first
     ghost tells_repeated: { (known : Self) (earlier : List R) (r : R) → problems known earlier r
         ≡ duplicate_name R.format earlier r ++ problems known [] r };
+}
+
+/// What a line is found to be.
+#[derive(Drop)]
+pub(crate) struct Checked<'t> {
+    // the name of its record; none at other text
+    name: Option<&'t [u8]>,
+    // its problems, but for that an earlier record has its name
+    problems: Problems<'t>,
 }
 
 /// What a check tells: a line for each problem that is shown, table after table.
@@ -71,27 +83,33 @@ impl Report {
     }
 
     /// Adds the problems of a table by what is known, line after line; an absent table has none.
-    pub(crate) fn push_table<R: TableRecord, K: Checks<R>>(
+    /// Its names are noted with that.
+    pub(crate) fn push_table<'a, R: TableRecord, K: Checks<R>>(
         &mut self,
         alloc: Global,
         known: &K,
-        table: &NamedFile<'_, R>,
+        table: &mut NamedFile<'a>,
         tab: Tab,
     ) -> Result<(), AllocError>
-        ensures { OnOk result (self.new ≡ with_problems tab
-            (table_problems R.format (K.problems known.now) table.now.file.now) self.old) }
+        requires { HasNoted R.format [] table.old }
+        ensures told { OnOk result (self.new ≡ with_problems tab
+            (table_problems R.format (K.problems known.now) table.old.file.now) self.old) }
+        ensures noted { OnOk result (IsWhole R.format table.new) }
+        ensures of_file { OnOk result (table.new.file ≡ table.old.file) }
     {
         let mut place = 0usize;
         let mut left = Lines::of(text_of(table.file));
         'lines: while let Some(line) = left.take() {
-            self.check_line::<R, K>(alloc, known, &table.names, tab, place, line.text)?;
+            let checked = checked_line::<R, K>(alloc, known, place, line.text)?;
+            table.note(checked.name, place)?;
+            self.push_checked::<R, K>(alloc, known, &table.names, tab, place, line.text, &checked)?;
             place += 1;
         }
         Ok(())
     }
 
-    // Adds the problems of the line with this text at a place, counted from 0.
-    fn check_line<R: TableRecord, K: Checks<R>>(
+    // Adds the problems of the line with this text at a place, counted from 0. One of NIS has none.
+    fn push_checked<R: TableRecord, K: Checks<R>>(
         &mut self,
         alloc: Global,
         known: &K,
@@ -99,15 +117,21 @@ impl Report {
         tab: Tab,
         place: usize,
         text: &[u8],
+        checked: &Checked<'_>,
     ) -> Result<(), AllocError>
-        requires { place + 1 < 2 ^ 64 }
+        requires room { place + 1 < 2 ^ 64 }
+        requires checked { IsChecked R.format (K.problems known.now) text.now checked.now }
         ensures { OnOk result ((before : List R)
             → TellsBefore R.format names.now place before text.now
             → self.new ≡ with_problems tab (at_line (place + 1)
             (problems_of_line R.format (K.problems known.now) before text.now)) self.old) }
     {
-        let problems = line_problems::<R, K>(alloc, known, names, place, text)?;
-        self.push_line(alloc, tab, place + 1, &problems)
+        if is_nis(text) {
+            return Ok(());
+        }
+        let repeated = repeated_name(alloc, names, place, checked.name)?;
+        self.push_line(alloc, tab, place + 1, &repeated)?;
+        self.push_line(alloc, tab, place + 1, &checked.problems)
     }
 
     // Adds the problems of a line, counted from 1.
@@ -182,27 +206,42 @@ fn push_problem(
     out.push(b"\n")
 }
 
-// The problems of the line with this text at a place; a line of NIS has none.
-fn line_problems<'t, R: TableRecord, K: Checks<R>>(
+// The problem that a record in front of the line at a place has its name, where it has one.
+fn repeated_name<'t>(
     alloc: Global,
-    known: &K,
     names: &NameIndex<'_>,
     place: usize,
-    text: &'t [u8],
+    name: Option<&'t [u8]>,
 ) -> Result<Problems<'t>, AllocError>
-    ensures { IfOk result (λ problems. (before : List R)
-        → TellsBefore R.format names.now place before text.now
-        → problems ≡ problems_of_line R.format (K.problems known.now) before text.now) }
+    ensures { IfOk result (λ found. found
+        ≡ repeated_name names.now place (option_copied name.entry)) }
 {
     let mut found = Problems::none(alloc);
-    if is_nis(text) {
-        return Ok(found);
+    if let Some(name) = name {
+        found.note_if(names.has_before(name, place), Problem::DuplicateName(name))?;
     }
-    let name = first_field(text);
-    found.note_if(names.has_before(name, place), Problem::DuplicateName(name))?;
-    match known.note(&mut found, place, text) {
-        Ok(()) => Ok(found),
-        Err(ReadFault::Line(_)) => Problems::invalid_entry(alloc),
+    Ok(found)
+}
+
+// What the line with this text at a place is.
+fn checked_line<'t, R: TableRecord, K: Checks<R>>(
+    alloc: Global,
+    known: &K,
+    place: usize,
+    text: &'t [u8],
+) -> Result<Checked<'t>, AllocError>
+    ensures { IfOk result (IsChecked R.format (K.problems known.now) text.now) }
+{
+    let mut problems = Problems::none(alloc);
+    match known.note(&mut problems, place, text) {
+        Ok(name) => Ok(Checked {
+            name: Some(name),
+            problems,
+        }),
+        Err(ReadFault::Line(_)) => Ok(Checked {
+            name: None,
+            problems: Problems::invalid_entry(alloc)?,
+        }),
         Err(ReadFault::Memory) => Err(AllocError),
     }
 }

@@ -10,7 +10,8 @@ lines-preserved g c = record {
   inside = c.in_ok-next.ensures.inside;
   placed = c.in_ok-next.ensures.placed c.take.new.self
       ∙ ap (λ lines. c.lines.made
-      ++ file_bytes (in_places g.R.TableRecord.format (map seen_keyed (drop c.lines.next c.args.keyed.now)) lines))
+      ++ file_bytes (in_places g.R.TableRecord.format
+      (map seen_keyed (drop c.lines.next c.args.keyed.now)) lines))
       (sym c.in-Some.ensures.taken)
       ∙ c.lines.invariant.placed;
 }

@@ -3,7 +3,7 @@ use Rattle.account_formats.specs.Records.{group_format}
 use Rattle.account_formats.specs.Tables.{table_records}
 use Rattle.account_words.specs.Ids.{is_used}
 use Rattle.check_reports.proofs.KnownLemmas.{gid-used}
-use Rattle.check_reports.proofs.known.KnownUsers.has_gid.Goals as goal
+use Rattle.check_reports.proofs.known.UserChecks.has_gid.Goals as goal
 
 pub returns : goal.returns
 returns c =
