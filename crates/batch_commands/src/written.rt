@@ -97,16 +97,16 @@ impl Written {
     }
 
     /// What is decided where no line follows: the tables that differ from the first files get their
-    /// bytes.
-    pub(crate) fn decision(&self, alloc: Global, first: &Files) -> Result<Decision, AllocError>
-        requires { StandWhere first.now self.now.files }
+    /// bytes, which are taken out of those that were carried.
+    pub(crate) fn decision(&mut self, alloc: Global, first: &Files) -> Result<Decision, AllocError>
+        requires { StandWhere first.now self.old.files }
         ensures { IfOk result (λ decision. decision ≡ decision_by
-            (changed_tables (table_of first.now) (table_of self.now.files))
-            (record { status = 0; out = self.now.output; err = self.now.error })) }
+            (changed_tables (table_of first.now) (table_of self.old.files))
+            (record { status = 0; out = self.old.output; err = self.old.error })) }
     {
         let out = self.out.copy()?;
         let err = self.err.copy()?;
-        let tables = differing(alloc, first, self.tables.files()?)?;
+        let tables = differing(alloc, first, self.tables.take_files()?)?;
         let status = CARRIED_OUT;
         Ok(decision_by(tables, Output { status, out, err }))
     }

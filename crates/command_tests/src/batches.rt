@@ -17,7 +17,7 @@ const LINES: u64 = 20;
 
 // What a line may be, with `@` in the place of a user and `%` in that of a group.
 fn form(number: u64) -> &'static [u8] {
-    match number % 22 {
+    match number % 28 {
         0 => b"useradd @",
         1 => b"useradd -r -N -G % @",
         2 => b"useradd -U -c New @",
@@ -39,6 +39,12 @@ fn form(number: u64) -> &'static [u8] {
         18 => b"gpasswd -d @ %",
         19 => b"gpasswd -A @,@ %",
         20 => b"chage -M 90 -d 2024-01-01 @",
+        21 => b"usermod -o -u 1000 @",
+        22 => b"usermod -u 1500 @",
+        23 => b"usermod -g % @",
+        24 => b"userdel -f @",
+        25 => b"groupmod -g 1500 %",
+        26 => b"groupmod -o -g 100 -n % %",
         _ => b"chage -l @",
     }
 }
