@@ -140,7 +140,7 @@ module _ {X : Type 0} (test : X → Bool) where
       (position-low xs (start + 1) place)
 
   -- it passes
-  position-passes :
+  pub position-passes :
       (xs : List X) (start at : ℕ)
       → position_from test start xs ≡ Some (start + at)
       → option_map test (slice_get xs at) ≡ Some true

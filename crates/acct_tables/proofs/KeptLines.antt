@@ -1,7 +1,7 @@
 -- Claim: the lines of texts, of which the last may lack its end, are what the calls on lines say: those
 -- of a file (`lines-loaded`), with a line behind them (`lines-appended`), with another text in one
--- (`lines-set`), and where one is looked up (`lines-found`, `line-ended`); their names are those of the
--- texts (`lines-named`). Way: the texts one after another.
+-- (`lines-set`), and where one is looked up (`lines-found`, `line-ended`); their texts are these
+-- (`lines-texts`), and their names those of the texts (`lines-named`). Way: the texts one after another.
 use Rattle.std.proofs.Common.{◌≡◌, ◌∙◌, ℕ, zero, suc, ◌+◌, ◌<◌, ◌≤◌, Bool, true, false, List, [], ◌∷◌, ◌++◌, append-nil, length, get_or, refl, sym, ap, ap₂, arith}
 use Rattle.std.specs.Prelude.{Some, None, not, ◌&&◌, option_map, set, slice_get}
 use Rattle.std.specs.Prelude.{◌==◌}
@@ -27,6 +27,11 @@ module _ (lacks : Bool) where
   pub lines-many : (texts : List (List ℕ)) → length (lines_with lacks texts) ≡ length texts
   lines-many [] = refl
   lines-many (text ∷ rest) = ap suc (lines-many rest)
+
+  -- whose texts are these
+  pub lines-texts : (texts : List (List ℕ)) → texts_of (lines_with lacks texts) ≡ texts
+  lines-texts [] = refl
+  lines-texts (text ∷ rest) = ap (λ later. text ∷ later) (lines-texts rest)
 
   -- they have the names of the texts
   pub lines-named :

@@ -2,11 +2,7 @@ pub mod RecordLines
 pub mod LoadedLines
 pub mod PlaceLemmas
 pub mod LinesHere
-pub mod EndedLines
-pub mod ListLines
 pub mod RenamingLemmas
-pub mod OrderLemmas
-pub mod RefusalLemmas
 pub mod LineTextLemmas
 pub mod FilePlaces
 pub mod KeptLines
@@ -18,8 +14,6 @@ pub mod LinesCounted
 pub mod NameIndexLemmas
 pub mod FirstRecords
 pub mod NamedRecords
-pub mod ToldLines
-pub mod EditedNames
 pub mod MarkLemmas
 pub mod FrontLines
 pub mod BehindLines

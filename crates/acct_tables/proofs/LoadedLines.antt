@@ -1,6 +1,5 @@
--- Claim: lines that are taken one after another, with those left, are all lines (`next-taken`), and
--- those taken are all where none is left (`all-taken`).
-use Rattle.std.proofs.Common.{◌≡◌, List, [], ◌∷◌, ◌++◌, sym, ◌∙◌, ap, append_assoc, append-nil}
+-- Claim: lines that are taken one after another, with those left, are all lines (`next-taken`).
+use Rattle.std.proofs.Common.{◌≡◌, List, [], ◌∷◌, ◌++◌, sym, ◌∙◌, ap, append_assoc}
 
 module _ {X : Type 0} (done left all : List X) (so_far : done ++ left ≡ all) where
   -- with the next line
@@ -14,7 +13,3 @@ module _ {X : Type 0} (done left all : List X) (so_far : done ++ left ≡ all) w
       ∙ append_assoc done (line ∷ []) new
       ∙ ap (λ rest. done ++ rest) (sym taken)
       ∙ so_far
-
-  -- behind the last line
-  pub all-taken : left ≡ [] → done ≡ all
-  all-taken over = sym (append-nil done) ∙ ap (λ rest. done ++ rest) (sym over) ∙ so_far

@@ -55,6 +55,17 @@ module _ {R : Type 0} (format : Format R) (lacks : Bool) (texts : List (List ℕ
       ∙ ap (λ found. elim found [ None ↦ None | Some text ↦ format.read text ])
       (slice_get-get_or texts place [] inside)
 
+  -- the line takes the text that it has with the record
+  pub item-lines :
+      (item : R) (text : List ℕ)
+      → record here { text = text } ≡ with_record format item here
+      → lines_with lacks (set texts place text)
+      ≡ changed_at (with_record format item) place lines
+  item-lines item text is =
+      lines-set lacks texts place here text inside is-here
+      ∙ set-changes (with_record format item) lines place here (record here { text = text })
+      line-inside is-here is
+
   module _ (item : R) (written : IsWritten format item) (text : List ℕ)
       (is : text ≡ format.print item) where
     -- the names of the lines stay
@@ -95,9 +106,7 @@ module _ {R : Type 0} (format : Format R) (lacks : Bool) (texts : List (List ℕ
         (sym (record-here format lines place line-inside) ∙ text-reads)
         ∙ sym (ap (option_and_then name_of) (slice_get-get_or texts place [] inside))
         ∙ named in
-        lines-set lacks texts place here text inside is-here
-        ∙ set-changes (with_record format item) lines place here (record here { text = text })
-        line-inside is-here
+        item-lines item text
         (ap (λ (text : List ℕ). record here { text = text }) is
         ∙ put-renamed format tells item here (format.read here.text) name refl here_named
         differs)
@@ -115,9 +124,7 @@ module _ {R : Type 0} (format : Format R) (lacks : Bool) (texts : List (List ℕ
           → lines_with lacks (set texts place text)
           ≡ changed_at (with_record format item) place lines
       put-lines other =
-          lines-set lacks texts place here text inside is-here
-          ∙ set-changes (with_record format item) lines place here (record here { text = text })
-          line-inside is-here
+          item-lines item text
           (ap (λ (text : List ℕ). record here { text = text }) is
           ∙ put-other format tells item here (format.read here.text) kept text refl line-known is
           other)

@@ -1,13 +1,9 @@
-pub mod Kept
 pub mod TableLines
-pub mod Refusals
 pub mod Lists
-pub mod Order
 pub mod Renaming
 pub mod EditedLines
 pub mod LineTexts
 pub mod SeenLines
 pub mod NameIndex
-pub mod TableNames
 pub mod Marks
 pub mod NameHashes

@@ -1,17 +1,9 @@
--- Records with lists of users (group(5), gshadow(5)): what the renaming of a user makes of them,
--- and which it refuses (usermod(8), `-l`).
-use Rattle.std.specs.Prelude.{ℕ, Bool, ◌&&◌, ◌||◌, List, map, Option, Some, None, if◌then◌else◌}
-use Rattle.acct_text.specs.Lines.{Line}
+-- Records with lists of users, which hold a name or not (group(5), gshadow(5)).
+use Rattle.std.specs.Prelude.{ℕ, Bool, false, ◌||◌, List, Some, None}
 use Rattle.account_formats.specs.declared.records.GroupRecord.{GroupRecord}
 use Rattle.account_formats.specs.declared.records.GshadowRecord.{GshadowRecord}
-use Rattle.account_formats.specs.Edits.{is_multiple}
-use Rattle.account_formats.specs.Format.{Format, count_named, is_named, records_of}
-use Rattle.account_formats.specs.Text.{first_some, is_listed}
-use Rattle.acct_tables.specs.declared.fault.TableFault.{TableFault}
-use Rattle.acct_tables.specs.declared.fault.TableFault.TheVariants.{Multiple}
-use Rattle.acct_tables.specs.TableLines.{with_record}
-
--- ---- The records
+use Rattle.account_formats.specs.Format.{Format}
+use Rattle.account_formats.specs.Text.{is_listed}
 
 -- the group has the member
 abbrev pub group_holds : List ℕ → GroupRecord → Bool
@@ -21,34 +13,6 @@ group_holds name r = is_listed name r.members
 abbrev pub gshadow_holds : List ℕ → GshadowRecord → Bool
 gshadow_holds name r = is_listed name r.administrators || is_listed name r.members
 
--- ---- The lines
-
--- a line whose record becomes what f gives; other text stays
-abbrev pub changed_line : {R : Type 0} → Format R → (R → R) → Line → Line
-changed_line format f line = elim (format.read line.text) [
-  | None ↦ line
-  | Some r ↦ with_record format (f r) line
-]
-
--- the record in the place of each of the name
-abbrev pub replaced : {R : Type 0} → Format R → List ℕ → R → R → R
-replaced format name item r = if is_named format name r then item else r
-
--- ---- The refusal
-
--- a record among these whose list holds the name can't change: its own name has several records
-abbrev pub holder_refusal : {R : Type 0} → Format R → (R → Bool) → List R → R → Option TableFault
-holder_refusal format holds records r = if holds r && is_multiple format records r
-    then Some (Multiple (count_named format (format.name r) records)) else None
-
--- the refusal for a line
-abbrev pub line_refusal : {R : Type 0} → Format R → (R → Bool) → List R → Line → Option TableFault
-line_refusal format holds records line = elim (format.read line.text) [
-  | None ↦ None
-  | Some r ↦ holder_refusal format holds records r
-]
-
--- the refusal for the first line that has one
-abbrev pub list_refusal : {R : Type 0} → Format R → (R → Bool) → List Line → Option TableFault
-list_refusal format holds lines =
-    first_some (map (line_refusal format holds (records_of format lines)) lines)
+-- whether the text is a record that passes the test
+abbrev pub text_holds : {R : Type 0} → Format R → (R → Bool) → List ℕ → Bool
+text_holds format holds text = elim (format.read text) [ None ↦ false | Some r ↦ holds r ]

@@ -1,16 +1,16 @@
 // The lines of a table's file while edits change them.
-ghost use Rattle.std.specs.Prelude.{◌≡◌, ◌<◌, Some, get_or, if◌then◌else◌, length, nat_le, option_map, IfOk, IfSome, OnOk, OnErr};
+ghost use Rattle.std.specs.Prelude.{◌≡◌, ◌<◌, Some, get_or, if◌then◌else◌, length, nat_le, option_map, All, IfOk, IfSome, OnOk, OnErr};
 ghost use Rattle.acct_text.specs.Bytes.{newline};
-ghost use Rattle.acct_text.specs.Lines.{Line, file_bytes, lines_of};
+ghost use Rattle.acct_text.specs.Lines.{Line, file_bytes, lines_of, texts_of};
 ghost use Rattle.acct_text.specs.Pieces.{Lacks};
 ghost use Rattle.account_formats.specs.Edits.{with_line};
 ghost use Rattle.account_formats.specs.Format.{count_named, find_named, records_of};
 ghost use Rattle.account_formats.specs.Written.{IsWritten};
+ghost use Rattle.acct_tables.specs.EditedLines.{lines_with};
 ghost use Rattle.acct_tables.specs.LineTexts.{file_text};
 ghost use Rattle.acct_tables.specs.NameIndex.{line_names, lines_named};
-ghost use Rattle.acct_tables.specs.Order.{text_at};
 ghost use Rattle.acct_tables.specs.SeenLines.{seen_line};
-ghost use Rattle.acct_tables.specs.TableLines.{IsPrintedFor, changed_at, record_at, with_record};
+ghost use Rattle.acct_tables.specs.TableLines.{IsPrintedFor, changed_at, record_at, text_at, with_record};
 
 use crate::line::read_record;
 use crate::line_texts::{FileText, LineTexts};
@@ -25,8 +25,7 @@ use std::marker::{Model, PhantomData};
 
 /// The lines of a file of such records, which edits change, with an index of the records of each
 /// name. A line stays where it is in the file's bytes until a record is put into it, and is read as
-/// a record when it is asked for. Contracts see them as those of a `Table`, and each call keeps what
-/// the same call of `Table` keeps.
+/// a record when it is asked for. Contracts see the list of lines.
 #[derive(Drop)]
 pub struct EditedLines<'a, R: TableRecord> {
     texts: LineTexts<'a>,
@@ -72,6 +71,18 @@ impl<'a, R: TableRecord + Drop> EditedLines<'a, R> {
     {
         let lacks_end = lacks_end(file.as_slice());
         let texts = LineTexts::of(alloc, file)?;
+        EditedLines::of_texts(alloc, texts, lacks_end)
+    }
+
+    /// The lines of these texts, each with an end, but for the last where it lacks it.
+    pub fn of_texts(
+        alloc: Global,
+        texts: LineTexts<'a>,
+        lacks_end: bool,
+    ) -> Result<Self, AllocError>
+        requires { All (Lacks newline) texts }
+        ensures { IfOk result (λ lines. lines ≡ lines_with lacks_end texts.entry) }
+    {
         let names = NameHashes::of::<R>(alloc, &texts)?;
         Ok(EditedLines {
             texts,
@@ -79,6 +90,20 @@ impl<'a, R: TableRecord + Drop> EditedLines<'a, R> {
             names,
             record: PhantomData,
         })
+    }
+
+    /// The texts of the lines, without their ends.
+    pub fn texts(&self) -> &LineTexts<'a>
+        ensures { result.now ≡ texts_of self.now }
+    {
+        &self.texts
+    }
+
+    /// Whether the last line lacks its end, as it may in a file; each other line has one.
+    pub fn lacks_end(&self) -> bool
+        ensures { self.now ≡ lines_with result (texts_of self.now) }
+    {
+        self.lacks_end
     }
 
     /// The number of lines, of records and other text.

@@ -38,7 +38,7 @@ impl<'a> FileLine<'a> {
 }
 
 /// The lines of a file that are still to be looked at. Each is cut off the file's bytes when it is
-/// taken, so they need no memory. Contracts see them as those of a `Table`.
+/// taken, so they need no memory. Contracts see the list of them.
 #[derive(Drop)]
 pub struct Lines<'a> {
     // the file's bytes from the next line on

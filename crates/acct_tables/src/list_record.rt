@@ -1,10 +1,11 @@
 // The records with lists of users, in which a user is renamed (group(5), gshadow(5)).
 ghost use Rattle.std.specs.Prelude.{◌≡◌, ℕ, Bool, List, OnOk};
 ghost use Rattle.account_formats.specs.Written.{IsListed, IsWritten};
+ghost use Rattle.acct_tables.specs.Lists.{text_holds};
 
 use crate::TableRecord;
 use crate::renaming::rename_in;
-use acct_lines::{GroupRecord, GshadowRecord};
+use acct_lines::{GroupLine, GroupRecord, GshadowLine, GshadowRecord, lists};
 use std::alloc::{AllocError, Global};
 
 /// A record with lists of users.
@@ -15,9 +16,9 @@ pub trait ListRecord: TableRecord {
     // the record with the old name renamed to the new one in each list
     ghost renamed: { List ℕ → List ℕ → Self → Self };
 
-    /// Whether a list of the record holds the name.
-    fn holds(&self, name: &[u8]) -> bool
-        ensures { result ≡ holds name.now self.now };
+    /// Whether the line is a record of which a list holds the name. It takes no memory.
+    fn line_holds(line: &[u8], name: &[u8]) -> bool
+        ensures { result ≡ text_holds Self.format (holds name.now) line.now };
 
     /// Renames the old name to the new one in each list that holds it. There the new name stands
     /// once, in its first place or the old one's; a list without the old name stays.
@@ -40,8 +41,11 @@ impl ListRecord for GroupRecord {
 
     ghost renamed = { group_renamed };
 
-    fn holds(&self, name: &[u8]) -> bool {
-        self.members.contains(name)
+    fn line_holds(line: &[u8], name: &[u8]) -> bool {
+        match GroupLine::read(line) {
+            Ok(group) => lists(group.members, name),
+            Err(_) => false,
+        }
     }
 
     fn rename(&mut self, alloc: Global, old: &[u8], new: &[u8]) -> Result<(), AllocError> {
@@ -60,8 +64,11 @@ impl ListRecord for GshadowRecord {
 
     ghost renamed = { gshadow_renamed };
 
-    fn holds(&self, name: &[u8]) -> bool {
-        self.administrators.contains(name) || self.members.contains(name)
+    fn line_holds(line: &[u8], name: &[u8]) -> bool {
+        match GshadowLine::read(line) {
+            Ok(group) => lists(group.administrators, name) || lists(group.members, name),
+            Err(_) => false,
+        }
     }
 
     fn rename(&mut self, alloc: Global, old: &[u8], new: &[u8]) -> Result<(), AllocError> {

@@ -1,5 +1,5 @@
 use Rattle.std.proofs.Common.{◌∙◌, Some, None, [], ap, sym}
-use Rattle.acct_tables.specs.Order.{text_at}
+use Rattle.acct_tables.specs.TableLines.{text_at}
 use Rattle.acct_tables.proofs.IndexedTexts.{text-lacks}
 use Rattle.acct_tables.proofs.KeptLines.{lines-found}
 use Rattle.acct_tables.proofs.edited_lines.EditedLines.text_at.Goals as goal

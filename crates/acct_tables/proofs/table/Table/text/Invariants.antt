@@ -1,7 +1,0 @@
-use Rattle.std.proofs.Common.{◌≡◌, take}
-use Rattle.acct_text.specs.Lines.{file_bytes}
-use Rattle.acct_tables.proofs.table.Table.text.Given as goal
-
--- the text so far is that of the lines so far
-abbrev pub invariant-loop-line : goal.invariant-loop-line
-invariant-loop-line g l = l.text ≡ file_bytes (take l.line-index l.line-items)
