@@ -1,9 +1,9 @@
 // The texts of the faults that are error types. No command prints them, and no clause names them.
 use acct_dates::DateFault;
 use acct_lines::{LineFault, ReadFault};
-use acct_tables::TableFault;
 use acct_text::NumberFault;
 use intent_file::IntentFault;
+use record_tables::TableFault;
 use std::alloc::{AllocError, Global};
 use std::fmt::Display;
 use std::test::Fail;

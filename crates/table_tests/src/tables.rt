@@ -6,7 +6,7 @@ ghost use Rattle.account_formats.specs.Records.{group_format};
 ghost use Rattle.account_formats.specs.Written.{IsWritten};
 
 use acct_lines::{GroupRecord, TableRecord};
-use acct_tables::Table;
+use record_tables::Table;
 use std::alloc::{AllocError, Global};
 use std::test::Fail;
 
@@ -22,12 +22,12 @@ fn group(alloc: Global, line: &[u8]) -> Result<GroupRecord, AllocError>
 }
 
 // Whether the table has these bytes.
-fn has(alloc: Global, table: &Table<GroupRecord>, wanted: &[u8]) -> Result<bool, AllocError> {
-    Ok(table.text(alloc)?.as_slice() == wanted)
+fn has(table: &Table<GroupRecord>, wanted: &[u8]) -> Result<bool, AllocError> {
+    Ok(table.text()?.as_slice() == wanted)
 }
 
 // The GID of a group of a table, where there is one.
-fn gid_of(found: Option<&GroupRecord>) -> Option<u32> {
+fn gid_of(found: Option<GroupRecord>) -> Option<u32> {
     Some(found?.gid)
 }
 
@@ -45,7 +45,7 @@ fn lines_are_edited_by_names(rt: HostRuntime) -> Result<(), Fail> {
     let mut table: Table<GroupRecord> = Table::load(alloc, b"# x\na:x:1:\ne:x:05:o\nb:x:2:")?;
     assert!(rt; edits_by_name(alloc, &mut table)?);
     let wanted = b"# x\ne:x:5:n\nd:x:4:n\nc:x:3:\n".as_slice();
-    assert!(rt; has(alloc, &table, wanted)?);
+    assert!(rt; has(&table, wanted)?);
     Ok(())
 }
 
@@ -54,7 +54,7 @@ fn records_change_places_and_lines_keep_their_ends(rt: HostRuntime) -> Result<()
     let alloc = rt.alloc();
     let mut table: Table<GroupRecord> = Table::load(alloc, b"b:x:02:\noops\na:x:1:")?;
     table.arrange(&[2, 0])?;
-    assert!(rt; has(alloc, &table, b"a:x:1:\noops\nb:x:02:".as_slice())?);
+    assert!(rt; has(&table, b"a:x:1:\noops\nb:x:02:".as_slice())?);
     Ok(())
 }
 
@@ -64,10 +64,10 @@ fn lines_are_set_and_moved_by_their_places(rt: HostRuntime) -> Result<(), Fail> 
     let mut table: Table<GroupRecord> = Table::load(alloc, b"a:x:1:")?;
     table.insert_at(0, group(alloc, b"b:x:2:")?)?;
     table.set_at(1, group(alloc, b"c:x:3:")?)?;
-    assert!(rt; has(alloc, &table, b"b:x:2:\nc:x:3:".as_slice())?);
+    assert!(rt; has(&table, b"b:x:2:\nc:x:3:".as_slice())?);
     table.append_any(group(alloc, b"b:x:4:")?)?;
     table.remove_at(0)?;
-    assert!(rt; has(alloc, &table, b"c:x:3:\nb:x:4:\n".as_slice())?);
+    assert!(rt; has(&table, b"c:x:3:\nb:x:4:\n".as_slice())?);
     Ok(())
 }
 
@@ -87,9 +87,9 @@ fn each_of_many_groups_is_found_and_counted_at_once(rt: HostRuntime) -> Result<(
     for number in 1..200001 {
         let name = format!(in alloc; "g{number}")?;
         let other = format!(in alloc; "h{number}")?;
-        assert_eq!(rt; gid_of(table.find(name.as_bytes())), Some(number));
+        assert_eq!(rt; gid_of(table.find(alloc, name.as_bytes())?), Some(number));
         assert_eq!(rt; table.count(name.as_bytes()), 1);
-        assert_eq!(rt; gid_of(table.find(other.as_bytes())), None);
+        assert_eq!(rt; gid_of(table.find(alloc, other.as_bytes())?), None);
         assert_eq!(rt; table.count(other.as_bytes()), 0);
     }
     Ok(())
