@@ -12,8 +12,7 @@ use Rattle.account_formats.specs.Format.{Format}
 use Rattle.account_formats.specs.Edits.{becomes, line_becomes}
 use Rattle.account_formats.specs.RecordEdits.{TellsSame}
 use Rattle.account_formats.specs.Written.{IsWritten}
-use Rattle.acct_tables.specs.Order.{text_at}
-use Rattle.acct_tables.specs.TableLines.{record_at, changed_at, with_record}
+use Rattle.acct_tables.specs.TableLines.{record_at, changed_at, with_record, text_at}
 use Rattle.acct_tables.proofs.LinesHere.{blank_line, line_here, read-here, record-here}
 use Rattle.line_edits.specs.Naming.{Leaves}
 use Rattle.line_edits.specs.Places.{spliced_at}

@@ -15,8 +15,7 @@ use Rattle.account_formats.specs.RecordEdits.{TellsSame}
 use Rattle.account_formats.specs.Written.{IsWritten}
 use Rattle.acct_tables.specs.declared.name_index.NamedLines.{NamedLines}
 use Rattle.acct_tables.specs.NameIndex.{has_name, line_name, line_names, lines_named, records_at}
-use Rattle.acct_tables.specs.Order.{text_at}
-use Rattle.acct_tables.specs.TableLines.{text_is_named}
+use Rattle.acct_tables.specs.TableLines.{text_is_named, text_at}
 use Rattle.acct_tables.proofs.LinesHere.{blank_line, line_here, read-here, record-here}
 use Rattle.acct_tables.proofs.NameIndexLemmas.{none-counts}
 use Rattle.line_edits.specs.Naming.{KeepsNames, on_named}

@@ -12,8 +12,7 @@ use Rattle.account_formats.specs.Edits.Edit.{Become}
 use Rattle.account_formats.specs.Format.{Format}
 use Rattle.account_formats.specs.RecordEdits.{IsWrittenEdit}
 use Rattle.account_formats.specs.Written.{IsWritten}
-use Rattle.acct_tables.specs.Order.{text_at}
-use Rattle.acct_tables.specs.TableLines.{changed_at, record_at, with_record}
+use Rattle.acct_tables.specs.TableLines.{changed_at, record_at, with_record, text_at}
 use Rattle.acct_tables.proofs.LinesHere.{read-here}
 use Rattle.line_edits.specs.declared.edit.Rewritten.{Rewritten}
 use Rattle.line_edits.specs.Places.{spliced_at}

@@ -54,8 +54,9 @@ fn touch_single<R: EditedRecord + Drop>(
     true
 }
 
-// Whether the edit surely touches no record whose name has several.
-fn touches_single<R: EditedRecord + Drop>(
+/// Whether the edit surely touches no record whose name has several: where it tells the names of the
+/// records that it may touch, by a look-up of each, and else by a pass over the lines.
+pub fn touches_single<R: EditedRecord + Drop>(
     lines: &EditedLines<'_, R>,
     edit: &Edit<R, R::Change>,
 ) -> bool
@@ -84,8 +85,9 @@ fn leaves_several<R: EditedRecord + Drop>(
     true
 }
 
-// Whether the edit surely leaves the record at a place, or its name has no other.
-fn leaves_at<R: EditedRecord + Drop>(
+/// Whether the edit surely leaves the record at a place, counted from 0 over all lines, or its name has
+/// no other.
+pub fn leaves_at<R: EditedRecord + Drop>(
     lines: &EditedLines<'_, R>,
     edit: &Edit<R, R::Change>,
     place: usize,

@@ -78,7 +78,7 @@ fn change_named_at<R: EditedRecord + Drop>(
 
 /// Puts in place of the record at a place what becomes of it. A line that the change leaves isn't
 /// read, nor is one whose parts tell what becomes of it.
-pub(crate) fn change_at<R: EditedRecord + Drop>(
+pub fn change_at<R: EditedRecord + Drop>(
     alloc: Global,
     lines: &mut EditedLines<'_, R>,
     place: usize,
