@@ -72,7 +72,8 @@ taken-more ranges r last before settled after takes is stays put = record {
 
 -- no range is no run
 pub no-runs : (runs : List Run) → runs ≡ [] → AreRunsOf [] runs
-no-runs runs none = subst (AreRunsOf []) (sym none) (record { same = λ number. refl; ordered = search rules })
+no-runs runs none =
+    subst (AreRunsOf []) (sym none) (record { same = λ number. refl; ordered = search rules })
 
 -- one more range is one more run
 pub runs-more :
