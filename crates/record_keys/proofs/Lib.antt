@@ -1,0 +1,7 @@
+pub mod PlaceLists
+pub mod NoteLemmas
+pub mod MemberKeys
+pub mod ActKeys
+pub mod ChangeKeys
+pub mod LeaverKeys
+pub mod FoundPlaces
