@@ -1,23 +1,27 @@
--- Claim: an edit that leaves the name of each record, or puts one of a name that isn't gone, may be
--- made while records are gone (`become-passes`, `add-passes`, `missing-passes`, `put-passes`). Way:
--- line by line, as a line is gone by its name alone.
-use Rattle.std.proofs.Common.{◌≡◌, ◌∙◌, ℕ, Bool, true, false, List, [], ◌∷◌, ◌++◌, cond, refl, sym, ap, ap₂, inl, inr, arith, zero, suc, length, take, drop, get_or}
+-- Claim: an edit that leaves the name of each record, or renames or puts one of a name that isn't gone,
+-- may be made while records are gone (`become-passes`, `rename-passes`, `add-passes`, `missing-passes`,
+-- `put-passes`). Way: line by line, as a line is gone by its name alone.
+use Rattle.std.proofs.Common.{◌≡◌, ◌∙◌, ℕ, Bool, true, false, List, [], ◌∷◌, ◌++◌, cond, refl, sym, ap, ap₂, subst, inl, inr, arith, zero, suc, length, take, drop, get_or}
 use Rattle.std.specs.Prelude.{Option, Some, None, ◌||◌, bytes_eq, not, flat_map, is_some, map, option_map, if◌then◌else◌}
+use Rattle.std.specs.List.{AllByRecursion}
 use Rattle.std.proofs.lemmas.Bool.{cases_Bool}
 use Rattle.std.proofs.lemmas.List.Elements.{filter-append}
 use Rattle.std.proofs.lemmas.Slice.Eq.{bytes_eq-Decides}
 use Rattle.acct_text.specs.Lines.{Line}
 use Rattle.account_formats.specs.Edits.{Edit, Add, AddMissing, Arrange, Become, Put, as_ended, becomes, edited, edited_by, line_becomes, put_first, with_line}
 use Rattle.account_formats.specs.Format.{Format, has_named, is_named, records_of}
-use Rattle.account_formats.specs.RecordEdits.{TellsSame}
+use Rattle.account_formats.specs.RecordEdits.{IsWrittenEdit, TellsSame}
 use Rattle.account_formats.specs.Text.{is_listed}
 use Rattle.account_formats.specs.Written.{IsWritten}
 use Rattle.acct_tables.specs.NameIndex.{line_name}
 use Rattle.line_edits.specs.declared.edit.Edit.{Edit as DataEdit}
 use Rattle.line_edits.specs.Naming.{KeepsNames}
 use Rattle.line_edits.specs.SeenEdits.{seen_edit, seen_edits}
-use Rattle.line_edits.proofs.NamedLemmas.{IsKeptAs, MakesWritten, kept-line}
+use Rattle.line_edits.specs.WrittenLines.{IsWrittenLine, IsWrittenRead}
+use Rattle.line_edits.proofs.NamedLemmas.{IsKeptAs, MakesWritten, kept-line, made_by}
+use Rattle.record_keys.specs.Keys.{Renames}
 use Rattle.carried_tables.specs.Gone.{IsRemoval, PassesBy, is_gone, left_lines}
+use Rattle.carried_tables.specs.TableEdits.{AreWritten}
 use Rattle.carried_tables.proofs.GoneLemmas.{drops-more, find-left, left-all, left-same, records-left}
 
 -- any edit may be made where no record is gone
@@ -44,30 +48,108 @@ module _ {R : Type 0} (format : Format R) (gone : List (List ℕ)) where
         sym (ap₂ (λ made rest. made ++ rest) here later)
     change-by line new rest left false here later = sym later
 
-    -- one line that becomes one of its name
+    -- the line becomes one, which is left where it is
+    abbrev IsLeftAs : Line → List Line → Type 0
+    IsLeftAs line [] = ⊥
+    IsLeftAs line (new ∷ []) = is_left new ≡ is_left line
+    IsLeftAs line (new ∷ other ∷ more) = ⊥
+
+    -- one line that becomes such
     change-line :
         (line : Line) (made rest left : List Line)
         → becomes format f line ≡ made
-        → IsKeptAs format line made
+        → IsLeftAs line made
         → flat_map (becomes format f) (left_lines format gone rest) ≡ left_lines format gone left
         → left_lines format gone (made ++ left)
         ≡ flat_map (becomes format f) (left_lines format gone (line ∷ rest))
-    change-line line [] rest left here kept later = absurd kept
-    change-line line (new ∷ []) rest left here kept later =
-        ap (λ name. cond (not (is_gone gone name)) (new ∷ left_lines format gone left)
-        (left_lines format gone left)) kept
+    change-line line [] rest left here same later = absurd same
+    change-line line (new ∷ []) rest left here same later =
+        ap (λ is. cond is (new ∷ left_lines format gone left) (left_lines format gone left)) same
         ∙ change-by line new (left_lines format gone rest) (left_lines format gone left)
         (is_left line) here later
-    change-line line (new ∷ other ∷ more) rest left here kept later = absurd kept
+    change-line line (new ∷ other ∷ more) rest left here same later = absurd same
+
+    -- all lines
+    lines-pass :
+        ((line : Line) → IsWrittenLine format line → IsLeftAs line (becomes format f line))
+        → PassesBy format gone (Become f)
+    lines-pass same [] written = refl
+    lines-pass same (line ∷ lines) written =
+        change-line line (becomes format f line) lines (flat_map (becomes format f) lines) refl
+        (same line written.0) (sym (lines-pass same lines written.1))
 
     module _ (names : KeepsNames format f) (makes : MakesWritten format f) where
-      -- all lines
+      -- a line of the same name is left where that is
+      kept-left : (line : Line) (made : List Line) → IsKeptAs format line made → IsLeftAs line made
+      kept-left line [] kept = kept
+      kept-left line (new ∷ []) kept = ap (λ name. not (is_gone gone name)) kept
+      kept-left line (new ∷ other ∷ more) kept = kept
+
+      -- a change that leaves names
       pub become-passes : PassesBy format gone (Become f)
-      become-passes [] written = refl
-      become-passes (line ∷ lines) written =
-          change-line line (becomes format f line) lines (flat_map (becomes format f) lines) refl
-          (kept-line format f names makes line (format.read line.text) refl written.0)
-          (sym (become-passes lines written.1))
+      become-passes =
+          lines-pass (λ line written.
+          kept-left line (becomes format f line)
+          (kept-line format f names makes line (format.read line.text) refl written))
+
+    module _ (old new : List ℕ) (renames : Renames format f old new)
+        (makes : MakesWritten format f) (old_stays : is_listed old gone ≡ false)
+        (new_stays : is_listed new gone ≡ false) where
+      -- the name of a record after the change
+      abbrev name_after : R → List ℕ
+      name_after r = if is_named format old r then new else format.name r
+
+      -- is gone where that before is
+      gone-alike : (r : R) → is_listed (name_after r) gone ≡ is_listed (format.name r) gone
+      gone-alike r = elim (cases_Bool (is_named format old r)) [
+        | inl named ↦
+            rw named new_stays
+            ∙ sym old_stays
+            ∙ ap (λ name. is_listed name gone) (sym ((bytes_eq-Decides (format.name r) old).0 named))
+        | inr other ↦ rw other refl
+      ]
+
+      -- the line with the new record
+      renamed-line :
+          (line : Line) (r s : R) (same : Bool)
+          → format.read line.text ≡ Some r
+          → format.name s ≡ name_after r
+          → IsWritten format s
+          → IsLeftAs line (if same then line ∷ [] else record line { text = format.print s } ∷ [])
+      renamed-line line r s true reads is written = refl
+      renamed-line line r s false reads is written =
+          ap (λ kept. not (is_gone gone (option_map format.name kept))) written.reads
+          ∙ ap (λ name. not (is_listed name gone)) is
+          ∙ ap not (gone-alike r)
+          ∙ sym (ap (λ kept. not (is_gone gone (option_map format.name kept))) reads)
+
+      -- by the records that the change makes
+      renamed-record :
+          (line : Line) (r : R) (records : List R)
+          → format.read line.text ≡ Some r
+          → map format.name records ≡ name_after r ∷ []
+          → AllByRecursion (IsWritten format) records
+          → IsLeftAs line (line_becomes format line r records)
+      renamed-record line r [] reads named written = absurd cc
+      renamed-record line r (s ∷ []) reads named written =
+          let name : format.name s ≡ name_after r = cc in
+          renamed-line line r s (format.same r s) reads name written.0
+      renamed-record line r (s ∷ t ∷ more) reads named written = absurd cc
+
+      -- by what the line reads as
+      renamed-by :
+          (line : Line) (kept : Option R)
+          → format.read line.text ≡ kept
+          → IsWrittenRead format kept
+          → IsLeftAs line (made_by format f line kept)
+      renamed-by line None reads written = refl
+      renamed-by line (Some r) reads written =
+          renamed-record line r (f r) reads (renames r) (makes r written)
+
+      -- a change that renames records, where neither name is gone
+      pub rename-passes : PassesBy format gone (Become f)
+      rename-passes =
+          lines-pass (λ line written. renamed-by line (format.read line.text) refl written)
 
   -- ---- Records that are added
 
@@ -288,6 +370,16 @@ pub only-one :
 only-one [] x one is = absurd (omega (arith, one))
 only-one (y ∷ []) x one is = ap (λ z. z ∷ []) (sym is)
 only-one (y ∷ z ∷ rest) x one is = absurd (omega (arith, one))
+
+-- the only edit may print what all may
+pub only-written :
+    {R C : Type 0} (becomes : C → R → List R) (format : Format R) (edits : List (DataEdit R C))
+    (edit : DataEdit R C)
+    → edits ≡ edit ∷ []
+    → AreWritten format becomes edits
+    → IsWrittenEdit format (seen_edit becomes edit)
+only-written becomes format edits edit is written =
+    (subst (AreWritten format becomes) is written).0
 
 -- the first edits, and then those behind them, are all
 pub in-two :

@@ -394,6 +394,10 @@ module _ {R : Type 0} (format : Format R) where
   table-none None = refl
   table-none (Some text) = ap Some (lines_of-are text).joined
 
+  -- which leaves the table
+  pub no-edit : (file : Option (List ℕ)) → file ≡ table_after format [] file
+  no-edit file = sym (table-none file)
+
   -- a file that is there stays there
   pub table-there :
       (edits : List (Edit R)) (file : Option (List ℕ))

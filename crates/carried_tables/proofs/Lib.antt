@@ -5,8 +5,8 @@ pub mod KeptIdLemmas
 pub mod CarriedLemmas
 pub mod GoneLemmas
 pub mod GoneEdits
-pub mod SieveLemmas
-pub mod ToldLemmas
-pub mod MemberKeys
-pub mod ChangeKeys
-pub mod KeyedEdits
+pub mod PlacedLemmas
+pub mod KeyPlaceLemmas
+pub mod KeyFollowing
+pub mod KeyCounts
+pub mod OwnerLemmas

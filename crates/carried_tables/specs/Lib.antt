@@ -2,7 +2,7 @@ pub mod TablesOfLines
 pub mod Accepting
 pub mod InUse
 pub mod KeptIds
-pub mod Sieves
-pub mod Keys
+pub mod KeyedLines
 pub mod TableEdits
 pub mod Gone
+pub mod GoneOwners

@@ -3,24 +3,26 @@
 ghost use Rattle.std.specs.Prelude.{◌≡◌, None, find, is_some, nat_le, IfOk, OnOk};
 ghost use Rattle.account_formats.specs.Format.{count_named, find_named, has_named};
 ghost use Rattle.account_formats.specs.Tables.{table_records};
+ghost use Rattle.carried_tables.specs.KeyedLines.{IsAtMost, count_with};
 ghost use Rattle.carried_tables.specs.TableEdits.{AreWritten, multiple_by, table_by};
 
 use crate::left_lines::LeftLines;
 use crate::search::{RecordTest, first_passing};
 use acct_text::Bytes;
-use line_edits::{Edit, EditedRecord};
+use line_edits::Edit;
+use record_keys::{KeyedRecord, Most};
 use std::alloc::{AllocError, Global};
 use std::marker::Model;
 use std::mem::replace;
 
-/// A table of the records R. Look-ups and edits by name take no pass over its lines. Contracts see it
-/// as the bytes of its file, and none where the file is absent.
+/// A table of the records R. Look-ups and edits by name take no pass over its lines, nor do edits of
+/// records with a key. Contracts see it as the bytes of its file, and none where the file is absent.
 #[derive(Drop)]
-pub struct CarriedTable<R: EditedRecord> {
+pub struct CarriedTable<R: KeyedRecord> {
     lines: Option<LeftLines<R>>,
 }
 
-impl<R: EditedRecord> Model for CarriedTable<R> {
+impl<R: KeyedRecord> Model for CarriedTable<R> {
     ghost use Rattle.std.specs.Prelude.{ℕ, List, Option, option_map, IfSome};
     ghost use Rattle.acct_text.specs.Lines.{file_bytes};
     ghost use Rattle.acct_tables.specs.SeenLines.{AreOfFile};
@@ -32,7 +34,7 @@ impl<R: EditedRecord> Model for CarriedTable<R> {
     ghost invariant = { λ table. IfSome table.lines AreOfFile };
 }
 
-impl<R: EditedRecord + Drop> CarriedTable<R> {
+impl<R: KeyedRecord + Drop> CarriedTable<R> {
     /// The table of no file.
     pub(crate) fn absent() -> Self
         ensures { result ≡ None }
@@ -40,7 +42,7 @@ impl<R: EditedRecord + Drop> CarriedTable<R> {
         CarriedTable { lines: None }
     }
 
-    /// The table of the file, in one pass.
+    /// The table of the file, in two passes.
     pub(crate) fn of(alloc: Global, file: &Option<Bytes>) -> Result<Self, AllocError>
         ensures { IfOk result (λ table. table ≡ file.now) }
     {
@@ -111,6 +113,16 @@ impl<R: EditedRecord + Drop> CarriedTable<R> {
         }
     }
 
+    /// How many records have the key, at most. It takes no pass.
+    pub fn most_with(&self, key: u64) -> Most
+        ensures { IsAtMost result (count_with R.keys key (table_records R.format self.now)) }
+    {
+        match &self.lines {
+            Some(lines) => lines.most_with(key),
+            None => Most::Nothing,
+        }
+    }
+
     /// The first record that passes the test, by a pass over the bytes.
     pub fn first_passing<T: RecordTest<R>>(
         &self,
@@ -139,8 +151,9 @@ impl<R: EditedRecord + Drop> CarriedTable<R> {
         }
     }
 
-    /// Carries the edits out, in their order: those that take records out by their names, and those
-    /// of records by their names, take no pass over the lines. At `AllocError` the table is gone.
+    /// Carries the edits out, in their order: those that take records out by their names, those of
+    /// records by their names, and those that need a key take no pass over the lines. At `AllocError`
+    /// the table is gone.
     pub fn edit(&mut self, alloc: Global, edits: &[Edit<R, R::Change>]) -> Result<(), AllocError>
         requires { AreWritten R.format R.becomes edits.now }
         ensures { OnOk result (self.new ≡ table_by R.format R.becomes edits.now self.old) }

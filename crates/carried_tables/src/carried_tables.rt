@@ -8,7 +8,7 @@ ghost use Rattle.line_edits.specs.PasswdChanges.{passwd_becomes};
 ghost use Rattle.line_edits.specs.ShadowChanges.{shadow_becomes};
 ghost use Rattle.carried_tables.specs.TableEdits.{AreWritten, table_by};
 
-use crate::{CarriedTable, IdTable, KeyedTable, RangeTable};
+use crate::{CarriedTable, IdTable, RangeTable};
 use acct_lines::{GroupRecord, GshadowRecord, PasswdRecord, ShadowRecord};
 use acct_text::Files;
 use line_edits::{Edit, GroupChange, GshadowChange, PasswdChange, ShadowChange};
@@ -23,7 +23,7 @@ pub struct CarriedTables {
     passwd: IdTable<PasswdRecord>,
     shadow: CarriedTable<ShadowRecord>,
     group: IdTable<GroupRecord>,
-    gshadow: KeyedTable<GshadowRecord>,
+    gshadow: CarriedTable<GshadowRecord>,
     subuid: RangeTable,
     subgid: RangeTable,
 }
@@ -66,7 +66,7 @@ impl CarriedTables {
             passwd: IdTable::absent(),
             shadow: CarriedTable::absent(),
             group: IdTable::absent(),
-            gshadow: KeyedTable::absent(),
+            gshadow: CarriedTable::absent(),
             subuid: RangeTable::absent(),
             subgid: RangeTable::absent(),
         };
@@ -82,7 +82,7 @@ impl CarriedTables {
         self.passwd = IdTable::of(alloc, &files.passwd)?;
         self.shadow = CarriedTable::of(alloc, &files.shadow)?;
         self.group = IdTable::of(alloc, &files.group)?;
-        self.gshadow = KeyedTable::of(alloc, &files.gshadow)?;
+        self.gshadow = CarriedTable::of(alloc, &files.gshadow)?;
         self.subuid = RangeTable::of(&files.subuid)?;
         self.subgid = RangeTable::of(&files.subgid)?;
         Ok(())
@@ -110,7 +110,7 @@ impl CarriedTables {
     }
 
     /// The table gshadow(5).
-    pub fn gshadow(&self) -> &KeyedTable<GshadowRecord>
+    pub fn gshadow(&self) -> &CarriedTable<GshadowRecord>
         ensures { result.now ≡ self.now.gshadow }
     {
         &self.gshadow
@@ -197,8 +197,8 @@ impl CarriedTables {
             shadow: self.shadow.take_file()?,
             group: self.group.take_file()?,
             gshadow: self.gshadow.take_file()?,
-            subuid: self.subuid.take_file(),
-            subgid: self.subgid.take_file(),
+            subuid: self.subuid.take_file()?,
+            subgid: self.subgid.take_file()?,
         })
     }
 }

@@ -11,9 +11,9 @@ ghost use Rattle.carried_tables.specs.KeptIds.{AreIdsOf, FollowEdit, FollowSwap,
 ghost use Rattle.carried_tables.specs.TableEdits.{AreWritten, table_by};
 
 use crate::IdsInUse;
+use crate::carried_table::CarriedTable;
 use crate::ids::{IdRecord, Renumbering, listed_ids, used_ids};
 use crate::kept_ids::KeptIds;
-use crate::keyed_table::KeyedTable;
 use acct_text::Bytes;
 use line_edits::Edit;
 use std::alloc::{AllocError, Global};
@@ -24,7 +24,7 @@ use std::mem::replace;
 /// the file is absent.
 #[derive(Drop)]
 pub struct IdTable<R: IdRecord> {
-    table: KeyedTable<R>,
+    table: CarriedTable<R>,
     // none only where memory was wanting while they changed
     ids: Option<KeptIds>,
 }
@@ -47,7 +47,7 @@ impl<R: IdRecord + Drop> IdTable<R> {
         ensures { result ≡ None }
     {
         IdTable {
-            table: KeyedTable::absent(),
+            table: CarriedTable::absent(),
             ids: None,
         }
     }
@@ -56,7 +56,7 @@ impl<R: IdRecord + Drop> IdTable<R> {
     pub(crate) fn of(alloc: Global, file: &Option<Bytes>) -> Result<Self, AllocError>
         ensures { IfOk result (λ table. table ≡ file.now) }
     {
-        let table = KeyedTable::of(alloc, file)?;
+        let table = CarriedTable::of(alloc, file)?;
         let ids = ids_of::<R>(alloc, file)?;
         Ok(IdTable {
             table,
@@ -73,7 +73,7 @@ impl<R: IdRecord + Drop> IdTable<R> {
     }
 
     /// The table, for what doesn't ask for IDs.
-    pub fn table(&self) -> &KeyedTable<R>
+    pub fn table(&self) -> &CarriedTable<R>
         ensures { result.now ≡ self.now }
     {
         &self.table
@@ -180,7 +180,7 @@ fn ids_of<R: IdRecord>(alloc: Global, file: &Option<Bytes>) -> Result<KeptIds, A
 fn ids_after<R: IdRecord + Drop>(
     alloc: Global,
     before: Option<KeptIds>,
-    table: &KeyedTable<R>,
+    table: &CarriedTable<R>,
     edit: &Edit<R, R::Change>,
 ) -> Result<Option<KeptIds>, AllocError>
     requires there { is_some table.now ≡ true }
@@ -203,7 +203,7 @@ fn ids_after<R: IdRecord + Drop>(
 fn follow<R: IdRecord + Drop>(
     alloc: Global,
     ids: &mut KeptIds,
-    table: &KeyedTable<R>,
+    table: &CarriedTable<R>,
     edit: &Edit<R, R::Change>,
 ) -> Result<bool, AllocError>
     ensures { IfOk result (λ is_known. is_known ≡ true → FollowEdit R.format R.id_of ids.old ids.new
@@ -223,7 +223,7 @@ fn follow<R: IdRecord + Drop>(
 fn follow_change<R: IdRecord + Drop>(
     alloc: Global,
     ids: &mut KeptIds,
-    table: &KeyedTable<R>,
+    table: &CarriedTable<R>,
     change: &R::Change,
 ) -> Result<bool, AllocError>
     ensures { IfOk result (λ is_known. is_known ≡ true → FollowEdit R.format R.id_of ids.old ids.new
@@ -242,7 +242,7 @@ fn follow_change<R: IdRecord + Drop>(
 fn renumber<R: IdRecord + Drop>(
     alloc: Global,
     ids: &mut KeptIds,
-    table: &KeyedTable<R>,
+    table: &CarriedTable<R>,
     renumbering: Renumbering<'_>,
 ) -> Result<bool, AllocError>
     ensures { IfOk result (λ is_known. is_known ≡ true → (f : R → List R)
@@ -262,7 +262,7 @@ fn renumber<R: IdRecord + Drop>(
 // The ID of the first record of the name.
 fn id_named<R: IdRecord + Drop>(
     alloc: Global,
-    table: &KeyedTable<R>,
+    table: &CarriedTable<R>,
     name: &[u8],
 ) -> Result<Option<u32>, AllocError>
     ensures { IfOk result (λ id. id ≡

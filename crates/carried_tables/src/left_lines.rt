@@ -1,34 +1,39 @@
 // The lines of a table of which some records are gone: a record that goes is remembered by its name,
 // and its line stands until an edit needs the text without it (passwd(5), shadow(5), group(5),
 // gshadow(5)).
-ghost use Rattle.std.specs.Prelude.{◌≡◌, true, length, nat_le, IfOk, IfSome, OnOk};
+ghost use Rattle.std.specs.Prelude.{◌≡◌, true, false, length, nat_le, IfOk, IfSome, OnOk};
 ghost use Rattle.acct_text.specs.Lines.{file_bytes, lines_of};
 ghost use Rattle.account_formats.specs.Edits.{edited_by};
+ghost use Rattle.account_formats.specs.Edits as model;
 ghost use Rattle.account_formats.specs.Format.{count_named, find_named, has_named, records_of};
 ghost use Rattle.account_formats.specs.RecordEdits.{IsWrittenEdit};
+ghost use Rattle.account_formats.specs.Text.{is_listed};
 ghost use Rattle.acct_tables.specs.SeenLines.{AreOfFile};
 ghost use Rattle.line_edits.specs.SeenEdits.{seen_edit, seen_edits};
 ghost use Rattle.carried_tables.specs.Gone.{AreEdited, IsRemoval, IsSettled, PassesBy, left_lines};
+ghost use Rattle.carried_tables.specs.KeyedLines.{IsAtMost, count_with};
 ghost use Rattle.carried_tables.specs.TableEdits.{AreWritten, multiple_by};
 
 use crate::gone_names::{GoneNames, text_without};
+use crate::keyed_lines::KeyedLines;
 use acct_tables::EditedLines;
 use acct_text::Bytes;
-use line_edits::{Edit, EditedRecord, apply, first_multiple, first_multiple_in};
+use line_edits::{Edit, EditedRecord, first_multiple};
+use record_keys::{KeyedRecord, Most, Renaming};
 use std::alloc::{AllocError, Global};
 use std::marker::Model;
 
 /// The lines of a table of the records R. Look-ups and edits by name take no pass over them. Contracts
 /// see those that are left.
 #[derive(Drop)]
-pub(crate) struct LeftLines<R: EditedRecord> {
-    // each line has its own bytes, so that the file needn't stay
-    lines: EditedLines<'static, R>,
+pub(crate) struct LeftLines<R: KeyedRecord> {
+    // all lines, those of gone records too
+    lines: KeyedLines<R>,
     // the names whose records are gone while their lines stand
     gone: GoneNames,
 }
 
-impl<R: EditedRecord> Model for LeftLines<R> {
+impl<R: KeyedRecord> Model for LeftLines<R> {
     ghost use Rattle.std.specs.Prelude.{List};
     ghost use Rattle.acct_text.specs.Lines.{Line};
     ghost use Rattle.acct_tables.specs.SeenLines.{AreOfFile};
@@ -41,12 +46,12 @@ impl<R: EditedRecord> Model for LeftLines<R> {
     ghost invariant = { λ t. AreOfFile t.lines };
 }
 
-impl<R: EditedRecord + Drop> LeftLines<R> {
-    /// The lines of a file with these bytes, in one pass.
+impl<R: KeyedRecord + Drop> LeftLines<R> {
+    /// The lines of a file with these bytes, in two passes.
     pub(crate) fn of(alloc: Global, text: &[u8]) -> Result<Self, AllocError>
         ensures { IfOk result (λ lines. lines ≡ lines_of text.now) }
     {
-        let lines = EditedLines::copied(alloc, text)?;
+        let lines = KeyedLines::of(alloc, text)?;
         Ok(LeftLines {
             lines,
             gone: GoneNames::new(alloc),
@@ -57,7 +62,7 @@ impl<R: EditedRecord + Drop> LeftLines<R> {
     pub(crate) fn text(&self) -> Result<Bytes, AllocError>
         ensures { IfOk result (λ bytes. bytes ≡ file_bytes self.now) }
     {
-        left_text(&self.lines, &self.gone)
+        left_text(self.lines.lines(), &self.gone)
     }
 
     /// The first record that has the name. It takes no pass over the lines, but where two names among
@@ -69,7 +74,7 @@ impl<R: EditedRecord + Drop> LeftLines<R> {
         if self.gone.has(name) {
             return Ok(None);
         }
-        self.lines.find(alloc, name)
+        self.lines.lines().find(alloc, name)
     }
 
     /// Whether a record has the name, which is found as by `find`. It takes no memory.
@@ -79,7 +84,7 @@ impl<R: EditedRecord + Drop> LeftLines<R> {
         if self.gone.has(name) {
             return false;
         }
-        self.lines.get(name).is_some()
+        self.lines.lines().get(name).is_some()
     }
 
     /// Whether several records have the name, which are found as by `find`.
@@ -90,7 +95,15 @@ impl<R: EditedRecord + Drop> LeftLines<R> {
         if self.gone.has(name) {
             return false;
         }
-        self.lines.has_several(name)
+        self.lines.lines().has_several(name)
+    }
+
+    /// How many records have the key, at most: no more than among all lines, gone ones among them. It
+    /// takes no pass.
+    pub(crate) fn most_with(&self, key: u64) -> Most
+        ensures { IsAtMost result (count_with R.keys key (records_of R.format self.now)) }
+    {
+        self.lines.most_with(key)
     }
 
     /// The name of the first record that the edits touch and whose name has several records. A name
@@ -104,10 +117,10 @@ impl<R: EditedRecord + Drop> LeftLines<R> {
         ensures { IfOk result (λ name. name ≡
             multiple_by R.format R.becomes edits.now (records_of R.format self.now)) }
     {
-        let among_all = first_multiple_in(alloc, &self.lines, edits)?;
-        let Some(_name) = among_all else {
+        let are_single = self.lines.touch_single(alloc, edits)?;
+        if are_single {
             return Ok(None);
-        };
+        }
         let text = self.text()?;
         first_multiple(alloc, text.as_slice(), edits)
     }
@@ -133,9 +146,9 @@ impl<R: EditedRecord + Drop> LeftLines<R> {
 }
 
 // Carries the edits out, in their order.
-fn edit_all<R: EditedRecord + Drop>(
+fn edit_all<R: KeyedRecord + Drop>(
     alloc: Global,
-    lines: &mut EditedLines<'static, R>,
+    lines: &mut KeyedLines<R>,
     gone: &mut GoneNames,
     edits: &[Edit<R, R::Change>],
 ) -> Result<(), AllocError>
@@ -154,9 +167,9 @@ fn edit_all<R: EditedRecord + Drop>(
 }
 
 // Carries out the only edit of a list. One that takes out the records of a name touches no line.
-fn edit_one<R: EditedRecord + Drop>(
+fn edit_one<R: KeyedRecord + Drop>(
     alloc: Global,
-    lines: &mut EditedLines<'static, R>,
+    lines: &mut KeyedLines<R>,
     gone: &mut GoneNames,
     one: &[Edit<R, R::Change>],
 ) -> Result<(), AllocError>
@@ -171,13 +184,12 @@ fn edit_one<R: EditedRecord + Drop>(
         return gone.add(name);
     }
     settle_for(alloc, lines, gone, edit)?;
-    apply(alloc, lines, one)?;
-    Ok(())
+    lines.edit(alloc, edit, one)
 }
 
 // The text of the lines that are left.
 fn left_text<R: EditedRecord + Drop>(
-    lines: &EditedLines<'static, R>,
+    lines: &EditedLines<'_, R>,
     gone: &GoneNames,
 ) -> Result<Bytes, AllocError>
     requires { AreOfFile lines.now }
@@ -192,9 +204,9 @@ fn left_text<R: EditedRecord + Drop>(
 }
 
 // Takes the lines of gone records out, where the edit may not be made while they stand.
-fn settle_for<R: EditedRecord + Drop>(
+fn settle_for<R: KeyedRecord + Drop>(
     alloc: Global,
-    lines: &mut EditedLines<'static, R>,
+    lines: &mut KeyedLines<R>,
     gone: &mut GoneNames,
     edit: &Edit<R, R::Change>,
 ) -> Result<(), AllocError>
@@ -216,16 +228,16 @@ fn settle_for<R: EditedRecord + Drop>(
 }
 
 // Takes the lines of gone records out.
-fn settle<R: EditedRecord + Drop>(
+fn settle<R: KeyedRecord + Drop>(
     alloc: Global,
-    lines: &mut EditedLines<'static, R>,
+    lines: &mut KeyedLines<R>,
     gone: &mut GoneNames,
 ) -> Result<(), AllocError>
     requires { AreOfFile lines.old }
     ensures { OnOk result (IsSettled R.format gone.old lines.old gone.new lines.new) }
 {
-    let text = left_text(lines, gone)?;
-    *lines = EditedLines::copied(alloc, text.as_slice())?;
+    let text = left_text(lines.lines(), gone)?;
+    *lines = KeyedLines::of(alloc, text.as_slice())?;
     *gone = GoneNames::new(alloc);
     Ok(())
 }
@@ -242,15 +254,40 @@ fn removed_by<R: EditedRecord>(edit: &Edit<R, R::Change>) -> Option<&[u8]>
 }
 
 // Whether the edit may be made while the lines of gone records stand: it leaves the name of each
-// record, or that of its own record isn't gone.
-fn passes_by<R: EditedRecord>(gone: &GoneNames, edit: &Edit<R, R::Change>) -> bool
+// record, or none of the names that it concerns is gone.
+fn passes_by<R: KeyedRecord>(gone: &GoneNames, edit: &Edit<R, R::Change>) -> bool
     requires { IsWrittenEdit R.format (seen_edit R.becomes edit.now) }
     ensures { result ≡ true → PassesBy R.format gone.now (seen_edit R.becomes edit.now) }
 {
     match edit {
-        Edit::Become(change) => R::keeps_names(change),
+        Edit::Become(change) => change_passes_by::<R>(gone, change),
         Edit::Add(item) => !gone.has(item.name()),
         Edit::AddMissing(item) => !gone.has(item.name()),
         Edit::Put(item) => !gone.has(item.name()),
     }
+}
+
+// The same of a change: it leaves all names, or renames records of names that aren't gone.
+fn change_passes_by<R: KeyedRecord>(gone: &GoneNames, change: &R::Change) -> bool
+    requires { IsWrittenEdit R.format (model.Become (R.becomes change.now)) }
+    ensures { result ≡ true → PassesBy R.format gone.now (model.Become (R.becomes change.now)) }
+{
+    if R::keeps_names(change) {
+        return true;
+    }
+    match R::renamed(change) {
+        Some(names) => lacks_both(gone, names),
+        None => false,
+    }
+}
+
+// Whether neither name is gone.
+fn lacks_both(gone: &GoneNames, names: Renaming<'_>) -> bool
+    ensures old { result ≡ true → is_listed names.entry.old.now gone.now ≡ false }
+    ensures new { result ≡ true → is_listed names.entry.new.now gone.now ≡ false }
+{
+    if gone.has(names.old) {
+        return false;
+    }
+    !gone.has(names.new)
 }

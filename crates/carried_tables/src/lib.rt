@@ -4,9 +4,11 @@
 //! `CarriedTables` stand in the place of the files for commands that follow one another: each table
 //! keeps its lines with an index of their names (`carried_table`), of which those of records that are
 //! gone stay a while (`left_lines`), and the IDs that are used (`id_table`, `kept_ids`), and edits
-//! change them where they stand. What lists hold, and which primary groups users have, is told by a
-//! sieve of `keys` (`keyed_table`), so that what concerns no record takes no pass. Subordinate ranges
-//! are asked for as a `range_file`, and of carried ones the index is kept (`range_table`).
+//! change them where they stand. Where the records of a key are, as the users of a primary group or the
+//! groups that list a name, is told by an index beside the lines (`keyed_lines`, `key_following`), so
+//! that an edit that needs a key looks at no other record (`placed_changes`). Subordinate ranges are
+//! asked for as a `range_file`, over the lines as they stand (`standing_ranges`); of carried ones the
+//! index is kept, and the owners whose ranges are gone (`range_table`).
 //!
 //! `search` finds the first record of a file that passes a test, and `ids` gathers the IDs that are
 //! used; `in_use` is how they are answered.
@@ -19,23 +21,20 @@ mod id_table;
 mod ids;
 mod in_use;
 mod kept_ids;
-mod key_names;
-mod key_sieve;
-mod keyed_table;
-mod keys;
+mod key_following;
+mod keyed_lines;
 mod left_lines;
+mod placed_changes;
 mod range_file;
 mod range_table;
 mod search;
+mod standing_ranges;
 
 pub use carried_table::CarriedTable;
 pub use carried_tables::CarriedTables;
 pub use id_table::IdTable;
 pub use ids::{IdRecord, Renumbering, used_ids};
 pub use in_use::IdsInUse;
-pub use key_sieve::{KeySieve, Most};
-pub use keyed_table::KeyedTable;
-pub use keys::KeyedRecord;
 pub use range_file::RangeFile;
 pub use range_table::RangeTable;
 pub use search::{OfGid, OfUid, RecordTest, first_passing, text_of};

@@ -4,20 +4,15 @@ use Rattle.account_formats.specs.RecordEdits.{IsWrittenEdit}
 use Rattle.account_formats.specs.Text.{is_listed}
 use Rattle.line_edits.specs.SeenEdits.{seen_edit}
 use Rattle.carried_tables.specs.Gone.{PassesBy}
-use Rattle.carried_tables.proofs.GoneEdits.{add-passes, become-passes, missing-passes, put-passes}
+use Rattle.carried_tables.proofs.GoneEdits.{add-passes, missing-passes, put-passes}
 use Rattle.carried_tables.proofs.left_lines.passes_by.Goals as goal
 
--- the change leaves all names
+-- the change passes
 pub returns-in-Become : goal.returns-in-Become
-returns-in-Become g c = λ keeps.
-    let format = g.R.TableRecord.format in
-    let becomes = g.R.EditedRecord.becomes in
-    let gone = c.args.gone.now in
-    let written = subst (λ edit. IsWrittenEdit format (seen_edit becomes edit)) c.in-Become.is
-    c.requires in
-    subst (λ edit. PassesBy format gone (seen_edit becomes edit)) (sym c.in-Become.is)
-    (become-passes format gone (becomes c.in-Become.change) (c.keeps_names.ensures keeps)
-    (λ r is. written (format.print r) r is.one_line is.reads))
+returns-in-Become g c = λ told.
+    subst (λ edit. PassesBy g.R.TableRecord.format c.args.gone.now
+    (seen_edit g.R.EditedRecord.becomes edit)) (sym c.in-Become.is)
+    (c.change_passes_by.ensures told)
 
 -- the name of an added record isn't gone
 pub returns-in-Add : goal.returns-in-Add

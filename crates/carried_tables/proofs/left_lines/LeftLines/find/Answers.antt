@@ -1,5 +1,6 @@
-use Rattle.std.proofs.Common.{◌∙◌, sym}
+use Rattle.std.proofs.Common.{◌∙◌, ap, sym}
 use Rattle.std.proofs.lemmas.Result.{IfOk-weaker}
+use Rattle.account_formats.specs.Format.{find_named, records_of}
 use Rattle.carried_tables.proofs.GoneLemmas.{found-gone, found-left}
 use Rattle.carried_tables.proofs.left_lines.LeftLines.find.Goals as goal
 
@@ -13,6 +14,9 @@ returns-then-has g c =
 pub returns : goal.returns
 returns g c =
     IfOk-weaker c.find.result _ _ (λ found is.
-    is ∙ found-left g.R.TableRecord.format c.self.inside.gone c.self.inside.lines c.args.self.now
+    is
+    ∙ ap (λ lines. find_named g.R.TableRecord.format c.args.name.now
+    (records_of g.R.TableRecord.format lines)) c.lines.ensures
+    ∙ found-left g.R.TableRecord.format c.self.inside.gone c.self.inside.lines c.args.self.now
     c.self.view_is c.args.name.now (sym c.has.ensures ∙ c.if-has.false))
     c.find.ensures.found

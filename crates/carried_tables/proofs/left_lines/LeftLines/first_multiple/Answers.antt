@@ -5,15 +5,19 @@ use Rattle.account_formats.specs.Edits.{first_multiple}
 use Rattle.account_formats.specs.Format.{records_of}
 use Rattle.acct_tables.specs.SeenLines.{AreOfFile}
 use Rattle.line_edits.specs.SeenEdits.{seen_edits}
+use Rattle.line_edits.proofs.TouchedRecords.{none-touched}
 use Rattle.carried_tables.proofs.GoneLemmas.{left-of_file, none-multiple}
 use Rattle.carried_tables.proofs.left_lines.LeftLines.first_multiple.Goals as goal
 
--- none of all lines is touched and has several
-pub returns-in_default : goal.returns-in_default
-returns-in_default g c =
-    sym (none-multiple g.R.TableRecord.format c.self.inside.gone c.self.inside.lines
-    c.args.self.now c.self.view_is (seen_edits g.R.EditedRecord.becomes c.args.edits.now)
-    (sym c.in_ok-among_all.ensures ∙ c.in_default.is))
+-- no edit touches a record of all lines whose name has several
+pub returns-then-are_single : goal.returns-then-are_single
+returns-then-are_single g c =
+    let format = g.R.TableRecord.format in
+    let edits = seen_edits g.R.EditedRecord.becomes c.args.edits.now in
+    sym (none-multiple format c.self.inside.gone c.self.inside.lines c.args.self.now
+    c.self.view_is edits
+    (none-touched format edits c.self.inside.lines
+    (c.in_ok-are_single.ensures {u = tt} c.if-are_single.true)))
 
 -- those that are left tell it
 pub returns : goal.returns

@@ -8,10 +8,8 @@ use Rattle.carried_tables.proofs.range_table.RangeTable.add.Goals as goal
 -- the index goes on with the range behind the others
 pub invariant_of-self-2 : goal.invariant_of-self-2
 invariant_of-self-2 c =
-    let text = c.in-Some.text in
+    let text = c.in_ok-all.all.text in
     subst (λ ranges. IsIndexOf ranges c.add.new.self)
     (sym (ranges-added c.args.range.now text c.append_range.new.text c.requires
     (c.in_ok-append_range.ensures {u = tt})))
-    (c.in_ok-add.ensures {u = tt} (ranges_of (lines_of text))
-    (subst (λ bytes. IsIndexOf (ranges_of (lines_of bytes)) c.in_ok-index.index) c.as_slice.ensures
-    (c.in_ok-index.ensures {u = tt})))
+    (c.in_ok-add.ensures {u = tt} (ranges_of (lines_of text)) c.in_ok-all.ensures.index)

@@ -1,8 +1,0 @@
-use Rattle.std.proofs.Common.{take}
-use Rattle.carried_tables.specs.Keys.{name_keys}
-use Rattle.carried_tables.specs.Sieves.{Opens}
-use Rattle.carried_tables.proofs.key_names.fill_names.Given as goal
-
--- the names so far are opened
-abbrev pub invariant-names : goal.invariant-names
-invariant-names l = Opens l.initial.sieve l.sieve (name_keys (take l.name-index l.name-items))
