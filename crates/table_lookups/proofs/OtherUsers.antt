@@ -8,8 +8,9 @@ use Rattle.std.proofs.lemmas.List.Sums.{sum_by-cons}
 use Rattle.account_formats.specs.declared.records.PasswdRecord.{PasswdRecord}
 use Rattle.account_formats.specs.Format.{find_named, is_named}
 use Rattle.account_formats.specs.Records.{passwd_format}
-use Rattle.carried_tables.specs.Keys.{user_keys}
-use Rattle.carried_tables.specs.Sieves.{count_with, has_key}
+use Rattle.carried_tables.specs.KeyedLines.{count_with}
+use Rattle.record_keys.specs.KeyPlaces.{has_key}
+use Rattle.record_keys.specs.Keys.{user_keys}
 
 -- so many users have the ID
 module _ (has_id : PasswdRecord → Bool) where

@@ -1,10 +1,11 @@
 // The six tables of a command.
-ghost use Rattle.std.specs.Prelude.{◌≡◌, is_some, IfSome};
+ghost use Rattle.std.specs.Prelude.{◌≡◌, is_some, IfOk, IfSome};
 ghost use Rattle.table_lookups.specs.Sources.{files_in};
 
 use acct_tables::MANY;
 use acct_text::{Bytes, Files};
 use carried_tables::{CarriedTables, RangeFile};
+use std::alloc::AllocError;
 use std::marker::Model;
 
 /// Where the tables stand.
@@ -98,24 +99,18 @@ impl<'a> Tables<'a> {
         }
     }
 
-    /// The bytes of subuid(5); none where there is no file.
-    pub fn subuid_file(&self) -> &'a Option<Bytes>
-        ensures { result.now ≡ self.now.subuid }
+    /// A copy of the bytes of subuid(5); none where there is no file.
+    pub fn subuid_file(&self) -> Result<Option<Bytes>, AllocError>
+        ensures { IfOk result (λ file. file ≡ self.now.subuid) }
     {
-        match self.source() {
-            Source::Files(files) => &files.subuid,
-            Source::Carried(tables) => tables.subuid().file(),
-        }
+        self.subuid_ranges().copy()
     }
 
-    /// The bytes of subgid(5); none where there is no file.
-    pub fn subgid_file(&self) -> &'a Option<Bytes>
-        ensures { result.now ≡ self.now.subgid }
+    /// A copy of the bytes of subgid(5); none where there is no file.
+    pub fn subgid_file(&self) -> Result<Option<Bytes>, AllocError>
+        ensures { IfOk result (λ file. file ≡ self.now.subgid) }
     {
-        match self.source() {
-            Source::Files(files) => &files.subgid,
-            Source::Carried(tables) => tables.subgid().file(),
-        }
+        self.subgid_ranges().copy()
     }
 
     /// The file of subuid(5) as it is asked for ranges.
@@ -123,7 +118,7 @@ impl<'a> Tables<'a> {
         ensures { result ≡ self.now.subuid }
     {
         match self.source() {
-            Source::Files(files) => RangeFile::of(&files.subuid, None),
+            Source::Files(files) => RangeFile::of(&files.subuid),
             Source::Carried(tables) => tables.subuid().ranges(),
         }
     }
@@ -133,7 +128,7 @@ impl<'a> Tables<'a> {
         ensures { result ≡ self.now.subgid }
     {
         match self.source() {
-            Source::Files(files) => RangeFile::of(&files.subgid, None),
+            Source::Files(files) => RangeFile::of(&files.subgid),
             Source::Carried(tables) => tables.subgid().ranges(),
         }
     }

@@ -6,9 +6,9 @@ ghost use Rattle.account_model.specs.Refusals.{missing_user, missing_users};
 ghost use Rattle.account_formats.specs.Tables.{passwd_records};
 ghost use Rattle.account_model.specs.Users.{find_user, has_user, other_users};
 ghost use Rattle.carried_tables.specs.KeptIds.{table_counts};
-ghost use Rattle.carried_tables.specs.Keys.{user_keys};
-ghost use Rattle.carried_tables.specs.Sieves.{IsMost, count_with};
+ghost use Rattle.carried_tables.specs.KeyedLines.{IsAtMost, count_with};
 ghost use Rattle.id_choice.specs.Used.{AreThoseOf};
+ghost use Rattle.record_keys.specs.Keys.{user_keys};
 ghost use Rattle.table_lookups.specs.FirstLines.{TellsNames};
 ghost use Rattle.table_lookups.specs.Stopping.{StopsBy};
 
@@ -18,8 +18,9 @@ use crate::tables::Source;
 use account_model::Refusal;
 use acct_lines::PasswdRecord;
 use acct_text::{Bytes, Names};
-use carried_tables::{IdsInUse, Most, OfGid, OfUid, RecordTest, first_passing, used_ids};
+use carried_tables::{IdsInUse, OfGid, OfUid, RecordTest, first_passing, used_ids};
 use line_edits::NameSet;
+use record_keys::Most;
 use std::alloc::{AllocError, Global};
 use tool_answers::ToolFault;
 
@@ -56,7 +57,7 @@ impl<'a> Tables<'a> {
 
     // How many users have the primary group of the GID, at most; files tell nothing.
     fn most_of_gid(&self, gid: u32) -> Most
-        ensures { IsMost result (count_with user_keys gid (passwd_records self.now)) }
+        ensures { IsAtMost result (count_with user_keys gid (passwd_records self.now)) }
     {
         match self.source() {
             Source::Files(_) => Most::Any,
