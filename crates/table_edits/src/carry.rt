@@ -1,12 +1,10 @@
 // What a command does with carried tables, by the script of its tool, once none of the tool's refusals
 // is there.
-ghost use Rattle.std.specs.Prelude.{◌≡◌, [], ◌∷◌, IfSome, OnOk};
-ghost use Rattle.account_formats.specs.Edits.Edit.{Add};
+ghost use Rattle.std.specs.Prelude.{◌≡◌, OnOk};
 ghost use Rattle.account_formats.specs.Records.{subid_format};
 ghost use Rattle.account_formats.specs.Tables.{files_after};
 ghost use Rattle.account_formats.specs.WrittenScript.{IsWrittenScript};
 ghost use Rattle.carried_tables.specs.TableEdits.{AreWritten, table_by};
-ghost use Rattle.line_edits.specs.SeenEdits.{seen_edits};
 ghost use Rattle.line_edits.specs.SubidChanges.{subid_becomes};
 ghost use Rattle.table_edits.specs.Deciding.{CarriesAs};
 ghost use Rattle.table_edits.specs.SeenScript.{seen_script};
@@ -66,7 +64,8 @@ fn edit_tables(alloc: Global, tables: &mut CarriedTables, script: &Script) -> Re
 }
 
 // Makes the edits of subuid or subgid. A range that is added alone takes no pass over the lines, nor do
-// edits that leave all ranges, where the index of these is known.
+// the removal of all ranges of an owner, and edits that leave all ranges, where the index of these is
+// known.
 fn edit_ranges(
     alloc: Global,
     table: &mut RangeTable,
@@ -75,16 +74,19 @@ fn edit_ranges(
     requires { AreWritten subid_format subid_becomes edits.now }
     ensures { OnOk result (table.new ≡ table_by subid_format subid_becomes edits.now table.old) }
 {
-    if let Some(range) = added_alone(edits) {
-        return table.add(alloc, range);
-    }
     if leave_all(edits) {
         return Ok(());
     }
     if leave_indexed(table, edits) {
         return Ok(());
     }
-    remake_ranges(alloc, table, edits)
+    match edits {
+        [Edit::Add(range)] => table.add(alloc, range),
+        [Edit::Become(SubidChange::Remove(owner, uid))] => {
+            table.remove(alloc, owner.as_slice(), *uid)
+        }
+        _ => remake_ranges(alloc, table, edits),
+    }
 }
 
 // Makes the edits in a pass over the lines. Where these stay, another pass gathers the index, so that
@@ -97,8 +99,8 @@ fn remake_ranges(
     requires { AreWritten subid_format subid_becomes edits.now }
     ensures { OnOk result (table.new ≡ table_by subid_format subid_becomes edits.now table.old) }
 {
-    let Some(text) = table.file() else {
-        return Ok(())
+    let Some(text) = table.ranges().copy()? else {
+        return Ok(());
     };
     let new = edited_ranges(alloc, text.as_slice(), edits)?;
     if new.as_slice() == text.as_slice() {
@@ -106,15 +108,4 @@ fn remake_ranges(
     }
     table.put(new);
     Ok(())
-}
-
-// The range that the edits add, where they do nothing else.
-fn added_alone(edits: &[Edit<SubidRecord, SubidChange>]) -> Option<&SubidRecord>
-    ensures { IfSome result (λ range.
-        seen_edits subid_becomes edits.now ≡ Add range.now ∷ []) }
-{
-    match edits {
-        [Edit::Add(range)] => Some(range),
-        _ => None,
-    }
 }
