@@ -1,15 +1,18 @@
 -- Claim: usermod answers by the first bad value (`refused-by_value`), else by what is missing or
 -- taken (`refused-by_conflict`), and else by its edits (`changed`). Way: its refusals are these two
 -- lists. And the new name can stand in a first field (`new-name-good`, `new-name-field`): that of
--- `-l` is valid, and that of a user stands in a line.
-use Rattle.std.proofs.Common.{◌≡◌, ◌∙◌, ℕ}
+-- `-l` is valid, and that of a user stands in a line. A name without a comma is listed (`listed`).
+use Rattle.std.proofs.Common.{◌≡◌, ◌∙◌, ℕ, false, refl, inl, inr}
 use Rattle.std.specs.Prelude.{None, Err, codes}
+use Rattle.std.proofs.lemmas.Bool.{cases_Bool}
+use Rattle.acct_text.specs.Bytes.{is_empty}
 use Rattle.acct_text.specs.declared.files.Files.{Files}
 use Rattle.account_formats.specs.Names.{is_valid_name}
 use Rattle.account_model.specs.Refusals.{bad_value, missing_user}
 use Rattle.account_words.specs.Request.{Request, operand}
-use Rattle.account_formats.specs.Text.{first_some}
-use Rattle.account_model.specs.Usermod.{new_name, usermod, usermod_checks, usermod_conflicts, usermod_script}
+use Rattle.account_formats.specs.Text.{comma, first_some, has_byte}
+use Rattle.account_model.specs.GivenGroups.{given_groups}
+use Rattle.account_model.specs.Usermod.{new_name, unlistable_name, usermod, usermod_checks, usermod_conflicts, usermod_script}
 use Rattle.account_words.specs.Values.{is_field, is_folder, is_shell, is_days_value, is_expiration_value}
 use Rattle.account_formats.specs.Written.{IsNameField}
 use Rattle.account_model.proofs.DeedLaws.{first-none}
@@ -50,6 +53,16 @@ new-name-field request files good there =
     text-kept IsNameField (codes "l") is_valid_name request (operand request) valid-name good
     (user-named (operand request) files there)
 
+-- a name without a comma can stand in the lists of `-G`, whichever groups it names
+pub listed :
+    (request : Request) (files : Files)
+    → has_byte comma (operand request) ≡ false
+    → unlistable_name request files ≡ None
+listed request files plain = elim (cases_Bool (is_empty (given_groups request files))) [
+  | inl none ↦ rw none refl
+  | inr some ↦ rw (some, plain) refl
+]
+
 module _ (request : Request) (files : Files) (day : ℕ) where
   -- a bad value refuses before all else
   pub refused-by_value :
@@ -64,7 +77,7 @@ module _ (request : Request) (files : Files) (day : ℕ) where
   pub refused-by_conflict :
       (fault : ToolFault)
       → first_some (usermod_checks request) ≡ None
-      → StopsBy {X = Unit {0}} (first_some (usermod_conflicts request files)) (Err fault)
+      → StopsBy {X = ℕ} (first_some (usermod_conflicts request files)) (Err fault)
       → ActsBy (usermod request files day) (Err fault)
   refused-by_conflict (Refused refusal) good is =
       first_some-behind (usermod_checks request) (usermod_conflicts request files) good ∙ is

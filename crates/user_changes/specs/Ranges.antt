@@ -1,16 +1,17 @@
 -- The subordinate IDs that a user loses and gets, as account_model has them (usermod(8), `-v`, `-V`,
 -- `-w` and `-W`).
-use Rattle.std.specs.Prelude.{List, map, Option}
+use Rattle.std.specs.Prelude.{ℕ, List, map, codes, Option, Some, option_map}
 use Rattle.acct_text.specs.declared.Tab.{Tab}
 use Rattle.acct_text.specs.declared.Tab.TheVariants.{Subuid, Subgid}
 use Rattle.acct_text.specs.Lines.{Line}
 use Rattle.account_model.specs.declared.refusal.Refusal.{Refusal}
 use Rattle.account_formats.specs.Edits.{edited_by}
-use Rattle.account_formats.specs.Records.{subid_format}
+use Rattle.account_formats.specs.Records.{read_id, subid_format}
 use Rattle.account_words.specs.declared.settings.IdSort.{IdSort}
 use Rattle.account_words.specs.declared.settings.IdSort.TheVariants.{Uid, Gid}
-use Rattle.account_words.specs.Request.{Request}
-use Rattle.account_model.specs.Usermod.{subgid_change, subuid_change}
+use Rattle.account_words.specs.Request.{Request, operand}
+use Rattle.account_words.specs.Values.{field_value}
+use Rattle.account_model.specs.Usermod.{new_name, subgid_change, subuid_change}
 use Rattle.account_model.specs.UsermodRanges.{RangeOwner, RangeChange, edits_before_adding, first_meeting}
 use Rattle.command_values.specs.Ranges.{ids_named}
 use Rattle.user_changes.specs.declared.ranges.UserRanges.{UserRanges}
@@ -24,6 +25,14 @@ range_table Gid = Subgid
 abbrev pub range_change : IdSort → Request → RangeChange
 range_change Uid request = subuid_change request
 range_change Gid request = subgid_change request
+
+-- whose the ranges are to be, by the user's UID so far
+abbrev pub owner_by : Request → Option ℕ → RangeOwner
+owner_by request old_uid = record {
+  old_name = operand request;
+  new_name = new_name request;
+  uid = field_value (λ value. option_map Some (read_id value)) (codes "u") request old_uid;
+}
 
 -- whose the ranges are
 abbrev pub owner_of : UserRanges → RangeOwner

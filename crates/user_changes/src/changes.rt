@@ -1,9 +1,11 @@
 // usermod LOGIN (usermod(8)): changes a user.
-ghost use Rattle.std.specs.Prelude.{◌≡◌, ◌∷◌, [], IfOk, codes};
+ghost use Rattle.std.specs.Prelude.{◌≡◌, ◌∷◌, [], Some, IfOk, codes};
 ghost use Rattle.account_model.specs.Refusals.{bad_values};
 ghost use Rattle.account_formats.specs.Text.{first_some};
 ghost use Rattle.account_model.specs.Usermod.{new_name, usermod, usermod_checks, usermod_script};
 ghost use Rattle.account_model.specs.UsermodRanges.{is_range};
+ghost use Rattle.account_model.specs.Users.{uid_of};
+ghost use Rattle.account_words.specs.Request.{operand};
 ghost use Rattle.tool_answers.specs.Refusing.{RefusesBy};
 ghost use Rattle.table_edits.specs.Acting.{ActsBy};
 ghost use Rattle.table_edits.specs.SeenScript.{seen_script};
@@ -29,8 +31,8 @@ pub fn usermod(alloc: Global, asked: &Asked, tables: &Tables, day: u32) -> Resul
     ensures { ActsBy (usermod asked.now tables.now day) result }
 {
     check_values(alloc, asked)?;
-    check_conflicts(alloc, asked, tables)?;
-    Ok(changed_user(alloc, asked, tables, day)?)
+    let old_uid = check_conflicts(alloc, asked, tables)?;
+    Ok(changed_user(alloc, asked, tables, old_uid, day)?)
 }
 
 // Refuses the values of options: `BadValue`.
@@ -63,13 +65,15 @@ fn check_ranges(alloc: Global, asked: &Asked) -> Result<(), ToolFault>
     asked.check_values(alloc, b'W', Form::Range)
 }
 
-// The edits of a user that can be changed so.
+// The edits of a user that can be changed so; `old_uid` is the UID so far.
 fn changed_user(
     alloc: Global,
     asked: &Asked,
     tables: &Tables,
+    old_uid: u32,
     day: u32,
 ) -> Result<Script, AllocError>
+    requires { Some old_uid ≡ uid_of (operand asked.now) tables.now }
     ensures { IfOk result (λ script.
         seen_script script ≡ usermod_script asked.now tables.now day) }
 {
@@ -78,7 +82,7 @@ fn changed_user(
     write_passwd(alloc, &mut script, asked, tables)?;
     write_shadow(alloc, &mut script, asked, day)?;
     write_memberships(alloc, &mut script, asked, tables)?;
-    write_ranges(alloc, &mut script, asked, tables)?;
+    write_ranges(alloc, &mut script, asked, old_uid)?;
     Ok(script)
 }
 

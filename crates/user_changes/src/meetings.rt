@@ -1,6 +1,6 @@
 // The ranges of subordinate IDs that a user gets, and those that they meet (usermod(8), `-v` and
 // `-w`; subuid(5), subgid(5)).
-ghost use Rattle.std.specs.Prelude.{◌≡◌, ◌+◌, ◌-◌, IfOk, OnOk, option_map};
+ghost use Rattle.std.specs.Prelude.{◌≡◌, ◌+◌, ◌-◌, Some, IfOk, OnOk, option_map};
 ghost use Rattle.acct_text.specs.Lines.{lines_of};
 ghost use Rattle.acct_text.specs.Files.{table_of};
 ghost use Rattle.account_model.specs.declared.refusal.Refusal.TheVariants.{Meets};
@@ -8,6 +8,8 @@ ghost use Rattle.account_formats.specs.Edits.{edited_by};
 ghost use Rattle.account_formats.specs.Records.{subid_format};
 ghost use Rattle.account_model.specs.Usermod.{new_name, range_owner};
 ghost use Rattle.account_model.specs.UsermodRanges.{edits_before_adding, meeting_in};
+ghost use Rattle.account_model.specs.Users.{uid_of};
+ghost use Rattle.account_words.specs.Request.{operand};
 ghost use Rattle.account_formats.specs.Written.{IsNameField};
 ghost use Rattle.subid_ranges.specs.RangeLines.{meeting_line, with_range};
 ghost use Rattle.table_lookups.specs.Stopping.{StopsBy};
@@ -24,19 +26,21 @@ use subid_ranges::{RangeFault, Ranges};
 use table_lookups::Tables;
 
 /// Refuses the first new range of `-v`, or of `-w`, that meets a line of subuid, or of subgid, as it
-/// stands then: `Meets`. An absent table is met by none.
+/// stands then: `Meets`. An absent table is met by none. `old_uid` is the UID so far.
 pub(crate) fn check_meetings(
     alloc: Global,
     asked: &Asked,
     tables: &Tables,
+    old_uid: u32,
     sort: IdSort,
 ) -> Result<(), ToolFault>
-    requires { IsNameField (new_name asked.now) }
+    requires named { IsNameField (new_name asked.now) }
+    requires uid { Some old_uid ≡ uid_of (operand asked.now) tables.now }
     ensures { StopsBy (meeting_in (range_table sort) (range_owner asked.now tables.now)
         (range_change sort asked.now) (table_of tables.now (range_table sort))) result }
 {
-    let ranges = user_ranges(alloc, asked, tables, sort)?;
-    check_added(alloc, &ranges, range_table(sort), range_file(tables, sort))
+    let ranges = user_ranges(alloc, asked, old_uid, sort)?;
+    check_added(alloc, &ranges, tables, sort)
 }
 
 // The table of the ranges of such IDs.
@@ -49,9 +53,9 @@ fn range_table(sort: IdSort) -> Tab
     }
 }
 
-// The bytes of that table; none where there is no file.
-fn range_file<'a>(tables: &Tables<'a>, sort: IdSort) -> &'a Option<Bytes>
-    ensures { result.now ≡ table_of tables.now (range_table sort) }
+// A copy of the bytes of that table; none where there is no file.
+fn range_file(tables: &Tables, sort: IdSort) -> Result<Option<Bytes>, AllocError>
+    ensures { IfOk result (λ file. file ≡ table_of tables.now (range_table sort)) }
 {
     match sort {
         IdSort::Uid => tables.subuid_file(),
@@ -59,20 +63,24 @@ fn range_file<'a>(tables: &Tables<'a>, sort: IdSort) -> &'a Option<Bytes>
     }
 }
 
-// Refuses the first new range that meets a line of the file: `Meets`.
+// Refuses the first new range that meets a line of the table: `Meets`. Its file is copied only where a
+// range is new.
 fn check_added(
     alloc: Global,
     ranges: &UserRanges,
-    tab: Tab,
-    file: &Option<Bytes>,
+    tables: &Tables,
+    sort: IdSort,
 ) -> Result<(), ToolFault>
     requires { IsNameField (owner_of ranges.now).new_name }
-    ensures { StopsBy
-        (meeting_in tab (owner_of ranges.now) (change_of ranges.now) file.now) result }
+    ensures { StopsBy (meeting_in (range_table sort) (owner_of ranges.now) (change_of ranges.now)
+        (table_of tables.now (range_table sort))) result }
 {
-    match file {
-        Some(text) if !ranges.added.is_empty() => check_lines(alloc, ranges, tab, text.as_slice()),
-        _ => Ok(()),
+    if ranges.added.is_empty() {
+        return Ok(());
+    }
+    match range_file(tables, sort)? {
+        Some(text) => check_lines(alloc, ranges, range_table(sort), text.as_slice()),
+        None => Ok(()),
     }
 }
 

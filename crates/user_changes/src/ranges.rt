@@ -1,16 +1,15 @@
 // The subordinate IDs that a user loses and gets (usermod(8), `-v`, `-V`, `-w` and `-W`; subuid(5),
 // subgid(5)).
-ghost use Rattle.std.specs.Prelude.{◌≡◌, ◌++◌, ◌∷◌, [], map, IfOk, OnOk};
+ghost use Rattle.std.specs.Prelude.{◌≡◌, ◌++◌, ◌∷◌, [], map, Some, IfOk, OnOk};
 ghost use Rattle.account_formats.specs.Edits.Edit.{Add, Become};
 ghost use Rattle.account_formats.specs.Tables.{no_edits};
-ghost use Rattle.account_model.specs.Usermod.{range_owner, subgid_change, subuid_change, uid_after};
+ghost use Rattle.account_model.specs.Usermod.{subgid_change, subuid_change};
 ghost use Rattle.account_model.specs.UsermodRanges.{add_range, cut_range, edits_before_adding, range_edits, ranges_given};
-ghost use Rattle.account_model.specs.Users.{uid_of};
 ghost use Rattle.command_values.specs.Ranges.{ids_named};
 ghost use Rattle.table_edits.specs.Additions.{HasAlso};
 ghost use Rattle.line_edits.specs.SeenEdits.{seen_edits};
 ghost use Rattle.line_edits.specs.SubidChanges.{subid_becomes};
-ghost use Rattle.user_changes.specs.Ranges.{change_of, owner_of, range_change};
+ghost use Rattle.user_changes.specs.Ranges.{change_of, owner_by, owner_of, range_change};
 
 use crate::changes::new_name;
 use account_words::IdSort;
@@ -20,7 +19,6 @@ use command_values::{Asked, IdRange};
 use line_edits::{Edit, RangeCut, SubidChange};
 use std::alloc::{AllocError, Global};
 use table_edits::Script;
-use table_lookups::Tables;
 
 /// The IDs of subuid or of subgid that a user loses and gets.
 #[derive(Drop)]
@@ -29,7 +27,7 @@ pub(crate) struct UserRanges {
     pub old_name: Bytes,
     /// The name of the user from now on.
     pub new_name: Bytes,
-    /// The UID of the user from now on, where it is known.
+    /// The UID of the user from now on.
     pub uid: Option<u32>,
     /// The IDs that go, in the order in which they were given.
     pub removed: Vec<IdRange>,
@@ -37,37 +35,38 @@ pub(crate) struct UserRanges {
     pub added: Vec<IdRange>,
 }
 
-/// Renames the owner in subuid and subgid, and changes the ranges there.
+/// Renames the owner in subuid and subgid, and changes the ranges there. `old_uid` is
+/// the user's UID so far.
 pub(crate) fn write_ranges(
     alloc: Global,
     script: &mut Script,
     asked: &Asked,
-    tables: &Tables,
+    old_uid: u32,
 ) -> Result<(), AllocError>
     ensures { OnOk result (HasAlso
         (record no_edits {
-          subuid = range_edits (range_owner asked.now tables.now) (subuid_change asked.now);
-          subgid = range_edits (range_owner asked.now tables.now) (subgid_change asked.now);
+          subuid = range_edits (owner_by asked.now (Some old_uid)) (subuid_change asked.now);
+          subgid = range_edits (owner_by asked.now (Some old_uid)) (subgid_change asked.now);
         })
         script.old script.new) }
 {
-    user_ranges(alloc, asked, tables, IdSort::Uid)?.push_edits(alloc, &mut script.subuid)?;
-    user_ranges(alloc, asked, tables, IdSort::Gid)?.push_edits(alloc, &mut script.subgid)
+    user_ranges(alloc, asked, old_uid, IdSort::Uid)?.push_edits(alloc, &mut script.subuid)?;
+    user_ranges(alloc, asked, old_uid, IdSort::Gid)?.push_edits(alloc, &mut script.subgid)
 }
 
-/// The UIDs of `-V` and `-v`, or the GIDs of `-W` and `-w`.
+/// The UIDs of `-V` and `-v`, or the GIDs of `-W` and `-w`, of a user with that UID so far.
 pub(crate) fn user_ranges(
     alloc: Global,
     asked: &Asked,
-    tables: &Tables,
+    old_uid: u32,
     sort: IdSort,
 ) -> Result<UserRanges, AllocError>
-    ensures owner { IfOk result (λ ranges. owner_of ranges ≡ range_owner asked.now tables.now) }
+    ensures owner { IfOk result (λ ranges. owner_of ranges ≡ owner_by asked.now (Some old_uid)) }
     ensures change { IfOk result (λ ranges. change_of ranges ≡ range_change sort asked.now) }
 {
     match sort {
-        IdSort::Uid => UserRanges::of(alloc, asked, tables, b'V', b'v'),
-        IdSort::Gid => UserRanges::of(alloc, asked, tables, b'W', b'w'),
+        IdSort::Uid => UserRanges::of(alloc, asked, old_uid, b'V', b'v'),
+        IdSort::Gid => UserRanges::of(alloc, asked, old_uid, b'W', b'w'),
     }
 }
 
@@ -76,12 +75,11 @@ impl UserRanges {
     fn of(
         alloc: Global,
         asked: &Asked,
-        tables: &Tables,
+        old_uid: u32,
         removing: u8,
         adding: u8,
     ) -> Result<UserRanges, AllocError>
-        ensures owner { IfOk result (λ ranges.
-            owner_of ranges ≡ range_owner asked.now tables.now) }
+        ensures owner { IfOk result (λ ranges. owner_of ranges ≡ owner_by asked.now (Some old_uid)) }
         ensures change { IfOk result (λ ranges. change_of ranges ≡ record {
           removed = ranges_given (removing ∷ []) asked.now;
           added = ranges_given (adding ∷ []) asked.now;
@@ -90,7 +88,7 @@ impl UserRanges {
         Ok(UserRanges {
             old_name: Bytes::of(alloc, asked.operand())?,
             new_name: Bytes::of(alloc, new_name(asked))?,
-            uid: uid_after(alloc, asked, tables)?,
+            uid: uid_after(asked, old_uid),
             removed: asked.ranges(alloc, removing)?,
             added: asked.ranges(alloc, adding)?,
         })
@@ -169,19 +167,12 @@ impl UserRanges {
     }
 }
 
-// The UID of `-u`, and else the user's.
-fn uid_after(alloc: Global, asked: &Asked, tables: &Tables) -> Result<Option<u32>, AllocError>
-    ensures { IfOk result (λ uid. uid ≡ uid_after asked.now tables.now) }
+// The UID of `-u`, and else the user's own.
+fn uid_after(asked: &Asked, old_uid: u32) -> Option<u32>
+    ensures { result ≡ (owner_by asked.now (Some old_uid)).uid }
 {
     match asked.id(b'u') {
-        Some(uid) => Ok(Some(uid)),
-        None => uid_of(alloc, tables, asked.operand()),
+        Some(uid) => Some(uid),
+        None => Some(old_uid),
     }
-}
-
-// The UID of the user of the name.
-fn uid_of(alloc: Global, tables: &Tables, name: &[u8]) -> Result<Option<u32>, AllocError>
-    ensures { IfOk result (λ uid. uid ≡ uid_of name.now tables.now) }
-{
-    Ok(tables.user_named(alloc, name)?.map(|user| user.uid))
 }

@@ -12,15 +12,16 @@ returns-in_err-check_values c =
 pub check_conflicts-requires : goal.check_conflicts-requires
 check_conflicts-requires c = new-name-good c.args.asked.now c.in_ok-check_values.ensures
 
-pub returns-in_err-check_conflicts : goal.returns-in_err-check_conflicts
-returns-in_err-check_conflicts c =
-    let fault = c.in_err-check_conflicts.field-0.0 in
-    acts-handed _ c.from_residual-in_err-check_conflicts.result fault
-    c.from_residual-in_err-check_conflicts.ensures.1
+pub returns-in_err-old_uid : goal.returns-in_err-old_uid
+returns-in_err-old_uid c =
+    let fault = c.in_err-old_uid.field-0.0 in
+    acts-handed _ c.from_residual-in_err-old_uid.result fault
+    c.from_residual-in_err-old_uid.ensures.1
     (refused-by_conflict c.args.asked.now c.args.tables.now c.args.day fault
-    c.in_ok-check_values.ensures c.in_err-check_conflicts.ensures)
+    c.in_ok-check_values.ensures c.in_err-old_uid.ensures.refused)
 
 pub returns : goal.returns
 returns c =
+    let is = c.in_ok-old_uid.ensures {u = tt} in
     changed c.args.asked.now c.args.tables.now c.args.day c.in_ok-changed_user.field-0
-    c.in_ok-check_values.ensures c.in_ok-check_conflicts.ensures c.in_ok-changed_user.ensures
+    c.in_ok-check_values.ensures is.refused c.in_ok-changed_user.ensures
