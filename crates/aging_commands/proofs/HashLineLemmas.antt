@@ -156,7 +156,8 @@ scripts-seen files day (hash ∷ hashes) =
 -- by the texts
 scripts-texts :
     (files : Files) (day : ℕ) (lines : List Line)
-    → map (hash_script files day) (map hash_line (texts_of lines)) ≡ map (line_script files day) lines
+    → map (hash_script files day) (map hash_line (texts_of lines))
+    ≡ map (line_script files day) lines
 scripts-texts files day [] = refl
 scripts-texts files day (line ∷ lines) =
     ap (λ scripts. line_script files day line ∷ scripts) (scripts-texts files day lines)

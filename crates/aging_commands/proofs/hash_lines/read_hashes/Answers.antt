@@ -14,7 +14,8 @@ pub overflow_add-number : goal.overflow_add-number
 overflow_add-number c =
     let input = c.args.input.now in
     let places = c.deref-start-items.result.now in
-    let texts = ap length (ap (map (part_of input)) c.deref-start-items.ensures.value ∙ c.in_ok-places.ensures.texts) in
+    let texts = ap length
+    (ap (map (part_of input)) c.deref-start-items.ensures.value ∙ c.in_ok-places.ensures.texts) in
     omega (
       arith,
       texts,
@@ -29,12 +30,14 @@ lines-preserved c =
     let input = c.args.input.now in
     let places = c.deref-start-items.result.now in
     let index = c.lines.start-index in
-    let good = subst (λ n. line_refusal c.args.users.now (n + 1) (part_of input (slice_index_or places index (0, 0))) ≡ None)
+    let good = subst (λ n. line_refusal c.args.users.now (n + 1)
+    (part_of input (slice_index_or places index (0, 0))) ≡ None)
     c.lines.invariant.counted c.in_ok-hash.ensures.refused in
     record {
       read = read-more input places index _ _ _ c.lines-test.true c.lines.invariant.read
           (c.in_ok-push_hash.ensures {u = tt}) c.in_ok-hash.ensures.read;
-      good = good-more input places index c.args.users.now _ c.lines-test.true c.lines.invariant.good good;
+      good = good-more input places index c.args.users.now _ c.lines-test.true
+          c.lines.invariant.good good;
       counted = ap (λ n. n + 1) c.lines.invariant.counted;
     }
 
