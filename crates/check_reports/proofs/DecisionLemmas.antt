@@ -1,6 +1,6 @@
--- Claim: a tool that changes nothing decides as its report says (`told-decides`), and one that
+-- Claim: a tool that changes nothing decides as its report says (`told_decides`), and one that
 -- sorts two tables lists those that differ then (`tables-sorted`), as pwck and grpck do
--- (`users-sorted`, `groups-sorted`). Way: without edits no name has multiple entries, and the files
+-- (`users_sorted`, `groups_sorted`). Way: without edits no name has multiple entries, and the files
 -- stay; a sort touches no record.
 use Rattle.std.proofs.Common.{◌≡◌, ◌∙◌, ◌++◌, ℕ, true, List, [], ◌∷◌, refl, sym, ap, ap₂}
 use Rattle.std.specs.Prelude.{Option, Some, None, Ok}
@@ -80,12 +80,12 @@ module _ (tool : Tool) (refusals : List (Option Refusal)) (status : ℕ) (out : 
       ∙ none-changed files
 
   -- the report decides
-  pub told-decides :
+  pub told_decides :
       (decision : Decision)
       → decision ≡ Same (record { status = status; out = out; err = [] })
       → first_some refusals ≡ None
       → DecidesBy tool (reports refusals status out) files decision
-  told-decides decision is unrefused =
+  told_decides decision is unrefused =
       is
       ∙ sym (ap (decision_of tool files) (told-outcome unrefused)
       ∙ ap (λ (tables : List NewTable). decision_by tables
@@ -106,10 +106,10 @@ unsorted files part =
     ap (same_content (part files)) (ap part (files-stay files)) ∙ same-self (part files)
 
 -- pwck sorts passwd and shadow
-pub users-sorted :
+pub users_sorted :
     (files : Files)
     → Sorts passwd_format shadow_format (λ user. user.uid) Passwd Shadow (pwck_sort files) files
-users-sorted files = record {
+users_sorted files = record {
   sorts_main = refl;
   sorts_hashes = refl;
   leaves_others = rw (
@@ -128,10 +128,10 @@ users-sorted files = record {
 }
 
 -- and grpck group and gshadow
-pub groups-sorted :
+pub groups_sorted :
     (files : Files)
     → Sorts group_format gshadow_format (λ group. group.gid) Group Gshadow (grpck_sort files) files
-groups-sorted files = record {
+groups_sorted files = record {
   sorts_main = refl;
   sorts_hashes = refl;
   leaves_others = rw (

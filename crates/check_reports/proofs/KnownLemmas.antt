@@ -1,7 +1,7 @@
--- Claim: a file has the records that its names tell of (`has-told`); with one line more noted they
+-- Claim: a file has the records that its names tell of (`has_told`); with one line more noted they
 -- are those up to it or of all (`next-by`), tell of its record whether one before it has the name
 -- (`before-by`), and behind the last line are those of all (`whole-by`); and a GID is among those
--- of groups where a group has it (`gid-used`).
+-- of groups where a group has it (`gid_used`).
 use Rattle.std.proofs.Common.{◌≡◌, ◌∙◌, ◌==◌, ℕ, Bool, true, false, List, [], ◌∷◌, ◌++◌, length, map, refl, sym, ap, subst}
 use Rattle.std.specs.Prelude.{◌||◌, Some, is_some, if◌then◌else◌}
 use Rattle.std.proofs.lemmas.List.{length-map, map-append}
@@ -19,20 +19,20 @@ use Rattle.check_reports.specs.declared.known.NamedFile.{NamedFile}
 use Rattle.check_reports.specs.Known.{IsWhole, has_gid}
 
 -- a GID is used where a group has it
-pub gid-used :
+pub gid_used :
     (groups : List GroupRecord) (gid : ℕ)
     → is_used (map (λ group. group.gid) groups) gid ≡ has_gid groups gid
-gid-used [] gid = refl
-gid-used (group ∷ groups) gid = ap (λ rest. (group.gid == gid) || rest) (gid-used groups gid)
+gid_used [] gid = refl
+gid_used (group ∷ groups) gid = ap (λ rest. (group.gid == gid) || rest) (gid_used groups gid)
 
 module _ {R : Type 0} (format : Format R) where
   -- what is told of a name is there where a record of the file has it
-  pub has-told :
+  pub has_told :
       (table : NamedFile) (name : List ℕ)
       → IsWhole format table
       → is_some (told table.names name)
       ≡ has_named format name (table_records format table.file.now)
-  has-told table name whole =
+  has_told table name whole =
       let lines = lines_in table.file.now in
       ap is_some (whole name)
       ∙ told-has format name lines

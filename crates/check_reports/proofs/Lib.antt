@@ -1,6 +1,7 @@
 pub mod DecisionLemmas
 pub mod RangeLines
 pub mod RecordWalk
+pub mod HashLemmas
 pub mod KnownLemmas
 pub mod PlaceLemmas
 pub mod ReportWalk

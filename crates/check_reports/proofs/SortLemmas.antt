@@ -39,14 +39,6 @@ all-inserted P new (old ∷ rest) of_new of_others =
     all-by P new old rest (nat_le new.key old.key) of_new of_others.0 of_others.1
     (all-inserted P new rest of_new of_others.1)
 
--- what holds of all holds of all in order
-pub all-sorted :
-    (P : Keyed → Type 0) (keyed : List Keyed)
-    → AllByRecursion P keyed → AllByRecursion P (sorted_by_key keyed)
-all-sorted P [] of_all = tt
-all-sorted P (first ∷ rest) of_all =
-    all-inserted P first (sorted_by_key rest) of_all.0 (all-sorted P rest of_all.1)
-
 -- keys above a key are above a lower one
 all-above :
     (low high : ℕ) (keyed : List Keyed)

@@ -19,6 +19,7 @@ use std::alloc::{AllocError, Global};
 use tool_answers::{Decision, Output, decision_by};
 
 /// The decision of a tool that changes nothing: its status, and what it prints.
+#[tactic(auto, using(crate::proofs::DecisionLemmas::told_decides))]
 pub(crate) fn told(alloc: Global, status: u8, out: Bytes) -> Decision
     ensures { (tool : Tool) (refusals : List (Option Refusal)) (files : Files)
         → first_some refusals ≡ None

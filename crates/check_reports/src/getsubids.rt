@@ -75,7 +75,8 @@ fn ranges_of(
 
 // A line for each range, numbered from 0.
 fn range_lines(alloc: Global, user: &[u8], ranges: &[(u32, u32)]) -> Result<Bytes, AllocError>
-    ensures { IfOk result (λ lines. lines ≡ range_lines_from 0 user.now (map (range_for user.now) ranges.now)) }
+    ensures { IfOk result (λ lines. lines
+        ≡ range_lines_from 0 user.now (map (range_for user.now) ranges.now)) }
 {
     let mut lines = Bytes::new(alloc);
     for (number, range) in ranges.iter().enumerate() {
@@ -91,7 +92,8 @@ fn push_range(
     user: &[u8],
     range: (u32, u32),
 ) -> Result<(), AllocError>
-    ensures { OnOk result (lines.new ≡ lines.old ++ range_line number user.now (range_for user.now range)) }
+    ensures { OnOk result (lines.new
+        ≡ lines.old ++ range_line number user.now (range_for user.now range)) }
 {
     let (first, count) = range;
     lines.push_pieces(&[

@@ -11,16 +11,17 @@ use crate::decision::sort_tables;
 use crate::known::{GroupChecks, GroupHashChecks, NamedFile};
 use crate::problem::{Listing, Problem};
 use crate::problems::Problems;
-use crate::report::{Checks, Report};
+use crate::report::{Checks, NameRead, Report};
 use crate::sorting::ById;
 use account_formats::{GroupRecord, GshadowRecord, PasswdRecord};
-use acct_lines::{GroupLine, GshadowLine, ReadFault, is_valid_name};
+use acct_lines::{GroupLine, GshadowLine, is_valid_name};
 use acct_text::{Files, Tab, cut_once};
 use command_values::Asked;
 use std::alloc::{AllocError, Global};
 use tool_answers::Decision;
 
 /// Sorts group and gshadow with `-s`, and else reports their problems.
+#[tactic(auto, using(crate::proofs::DecisionLemmas::groups_sorted))]
 pub fn grpck(alloc: Global, asked: &Asked, files: &Files) -> Result<Decision, AllocError>
     ensures { IfOk result (DecidesBy asked.now.tool (grpck asked.now files.now) files.now) }
 {
@@ -59,12 +60,7 @@ impl<'u, 'n, 'a> Checks<GroupRecord> for GroupChecks<'u, 'n, 'a> {
 
     ghost problems = { λ known. group_problems (beside_groups known) };
 
-    fn note<'t>(
-        &self,
-        found: &mut Problems<'t>,
-        place: usize,
-        text: &'t [u8],
-    ) -> Result<&'t [u8], ReadFault> {
+    fn note<'t>(&self, found: &mut Problems<'t>, place: usize, text: &'t [u8]) -> NameRead<'t> {
         let group = GroupLine::read(text)?;
         let name = group.name;
         let hashes = self.hashes;
@@ -85,25 +81,20 @@ impl<'u, 'n, 'a> Checks<GshadowRecord> for GroupHashChecks<'u, 'n, 'a> {
 
     ghost problems = { λ known. gshadow_problems (beside_group_hashes known) };
 
-    fn note<'t>(
-        &self,
-        found: &mut Problems<'t>,
-        place: usize,
-        text: &'t [u8],
-    ) -> Result<&'t [u8], ReadFault> {
+    fn note<'t>(&self, found: &mut Problems<'t>, place: usize, text: &'t [u8]) -> NameRead<'t> {
         let group = GshadowLine::read(text)?;
         let name = group.name;
         let lacks_entry = !self.groups.has_near::<GroupRecord>(name, place);
         found.note_if(lacks_entry, Problem::NoGroupEntry(name))?;
-        let administrators = group.administrators;
+        let users = self.users;
         note_unknown(
             found,
-            self.users,
+            users,
             name,
             Listing::Administrator,
-            administrators,
+            group.administrators,
         )?;
-        note_unknown(found, self.users, name, Listing::Member, group.members)?;
+        note_unknown(found, users, name, Listing::Member, group.members)?;
         Ok(name)
     }
 

@@ -4,10 +4,12 @@ ghost use Rattle.std.specs.Option.{option_copied};
 ghost use Rattle.account_formats.specs.Format.{has_named};
 ghost use Rattle.account_formats.specs.Records.{group_format, gshadow_format, passwd_format, shadow_format};
 ghost use Rattle.account_formats.specs.Tables.{table_records};
-ghost use Rattle.acct_tables.specs.NameIndex.{TellsAtMost, told};
+ghost use Rattle.acct_tables.specs.NameIndex.{Tells, TellsAtMost, line_names, told};
 ghost use Rattle.id_choice.specs.Used.{AreThoseOf};
+ghost use Rattle.carried_tables.specs.TablesOfLines.{lines_in};
 ghost use Rattle.check_reports.specs.Known.{HasNoted, IsWhole, NotesLine, has_gid};
 
+use crate::hashes::HashLines;
 use acct_lines::TableRecord;
 use acct_tables::NameIndex;
 use acct_text::Bytes;
@@ -45,11 +47,22 @@ impl<'a> NamedFile<'a> {
         ensures whole { IfOk result (IsWhole R.format) }
         ensures noted { IfOk result (HasNoted R.format []) }
     {
-        Ok(NamedFile {
+        let names = NameIndex::of::<R>(alloc, text_of(file))?;
+        Ok(NamedFile::with::<R>(file, names))
+    }
+
+    /// The file with these names of all its records.
+    pub(crate) fn with<R: TableRecord>(file: &'a Option<Bytes>, names: NameIndex<'a>) -> Self
+        requires { Tells (line_names R.format (lines_in file.now)) (told names) }
+        ensures of_file { result.file.now ≡ file.now }
+        ensures whole { IsWhole R.format result }
+        ensures noted { HasNoted R.format [] result }
+    {
+        NamedFile {
             file,
-            names: NameIndex::of::<R>(alloc, text_of(file))?,
+            names,
             is_whole: true,
-        })
+        }
     }
 
     /// Notes the line at this place, counted from 0, behind those that are noted: its name where it
@@ -66,6 +79,7 @@ impl<'a> NamedFile<'a> {
     }
 
     /// Whether a record has the name.
+    #[tactic(auto, using(crate::proofs::KnownLemmas::has_told))]
     pub(crate) fn has<R: TableRecord>(&self, name: &[u8]) -> bool
         requires { IsWhole R.format self.now }
         ensures { result ≡ has_named R.format name.now (table_records R.format self.now.file.now) }
@@ -75,6 +89,7 @@ impl<'a> NamedFile<'a> {
 
     /// Whether a record has the name, which is found soonest at this place, counted from 0: mostly
     /// a table and that of its hashes have their lines in one order.
+    #[tactic(auto, using(crate::proofs::KnownLemmas::has_told))]
     pub(crate) fn has_near<R: TableRecord>(&self, name: &[u8], place: usize) -> bool
         requires { IsWhole R.format self.now }
         ensures { result ≡ has_named R.format name.now (table_records R.format self.now.file.now) }
@@ -96,6 +111,7 @@ pub(crate) struct UserChecks<'h, 'g, 'a> {
 
 impl<'h, 'g, 'a> UserChecks<'h, 'g, 'a> {
     /// Whether a group has the GID.
+    #[tactic(auto, using(crate::proofs::KnownLemmas::gid_used))]
     pub(crate) fn has_gid(&self, gid: u32) -> bool
         ensures { result ≡ has_gid (table_records group_format self.now.groups.now) gid }
     {
@@ -105,8 +121,9 @@ impl<'h, 'g, 'a> UserChecks<'h, 'g, 'a> {
 
 /// What the check of shadow knows (pwck(8)).
 #[derive(Drop)]
-pub(crate) struct HashChecks<'n, 'a> {
+pub(crate) struct HashChecks<'n, 'l, 'a> {
     pub(crate) users: &'n NamedFile<'a>,
+    pub(crate) lines: &'l HashLines<'a>,
     /// Today, in days since 1970-01-01.
     pub(crate) today: u32,
     ghost of_users: { IsWhole passwd_format users.now },

@@ -45,7 +45,8 @@ impl<'a> Problems<'a> {
 
     /// Adds the problem where the test holds.
     pub(crate) fn note_if(&mut self, test: bool, problem: Problem<'a>) -> Result<(), AllocError>
-        ensures { OnOk result (self.new ≡ self.old ++ problem_if test (seen_problem problem.entry)) }
+        ensures { OnOk result (self.new
+            ≡ self.old ++ problem_if test (seen_problem problem.entry)) }
     {
         if test {
             self.found.push(problem)?;

@@ -4,13 +4,15 @@ ghost use Rattle.account_model.specs.Pwck.{is_after, pwck, pwck_report};
 ghost use Rattle.check_reports.specs.Decided.{DecidesBy};
 
 use crate::decision::sort_tables;
+use crate::hashes::HashLines;
 use crate::known::{HashChecks, NamedFile, UserChecks};
 use crate::problem::Problem;
 use crate::problems::Problems;
-use crate::report::{Checks, Report};
+use crate::report::{Checks, NameRead, Report};
 use crate::sorting::ById;
 use account_formats::{PasswdRecord, ShadowRecord};
-use acct_lines::{PasswdLine, ReadFault, ShadowLine, is_valid_name};
+use acct_lines::{PasswdLine, is_valid_name};
+use acct_tables::NameIndex;
 use acct_text::{Files, Tab};
 use command_values::Asked;
 use std::alloc::{AllocError, Global};
@@ -19,6 +21,7 @@ use tool_answers::Decision;
 
 /// Sorts passwd and shadow with `-s`, and else reports their problems, on the day in days since
 /// 1970-01-01.
+#[tactic(auto, using(crate::proofs::DecisionLemmas::users_sorted))]
 pub fn pwck(alloc: Global, asked: &Asked, files: &Files, today: u32) -> Result<Decision, AllocError>
     ensures { IfOk result
         (DecidesBy asked.now.tool (pwck asked.now files.now today) files.now) }
@@ -43,7 +46,9 @@ fn report_users(
 {
     let mut report = Report::new(alloc, asked.has(b'q'));
     let mut users = NamedFile::unread::<PasswdRecord>(alloc, &files.passwd);
-    let mut hashes = NamedFile::of::<ShadowRecord>(alloc, &files.shadow)?;
+    let mut names = NameIndex::new(alloc);
+    let lines = HashLines::of(alloc, &files.shadow, &mut names)?;
+    let mut hashes = NamedFile::with::<ShadowRecord>(&files.shadow, names);
     let gids = Tables::of(files).used_gids(alloc)?;
     let known = UserChecks {
         hashes: &hashes,
@@ -53,6 +58,7 @@ fn report_users(
     report.push_table(alloc, &known, &mut users, Tab::Passwd)?;
     let known = HashChecks {
         users: &users,
+        lines: &lines,
         today,
     };
     report.push_table(alloc, &known, &mut hashes, Tab::Shadow)?;
@@ -66,12 +72,7 @@ impl<'h, 'g, 'a> Checks<PasswdRecord> for UserChecks<'h, 'g, 'a> {
 
     ghost problems = { λ known. user_problems (beside_users known) };
 
-    fn note<'t>(
-        &self,
-        found: &mut Problems<'t>,
-        place: usize,
-        text: &'t [u8],
-    ) -> Result<&'t [u8], ReadFault> {
+    fn note<'t>(&self, found: &mut Problems<'t>, place: usize, text: &'t [u8]) -> NameRead<'t> {
         let user = PasswdLine::read(text)?;
         let name = user.name;
         found.note_if(!is_valid_name(name), Problem::InvalidUserName(name))?;
@@ -88,20 +89,15 @@ impl<'h, 'g, 'a> Checks<PasswdRecord> for UserChecks<'h, 'g, 'a> {
     ghost tells_repeated = { Prim.search (rules, append_assoc) };
 }
 
-impl<'n, 'a> Checks<ShadowRecord> for HashChecks<'n, 'a> {
+impl<'n, 'l, 'a> Checks<ShadowRecord> for HashChecks<'n, 'l, 'a> {
     ghost use Rattle.std.proofs.Common.{append_assoc, rules};
     ghost use Rattle.account_model.specs.Pwck.{shadow_problems};
     ghost use Rattle.check_reports.specs.Seen.{users_seen};
 
     ghost problems = { λ known. shadow_problems (users_seen known.users.now) known.today };
 
-    fn note<'t>(
-        &self,
-        found: &mut Problems<'t>,
-        place: usize,
-        text: &'t [u8],
-    ) -> Result<&'t [u8], ReadFault> {
-        let hash = ShadowLine::read(text)?;
+    fn note<'t>(&self, found: &mut Problems<'t>, place: usize, text: &'t [u8]) -> NameRead<'t> {
+        let hash = self.lines.read(text, place)?;
         let name = hash.name;
         let lacks_entry = !self.users.has_near::<PasswdRecord>(name, place);
         found.note_if(lacks_entry, Problem::NoPasswdEntry(name))?;

@@ -25,6 +25,9 @@ use tool_answers::Decision;
 // The status of a report with a problem.
 const BAD_ENTRIES: u8 = 2;
 
+/// What a line is read as: the name of its record, or why it has none.
+pub(crate) type NameRead<'t> = Result<&'t [u8], ReadFault>;
+
 /// What checks the records R, by what it knows of the tables.
 pub(crate) trait Checks<R: TableRecord> {
     // the problems of a record behind the earlier ones
@@ -33,12 +36,7 @@ pub(crate) trait Checks<R: TableRecord> {
     /// The name of the record that the line at a place is, counted from 0 over all lines. Its
     /// problems are added, but for that an earlier one has its name. At `Line` it is other text;
     /// the line is read where it stands.
-    fn note<'t>(
-        &self,
-        found: &mut Problems<'t>,
-        place: usize,
-        text: &'t [u8],
-    ) -> Result<&'t [u8], ReadFault>
+    fn note<'t>(&self, found: &mut Problems<'t>, place: usize, text: &'t [u8]) -> NameRead<'t>
         ensures named { IfOk result
             (λ name. Some name.now ≡ option_map R.format.name (R.format.read text.now)) }
         ensures noted { MatchRead result

@@ -209,8 +209,8 @@ fn in_places<R: TableRecord>(
     Ok(made)
 }
 
-// Adds a line; a record's gets the text that is next. Gives the place of the text that is next then,
-// counted from 0.
+// Adds a line; a record's gets the text that is next. Gives the place of the text that is next
+// then, counted from 0.
 fn push_next<R: TableRecord>(
     made: &mut Bytes,
     line: &FileLine<'_>,

@@ -14,7 +14,7 @@ use Rattle.check_reports.proofs.pwck.report_users.Goals as goal
 
 pub invariant_of-known : goal.invariant_of-known
 invariant_of-known c = record {
-  of_hashes = c.in_ok-hashes.ensures.whole;
+  of_hashes = c.with-hashes.ensures.whole;
   of_gids = subst (λ files. AreThoseOf c.in_ok-gids.gids (used_gids files)) c.of-2.ensures
       c.in_ok-gids.ensures;
 }
@@ -25,7 +25,7 @@ returns c =
     let files = c.args.files.now in
     let today = c.args.today in
     let users = c.unread-users.ensures.of_file in
-    let hashes = c.in_ok-hashes.ensures.of_file in
+    let hashes = c.with-hashes.ensures.of_file in
     let checked = ap (λ file. file.now) c.in_ok-push_table.ensures.of_file ∙ users in
     told-both (has_option (codes "q") request) Passwd Shadow (passwd_report files)
     (shadow_report files today) _ _ _

@@ -1,0 +1,15 @@
+use Rattle.std.proofs.Common.{◌≡◌, drop, length, take}
+use Rattle.account_formats.specs.Records.{shadow_format}
+use Rattle.acct_tables.specs.NameIndex.{Tells, line_names, told}
+use Rattle.carried_tables.specs.TablesOfLines.{lines_in}
+use Rattle.check_reports.proofs.hashes.HashLines.of.Given as goal
+
+-- the names are those of the lines so far, and the others are left
+abbrev pub invariant-lines : goal.invariant-lines
+invariant-lines l = record {
+  so_far : l.left ≡ drop l.place (lines_in l.file);
+  tells : Tells (line_names shadow_format (take l.place (lines_in l.file))) (told l.names);
+}
+
+abbrev pub decreases-lines : goal.decreases-lines
+decreases-lines l = length l.left
