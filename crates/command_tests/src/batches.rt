@@ -16,37 +16,40 @@ const BATCHES: u64 = 200;
 const LINES: u64 = 20;
 
 // What a line may be, with `@` in the place of a user and `%` in that of a group.
+const FORMS: [&[u8]; 28] = [
+    b"useradd @",
+    b"useradd -r -N -G % @",
+    b"useradd -U -c New @",
+    b"useradd -o -u 1000 -g % @",
+    b"usermod -a -G % @",
+    b"usermod -G %,% @",
+    b"usermod -l @ @",
+    b"usermod -L @",
+    b"usermod -U -c Old @",
+    b"usermod -v 200000-200010 -w 300000-300009 @",
+    b"usermod -V 100000-100010 @",
+    b"usermod -p hash -g % @",
+    b"userdel @",
+    b"groupadd %",
+    b"groupadd -f -r %",
+    b"groupdel %",
+    b"groupmod -n % %",
+    b"gpasswd -a @ %",
+    b"gpasswd -d @ %",
+    b"gpasswd -A @,@ %",
+    b"chage -M 90 -d 2024-01-01 @",
+    b"usermod -o -u 1000 @",
+    b"usermod -u 1500 @",
+    b"usermod -g % @",
+    b"userdel -f @",
+    b"groupmod -g 1500 %",
+    b"groupmod -o -g 100 -n % %",
+    b"chage -l @",
+];
+
+// One of the forms of a line.
 fn form(number: u64) -> &'static [u8] {
-    match number % 28 {
-        0 => b"useradd @",
-        1 => b"useradd -r -N -G % @",
-        2 => b"useradd -U -c New @",
-        3 => b"useradd -o -u 1000 -g % @",
-        4 => b"usermod -a -G % @",
-        5 => b"usermod -G %,% @",
-        6 => b"usermod -l @ @",
-        7 => b"usermod -L @",
-        8 => b"usermod -U -c Old @",
-        9 => b"usermod -v 200000-200010 -w 300000-300009 @",
-        10 => b"usermod -V 100000-100010 @",
-        11 => b"usermod -p hash -g % @",
-        12 => b"userdel @",
-        13 => b"groupadd %",
-        14 => b"groupadd -f -r %",
-        15 => b"groupdel %",
-        16 => b"groupmod -n % %",
-        17 => b"gpasswd -a @ %",
-        18 => b"gpasswd -d @ %",
-        19 => b"gpasswd -A @,@ %",
-        20 => b"chage -M 90 -d 2024-01-01 @",
-        21 => b"usermod -o -u 1000 @",
-        22 => b"usermod -u 1500 @",
-        23 => b"usermod -g % @",
-        24 => b"userdel -f @",
-        25 => b"groupmod -g 1500 %",
-        26 => b"groupmod -o -g 100 -n % %",
-        _ => b"chage -l @",
-    }
+    FORMS[(number % 28) as usize]
 }
 
 // A user that may stand, or not.
