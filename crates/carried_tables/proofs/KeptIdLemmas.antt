@@ -23,7 +23,7 @@ use Rattle.line_edits.specs.declared.edit.Edit.{Edit as DataEdit}
 use Rattle.line_edits.specs.SeenEdits.{seen_edit, seen_edits}
 use Rattle.carried_tables.specs.declared.kept_ids.KeptIds.{KeptIds}
 use Rattle.carried_tables.specs.KeptIds.{AreIdsOf, FollowSwap, KeepsIds, Renumbers, counts_of, new_ids, table_counts}
-use Rattle.carried_tables.specs.TableEdits.{AreWritten, table_by}
+use Rattle.carried_lines.specs.TableEdits.{AreWritten, table_by}
 
 -- ---- Counts
 

@@ -1,12 +1,1 @@
-pub mod RecordLemmas
-pub mod FileLemmas
-pub mod NumberLemmas
 pub mod KeptIdLemmas
-pub mod CarriedLemmas
-pub mod GoneLemmas
-pub mod GoneEdits
-pub mod PlacedLemmas
-pub mod KeyPlaceLemmas
-pub mod KeyFollowing
-pub mod KeyCounts
-pub mod OwnerLemmas

@@ -6,11 +6,13 @@ ghost use Rattle.line_edits.specs.GroupChanges.{group_becomes};
 ghost use Rattle.line_edits.specs.GshadowChanges.{gshadow_becomes};
 ghost use Rattle.line_edits.specs.PasswdChanges.{passwd_becomes};
 ghost use Rattle.line_edits.specs.ShadowChanges.{shadow_becomes};
-ghost use Rattle.carried_tables.specs.TableEdits.{AreWritten, table_by};
+ghost use Rattle.carried_lines.specs.TableEdits.{AreWritten, table_by};
 
-use crate::{CarriedTable, IdTable, RangeTable};
+use crate::IdTable;
 use acct_lines::{GroupRecord, GshadowRecord, PasswdRecord, ShadowRecord};
 use acct_text::Files;
+use carried_lines::CarriedTable;
+use carried_ranges::RangeTable;
 use line_edits::{Edit, GroupChange, GshadowChange, PasswdChange, ShadowChange};
 use std::alloc::{AllocError, Global};
 use std::marker::Model;

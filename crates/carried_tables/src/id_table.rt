@@ -8,13 +8,13 @@ ghost use Rattle.account_words.specs.Ids.{is_used};
 ghost use Rattle.id_choice.specs.Used.{AreThoseOf};
 ghost use Rattle.line_edits.specs.SeenEdits.{seen_edit};
 ghost use Rattle.carried_tables.specs.KeptIds.{AreIdsOf, FollowEdit, FollowSwap, Renumbers, new_ids, table_counts};
-ghost use Rattle.carried_tables.specs.TableEdits.{AreWritten, table_by};
+ghost use Rattle.carried_lines.specs.TableEdits.{AreWritten, table_by};
 
 use crate::IdsInUse;
-use crate::carried_table::CarriedTable;
 use crate::ids::{IdRecord, Renumbering, listed_ids, used_ids};
 use crate::kept_ids::KeptIds;
 use acct_text::Bytes;
+use carried_lines::CarriedTable;
 use line_edits::Edit;
 use std::alloc::{AllocError, Global};
 use std::marker::Model;

@@ -5,10 +5,10 @@ ghost use Rattle.account_formats.specs.Tables.{table_records};
 ghost use Rattle.id_choice.specs.Used.{AreThoseOf};
 ghost use Rattle.carried_tables.specs.KeptIds.{KeepsIds, Renumbers, keeps_gid, keeps_uid};
 
-use crate::text_of;
 use acct_lines::{GroupLine, GroupRecord, PasswdLine, PasswdRecord};
 use acct_tables::Lines;
 use acct_text::Bytes;
+use carried_lines::text_of;
 use id_choice::UsedIds;
 use line_edits::{GroupAct, GroupChange, PasswdAct, PasswdChange};
 use record_keys::KeyedRecord;

@@ -15,7 +15,7 @@ use account_model::Refusal;
 use acct_tables::find_record;
 use acct_text::Piece::{Number, Text};
 use acct_text::{Bytes, Files};
-use carried_tables::text_of;
+use carried_lines::text_of;
 use command_values::Asked;
 use std::alloc::{AllocError, Global};
 use subid_ranges::OwnedRanges;

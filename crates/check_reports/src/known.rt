@@ -6,14 +6,15 @@ ghost use Rattle.account_formats.specs.Records.{group_format, gshadow_format, pa
 ghost use Rattle.account_formats.specs.Tables.{table_records};
 ghost use Rattle.acct_tables.specs.NameIndex.{Tells, TellsAtMost, line_names, told};
 ghost use Rattle.id_choice.specs.Used.{AreThoseOf};
-ghost use Rattle.carried_tables.specs.TablesOfLines.{lines_in};
+ghost use Rattle.carried_lines.specs.TablesOfLines.{lines_in};
 ghost use Rattle.check_reports.specs.Known.{HasNoted, IsWhole, NotesLine, has_gid};
 
 use crate::hashes::HashLines;
 use acct_lines::TableRecord;
 use acct_tables::NameIndex;
 use acct_text::Bytes;
-use carried_tables::{IdsInUse, text_of};
+use carried_lines::text_of;
+use carried_tables::IdsInUse;
 use std::alloc::{AllocError, Global};
 
 /// The file of a table, which may be absent, with the names of its records.

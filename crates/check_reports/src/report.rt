@@ -18,7 +18,7 @@ use crate::problems::Problems;
 use acct_lines::{ReadFault, TableRecord};
 use acct_tables::{Lines, NameIndex};
 use acct_text::{Bytes, Tab, push_decimal};
-use carried_tables::text_of;
+use carried_lines::text_of;
 use std::alloc::{AllocError, Global};
 use tool_answers::Decision;
 

@@ -11,7 +11,7 @@ use account_formats::{GroupRecord, PasswdRecord};
 use acct_lines::{GroupLine, PasswdLine, TableRecord};
 use acct_tables::{FileLine, Lines, NameIndex, is_record, name_of};
 use acct_text::Bytes;
-use carried_tables::text_of;
+use carried_lines::text_of;
 use std::alloc::{AllocError, Global};
 
 /// What the records of a table are sorted by.

@@ -19,7 +19,7 @@ use Rattle.line_edits.specs.SubidChanges.{subid_becomes}
 use Rattle.line_edits.specs.declared.subid_changes.SubidChange.{SubidChange}
 use Rattle.line_edits.specs.declared.subid_changes.SubidChange.TheVariants.{Rename, Remove, Cut}
 use Rattle.line_edits.proofs.ChangedLines.{left-line}
-use Rattle.carried_tables.specs.TablesOfLines.{lines_in}
+use Rattle.carried_lines.specs.TablesOfLines.{lines_in}
 use Rattle.range_edits.specs.LeftRanges.{LeaveLines, is_meant}
 
 -- a range whose owner gets its own name stays

@@ -6,13 +6,13 @@ ghost use Rattle.account_formats.specs.Edits.{edited_by};
 ghost use Rattle.account_formats.specs.Edits.Edit.{Become};
 ghost use Rattle.account_formats.specs.Records.{subid_format};
 ghost use Rattle.account_formats.specs.Tables.{table_after, table_records};
-ghost use Rattle.carried_tables.specs.TablesOfLines.{lines_in};
+ghost use Rattle.carried_lines.specs.TablesOfLines.{lines_in};
 ghost use Rattle.line_edits.specs.SeenEdits.{seen_edit, seen_edits};
 ghost use Rattle.line_edits.specs.SubidChanges.{subid_becomes};
 ghost use Rattle.range_edits.specs.LeftRanges.{LeaveLines, is_meant};
 
 use acct_lines::SubidRecord;
-use carried_tables::{RangeFile, RangeTable};
+use carried_ranges::{RangeFile, RangeTable};
 use line_edits::{Edit, SubidChange};
 
 /// Whether the edits surely leave all lines: there are none, or each gives an owner the name that it

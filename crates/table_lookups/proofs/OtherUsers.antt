@@ -8,7 +8,7 @@ use Rattle.std.proofs.lemmas.List.Sums.{sum_by-cons}
 use Rattle.account_formats.specs.declared.records.PasswdRecord.{PasswdRecord}
 use Rattle.account_formats.specs.Format.{find_named, is_named}
 use Rattle.account_formats.specs.Records.{passwd_format}
-use Rattle.carried_tables.specs.KeyedLines.{count_with}
+use Rattle.carried_lines.specs.KeyedLines.{count_with}
 use Rattle.record_keys.specs.KeyPlaces.{has_key}
 use Rattle.record_keys.specs.Keys.{user_keys}
 

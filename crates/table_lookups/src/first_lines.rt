@@ -8,7 +8,7 @@ ghost use Rattle.table_lookups.specs.FirstLines.{Tells, TellsNames, has_name, is
 use acct_lines::{TableRecord, first_field};
 use acct_tables::{Lines, is_record, name_of, read_record};
 use acct_text::Bytes;
-use carried_tables::text_of;
+use carried_lines::text_of;
 use indexmap::IndexMap;
 use line_edits::NameSet;
 use std::alloc::{AllocError, Global};

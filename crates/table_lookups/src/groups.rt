@@ -8,7 +8,8 @@ ghost use Rattle.id_choice.specs.Used.{AreThoseOf};
 use crate::Tables;
 use crate::tables::Source;
 use acct_lines::GroupRecord;
-use carried_tables::{IdsInUse, OfGid, first_passing, used_ids};
+use carried_lines::{OfGid, first_passing};
+use carried_tables::{IdsInUse, used_ids};
 use std::alloc::{AllocError, Global};
 
 impl<'a> Tables<'a> {

@@ -4,7 +4,8 @@ ghost use Rattle.table_lookups.specs.Sources.{files_in};
 
 use acct_tables::MANY;
 use acct_text::{Bytes, Files};
-use carried_tables::{CarriedTables, RangeFile};
+use carried_ranges::RangeFile;
+use carried_tables::CarriedTables;
 use std::alloc::AllocError;
 use std::marker::Model;
 

@@ -6,8 +6,8 @@ use Rattle.account_formats.specs.Format.{is_named}
 use Rattle.account_formats.specs.Records.{passwd_format}
 use Rattle.account_formats.specs.declared.records.PasswdRecord.{PasswdRecord}
 use Rattle.acct_tables.proofs.FieldMarks.{holds-primary, holds-uid}
-use Rattle.carried_tables.specs.Accepting.{IsNumberOf}
-use Rattle.carried_tables.proofs.NumberLemmas.{number-of}
+use Rattle.carried_lines.specs.Accepting.{IsNumberOf}
+use Rattle.carried_lines.proofs.NumberLemmas.{number-of}
 use Rattle.user_removal.specs.Others.{has_id, is_other_with}
 use Rattle.user_removal.specs.declared.others.AccountId.{AccountId}
 use Rattle.user_removal.specs.declared.others.AccountId.TheVariants.{Uid, Gid}

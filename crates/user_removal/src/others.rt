@@ -6,7 +6,7 @@ ghost use Rattle.user_removal.specs.Others.{has_id};
 
 use account_formats::PasswdRecord;
 use acct_lines::PasswdLine;
-use carried_tables::RecordTest;
+use carried_lines::RecordTest;
 use std::alloc::{AllocError, Global};
 use table_lookups::Tables;
 

@@ -2,7 +2,7 @@ use Rattle.std.proofs.Common.{◌≡◌, ◌∙◌, ◌+◌, [], drop, sym, ap, 
 use Rattle.std.proofs.Math.ListN.{drop_of_length-le}
 use Rattle.account_formats.specs.Edits.{edited_by}
 use Rattle.account_formats.specs.Records.{subid_format}
-use Rattle.carried_tables.specs.TablesOfLines.{lines_in}
+use Rattle.carried_lines.specs.TablesOfLines.{lines_in}
 use Rattle.line_edits.specs.SeenEdits.{seen_edit, seen_edits}
 use Rattle.line_edits.specs.SubidChanges.{subid_becomes}
 use Rattle.line_edits.proofs.EditLists.{seen-from}

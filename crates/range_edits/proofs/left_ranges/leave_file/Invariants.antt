@@ -1,7 +1,7 @@
 use Rattle.std.proofs.Common.{◌≡◌, drop}
 use Rattle.account_formats.specs.Edits.{edited_by}
 use Rattle.account_formats.specs.Records.{subid_format}
-use Rattle.carried_tables.specs.TablesOfLines.{lines_in}
+use Rattle.carried_lines.specs.TablesOfLines.{lines_in}
 use Rattle.line_edits.specs.SeenEdits.{seen_edits}
 use Rattle.line_edits.specs.SubidChanges.{subid_becomes}
 use Rattle.range_edits.proofs.left_ranges.leave_file.Given as goal

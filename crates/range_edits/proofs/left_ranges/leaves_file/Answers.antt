@@ -2,8 +2,8 @@ use Rattle.std.proofs.Common.{◌≡◌, ◌∙◌, false, [], ◌∷◌, refl, 
 use Rattle.std.specs.List.{list_any}
 use Rattle.account_formats.specs.Edits.{edited_by}
 use Rattle.account_formats.specs.Records.{subid_format}
-use Rattle.carried_tables.specs.TablesOfLines.{lines_in}
-use Rattle.carried_tables.proofs.FileLemmas.{records-in}
+use Rattle.carried_lines.specs.TablesOfLines.{lines_in}
+use Rattle.carried_lines.proofs.FileLemmas.{records-in}
 use Rattle.line_edits.specs.SeenEdits.{seen_edit}
 use Rattle.line_edits.specs.SubidChanges.{subid_becomes}
 use Rattle.range_edits.specs.LeftRanges.{is_meant}

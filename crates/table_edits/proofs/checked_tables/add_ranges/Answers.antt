@@ -1,6 +1,6 @@
 use Rattle.account_formats.specs.Records.{subid_format}
 use Rattle.account_formats.specs.Tables.{table_after}
-use Rattle.carried_tables.specs.TablesOfLines.{lines_in}
+use Rattle.carried_lines.specs.TablesOfLines.{lines_in}
 use Rattle.line_edits.specs.SeenEdits.{seen_edits}
 use Rattle.line_edits.specs.SubidChanges.{subid_becomes}
 use Rattle.range_edits.proofs.LeftLemmas.{left-file}

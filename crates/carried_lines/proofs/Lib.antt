@@ -1,0 +1,10 @@
+pub mod RecordLemmas
+pub mod FileLemmas
+pub mod NumberLemmas
+pub mod CarriedLemmas
+pub mod GoneLemmas
+pub mod GoneEdits
+pub mod PlacedLemmas
+pub mod KeyPlaceLemmas
+pub mod KeyFollowing
+pub mod KeyCounts

@@ -1,0 +1,16 @@
+use Rattle.std.proofs.Common.{◌∙◌, ap}
+use Rattle.std.proofs.lemmas.Result.{IfOk-weaker}
+use Rattle.account_formats.specs.Format.{find_named}
+use Rattle.carried_lines.proofs.CarriedLemmas.{kept-records}
+use Rattle.carried_lines.proofs.carried_table.CarriedTable.find.Goals as goal
+
+-- what is found in the lines is found in the file
+pub returns-in-Some : goal.returns-in-Some
+returns-in-Some g c =
+    let format = g.R.TableRecord.format in
+    IfOk-weaker c.find.result _ _ (λ found is.
+    is
+    ∙ ap (find_named format c.args.name.now)
+    (kept-records c.self.inside.lines c.in-Some.lines c.in-Some.is c.self.invariant format
+    c.args.self.now c.self.view_is))
+    c.find.ensures

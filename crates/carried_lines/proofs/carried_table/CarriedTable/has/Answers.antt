@@ -1,0 +1,13 @@
+use Rattle.std.proofs.Common.{◌∙◌, ap}
+use Rattle.account_formats.specs.Format.{has_named}
+use Rattle.carried_lines.proofs.CarriedLemmas.{kept-records}
+use Rattle.carried_lines.proofs.carried_table.CarriedTable.has.Goals as goal
+
+-- a record of the lines that are left is one of the file
+pub returns-in-Some : goal.returns-in-Some
+returns-in-Some g c =
+    let format = g.R.TableRecord.format in
+    c.has.ensures
+    ∙ ap (has_named format c.args.name.now)
+    (kept-records c.self.inside.lines c.in-Some.lines c.in-Some.is c.self.invariant format
+    c.args.self.now c.self.view_is)

@@ -1,0 +1,5 @@
+pub mod TablesOfLines
+pub mod Accepting
+pub mod KeyedLines
+pub mod TableEdits
+pub mod Gone
