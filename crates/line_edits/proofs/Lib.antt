@@ -16,3 +16,4 @@ pub mod ReachLemmas
 pub mod FieldLemmas
 mod JoinedTexts
 mod RewrittenLines
+pub mod NameRemovals

@@ -89,16 +89,25 @@ impl EditedRecord for SubidRecord {
         }
     }
 
-    fn touched_names(_change: &SubidChange) -> Option<ChangedNames<'_>> {
-        None
+    fn touched_names(change: &SubidChange) -> Option<ChangedNames<'_>> {
+        match change {
+            SubidChange::Rename(old, _) => Some(ChangedNames::One(old.as_slice())),
+            SubidChange::Remove(user, uid) if uid.is_none() => {
+                Some(ChangedNames::One(user.as_slice()))
+            }
+            _ => None,
+        }
     }
 
     fn keeps_names(_change: &SubidChange) -> bool {
         false
     }
 
-    fn removed(_change: &SubidChange) -> Option<&[u8]> {
-        None
+    fn removed(change: &SubidChange) -> Option<&[u8]> {
+        match change {
+            SubidChange::Remove(user, uid) if uid.is_none() => Some(user.as_slice()),
+            _ => None,
+        }
     }
 
     ghost no_blank = { refl };

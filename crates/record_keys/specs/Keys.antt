@@ -7,6 +7,7 @@ use Rattle.account_formats.specs.declared.records.GroupRecord.{GroupRecord}
 use Rattle.account_formats.specs.declared.records.GshadowRecord.{GshadowRecord}
 use Rattle.account_formats.specs.declared.records.PasswdRecord.{PasswdRecord}
 use Rattle.account_formats.specs.declared.records.ShadowRecord.{ShadowRecord}
+use Rattle.account_formats.specs.declared.records.SubidRecord.{SubidRecord}
 use Rattle.account_formats.specs.Format.{Format, is_named}
 use Rattle.acct_tables.specs.NameHashes.{name_hash}
 use Rattle.acct_tables.specs.TableLines.{record_at}
@@ -24,6 +25,7 @@ use Rattle.line_edits.specs.declared.gshadow_changes.GshadowChange.TheVariants.{
 use Rattle.line_edits.specs.declared.passwd_changes.PasswdChange.{PasswdChange}
 use Rattle.line_edits.specs.declared.passwd_changes.PasswdChange.TheVariants.{Named as NamedUser, OfGroup, Remove as RemoveUser}
 use Rattle.line_edits.specs.declared.shadow_changes.ShadowChange.{ShadowChange}
+use Rattle.line_edits.specs.declared.subid_changes.SubidChange.{SubidChange}
 use Rattle.line_edits.specs.Memberships.{joins}
 use Rattle.record_keys.specs.KeyPlaces.{MayBeAt, has_key}
 
@@ -40,6 +42,10 @@ user_keys user = user.gid ∷ []
 -- a record of shadow has none
 abbrev pub shadow_keys : ShadowRecord → List ℕ
 shadow_keys user = []
+
+-- a range of subordinate IDs has none
+abbrev pub subid_keys : SubidRecord → List ℕ
+subid_keys range = []
 
 -- those of a group: its members
 abbrev pub group_keys : GroupRecord → List ℕ
@@ -78,6 +84,10 @@ user_brought (RemoveUser name) = []
 -- no change brings a key to a record of shadow
 abbrev pub shadow_brought : ShadowChange → List ℕ
 shadow_brought change = []
+
+-- nor to a range of subordinate IDs
+abbrev pub subid_brought : SubidChange → List ℕ
+subid_brought change = []
 
 -- the names that a membership may bring into a list
 abbrev pub either_name : Membership → List (List ℕ)

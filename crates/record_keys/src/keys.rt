@@ -1,14 +1,14 @@
 // The keys of records, and what changes do to them: those of users are their primary groups (passwd(5)),
-// and records of shadow have none (shadow(5)).
+// and records of shadow (shadow(5)) and of subordinate IDs (subuid(5), subgid(5)) have none.
 ghost use Rattle.std.specs.Prelude.{◌≡◌, ℕ, List, Some, true, IfSome};
 ghost use Rattle.record_keys.specs.KeyPlaces.{Notes, told_places};
 ghost use Rattle.record_keys.specs.Keys.{BringsOnly, KeepsPlaces, Needs, Renames, gid_given, keys_in};
 ghost use Rattle.record_keys.specs.declared.key_places.Spot.TheVariants.{At};
 
 use crate::{KeyPlaces, Spot};
-use acct_lines::{PasswdLine, PasswdRecord, ShadowRecord};
+use acct_lines::{PasswdLine, PasswdRecord, ShadowRecord, SubidRecord};
 use acct_text::Bytes;
-use line_edits::{EditedRecord, PasswdAct, PasswdChange, ShadowAct, ShadowChange};
+use line_edits::{EditedRecord, PasswdAct, PasswdChange, ShadowAct, ShadowChange, SubidChange};
 
 /// The names of records that take another one.
 #[derive(Clone, Copy)]
@@ -146,6 +146,38 @@ impl KeyedRecord for ShadowRecord {
                 names_of(name, &fields.name)
             }
             _ => None,
+        }
+    }
+}
+
+impl KeyedRecord for SubidRecord {
+    ghost use Rattle.record_keys.specs.Keys.{subid_brought, subid_keys};
+
+    ghost keys = { subid_keys };
+
+    ghost brought = { subid_brought };
+
+    fn note_line(_line: &[u8], _place: usize, _index: &mut KeyPlaces) {}
+
+    fn note(&self, _spot: Spot, _index: &mut KeyPlaces) {}
+
+    fn needed(_change: &SubidChange) -> Option<u64> {
+        None
+    }
+
+    fn bring(_change: &SubidChange, _spot: Spot, _index: &mut KeyPlaces) {}
+
+    fn keeps_places(change: &SubidChange) -> bool {
+        matches!(change, SubidChange::Rename(..))
+    }
+
+    fn renamed(change: &SubidChange) -> Option<Renaming<'_>> {
+        match change {
+            SubidChange::Rename(old, new) => Some(Renaming {
+                old: old.as_slice(),
+                new: new.as_slice(),
+            }),
+            SubidChange::Remove(..) | SubidChange::Cut(_) => None,
         }
     }
 }
