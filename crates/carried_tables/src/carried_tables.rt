@@ -8,12 +8,13 @@ ghost use Rattle.line_edits.specs.PasswdChanges.{passwd_becomes};
 ghost use Rattle.line_edits.specs.ShadowChanges.{shadow_becomes};
 ghost use Rattle.carried_lines.specs.TableEdits.{AreWritten, table_by};
 
-use crate::IdTable;
+use crate::{IdRecord, IdTable};
 use acct_lines::{GroupRecord, GshadowRecord, PasswdRecord, ShadowRecord};
-use acct_text::Files;
+use acct_text::{Bytes, Files};
 use carried_lines::CarriedTable;
 use carried_ranges::RangeTable;
 use line_edits::{Edit, GroupChange, GshadowChange, PasswdChange, ShadowChange};
+use record_keys::KeyedRecord;
 use std::alloc::{AllocError, Global};
 use std::marker::Model;
 use std::mem::replace;
@@ -81,13 +82,12 @@ impl CarriedTables {
     fn load(&mut self, alloc: Global, files: &Files) -> Result<(), AllocError>
         ensures { OnOk result (self.new ≡ files.now) }
     {
-        self.passwd = IdTable::of(alloc, &files.passwd)?;
-        self.shadow = CarriedTable::of(alloc, &files.shadow)?;
-        self.group = IdTable::of(alloc, &files.group)?;
-        self.gshadow = CarriedTable::of(alloc, &files.gshadow)?;
-        self.subuid = RangeTable::of(&files.subuid)?;
-        self.subgid = RangeTable::of(&files.subgid)?;
-        Ok(())
+        load_ids(alloc, &mut self.passwd, &files.passwd)?;
+        load_lines(alloc, &mut self.shadow, &files.shadow)?;
+        load_ids(alloc, &mut self.group, &files.group)?;
+        load_lines(alloc, &mut self.gshadow, &files.gshadow)?;
+        load_ranges(&mut self.subuid, &files.subuid)?;
+        load_ranges(&mut self.subgid, &files.subgid)
     }
 
     /// The table passwd(5), with its UIDs.
@@ -203,4 +203,36 @@ impl CarriedTables {
             subgid: self.subgid.take_file()?,
         })
     }
+}
+
+// Puts the table of a file in the place of one whose records have IDs.
+fn load_ids<R: IdRecord + Drop>(
+    alloc: Global,
+    table: &mut IdTable<R>,
+    file: &Option<Bytes>,
+) -> Result<(), AllocError>
+    ensures { OnOk result (table.new ≡ file.now) }
+{
+    *table = IdTable::of(alloc, file)?;
+    Ok(())
+}
+
+// Puts the table of a file in the place of another.
+fn load_lines<R: KeyedRecord + Drop>(
+    alloc: Global,
+    table: &mut CarriedTable<R>,
+    file: &Option<Bytes>,
+) -> Result<(), AllocError>
+    ensures { OnOk result (table.new ≡ file.now) }
+{
+    *table = CarriedTable::of(alloc, file)?;
+    Ok(())
+}
+
+// Puts the table of a file of subordinate IDs in the place of another.
+fn load_ranges(table: &mut RangeTable, file: &Option<Bytes>) -> Result<(), AllocError>
+    ensures { OnOk result (table.new ≡ file.now) }
+{
+    *table = RangeTable::of(file)?;
+    Ok(())
 }

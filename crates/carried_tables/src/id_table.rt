@@ -22,11 +22,17 @@ use std::mem::replace;
 
 /// A table of the records R, and their IDs. Contracts see it as the bytes of its file, and none where
 /// the file is absent.
-#[derive(Drop)]
 pub struct IdTable<R: IdRecord> {
     table: CarriedTable<R>,
     // none only where memory was wanting while they changed
     ids: Option<KeptIds>,
+}
+
+// One call for what may be there, so that who holds several tables has few ways through them.
+impl<R: IdRecord + Drop> Drop for IdTable<R> {
+    fn drop(self) {
+        let IdTable { table: _, ids: _ } = self;
+    }
 }
 
 impl<R: IdRecord> Model for IdTable<R> {
