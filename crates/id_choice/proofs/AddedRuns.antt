@@ -1,7 +1,7 @@
 -- Claim: what an addition leaves has the old numbers and the new ones (`all-added`). Way: a run
 -- that the joined one doesn't hold stays, and the joined one has the added numbers and old ones
 -- alone.
-use Rattle.std.proofs.Common.{◌≡◌, ℕ, ◌-◌, ◌<◌, ◌≤◌, Bool, true, false, refl, sym, ◌∙◌, ap, arith, inl, inr, lt_irrefl}
+use Rattle.std.proofs.Common.{◌≡◌, ℕ, ◌<◌, ◌≤◌, Bool, true, false, refl, sym, ◌∙◌, ap, arith, inl, inr, lt_irrefl}
 use Rattle.std.specs.Prelude.{Some, nat_le, ◌⊎◌, ◌||◌}
 use Rattle.std.specs.BTreeMap.{BTreeMap, Updates, get, is_at}
 use Rattle.std.specs.Ordering.{nat_cmp}
@@ -27,7 +27,7 @@ other-key key number apart = elim (cases_order key number) [
 ]
 
 -- a number of a range passes its test
-in-bounds :
+pub in-bounds :
     (first last number : ℕ)
     → first ≤ number
     → number ≤ last

@@ -1,6 +1,6 @@
 -- Runs of numbers as a map keeps them, from the first number of each to its last, and what the
 -- steps of an addition say of such maps.
-use Rattle.std.specs.Prelude.{◌≡◌, ℕ, ◌+◌, ◌-◌, ◌^◌, ◌<◌, ◌≤◌, List, Option, Some, None, IsSome, nat_lt, if◌then◌else◌}
+use Rattle.std.specs.Prelude.{◌≡◌, ℕ, ◌+◌, ◌-◌, ◌^◌, ◌<◌, ◌≤◌, List, Option, Some, None, IsSome, min, nat_lt, option_map, if◌then◌else◌, ◌↔◌}
 use Rattle.std.specs.List.{flat_map, range_with_len}
 use Rattle.std.specs.BTreeMap.{BTreeMap, IsOrdered, get}
 use Rattle.std.specs.Ordering.{nat_cmp}
@@ -86,21 +86,37 @@ pub record IsWithout (old new : BTreeMap ℕ ℕ) (number end : ℕ) : Type 0 wh
   pub past : (first : ℕ) → end < first → get nat_cmp new first ≡ get nat_cmp old first
   pub ordered : IsOrdered nat_cmp new
 
--- the run has the number
-pub record IsWithin (run : Run) (number : ℕ) : Type 0 where
-  pub begins : run.first ≤ number
-  pub ends : number ≤ run.last
+-- ---- What is taken out
+
+-- a run goes on behind the number, or begins there
+pub record GoesPast (runs : BTreeMap ℕ ℕ) (number last : ℕ) : Type 0 where
+  pub first : ℕ
+  pub run : HasRun runs first last
+  pub begins : first ≤ number + 1
+  pub ends : number < last
+
+-- a run begins behind the number exactly where one goes on there
+pub record KeepsBehind (old new : BTreeMap ℕ ℕ) (number : ℕ) : Type 0 where
+  pub kept : (last : ℕ) → HasRun new (number + 1) last ↔ GoesPast old number last
+  pub beside : (first : ℕ)
+      → (first ≡ number + 1 → ⊥) → get nat_cmp new first ≡ get nat_cmp old first
+  pub ordered : IsOrdered nat_cmp new
+
+-- the runs that begin up to the number are in order and don't meet
+pub record AreApartUpTo (runs : BTreeMap ℕ ℕ) (number : ℕ) : Type 0 where
+  pub keys : IsOrdered nat_cmp runs
+  pub ordered : (first last : ℕ) → HasRun runs first last → first ≤ number → first ≤ last
+  pub apart : (first last next end : ℕ)
+      → HasRun runs first last → HasRun runs next end → first < next → next ≤ number → last < next
 
 -- where a run ends that begins at the first number and ends before the other; none where it is empty
 abbrev pub last_before : ℕ → ℕ → Option ℕ
 last_before first number = if nat_lt first number then Some (number - 1) else None
 
--- the new map has, in the place of the run, what the run has before the number and behind it
-pub record IsSplit (old new : BTreeMap ℕ ℕ) (run : Run) (number : ℕ) : Type 0 where
-  pub before : get nat_cmp new run.first ≡ last_before run.first number
-  pub behind : number < run.last → get nat_cmp new (number + 1) ≡ Some run.last
-  pub beside : (first : ℕ)
-      → (first ≡ run.first → ⊥) → (first ≡ number + 1 → ⊥)
-      → get nat_cmp new first ≡ get nat_cmp old first
-  pub at_end : run.last ≡ number → get nat_cmp new (number + 1) ≡ get nat_cmp old (number + 1)
+-- the runs that begin before the number end before it, and none begins at it
+pub record EndsBefore (old new : BTreeMap ℕ ℕ) (number : ℕ) : Type 0 where
+  pub before : (first : ℕ) → first < number
+      → get nat_cmp new first ≡ option_map (λ last. min last (number - 1)) (get nat_cmp old first)
+  pub none : get nat_cmp new number ≡ None
+  pub behind : (first : ℕ) → number < first → get nat_cmp new first ≡ get nat_cmp old first
   pub ordered : IsOrdered nat_cmp new

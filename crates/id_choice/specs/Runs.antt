@@ -15,6 +15,11 @@ abbrev pub LosesOne : List ℕ → ℕ → List ℕ → Type 0
 LosesOne old lost new =
     (number : ℕ) → is_used new number ≡ (is_used old number && not (number == lost))
 
+-- the new numbers are the old ones without those from the first to the last
+abbrev pub LosesAll : List ℕ → ℕ → ℕ → List ℕ → Type 0
+LosesAll old first last new =
+    (number : ℕ) → is_used new number ≡ (is_used old number && not (in_range first last number))
+
 -- whether one of the runs has the number
 abbrev pub is_run : List Run → ℕ → Bool
 is_run runs number = list_any (λ run. in_range run.first run.last number) runs

@@ -4,7 +4,7 @@ ghost use Rattle.std.specs.Prelude.{◌≡◌, ◌≤◌, [], All, IfOk, IsSome,
 ghost use Rattle.std.specs.BTreeMap.{IsOrdered, IsUnchanged, Updates, get};
 ghost use Rattle.std.specs.Ordering.{nat_cmp};
 ghost use Rattle.account_words.specs.Ids.{is_used};
-ghost use Rattle.id_choice.specs.RunMaps.{AreApart, BeginsAt, EndsAt, HasBehind, HasFrom, HasNoneBehind, HasNoneFrom, HasNoneUpTo, HasRun, HasUpTo, IsSplit, IsWithin, IsWithout, last_before};
+ghost use Rattle.id_choice.specs.RunMaps.{AreApart, AreApartUpTo, BeginsAt, EndsAt, EndsBefore, HasBehind, HasFrom, HasNoneBehind, HasNoneFrom, HasNoneUpTo, HasRun, HasUpTo, IsWithout, KeepsBehind, last_before};
 
 use std::alloc::{AllocError, Global};
 use std::collections::BTreeMap;
@@ -38,7 +38,7 @@ impl Model for Runs {
 }
 
 impl Runs {
-    ghost use Rattle.id_choice.specs.Runs.{AddsAll, AreThoseOfRuns, HasNothingFrom, HasNothingUpTo, IsFirstFrom, IsLastUpTo, LosesOne};
+    ghost use Rattle.id_choice.specs.Runs.{AddsAll, AreThoseOfRuns, HasNothingFrom, HasNothingUpTo, IsFirstFrom, IsLastUpTo, LosesAll, LosesOne};
 
     /// No number. It allocates nothing before the first `add`.
     pub fn new(alloc: Global) -> Runs
@@ -78,16 +78,27 @@ impl Runs {
         Ok(())
     }
 
-    /// Takes the number out, which may be missing. The run that holds it is split. At `AllocError` the
-    /// set is as before.
+    /// Takes the number out, which may be missing. At `AllocError` the set is as before.
     pub fn remove(&mut self, number: u32) -> Result<(), AllocError>
         ensures removed { OnOk result (LosesOne self.old number self.new) }
         ensures unchanged { OnErr result (self.new ≡ self.old) }
     {
-        match run_up_to(&self.runs, number) {
-            Some(run) if number <= run.last => split_run(&mut self.runs, run, number),
-            _ => Ok(()),
-        }
+        self.remove_all(number, number)
+    }
+
+    /// Takes the numbers from the first to the last out, of which some may be missing. What the runs
+    /// that hold them have before the first and behind the last stays. At `AllocError` the set is as
+    /// before.
+    pub fn remove_all(&mut self, first: u32, last: u32) -> Result<(), AllocError>
+        requires { first ≤ last }
+        ensures removed { OnOk result (LosesAll self.old first last self.new) }
+        ensures unchanged { OnErr result (self.new ≡ self.old) }
+    {
+        // this comes first, as it alone may want memory
+        keep_behind(&mut self.runs, last)?;
+        end_before(&mut self.runs, first);
+        remove_behind(&mut self.runs, first, last);
+        Ok(())
     }
 
     /// Whether the number is there.
@@ -190,23 +201,34 @@ fn end_of(runs: &BTreeMap<u32, u32>, number: u32) -> u32
     }
 }
 
-// Splits the run that holds a number into what is before the number and what is behind it. The part
-// behind comes first, as it alone may want memory.
-fn split_run(runs: &mut BTreeMap<u32, u32>, run: Run, number: u32) -> Result<(), AllocError>
-    requires has { HasRun runs.old run.first run.last }
-    requires within { IsWithin run number }
-    ensures split { OnOk result (IsSplit runs.old runs.new run number) }
+// Where a run goes on behind a number, lets a run begin behind the number that ends where it ends.
+fn keep_behind(runs: &mut BTreeMap<u32, u32>, number: u32) -> Result<(), AllocError>
+    requires { AreApart runs.old }
+    ensures kept { OnOk result (KeepsBehind runs.old runs.new number) }
     ensures unchanged { OnErr result (IsUnchanged runs.old runs.new) }
 {
-    if number < run.last {
-        runs.insert(number + 1, run.last)?;
+    match run_up_to(runs, number) {
+        Some(run) if number < run.last => {
+            runs.insert(number + 1, run.last)?;
+            Ok(())
+        }
+        _ => Ok(()),
     }
-    end_before(runs, run.first, number);
-    Ok(())
+}
+
+// Lets the runs that begin up to a number end before it.
+fn end_before(runs: &mut BTreeMap<u32, u32>, number: u32)
+    requires { AreApartUpTo runs.old number }
+    ensures { EndsBefore runs.old runs.new number }
+{
+    match run_up_to(runs, number) {
+        Some(run) if number <= run.last => cut(runs, run.first, number),
+        _ => {}
+    }
 }
 
 // Lets a run that is there end before a number; one that begins there goes.
-fn end_before(runs: &mut BTreeMap<u32, u32>, first: u32, number: u32)
+fn cut(runs: &mut BTreeMap<u32, u32>, first: u32, number: u32)
     requires { IsSome (get nat_cmp runs.old first) }
     ensures updated { Updates nat_cmp runs.old runs.new first (last_before first number) }
     ensures ordered { IsOrdered nat_cmp runs.new }
