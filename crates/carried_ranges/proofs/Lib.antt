@@ -1,1 +1,3 @@
+pub mod EditedTables
 pub mod OwnerLemmas
+pub mod NumberLemmas

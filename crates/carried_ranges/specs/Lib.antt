@@ -1,1 +1,3 @@
-pub mod GoneOwners
+pub mod Standing
+pub mod Sources
+pub mod RangeNumbers

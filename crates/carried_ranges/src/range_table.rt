@@ -1,63 +1,56 @@
-// A carried table of subordinate IDs: a range is added behind its bytes in no pass, and an owner whose
-// ranges go is remembered while the lines stand (useradd(8), userdel(8), subuid(5), subgid(5)).
-ghost use Rattle.std.specs.Prelude.{◌≡◌, ◌++◌, [], ◌∷◌, List, ℕ, None, Some, IfOk, IfSome, OnOk};
-ghost use Rattle.acct_text.specs.Lines.{file_bytes, lines_of};
-ghost use Rattle.account_formats.specs.Edits.{with_line};
-ghost use Rattle.account_formats.specs.Edits.Edit.{Add, Become};
+// A table of subordinate IDs that is carried from command to command: the file as it was read, and from
+// the first edit on its lines (useradd(8), userdel(8), usermod(8), `-l`; subuid(5), subgid(5)).
+ghost use Rattle.std.specs.Prelude.{◌≡◌, ◌<◌, None, Some, is_some, IfOk, OnOk};
+ghost use Rattle.std.specs.List.{list_all, list_any};
 ghost use Rattle.account_formats.specs.Records.{subid_format};
-ghost use Rattle.account_formats.specs.Tables.{table_after};
-ghost use Rattle.account_formats.specs.Text.{is_listed};
-ghost use Rattle.account_formats.specs.Written.{IsWritten};
+ghost use Rattle.account_formats.specs.Tables.{table_records};
+ghost use Rattle.account_words.specs.FreeRange.{free_range};
+ghost use Rattle.account_words.specs.SubidOwner.{is_owned};
+ghost use Rattle.carried_lines.specs.TableEdits.{AreWritten, table_by};
 ghost use Rattle.line_edits.specs.SubidChanges.{subid_becomes};
-ghost use Rattle.subid_ranges.specs.RangeIndex.{IsIndexOf};
-ghost use Rattle.subid_ranges.specs.RangeLines.{ranges_of};
-ghost use Rattle.carried_ranges.specs.GoneOwners.{left_text, owner_texts, owners_in};
+ghost use Rattle.carried_ranges.specs.RangeNumbers.{is_carried};
+ghost use Rattle.carried_ranges.specs.Standing.{file_in};
 
 use crate::RangeFile;
-use acct_lines::{SubidRecord, TableRecord};
-use acct_tables::append_line;
+use crate::range_lines::RangeLines;
+use acct_lines::SubidRecord;
 use acct_text::Bytes;
-use carried_lines::{GoneNames, text_without};
-use itoa::Buffer;
-use line_edits::SubidChange;
+use carried_lines::text_of;
+use line_edits::{Edit, SubidChange};
 use std::alloc::{AllocError, Global};
 use std::marker::Model;
-use subid_ranges::RangeIndex;
+use std::mem::replace;
+use subid_ranges::{free_gap_in, has_owner_in};
 
-/// A table of subordinate IDs, with the index of its ranges and the owners whose ranges are gone.
-/// Contracts see it as the bytes of its file, and none where the file is absent.
-pub struct RangeTable {
-    file: Option<Bytes>,
-    // the owners whose ranges are gone while their lines stand in the file; none before the first
-    gone: Option<GoneNames>,
-    // of all ranges that stand in the file; none until a range is added or it is gathered, and after
-    // any edit but a removal
-    index: Option<RangeIndex>,
+/// How a table stands.
+#[derive(Drop)]
+pub(crate) enum Standing {
+    /// As its file, which is absent where there is none.
+    File(Option<Bytes>),
+    /// As lines, once an edit came.
+    Lines(RangeLines),
 }
 
-// One call for the three that may be there, so that who holds several tables has few ways through them.
+/// A table of subordinate IDs. Contracts see it as the bytes of its file, and none where the file is
+/// absent.
+pub struct RangeTable {
+    standing: Standing,
+}
+
+// One call for all that may be there, so that who holds several tables has few ways through them.
 impl Drop for RangeTable {
     fn drop(self) {
-        let RangeTable {
-            file: _,
-            gone: _,
-            index: _,
-        } = self;
+        let RangeTable { standing: _ } = self;
     }
 }
 
 impl Model for RangeTable {
-    ghost use Rattle.std.specs.Prelude.{ℕ, List, Option, IfSome};
-    ghost use Rattle.subid_ranges.specs.RangeIndex.{IsIndexOf};
-    ghost use Rattle.subid_ranges.specs.RangeLines.{ranges_of};
-    ghost use Rattle.carried_ranges.specs.GoneOwners.{left_file};
-    ghost use Rattle.carried_lines.specs.TablesOfLines.{lines_in};
+    ghost use Rattle.std.specs.Prelude.{ℕ, List, Option};
+    ghost use Rattle.carried_ranges.specs.Standing.{file_in};
 
     ghost Value = { Option (List ℕ) };
 
-    ghost view = { λ t. left_file t.gone t.file };
-
-    ghost invariant = { λ t. IfSome t.index (IsIndexOf (ranges_of (lines_in t.file))) };
+    ghost view = { λ t. file_in t.standing };
 }
 
 impl RangeTable {
@@ -66,9 +59,7 @@ impl RangeTable {
         ensures { result ≡ None }
     {
         RangeTable {
-            file: None,
-            gone: None,
-            index: None,
+            standing: Standing::File(None),
         }
     }
 
@@ -77,22 +68,18 @@ impl RangeTable {
         ensures { IfOk result (λ table. table ≡ file.now) }
     {
         Ok(RangeTable {
-            file: copy_of(file)?,
-            gone: None,
-            index: None,
+            standing: Standing::File(copy_of(file)?),
         })
     }
 
-    /// Takes the bytes of the file out, in a pass over its lines where owners are gone; none where it
-    /// is absent.
+    /// Takes the bytes of the file out, in a pass over its lines where an edit came; none where it is
+    /// absent. The table is absent then.
     pub fn take_file(&mut self) -> Result<Option<Bytes>, AllocError>
         ensures { IfOk result (λ file. file ≡ self.old) }
     {
-        self.index = None;
-        let gone = self.gone.take();
-        match self.file.take() {
-            Some(text) => Ok(Some(left_of(text, gone)?)),
-            None => Ok(None),
+        match self.take_standing() {
+            Standing::File(file) => Ok(file),
+            Standing::Lines(lines) => lines.file(),
         }
     }
 
@@ -100,175 +87,141 @@ impl RangeTable {
     pub fn ranges(&self) -> RangeFile<'_>
         ensures { result ≡ self.now }
     {
-        RangeFile::left(&self.file, self.index.as_ref(), self.gone.as_ref())
+        RangeFile::carried(self)
     }
 
-    /// The file as it is asked, where the index of its ranges is known: then `has_owner` takes no pass
-    /// over the lines.
-    pub fn indexed(&self) -> Option<RangeFile<'_>>
-        ensures { IfSome result (λ ranges. ranges ≡ self.now) }
-    {
-        match self.index {
-            Some(_) => Some(self.ranges()),
-            None => None,
-        }
-    }
-
-    /// Gathers the index of the ranges in a pass over the lines, where it isn't known or owners are
-    /// gone. At `AllocError` the table is gone.
-    pub fn gather(&mut self, alloc: Global) -> Result<(), AllocError>
-        ensures { OnOk result (self.new ≡ self.old) }
-    {
-        let known = self.index.take();
-        let gone = self.gone.take();
-        let Some(text) = self.file.take() else {
-            return Ok(());
-        };
-        let all = indexed(alloc, text, gone, known)?;
-        self.index = Some(all.index);
-        self.file = Some(all.text);
-        Ok(())
-    }
-
-    /// Adds a range behind the last line; an absent file stays absent. At `AllocError` the table is
-    /// gone. It takes a pass over the lines for the index, where this isn't known or owners are gone.
-    pub fn add(&mut self, alloc: Global, range: &SubidRecord) -> Result<(), AllocError>
-        requires { IsWritten subid_format range.now }
-        ensures { OnOk result
-            (self.new ≡ table_after subid_format (Add range.now ∷ []) self.old) }
-    {
-        let known = self.index.take();
-        let gone = self.gone.take();
-        let Some(text) = self.file.take() else {
-            return Ok(());
-        };
-        let mut all = indexed(alloc, text, gone, known)?;
-        all.index.add(alloc, range)?;
-        append_range(alloc, &mut all.text, range)?;
-        self.index = Some(all.index);
-        self.file = Some(all.text);
-        Ok(())
-    }
-
-    /// Removes the ranges of an owner, by name or by UID, in no pass over the lines. At `AllocError`
-    /// some of them may be gone.
-    pub fn remove(
+    /// Carries the edits out, in their order: a range that is added, an owner that gets another name,
+    /// and one whose ranges go take no pass over the lines. These are made in two passes where no edit
+    /// came before, and the numbers of their ranges gathered in one where a range is added and they
+    /// aren't known. At `AllocError` some of the edits may be made, or the table is gone.
+    pub fn edit(
         &mut self,
         alloc: Global,
-        owner: &[u8],
-        uid: Option<u32>,
+        edits: &[Edit<SubidRecord, SubidChange>],
     ) -> Result<(), AllocError>
-        ensures { OnOk result (self.new ≡ table_after subid_format
-            (Become (subid_becomes (SubidChange.Remove owner.now uid)) ∷ []) self.old) }
+        requires { AreWritten subid_format subid_becomes edits.now }
+        ensures { OnOk result (self.new ≡ table_by subid_format subid_becomes edits.now self.old) }
     {
-        let mut gone = known_or_none(alloc, self.gone.take());
-        let added = add_owner(&mut gone, owner, uid);
-        self.gone = Some(gone);
-        added
+        let mut lines = opened(alloc, self.take_standing())?;
+        lines.edit(alloc, edits)?;
+        self.standing = Standing::Lines(lines);
+        Ok(())
     }
 
     /// Puts these bytes in the place of those of the file.
     pub fn put(&mut self, text: Bytes)
         ensures { self.new ≡ Some text }
     {
-        self.index = None;
-        self.gone = None;
-        self.file = Some(text);
+        self.standing = Standing::File(Some(text));
     }
-}
 
-// A text of which no owner is gone, and the index of its ranges.
-#[derive(Drop)]
-struct IndexedText {
-    text: Bytes,
-    index: RangeIndex,
-}
-
-// What is left of the text without the ranges of gone owners, with its index, which is made where
-// owners are gone or it isn't known.
-fn indexed(
-    alloc: Global,
-    text: Bytes,
-    gone: Option<GoneNames>,
-    known: Option<RangeIndex>,
-) -> Result<IndexedText, AllocError>
-    requires { IfSome known (IsIndexOf (ranges_of (lines_of text))) }
-    ensures left { IfOk result (λ all. all.text ≡ left_text gone text) }
-    ensures index { IfOk result (λ all. IsIndexOf (ranges_of (lines_of all.text)) all.index) }
-{
-    match gone {
-        Some(gone) => {
-            let left = text_without::<SubidRecord>(text.as_slice(), &gone)?;
-            with_index(alloc, left, None)
+    /// Whether there is a file.
+    pub(crate) fn is_there(&self) -> bool
+        ensures { result ≡ is_some self.now }
+    {
+        match &self.standing {
+            Standing::File(file) => file.is_some(),
+            Standing::Lines(lines) => lines.is_there(),
         }
-        None => with_index(alloc, text, known),
+    }
+
+    /// A copy of the bytes; none where there is no file.
+    pub(crate) fn file(&self) -> Result<Option<Bytes>, AllocError>
+        ensures { IfOk result (λ file. file ≡ self.now) }
+    {
+        match &self.standing {
+            Standing::File(file) => copy_of(file),
+            Standing::Lines(lines) => lines.file(),
+        }
+    }
+
+    /// Whether the owner of a range is the name, or the decimal text of the UID.
+    pub(crate) fn has_owner(&self, name: &[u8], uid: Option<u32>) -> bool
+        ensures { result ≡ list_any (is_owned name.now uid) (table_records subid_format self.now) }
+    {
+        match &self.standing {
+            Standing::File(file) => has_owner_in(text_of(file), name, uid),
+            Standing::Lines(lines) => lines.has_owner(name, uid),
+        }
+    }
+
+    /// The least start, from `min` on, of `count` IDs of which none passes `max` and none lies in a
+    /// range of any owner; none where there is no such start.
+    pub(crate) fn free_gap(
+        &self,
+        alloc: Global,
+        min: u32,
+        max: u32,
+        count: u32,
+    ) -> Result<Option<u32>, AllocError>
+        requires { 0 < count }
+        ensures { IfOk result (λ start.
+            start ≡ free_range min max count (table_records subid_format self.now)) }
+    {
+        match &self.standing {
+            Standing::File(file) => gap_in(alloc, file, min, max, count),
+            Standing::Lines(lines) => lines.free_gap(alloc, min, max, count),
+        }
+    }
+
+    // Takes out what stands; the table is absent then.
+    fn take_standing(&mut self) -> Standing
+        ensures taken { file_in result ≡ self.old }
+        ensures left { self.new ≡ None }
+    {
+        replace(&mut self.standing, Standing::File(None))
     }
 }
 
-// The text with its index, which is made where it isn't known.
-fn with_index(
-    alloc: Global,
-    text: Bytes,
-    known: Option<RangeIndex>,
-) -> Result<IndexedText, AllocError>
-    requires { IfSome known (IsIndexOf (ranges_of (lines_of text))) }
-    ensures text { IfOk result (λ all. all.text ≡ text) }
-    ensures index { IfOk result (λ all. IsIndexOf (ranges_of (lines_of all.text)) all.index) }
+/// Whether the edits take no pass over a table: each adds a range, or is one of all ranges of an owner.
+pub fn are_carried(edits: &[Edit<SubidRecord, SubidChange>]) -> bool
+    ensures { result ≡ list_all is_carried edits.now }
 {
-    let index = match known {
-        Some(index) => index,
-        None => RangeIndex::of(alloc, text.as_slice())?,
-    };
-    Ok(IndexedText { text, index })
+    edits.iter().all(|edit| is_carried(edit))
 }
 
-// The text without the ranges of gone owners.
-fn left_of(text: Bytes, gone: Option<GoneNames>) -> Result<Bytes, AllocError>
-    ensures { IfOk result (λ left. left ≡ left_text gone text) }
+// Whether the edit takes no pass.
+fn is_carried(edit: &Edit<SubidRecord, SubidChange>) -> bool
+    ensures { result ≡ is_carried edit.now }
 {
-    match gone {
-        Some(gone) => text_without::<SubidRecord>(text.as_slice(), &gone),
-        None => Ok(text),
+    match edit {
+        Edit::Add(_) => true,
+        Edit::Become(change) => !matches!(change, SubidChange::Cut(_)),
+        Edit::AddMissing(_) | Edit::Put(_) => false,
     }
 }
 
-// The gone owners, and none where no list of them is kept.
-fn known_or_none(alloc: Global, gone: Option<GoneNames>) -> GoneNames
-    ensures { result ≡ owners_in gone }
+// The lines of what stands, which are made in two passes where it is a file.
+fn opened(alloc: Global, standing: Standing) -> Result<RangeLines, AllocError>
+    ensures { IfOk result (λ lines. lines ≡ file_in standing) }
 {
-    match gone {
-        Some(gone) => gone,
-        None => GoneNames::new(alloc),
+    match standing {
+        Standing::File(file) => RangeLines::of(alloc, &file),
+        Standing::Lines(lines) => Ok(lines),
     }
 }
 
-// Adds the texts that a line of the owner may have as its owner.
-fn add_owner(gone: &mut GoneNames, name: &[u8], uid: Option<u32>) -> Result<(), AllocError>
-    ensures { OnOk result ((other : List ℕ) →
-        is_listed other gone.new ≡ is_listed other (owner_texts name.now uid ++ gone.old)) }
-{
-    if let Some(uid) = uid {
-        let mut buffer = Buffer::new();
-        gone.add(buffer.format(uid).as_bytes())?;
-    }
-    gone.add(name)
-}
-
-// Adds the line of a range behind the last.
-fn append_range(alloc: Global, text: &mut Bytes, range: &SubidRecord) -> Result<(), AllocError>
-    ensures { OnOk result (text.new
-        ≡ file_bytes (with_line (subid_format.print range.now) (lines_of text.old))) }
-{
-    let line = range.print(alloc)?;
-    append_line(alloc, text, line.as_slice())
-}
-
-// The file once more, absent where it is.
-fn copy_of(file: &Option<Bytes>) -> Result<Option<Bytes>, AllocError>
+/// The file once more, absent where it is.
+pub(crate) fn copy_of(file: &Option<Bytes>) -> Result<Option<Bytes>, AllocError>
     ensures { IfOk result (λ copy. copy ≡ file.now) }
 {
     match file {
         Some(text) => Ok(Some(text.copy()?)),
         None => Ok(None),
     }
+}
+
+/// The least start among the ranges of the file, as `free_gap` has it.
+pub(crate) fn gap_in(
+    alloc: Global,
+    file: &Option<Bytes>,
+    min: u32,
+    max: u32,
+    count: u32,
+) -> Result<Option<u32>, AllocError>
+    requires { 0 < count }
+    ensures { IfOk result (λ start.
+        start ≡ free_range min max count (table_records subid_format file.now)) }
+{
+    free_gap_in(alloc, text_of(file), min, max, count)
 }

@@ -3,27 +3,21 @@
 -- record of a name are such (`kept-counts`, `added-counts`, `one-counts`, and `none-counts` where the
 -- name has no record). They are those of the table after an edit (`after-edit`). Way: by how many
 -- records have each ID.
-use Rattle.std.proofs.Common.{◌≡◌, ◌∙◌, ℕ, ◌+◌, ◌<◌, ◌≤◌, Bool, true, false, List, [], ◌∷◌, ◌++◌, cond, map, refl, sym, ap, ap₂, subst, inl, inr, arith, zero-add, length, take, drop, get_or}
+use Rattle.std.proofs.Common.{◌≡◌, ◌∙◌, ℕ, ◌+◌, ◌<◌, ◌≤◌, Bool, true, false, List, [], ◌∷◌, ◌++◌, cond, map, refl, sym, ap, ap₂, subst, inl, inr, arith, zero-add, length, take, get_or}
 use Rattle.std.specs.Prelude.{Option, Some, None, is_some, find, flat_map, nat_le, not, option_map, if◌then◌else◌, ◌==◌, ◌&&◌, ◌||◌}
 use Rattle.std.proofs.lemmas.Bool.{cases_Bool, cases_eq, cases_lt, eq-eqb, false≢true, le-leb, leb-true, ne_eqb}
 use Rattle.std.proofs.lemmas.List.{map-append, take_more}
 use Rattle.std.proofs.lemmas.List.Sums.{sum_by-append, sum_by-cons}
-use Rattle.acct_text.specs.Lines.{file_bytes, lines_of}
-use Rattle.acct_text.proofs.LinesLaws.{lines_of-are}
-use Rattle.account_formats.specs.Edits.{Edit, edited, edited_by}
+use Rattle.account_formats.specs.Edits.{Edit, edited}
 use Rattle.account_formats.specs.Format.{Format, count_named, find_named, is_named}
 use Rattle.account_formats.specs.RecordEdits.{IsWrittenEdit, TellsSame, records_edited}
 use Rattle.account_formats.specs.Tables.{table_after, table_records}
 use Rattle.account_formats.proofs.EditLines.{table-edited}
 use Rattle.account_words.specs.Ids.{is_used}
-use Rattle.acct_tables.proofs.EditedFiles.{edit-found}
 use Rattle.id_choice.specs.Runs.{LosesOne}
 use Rattle.id_choice.specs.Used.{AreThoseOf}
-use Rattle.line_edits.specs.declared.edit.Edit.{Edit as DataEdit}
-use Rattle.line_edits.specs.SeenEdits.{seen_edit, seen_edits}
 use Rattle.carried_tables.specs.declared.kept_ids.KeptIds.{KeptIds}
 use Rattle.carried_tables.specs.KeptIds.{AreIdsOf, FollowSwap, KeepsIds, Renumbers, counts_of, new_ids, table_counts}
-use Rattle.carried_lines.specs.TableEdits.{AreWritten, table_by}
 
 -- ---- Counts
 
@@ -373,53 +367,8 @@ used-found id_of id (r ∷ records) = elim (cases_Bool (id_of r == id)) [
   | inr other ↦ rw other (used-found id_of id records)
 ]
 
--- ---- The table's edits, one after another
-
-module _ {R : Type 0} (format : Format R) where
-  -- an edit, and then the others
-  pub table-step :
-      (edit : Edit R) (rest : List (Edit R)) (file : Option (List ℕ))
-      → format.read [] ≡ None
-      → IsWrittenEdit format edit
-      → table_after format rest (table_after format (edit ∷ []) file)
-      ≡ table_after format (edit ∷ rest) file
-  table-step edit rest None none written = refl
-  table-step edit rest (Some text) none written =
-      ap (λ lines. Some (file_bytes (edited_by format rest lines)))
-      (edit-found format none edit written text (file_bytes (edited format (lines_of text) edit))
-      refl)
-
-  -- no edit
-  pub table-none : (file : Option (List ℕ)) → table_after format [] file ≡ file
-  table-none None = refl
-  table-none (Some text) = ap Some (lines_of-are text).joined
-
-  -- which leaves the table
-  pub no-edit : (file : Option (List ℕ)) → file ≡ table_after format [] file
-  no-edit file = sym (table-none file)
-
-  -- a file that is there stays there
-  pub table-there :
-      (edits : List (Edit R)) (file : Option (List ℕ))
-      → is_some file ≡ true
-      → is_some (table_after format edits file) ≡ true
-  table-there edits None there = there
-  table-there edits (Some text) there = refl
-
 -- what isn't there has no ID
 pub none-told :
     {R : Type 0} (id_of : R → ℕ) (found : Option R) → None ≡ option_map id_of found → found ≡ None
 none-told id_of None is = refl
 none-told id_of (Some r) is = absurd cc
-
--- the first edit of a list, and then the others
-pub table-two :
-    {R C : Type 0} (becomes : C → R → List R) (format : Format R) (edits : List (DataEdit R C))
-    (file : Option (List ℕ))
-    → format.read [] ≡ None
-    → AreWritten format becomes edits
-    → table_by format becomes (drop 1 edits) (table_by format becomes (take 1 edits) file)
-    ≡ table_by format becomes edits file
-table-two becomes format [] file none written = table-none format (table_after format [] file)
-table-two becomes format (edit ∷ edits) file none written =
-    table-step format (seen_edit becomes edit) (seen_edits becomes edits) file none written.0

@@ -11,5 +11,5 @@ mod left_ranges;
 mod range_edits;
 mod removed_owner;
 
-pub use left_ranges::{leave_all, leave_indexed};
+pub use left_ranges::leave_all;
 pub use range_edits::edited_ranges;

@@ -4,4 +4,5 @@ pub mod TakenLemmas
 pub mod TellLemmas
 pub mod FileLines
 pub mod GatheredLemmas
-pub mod RangeIndexLemmas
+pub mod OwnedLemmas
+pub mod RangeNumbersLemmas

@@ -4,4 +4,4 @@ pub mod Numbers
 pub mod Taken
 pub mod Refusals
 pub mod Gathered
-pub mod RangeIndex
+pub mod RangeNumbers

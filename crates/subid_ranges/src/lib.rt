@@ -6,20 +6,20 @@
 //! is never touched, and a line that loses no ID keeps its bytes. After a refusal and after want of
 //! memory all lines are as before the call.
 //!
-//! `RangeIndex` has these runs and the owners, without the lines: for a file behind whose lines one
-//! range comes after another.
+//! `RangeNumbers` has these runs without the lines: for a file whose ranges come and go one after
+//! another, of which no pass is taken over the lines.
 #![tactic(auto)]
 
 mod fault;
 mod gathered;
 mod owned;
-mod range_index;
 mod range_line;
+mod range_numbers;
 mod ranges;
 mod taken;
 
 pub use fault::RangeFault;
 pub use owned::{OwnedRanges, has_owner_in};
-pub use range_index::RangeIndex;
+pub use range_numbers::RangeNumbers;
 pub use ranges::Ranges;
 pub use taken::free_gap_in;

@@ -1,6 +1,6 @@
 // The numbers that the ranges of a file take, and the gaps between them (useradd(8), subuid(5),
 // subgid(5)).
-ghost use Rattle.std.specs.Prelude.{◌≡◌, ℕ, ◌+◌, ◌-◌, ◌<◌, ◌≤◌, ◌||◌, [], None, IfOk, MatchOption, OnOk};
+ghost use Rattle.std.specs.Prelude.{◌≡◌, ℕ, ◌+◌, ◌-◌, ◌<◌, ◌≤◌, ◌&&◌, ◌||◌, not, [], None, IfOk, MatchOption, OnOk};
 ghost use Rattle.std.specs.Option.{ForSome};
 ghost use Rattle.acct_text.specs.Lines.{lines_of};
 ghost use Rattle.account_words.specs.FreeRange.{free_range};
@@ -71,6 +71,16 @@ impl Taken {
             ≡ (in_range first last number || is_taken self.old number) }
     {
         self.newest = Some(Run { first, last });
+    }
+
+    /// Takes the numbers from the first to the last out.
+    pub(crate) fn remove(&mut self, first: u32, last: u32) -> Result<(), AllocError>
+        requires { first ≤ last }
+        ensures { OnOk result ((number : ℕ) → is_taken self.new number
+            ≡ (is_taken self.old number && not (in_range first last number))) }
+    {
+        self.settle()?;
+        self.runs.remove_all(first, last)
     }
 
     /// The least start, from `min` on, of `count` numbers of which none passes `max` and none is

@@ -13,10 +13,10 @@ use crate::decide::output_of;
 use crate::multiple::multiple_carried;
 use crate::{Report, Script, SubidRecord};
 use account_words::Tool;
-use carried_ranges::RangeTable;
+use carried_ranges::{RangeTable, are_carried};
 use carried_tables::CarriedTables;
 use line_edits::{Edit, SubidChange};
-use range_edits::{edited_ranges, leave_all, leave_indexed};
+use range_edits::{edited_ranges, leave_all};
 use std::alloc::{AllocError, Global};
 use tool_answers::{Output, ToolFault};
 
@@ -64,9 +64,8 @@ fn edit_tables(alloc: Global, tables: &mut CarriedTables, script: &Script) -> Re
     Ok(())
 }
 
-// Makes the edits of subuid or subgid. A range that is added alone takes no pass over the lines, nor do
-// the removal of all ranges of an owner, and edits that leave all ranges, where the index of these is
-// known.
+// Makes the edits of subuid or subgid. Edits that leave all ranges, and those of whole ranges, take no
+// pass over the lines.
 fn edit_ranges(
     alloc: Global,
     table: &mut RangeTable,
@@ -78,20 +77,13 @@ fn edit_ranges(
     if leave_all(edits) {
         return Ok(());
     }
-    if leave_indexed(table, edits) {
-        return Ok(());
+    if are_carried(edits) {
+        return table.edit(alloc, edits);
     }
-    match edits {
-        [Edit::Add(range)] => table.add(alloc, range),
-        [Edit::Become(SubidChange::Remove(owner, uid))] => {
-            table.remove(alloc, owner.as_slice(), *uid)
-        }
-        _ => remake_ranges(alloc, table, edits),
-    }
+    remake_ranges(alloc, table, edits)
 }
 
-// Makes the edits in a pass over the lines. Where these stay, another pass gathers the index, so that
-// the next edits for owners without a range take none.
+// Makes the edits in a pass over the lines. Where these stay, the table is left as it stands.
 fn remake_ranges(
     alloc: Global,
     table: &mut RangeTable,
@@ -104,9 +96,8 @@ fn remake_ranges(
         return Ok(());
     };
     let new = edited_ranges(alloc, text.as_slice(), edits)?;
-    if new.as_slice() == text.as_slice() {
-        return table.gather(alloc);
+    if new.as_slice() != text.as_slice() {
+        table.put(new);
     }
-    table.put(new);
     Ok(())
 }

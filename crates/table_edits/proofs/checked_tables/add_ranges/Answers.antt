@@ -1,6 +1,5 @@
 use Rattle.account_formats.specs.Records.{subid_format}
 use Rattle.account_formats.specs.Tables.{table_after}
-use Rattle.carried_lines.specs.TablesOfLines.{lines_in}
 use Rattle.line_edits.specs.SeenEdits.{seen_edits}
 use Rattle.line_edits.specs.SubidChanges.{subid_becomes}
 use Rattle.range_edits.proofs.LeftLemmas.{left-file}
@@ -12,4 +11,4 @@ returns-then-leave_all c =
     let edits = seen_edits subid_becomes c.args.edits.now in
     let file = c.args.file.now in
     stays-unlisted c.args.table file (table_after subid_format edits file) c.args.new.now
-    (left-file edits file (c.leave_all.ensures c.if-leave_all.true (lines_in file)))
+    (left-file edits file (c.leave_all.ensures c.if-leave_all.true))

@@ -1,0 +1,65 @@
+-- Claim: the first edit of a list and then the others make of a table what all make (`table-two`).
+-- Way: what an edit makes of lines are lines of a file (`table-step`).
+use Rattle.std.proofs.Common.{◌≡◌, ℕ, true, false, List, [], ◌∷◌, refl, sym, ap, take, drop}
+use Rattle.std.specs.Prelude.{Option, Some, None, is_some}
+use Rattle.acct_text.specs.Lines.{file_bytes, lines_of}
+use Rattle.acct_text.proofs.LinesLaws.{lines_of-are}
+use Rattle.account_formats.specs.Edits.{Edit, edited, edited_by}
+use Rattle.account_formats.specs.Format.{Format}
+use Rattle.account_formats.specs.RecordEdits.{IsWrittenEdit}
+use Rattle.account_formats.specs.Tables.{table_after}
+use Rattle.acct_tables.proofs.EditedFiles.{edit-found}
+use Rattle.line_edits.specs.declared.edit.Edit.{Edit as DataEdit}
+use Rattle.line_edits.specs.SeenEdits.{seen_edit, seen_edits}
+use Rattle.carried_lines.specs.TableEdits.{AreWritten, table_by}
+
+module _ {R : Type 0} (format : Format R) where
+  -- an edit, and then the others
+  pub table-step :
+      (edit : Edit R) (rest : List (Edit R)) (file : Option (List ℕ))
+      → format.read [] ≡ None
+      → IsWrittenEdit format edit
+      → table_after format rest (table_after format (edit ∷ []) file)
+      ≡ table_after format (edit ∷ rest) file
+  table-step edit rest None none written = refl
+  table-step edit rest (Some text) none written =
+      ap (λ lines. Some (file_bytes (edited_by format rest lines)))
+      (edit-found format none edit written text (file_bytes (edited format (lines_of text) edit))
+      refl)
+
+  -- no edit
+  pub table-none : (file : Option (List ℕ)) → table_after format [] file ≡ file
+  table-none None = refl
+  table-none (Some text) = ap Some (lines_of-are text).joined
+
+  -- which leaves the table
+  pub no-edit : (file : Option (List ℕ)) → file ≡ table_after format [] file
+  no-edit file = sym (table-none file)
+
+  -- a file that is there stays there
+  pub table-there :
+      (edits : List (Edit R)) (file : Option (List ℕ))
+      → is_some file ≡ true
+      → is_some (table_after format edits file) ≡ true
+  table-there edits None there = there
+  table-there edits (Some text) there = refl
+
+-- the first edit of a list, and then the others
+pub table-two :
+    {R C : Type 0} (becomes : C → R → List R) (format : Format R) (edits : List (DataEdit R C))
+    (file : Option (List ℕ))
+    → format.read [] ≡ None
+    → AreWritten format becomes edits
+    → table_by format becomes (drop 1 edits) (table_by format becomes (take 1 edits) file)
+    ≡ table_by format becomes edits file
+table-two becomes format [] file none written = table-none format (table_after format [] file)
+table-two becomes format (edit ∷ edits) file none written =
+    table-step format (seen_edit becomes edit) (seen_edits becomes edits) file none written.0
+
+-- an absent file stays absent
+pub absent-stays :
+    {R : Type 0} (format : Format R) (edits : List (Edit R)) (file : Option (List ℕ))
+    → is_some file ≡ false
+    → file ≡ table_after format edits file
+absent-stays format edits None absent = refl
+absent-stays format edits (Some text) absent = absurd cc
