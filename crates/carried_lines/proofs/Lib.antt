@@ -8,3 +8,4 @@ pub mod PlacedLemmas
 pub mod KeyPlaceLemmas
 pub mod KeyFollowing
 pub mod KeyCounts
+pub mod PlacedSearch

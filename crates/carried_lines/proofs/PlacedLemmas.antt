@@ -4,7 +4,7 @@
 -- (`single-touched`). Way: from a place down all is as it was, and behind it stands what f gives; a
 -- place that isn't told is left.
 use Rattle.std.proofs.Common.{◌≡◌, ℕ, ◌+◌, ◌<◌, ◌≤◌, true, false, List, [], ◌∷◌, ◌++◌, length, take, drop, zero, suc, refl, sym, ◌∙◌, ap, ap₂, subst, inl, inr, arith, append-nil}
-use Rattle.std.specs.Prelude.{⊤, AllPairs, ◌==◌, ◌||◌, flat_map, slice_get, Option, None, Some}
+use Rattle.std.specs.Prelude.{⊤, AllPairs, ◌||◌, flat_map, slice_get, Option, None, Some}
 use Rattle.std.proofs.Math.ListN.{drop_of_length-le}
 use Rattle.std.proofs.lemmas.Bool.{cases_Bool, cases_eq, cases_lt, false_from_ne_true, ne_eqb}
 use Rattle.std.proofs.lemmas.List.{take_all}

@@ -1,6 +1,6 @@
 -- Records of a table that are gone while their lines still stand: what is left are the lines of the
 -- other records, and other text (userdel(8), groupdel(8)).
-use Rattle.std.specs.Prelude.{◌≡◌, ℕ, Bool, false, not, List, [], filter, Option, None, Some}
+use Rattle.std.specs.Prelude.{◌≡◌, ℕ, Bool, false, not, ◌&&◌, List, [], filter, Option, None, Some}
 use Rattle.acct_text.specs.Lines.{Line}
 use Rattle.account_formats.specs.Edits.{Edit, Become, Add, AddMissing, Put, Arrange, edited, edited_by}
 use Rattle.account_formats.specs.Format.{Format}
@@ -22,6 +22,10 @@ left_lines format gone lines = filter (λ line. not (is_gone gone (line_name for
 -- the records without those of a gone name
 abbrev pub left_records : {R : Type 0} → Format R → List (List ℕ) → List R → List R
 left_records format gone records = filter (λ r. not (is_listed (format.name r) gone)) records
+
+-- whether the test accepts the record, and its name isn't gone
+abbrev pub accepts_left : {R : Type 0} → Format R → List (List ℕ) → (R → Bool) → R → Bool
+accepts_left format gone test r = test r && not (is_listed (format.name r) gone)
 
 -- by the edit each record of the name goes, and nothing else happens
 abbrev pub IsRemoval : {R : Type 0} → Format R → Edit R → List ℕ → Type 0

@@ -33,7 +33,7 @@ IsAtMost Nothing count = count ≡ 0
 IsAtMost One count = count ≤ 1
 IsAtMost Any count = ⊤
 
--- ---- Where a change touches records
+-- ---- Where a change touches records, and a test accepts them
 
 -- f leaves the names of records, and each record but those at these places, from the last to the first
 pub record TouchesAt {R : Type 0} (format : Format R) (f : R → List R) (lines : List Line)
@@ -41,6 +41,13 @@ pub record TouchesAt {R : Type 0} (format : Format R) (f : R → List R) (lines 
   pub names : KeepsNames format f
   pub others : (place : ℕ) (r : R) → record_at format lines place ≡ Some r
       → is_used places place ≡ false → f r ≡ r ∷ []
+  pub descending : AllPairs (λ earlier later. later < earlier) places
+
+-- each record that the test accepts is at one of these places, which go from the last to the first
+pub record AcceptsAt {R : Type 0} (format : Format R) (test : R → Bool) (lines : List Line)
+    (places : List ℕ) : Type 0 where
+  pub all : (place : ℕ) (r : R) → record_at format lines place ≡ Some r
+      → test r ≡ true → is_used places place ≡ true
   pub descending : AllPairs (λ earlier later. later < earlier) places
 
 -- the place has a record of one of these names

@@ -7,7 +7,7 @@ ghost use Rattle.carried_lines.specs.KeyedLines.{IsAtMost, count_with};
 ghost use Rattle.carried_lines.specs.TableEdits.{AreWritten, multiple_by, table_by};
 
 use crate::left_lines::LeftLines;
-use crate::search::{RecordTest, first_passing};
+use crate::search::RecordTest;
 use acct_text::Bytes;
 use line_edits::Edit;
 use record_keys::{KeyedRecord, Most};
@@ -123,7 +123,8 @@ impl<R: KeyedRecord + Drop> CarriedTable<R> {
         }
     }
 
-    /// The first record that passes the test, by a pass over the bytes.
+    /// The first record that passes the test. Where the places of the test's key are known, it takes
+    /// no pass over the lines.
     pub fn first_passing<T: RecordTest<R>>(
         &self,
         alloc: Global,
@@ -132,7 +133,10 @@ impl<R: KeyedRecord + Drop> CarriedTable<R> {
         ensures { IfOk result (λ found.
             found ≡ find (T.accepts test.now) (table_records R.format self.now)) }
     {
-        first_passing(alloc, &self.file()?, test)
+        match &self.lines {
+            Some(lines) => lines.first_passing(alloc, test),
+            None => Ok(None),
+        }
     }
 
     /// The name of the first record that the edits touch and whose name has several records.

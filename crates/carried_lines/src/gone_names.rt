@@ -1,10 +1,12 @@
-// The names of records that are gone from a table, while their lines still stand.
+// The names of records that are gone from a table, while their lines still stand, and the text without
+// these lines.
 ghost use Rattle.std.specs.Prelude.{◌≡◌, true, [], ◌∷◌, List, ℕ, IfOk, OnOk, option_map};
 ghost use Rattle.acct_text.specs.Lines.{file_bytes, lines_of};
 ghost use Rattle.account_formats.specs.Text.{is_listed};
+ghost use Rattle.acct_tables.specs.SeenLines.{AreOfFile};
 ghost use Rattle.carried_lines.specs.Gone.{is_gone, left_lines};
 
-use acct_tables::{Lines, TableRecord, name_of};
+use acct_tables::{EditedLines, Lines, TableRecord, name_of};
 use acct_text::Bytes;
 use indexmap::IndexSet;
 use std::alloc::{AllocError, Global};
@@ -12,7 +14,7 @@ use std::marker::Model;
 
 /// Names, of which each is found without a pass over all. Contracts see a list of them.
 #[derive(Drop)]
-pub struct GoneNames {
+pub(crate) struct GoneNames {
     texts: IndexSet<Vec<u8>>,
 }
 
@@ -27,7 +29,7 @@ impl Model for GoneNames {
 
 impl GoneNames {
     /// No name. It allocates nothing before the first `add`.
-    pub fn new(alloc: Global) -> Self
+    pub(crate) fn new(alloc: Global) -> Self
         ensures { result ≡ [] }
     {
         GoneNames {
@@ -36,7 +38,7 @@ impl GoneNames {
     }
 
     /// Adds a name, which may be there already.
-    pub fn add(&mut self, name: &[u8]) -> Result<(), AllocError>
+    pub(crate) fn add(&mut self, name: &[u8]) -> Result<(), AllocError>
         ensures { OnOk result ((other : List ℕ) →
             is_listed other self.new ≡ is_listed other (name.now ∷ self.old)) }
     {
@@ -46,22 +48,41 @@ impl GoneNames {
     }
 
     /// Whether it is one of the names.
-    pub fn has(&self, name: &[u8]) -> bool
+    pub(crate) fn has(&self, name: &[u8]) -> bool
         ensures { result ≡ is_listed name.now self.now }
     {
         self.texts.contains(name)
     }
 
     /// Whether there is no name.
-    pub fn is_empty(&self) -> bool
+    pub(crate) fn is_empty(&self) -> bool
         ensures { result ≡ true → self.now ≡ [] }
     {
         self.texts.is_empty()
     }
 }
 
+/// The text of the lines without those of records of these names.
+pub(crate) fn left_text<R: TableRecord + Drop>(
+    lines: &EditedLines<'_, R>,
+    gone: &GoneNames,
+) -> Result<Bytes, AllocError>
+    requires { AreOfFile lines.now }
+    ensures { IfOk result (λ bytes. bytes ≡
+        file_bytes (left_lines R.format gone.now lines.now)) }
+{
+    let text = lines.text()?;
+    if gone.is_empty() {
+        return Ok(text);
+    }
+    text_without::<R>(text.as_slice(), gone)
+}
+
 /// The text without the lines of records of these names.
-pub fn text_without<R: TableRecord>(text: &[u8], gone: &GoneNames) -> Result<Bytes, AllocError>
+pub(crate) fn text_without<R: TableRecord>(
+    text: &[u8],
+    gone: &GoneNames,
+) -> Result<Bytes, AllocError>
     ensures { IfOk result (λ bytes. bytes ≡
         file_bytes (left_lines R.format gone.now (lines_of text.now))) }
 {
@@ -75,8 +96,8 @@ pub fn text_without<R: TableRecord>(text: &[u8], gone: &GoneNames) -> Result<Byt
     Ok(made)
 }
 
-// Whether the line is a record of one of the names.
-fn is_gone<R: TableRecord>(gone: &GoneNames, line: &[u8]) -> bool
+/// Whether the line is a record of one of the names.
+pub(crate) fn is_gone<R: TableRecord>(gone: &GoneNames, line: &[u8]) -> bool
     ensures { result ≡ is_gone gone.now (option_map R.format.name (R.format.read line.now)) }
 {
     match name_of::<R>(line) {

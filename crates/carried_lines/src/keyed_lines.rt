@@ -9,10 +9,11 @@ ghost use Rattle.account_formats.specs.RecordEdits.{IsWrittenEdit};
 ghost use Rattle.acct_tables.specs.SeenLines.{AreOfFile};
 ghost use Rattle.line_edits.specs.SeenEdits.{seen_edit, seen_edits};
 ghost use Rattle.line_edits.specs.Touching.{HoldsOfMultiple, LeavesTo};
-ghost use Rattle.carried_lines.specs.KeyedLines.{IsAtMost, TouchesAt, count_with};
+ghost use Rattle.carried_lines.specs.KeyedLines.{AcceptsAt, IsAtMost, TouchesAt, count_with};
 
 use crate::key_following::{followed, gathered, with_brought};
 use crate::placed_changes::{change_each, leaves_each};
+use crate::search::RecordTest;
 use acct_tables::EditedLines;
 use line_edits::{Edit, EditedRecord, apply, touches_single};
 use record_keys::{KeyPlaces, KeyedRecord, Most};
@@ -70,6 +71,22 @@ impl<R: KeyedRecord + Drop> KeyedLines<R> {
         match &self.keys {
             Some(keys) => keys.most(key),
             None => Most::Any,
+        }
+    }
+
+    /// The places where the test may accept records, from the last to the first; none where they
+    /// aren't known. It takes no pass.
+    pub(crate) fn places_accepted<T: RecordTest<R>>(
+        &self,
+        alloc: Global,
+        test: &T,
+    ) -> Result<Option<Vec<usize>>, AllocError>
+        ensures { IfOk result (λ places. IfSome places (λ found.
+            AcceptsAt R.format (T.accepts test.now) self.now found.items)) }
+    {
+        match (test.key(), &self.keys) {
+            (Some(key), Some(keys)) => keys.places(alloc, key),
+            _ => Ok(None),
         }
     }
 

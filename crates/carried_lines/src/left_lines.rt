@@ -1,7 +1,7 @@
 // The lines of a table of which some records are gone: a record that goes is remembered by its name,
 // and its line stands until an edit needs the text without it (passwd(5), shadow(5), group(5),
 // gshadow(5)).
-ghost use Rattle.std.specs.Prelude.{◌≡◌, true, false, length, nat_le, IfOk, IfSome, OnOk};
+ghost use Rattle.std.specs.Prelude.{◌≡◌, true, false, find, length, nat_le, IfOk, IfSome, OnOk};
 ghost use Rattle.acct_text.specs.Lines.{file_bytes, lines_of};
 ghost use Rattle.account_formats.specs.Edits.{edited_by};
 ghost use Rattle.account_formats.specs.Edits as model;
@@ -14,9 +14,10 @@ ghost use Rattle.carried_lines.specs.Gone.{AreEdited, IsRemoval, IsSettled, Pass
 ghost use Rattle.carried_lines.specs.KeyedLines.{IsAtMost, count_with};
 ghost use Rattle.carried_lines.specs.TableEdits.{AreWritten, multiple_by};
 
-use crate::gone_names::{GoneNames, text_without};
+use crate::gone_names::{GoneNames, left_text};
 use crate::keyed_lines::KeyedLines;
-use acct_tables::EditedLines;
+use crate::placed_search::first_among;
+use crate::search::{RecordTest, first_passing};
 use acct_text::Bytes;
 use line_edits::{Edit, EditedRecord, first_multiple};
 use record_keys::{KeyedRecord, Most, Renaming};
@@ -106,6 +107,23 @@ impl<R: KeyedRecord + Drop> LeftLines<R> {
         self.lines.most_with(key)
     }
 
+    /// The first record that passes the test. Where the places of the test's key are known, it takes
+    /// no pass over the lines.
+    pub(crate) fn first_passing<T: RecordTest<R>>(
+        &self,
+        alloc: Global,
+        test: &T,
+    ) -> Result<Option<R>, AllocError>
+        ensures { IfOk result (λ found.
+            found ≡ find (T.accepts test.now) (records_of R.format self.now)) }
+    {
+        if let Some(places) = self.lines.places_accepted(alloc, test)? {
+            return first_among(alloc, self.lines.lines(), &self.gone, test, places);
+        }
+        let text = self.text()?;
+        first_passing(alloc, &Some(text), test)
+    }
+
     /// The name of the first record that the edits touch and whose name has several records. A name
     /// that has several has them among all lines too, gone ones among them.
     pub(crate) fn first_multiple(
@@ -185,22 +203,6 @@ fn edit_one<R: KeyedRecord + Drop>(
     }
     settle_for(alloc, lines, gone, edit)?;
     lines.edit(alloc, edit, one)
-}
-
-// The text of the lines that are left.
-fn left_text<R: EditedRecord + Drop>(
-    lines: &EditedLines<'_, R>,
-    gone: &GoneNames,
-) -> Result<Bytes, AllocError>
-    requires { AreOfFile lines.now }
-    ensures { IfOk result (λ bytes. bytes ≡
-        file_bytes (left_lines R.format gone.now lines.now)) }
-{
-    let text = lines.text()?;
-    if gone.is_empty() {
-        return Ok(text);
-    }
-    text_without::<R>(text.as_slice(), gone)
 }
 
 // Takes the lines of gone records out, where the edit may not be made while they stand.

@@ -7,7 +7,8 @@
 //! told by an index beside the lines (`keyed_lines`, `key_following`), so that an edit that needs a key
 //! looks at no other record (`placed_changes`).
 //!
-//! `search` finds the first record of a file that passes a test.
+//! `search` finds the first record of a file that passes a test, and `placed_search` that at known
+//! places, as those of a key that each such record has.
 #![tactic(auto)]
 
 mod carried_table;
@@ -16,8 +17,8 @@ mod key_following;
 mod keyed_lines;
 mod left_lines;
 mod placed_changes;
+mod placed_search;
 mod search;
 
 pub use carried_table::CarriedTable;
-pub use gone_names::{GoneNames, text_without};
 pub use search::{OfGid, OfUid, RecordTest, first_passing, text_of};

@@ -1,24 +1,29 @@
 // The lines of a table, and the first record among them that passes a test.
-ghost use Rattle.std.specs.Prelude.{◌≡◌, Bool, find, IfOk};
+ghost use Rattle.std.specs.Prelude.{◌≡◌, Bool, find, IfOk, IfSome};
 ghost use Rattle.acct_text.specs.Lines.{lines_of};
 ghost use Rattle.account_formats.specs.Tables.{table_records};
-ghost use Rattle.carried_lines.specs.Accepting.{IsNumberOf, is_accepted};
+ghost use Rattle.carried_lines.specs.Accepting.{IsKeyOf, IsNumberOf, is_accepted};
 ghost use Rattle.carried_lines.specs.TablesOfLines.{lines_in};
 
-use acct_lines::{GroupLine, GroupRecord, PasswdLine, PasswdRecord, TableRecord};
+use acct_lines::{GroupLine, GroupRecord, PasswdLine, PasswdRecord};
 use acct_tables::{Lines, from_mark, read_record};
 use acct_text::Bytes;
 use itoa::Buffer;
+use record_keys::KeyedRecord;
 use std::alloc::{AllocError, Global};
 
 /// A test of the records R, made on a line where it stands.
-pub trait RecordTest<R: TableRecord> {
+pub trait RecordTest<R: KeyedRecord> {
     // whether a record passes
     ghost accepts: { Self → R → Bool };
 
     /// A number whose decimal text the line of each record has that passes.
     fn number(&self) -> u32
         ensures { IsNumberOf R.format (accepts self.now) result };
+
+    /// A key that each record has which passes; none where no such key is known.
+    fn key(&self) -> Option<u64>
+        ensures { IfSome result (IsKeyOf R.keys (accepts self.now)) };
 
     /// Whether the line is a record that passes. It takes no memory.
     fn passes(&self, line: &[u8]) -> bool
@@ -38,6 +43,10 @@ impl RecordTest<PasswdRecord> for OfUid {
 
     fn number(&self) -> u32 {
         self.uid
+    }
+
+    fn key(&self) -> Option<u64> {
+        None
     }
 
     fn passes(&self, line: &[u8]) -> bool {
@@ -63,6 +72,10 @@ impl RecordTest<PasswdRecord> for OfGid {
         self.gid
     }
 
+    fn key(&self) -> Option<u64> {
+        Some(u64::from(self.gid))
+    }
+
     fn passes(&self, line: &[u8]) -> bool {
         match PasswdLine::read(line) {
             Ok(user) => user.gid == self.gid,
@@ -78,6 +91,10 @@ impl RecordTest<GroupRecord> for OfGid {
 
     fn number(&self) -> u32 {
         self.gid
+    }
+
+    fn key(&self) -> Option<u64> {
+        None
     }
 
     fn passes(&self, line: &[u8]) -> bool {
@@ -99,7 +116,7 @@ pub fn text_of(file: &Option<Bytes>) -> &[u8]
 }
 
 /// The first record of the file that passes the test. Only lines with its number are read.
-pub fn first_passing<R: TableRecord + Drop, T: RecordTest<R>>(
+pub fn first_passing<R: KeyedRecord + Drop, T: RecordTest<R>>(
     alloc: Global,
     file: &Option<Bytes>,
     test: &T,

@@ -26,16 +26,13 @@ use std::alloc::{AllocError, Global};
 use tool_answers::ToolFault;
 
 impl<'a> Tables<'a> {
-    /// The first user whose primary group has the GID. In carried tables that surely have none it takes
-    /// no pass.
+    /// The first user whose primary group has the GID. In carried tables where the places of primary
+    /// groups are known it takes no pass.
     pub fn user_of_gid(&self, alloc: Global, gid: u32) -> Result<Option<PasswdRecord>, AllocError>
         ensures { IfOk result (λ found.
             found ≡ find (λ user. user.gid == gid) (passwd_records self.now)) }
     {
-        match self.most_of_gid(gid) {
-            Most::Nothing => Ok(None),
-            Most::One | Most::Any => self.first_user(alloc, &OfGid { gid }),
-        }
+        self.first_user(alloc, &OfGid { gid })
     }
 
     /// Whether surely no user with another name has the primary group of the GID. It takes no pass; files

@@ -72,6 +72,13 @@ impl<'a> RecordTest<PasswdRecord> for OtherWith<'a> {
         }
     }
 
+    fn key(&self) -> Option<u64> {
+        match self.id {
+            AccountId::Uid(_) => None,
+            AccountId::Gid(gid) => Some(u64::from(gid)),
+        }
+    }
+
     fn passes(&self, line: &[u8]) -> bool {
         match PasswdLine::read(line) {
             Ok(user) => user.name != self.name && has_id(&user, self.id),

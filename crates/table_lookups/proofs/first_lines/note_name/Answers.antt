@@ -1,4 +1,4 @@
-use Rattle.std.proofs.Common.{◌∙◌, List, ap, refl, sym, subst, if◌then◌else◌}
+use Rattle.std.proofs.Common.{◌∙◌, ap, refl, sym, if◌then◌else◌}
 use Rattle.std.specs.Prelude.{Some, bytes_eq, option_map}
 use Rattle.std.proofs.lemmas.Map.Text.{hash_map_updates_str}
 use Rattle.std.proofs.lemmas.Slice.Eq.{bytes_eq-Decides}

@@ -2,7 +2,7 @@ use Rattle.std.proofs.Common.{◌∙◌, ap, sym}
 use Rattle.acct_text.specs.Lines.{file_bytes}
 use Rattle.carried_lines.specs.Gone.{left_lines}
 use Rattle.carried_lines.proofs.GoneLemmas.{left-all}
-use Rattle.carried_lines.proofs.left_lines.left_text.Goals as goal
+use Rattle.carried_lines.proofs.gone_names.left_text.Goals as goal
 
 -- no record is gone
 pub returns-then-is_empty : goal.returns-then-is_empty
