@@ -1,3 +1,4 @@
 pub mod ActingLemmas
 pub mod ListedFile
+pub mod IdleLemmas
 pub mod CheckedTables

@@ -1,11 +1,9 @@
 -- Claims: a file after the edits of a slice is that after the edits of its list (`listed-file`), and one
--- without edits stays (`unedited-stays`), so that it isn't listed (`unedited-unlisted`). Way: its bytes
--- are those of its lines.
+-- that stays isn't listed (`stays-unlisted`). Way: bytes that stay aren't other bytes.
 use Rattle.std.proofs.Common.{◌≡◌, ◌∙◌, ◌++◌, append-nil, ℕ, Bool, if◌then◌else◌, List, [], Option, Some, None, ap, refl, sym}
 use Rattle.acct_text.specs.declared.Tab.{Tab}
 use Rattle.acct_text.specs.declared.new_tables.NewTable.{NewTable}
 use Rattle.acct_text.specs.ChangedTables.{changed_bytes, with_new_table}
-use Rattle.acct_text.proofs.LinesLaws.{lines_of-are}
 use Rattle.account_formats.specs.Format.{Format}
 use Rattle.account_formats.specs.Tables.{table_after}
 use Rattle.account_formats.proofs.SameLaws.{bytes-self}
@@ -28,13 +26,6 @@ listed-file format becomes slice items table file before after same is =
     ∙ ap (λ edits. before ++ adds table file (table_after format (seen_edits becomes edits) file))
     same
 
--- a table stays without edits
-pub unedited-stays :
-    {R : Type 0} (format : Format R) (file : Option (List ℕ))
-    → table_after format [] file ≡ file
-unedited-stays format None = refl
-unedited-stays format (Some text) = ap Some (lines_of-are text).joined
-
 -- what stays isn't other bytes
 stays-unchanged : (file : Option (List ℕ)) → changed_bytes file file ≡ None
 stays-unchanged None = refl
@@ -50,14 +41,3 @@ stays-unlisted table file new before same =
     sym (ap (λ (new : Option (List ℕ)). before ++ adds table file new) same
     ∙ (ap (λ (new : Option (List ℕ)). before ++ with_new_table table new []) (stays-unchanged file)
     ∙ append-nil before))
-
--- nor is one without edits, where they were read from a slice that has none
-pub unedited-unlisted :
-    {R C : Type 0} (format : Format R) (becomes : C → R → List R) (edits : List (Edit R C))
-    (table : Tab) (file : Option (List ℕ)) (before : List NewTable)
-    → edits ≡ []
-    → before ≡ before ++ adds table file (table_after format (seen_edits becomes edits) file)
-unedited-unlisted format becomes edits table file before none =
-    stays-unlisted table file (table_after format (seen_edits becomes edits) file) before
-    (ap (λ edits. table_after format (seen_edits becomes edits) file) none
-    ∙ unedited-stays format file)

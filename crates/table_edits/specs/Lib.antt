@@ -3,3 +3,4 @@ pub mod Acting
 pub mod Additions
 pub mod Deciding
 pub mod CheckedTables
+pub mod IdleEdits

@@ -13,9 +13,10 @@ ghost use Rattle.table_edits.specs.CheckedTables.{changes_by};
 ghost use Rattle.table_edits.specs.SeenScript.{seen_script};
 ghost use Rattle.line_edits.specs.SubidChanges.{subid_becomes};
 
+use crate::idle_edits::{IdleRecord, leave_all_records};
 use crate::{Refusal, Script, SubidRecord};
 use acct_text::{Bytes, Files, NewTables, Tab};
-use line_edits::{Checked, Edit, EditedRecord, SubidChange, checked_text};
+use line_edits::{Checked, Edit, SubidChange, checked_text};
 use range_edits::{edited_ranges, leave_all};
 use std::alloc::{AllocError, Global};
 
@@ -63,8 +64,8 @@ pub(crate) fn checked_tables(
 }
 
 // Adds the table where its edits change it, and answers the refusal of the first multiple entry that
-// they touch. No bytes are made of a table that is absent or has no edits.
-fn add<R: EditedRecord + Drop>(
+// they touch. No bytes are made of a table that is absent or whose edits leave each record.
+fn add<R: IdleRecord + Drop>(
     alloc: Global,
     new: &mut NewTables,
     table: Tab,
@@ -79,7 +80,7 @@ fn add<R: EditedRecord + Drop>(
         (table_after R.format (seen_edits R.becomes edits.now) file.now)) []) }
 {
     let Some(text) = file else { return Ok(None) };
-    if edits.is_empty() {
+    if leave_all_records(edits) {
         return Ok(None);
     }
     match checked_text(alloc, text.as_slice(), edits)? {

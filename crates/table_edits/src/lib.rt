@@ -3,14 +3,16 @@
 //!
 //! A tool builds a `Script`; `group_edits` and `user_edits` have edits that several tools make.
 //! `decide_by` decides by it: it refuses where an edit touches one of several records of a name, and
-//! else makes the new bytes of each table (`checked_tables`). `carry_out` does the same (`multiple`) in
-//! tables that are carried from command to command.
+//! else makes the new bytes of each table (`checked_tables`) whose edits aren't seen to leave all
+//! records (`idle_edits`). `carry_out` does the same (`multiple`) in tables that are carried from
+//! command to command.
 #![tactic(auto)]
 
 mod carry;
 mod checked_tables;
 mod decide;
 mod group_edits;
+mod idle_edits;
 mod multiple;
 mod report;
 mod script;
