@@ -14,7 +14,7 @@ use acct_lines::TableRecord;
 use acct_tables::NameIndex;
 use acct_text::Bytes;
 use carried_lines::text_of;
-use carried_tables::IdsInUse;
+use id_choice::UsedIds;
 use std::alloc::{AllocError, Global};
 
 /// The file of a table, which may be absent, with the names of its records.
@@ -104,7 +104,7 @@ impl<'a> NamedFile<'a> {
 pub(crate) struct UserChecks<'h, 'g, 'a> {
     pub(crate) hashes: &'h NamedFile<'a>,
     pub(crate) groups: &'a Option<Bytes>,
-    pub(crate) gids: &'g IdsInUse<'a>,
+    pub(crate) gids: &'g UsedIds,
     ghost of_hashes: { IsWhole shadow_format hashes.now },
     ghost of_gids: { AreThoseOf gids.now
         (map (λ group. group.gid) (table_records group_format groups.now)) },
@@ -116,7 +116,7 @@ impl<'h, 'g, 'a> UserChecks<'h, 'g, 'a> {
     pub(crate) fn has_gid(&self, gid: u32) -> bool
         ensures { result ≡ has_gid (table_records group_format self.now.groups.now) gid }
     {
-        self.gids.ids().holds(gid)
+        self.gids.holds(gid)
     }
 }
 

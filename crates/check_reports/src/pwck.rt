@@ -10,13 +10,13 @@ use crate::problem::Problem;
 use crate::problems::Problems;
 use crate::report::{Checks, NameRead, Report};
 use crate::sorting::ById;
-use account_formats::{PasswdRecord, ShadowRecord};
+use account_formats::{GroupRecord, PasswdRecord, ShadowRecord};
 use acct_lines::{PasswdLine, is_valid_name};
 use acct_tables::NameIndex;
 use acct_text::{Files, Tab};
+use carried_tables::used_ids;
 use command_values::Asked;
 use std::alloc::{AllocError, Global};
-use table_lookups::Tables;
 use tool_answers::Decision;
 
 /// Sorts passwd and shadow with `-s`, and else reports their problems, on the day in days since
@@ -49,7 +49,7 @@ fn report_users(
     let mut names = NameIndex::new(alloc);
     let lines = HashLines::of(alloc, &files.shadow, &mut names)?;
     let mut hashes = NamedFile::with::<ShadowRecord>(&files.shadow, names);
-    let gids = Tables::of(files).used_gids(alloc)?;
+    let gids = used_ids::<GroupRecord>(alloc, &files.group)?;
     let known = UserChecks {
         hashes: &hashes,
         groups: &files.group,

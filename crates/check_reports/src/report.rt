@@ -127,9 +127,29 @@ impl Report {
         if is_nis(text) {
             return Ok(());
         }
-        let repeated = repeated_name(alloc, names, place, checked.name)?;
-        self.push_line(alloc, tab, place + 1, &repeated)?;
+        self.push_repeated(alloc, names, tab, place, checked.name)?;
         self.push_line(alloc, tab, place + 1, &checked.problems)
+    }
+
+    // Adds the problem that a record in front of the line at a place has its name, where it has one.
+    fn push_repeated(
+        &mut self,
+        alloc: Global,
+        names: &NameIndex<'_>,
+        tab: Tab,
+        place: usize,
+        name: Option<&[u8]>,
+    ) -> Result<(), AllocError>
+        requires room { place + 1 < 2 ^ 64 }
+        ensures { OnOk result (self.new ≡ with_problems tab (at_line (place + 1)
+            (repeated_name names.now place (option_copied name.entry))) self.old) }
+    {
+        match name {
+            Some(name) if names.has_before(name, place) => {
+                self.push(alloc, tab, place + 1, &Problem::DuplicateName(name))
+            }
+            _ => Ok(()),
+        }
     }
 
     // Adds the problems of a line, counted from 1.
@@ -202,23 +222,6 @@ fn push_problem(
     out.push(b": ")?;
     out.push(text.as_slice())?;
     out.push(b"\n")
-}
-
-// The problem that a record in front of the line at a place has its name, where it has one.
-fn repeated_name<'t>(
-    alloc: Global,
-    names: &NameIndex<'_>,
-    place: usize,
-    name: Option<&'t [u8]>,
-) -> Result<Problems<'t>, AllocError>
-    ensures { IfOk result (λ found. found
-        ≡ repeated_name names.now place (option_copied name.entry)) }
-{
-    let mut found = Problems::none(alloc);
-    if let Some(name) = name {
-        found.note_if(names.has_before(name, place), Problem::DuplicateName(name))?;
-    }
-    Ok(found)
 }
 
 // What the line with this text at a place is.

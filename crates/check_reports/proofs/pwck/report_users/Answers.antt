@@ -1,13 +1,11 @@
-use Rattle.std.proofs.Common.{◌∙◌, Bool, true, [], ap, subst}
+use Rattle.std.proofs.Common.{◌∙◌, Bool, true, [], ap}
 use Rattle.std.specs.Prelude.{codes}
 use Rattle.acct_text.specs.declared.Tab.TheVariants.{Passwd, Shadow}
 use Rattle.acct_text.specs.Files.{no_files}
 use Rattle.account_formats.specs.Records.{passwd_format, shadow_format}
 use Rattle.account_model.specs.Problems.{table_problems}
 use Rattle.account_model.specs.Pwck.{passwd_report, shadow_problems, shadow_report, user_problems}
-use Rattle.account_words.specs.Ids.{used_gids}
 use Rattle.account_words.specs.Request.{has_option}
-use Rattle.id_choice.specs.Used.{AreThoseOf}
 use Rattle.check_reports.specs.Reported.{with_problems}
 use Rattle.check_reports.proofs.ReportLemmas.{told-both}
 use Rattle.check_reports.proofs.pwck.report_users.Goals as goal
@@ -15,8 +13,7 @@ use Rattle.check_reports.proofs.pwck.report_users.Goals as goal
 pub invariant_of-known : goal.invariant_of-known
 invariant_of-known c = record {
   of_hashes = c.with-hashes.ensures.whole;
-  of_gids = subst (λ files. AreThoseOf c.in_ok-gids.gids (used_gids files)) c.of-2.ensures
-      c.in_ok-gids.ensures;
+  of_gids = c.in_ok-gids.ensures;
 }
 
 pub returns : goal.returns
