@@ -1,1 +1,4 @@
+pub mod EditedTables
+pub mod OwnerLemmas
+pub mod NumberLemmas
 pub mod KeptIdLemmas

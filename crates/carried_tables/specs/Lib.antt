@@ -1,2 +1,5 @@
+pub mod Standing
+pub mod Sources
+pub mod RangeNumbers
 pub mod InUse
 pub mod KeptIds

@@ -8,11 +8,10 @@ ghost use Rattle.line_edits.specs.PasswdChanges.{passwd_becomes};
 ghost use Rattle.line_edits.specs.ShadowChanges.{shadow_becomes};
 ghost use Rattle.carried_lines.specs.TableEdits.{AreWritten, table_by};
 
-use crate::{IdRecord, IdTable};
+use crate::{IdRecord, IdTable, RangeTable};
 use acct_lines::{GroupRecord, GshadowRecord, PasswdRecord, ShadowRecord};
 use acct_text::{Bytes, Files};
 use carried_lines::CarriedTable;
-use carried_ranges::RangeTable;
 use line_edits::{Edit, GroupChange, GshadowChange, PasswdChange, ShadowChange};
 use record_keys::KeyedRecord;
 use std::alloc::{AllocError, Global};

@@ -3,10 +3,13 @@
 //!
 //! `CarriedTables` stand in the place of the files for commands that follow one another: each table
 //! keeps its lines (`carried_lines`), those of users and of groups with the IDs that are used
-//! (`id_table`, `kept_ids`), and those of subordinate IDs with the numbers that their ranges take
-//! (`carried_ranges`).
+//! (`id_table`, `kept_ids`), and those of subordinate IDs with the numbers that their ranges take.
 //!
-//! `ids` gathers the IDs that are used in a file; `in_use` is how they are answered.
+//! `ids` gathers the IDs that are used in a file; `in_use` is how they are answered. A `RangeTable` of
+//! subordinate IDs is its file, as long as no edit came, and then the lines with an index of their
+//! owners and the numbers that their ranges take (`range_lines`): a range that comes, an owner that
+//! gets another name, and one whose ranges go take no pass over them. Commands ask it as a
+//! `RangeFile`, which is a file by itself as well.
 #![tactic(auto)]
 
 mod carried_tables;
@@ -14,8 +17,13 @@ mod id_table;
 mod ids;
 mod in_use;
 mod kept_ids;
+mod range_file;
+mod range_lines;
+mod range_table;
 
 pub use carried_tables::CarriedTables;
 pub use id_table::IdTable;
 pub use ids::{IdRecord, Renumbering, used_ids};
 pub use in_use::IdsInUse;
+pub use range_file::RangeFile;
+pub use range_table::{RangeTable, are_carried};

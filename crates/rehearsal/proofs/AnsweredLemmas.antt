@@ -24,7 +24,7 @@ use Rattle.suite_session.specs.Answers.{cause_of_answer}
 use Rattle.suite_session.specs.Deeds.{is_change}
 use Rattle.suite_session.specs.Stands.{IsDecided}
 use Rattle.suite_course.specs.Supplies.{AreSupplied, Supplies, TakesAll, reads_input}
-use Rattle.suite_clients.specs.Alone.{IsSuppliedStep, defs_at, files_at}
+use Rattle.rehearsal.specs.Alone.{IsSuppliedStep, defs_at, files_at}
 use Rattle.rehearsal.specs.declared.course.Reached.{Reached}
 use Rattle.rehearsal.specs.Answered.{is_changed}
 use Rattle.rehearsal.specs.Course.{after_read, rehearsal_day}

@@ -13,7 +13,7 @@ use Rattle.account_words.specs.Words.{request_of}
 use Rattle.account_model.proofs.DeedLaws.{deed-is}
 use Rattle.acct_outside.specs.Moment.{Past}
 use Rattle.suite_session.specs.Deeds.{is_change}
-use Rattle.suite_clients.specs.Alone.{HasFiles, files_at}
+use Rattle.rehearsal.specs.Alone.{HasFiles, files_at}
 use Rattle.rehearsal.specs.declared.course.Reached.{Reached}
 use Rattle.rehearsal.specs.Commands.{command_at, words_of}
 use Rattle.rehearsal.specs.Course.{after_read, after_words, empty_files, reached, rehearsal_day}

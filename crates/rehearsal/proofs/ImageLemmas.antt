@@ -18,8 +18,8 @@ use Rattle.intent_file.specs.Intent.{listed_in}
 use Rattle.suite_rules.specs.Deeds.{SuiteDeeds}
 use Rattle.suite_rules.specs.Settled.{listed_by, settled}
 use Rattle.suite_session.specs.Deeds.{AreOfTools}
-use Rattle.suite_clients.specs.Alone.{HasFiles, defs_at, files_at}
-use Rattle.suite_clients.proofs.TwiceLemmas.{starts-lawfully}
+use Rattle.rehearsal.specs.Alone.{HasFiles, defs_at, files_at}
+use Rattle.rehearsal.proofs.TwiceLemmas.{starts-lawfully}
 use Rattle.rehearsal.specs.Images.{AllStand, contents_of}
 
 -- ---- Into a folder

@@ -1,3 +1,6 @@
+pub mod AloneLemmas
+pub mod TwiceLemmas
+pub mod TogetherLemmas
 pub mod AskedLemmas
 pub mod AnsweredLemmas
 pub mod ImageLemmas

@@ -10,7 +10,7 @@ use Rattle.acct_outside.specs.declared.Name.TheVariants.{Table, Intent}
 use Rattle.acct_outside.specs.Logged.{folder_after}
 use Rattle.acct_outside.specs.Moment.{Past}
 use Rattle.account_words.specs.Options.{Word}
-use Rattle.suite_clients.specs.Alone.{files_at}
+use Rattle.rehearsal.specs.Alone.{files_at}
 use Rattle.rehearsal.specs.Course.{after_words}
 
 -- all six tables stand

@@ -1,3 +1,6 @@
+pub mod Alone
+pub mod Twice
+pub mod Together
 pub mod Asked
 pub mod Commands
 pub mod Course

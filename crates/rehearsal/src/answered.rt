@@ -2,15 +2,15 @@
 ghost use Rattle.std.specs.Prelude.{◌≡◌, None, IfOk};
 ghost use Rattle.acct_outside.specs.Memory.{past_of};
 ghost use Rattle.suite_session.specs.Stands.{IsDecided};
-ghost use Rattle.suite_clients.specs.Alone.{IsLawful, defs_at};
+ghost use Rattle.rehearsal.specs.Alone.{IsLawful, defs_at};
 ghost use Rattle.rehearsal.specs.Answered.{is_changed};
 ghost use Rattle.rehearsal.specs.Images.{IsAnswered};
 
 use crate::clock::RehearsalClock;
+use crate::run_alone;
 use acct_outside::{MemoryFolder, MemorySink, MemorySource, Name};
 use acct_text::{Bytes, Word};
 use std::alloc::{AllocError, Global};
-use suite_clients::run_alone;
 use suite_core::{Cause, Outcome, Which};
 
 /// Runs the command of the words in the folder, and tells whether it changed the tables. Its input is

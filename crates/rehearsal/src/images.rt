@@ -2,7 +2,7 @@
 ghost use Rattle.std.specs.Prelude.{◌≡◌, None, IfOk};
 ghost use Rattle.acct_outside.specs.Memory.{past_of};
 ghost use Rattle.acct_outside.specs.Logged.{folder_after};
-ghost use Rattle.suite_clients.specs.Alone.{HasFiles, files_at};
+ghost use Rattle.rehearsal.specs.Alone.{HasFiles, files_at};
 ghost use Rattle.rehearsal.specs.Course.{empty_files};
 ghost use Rattle.rehearsal.specs.Images.{AllStand, contents_of, text_of};
 

@@ -4,8 +4,7 @@ ghost use Rattle.table_lookups.specs.Sources.{files_in};
 
 use acct_tables::MANY;
 use acct_text::{Bytes, Files};
-use carried_ranges::RangeFile;
-use carried_tables::CarriedTables;
+use carried_tables::{CarriedTables, RangeFile};
 use std::alloc::AllocError;
 use std::marker::Model;
 

@@ -8,7 +8,7 @@ ghost use Rattle.user_creation.specs.Allotments.{gid_bounds_under, is_open, subo
 
 use account_model::Allotment;
 use account_words::Key;
-use carried_ranges::RangeFile;
+use carried_tables::RangeFile;
 use command_values::Asked;
 use login_defs::Defs;
 use std::alloc::{AllocError, Global};

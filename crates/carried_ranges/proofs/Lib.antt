@@ -1,3 +1,0 @@
-pub mod EditedTables
-pub mod OwnerLemmas
-pub mod NumberLemmas

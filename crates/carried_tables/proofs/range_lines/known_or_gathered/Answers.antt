@@ -1,0 +1,17 @@
+use Rattle.std.proofs.Common.{◌∙◌, ap, subst}
+use Rattle.std.proofs.lemmas.Result.{IfOk-weaker}
+use Rattle.acct_text.specs.Lines.{lines_of}
+use Rattle.account_formats.specs.Records.{subid_format}
+use Rattle.subid_ranges.specs.RangeNumbers.{AreNumbersOf}
+use Rattle.carried_lines.specs.TablesOfLines.{lines_in}
+use Rattle.carried_lines.proofs.FileLemmas.{records-in}
+use Rattle.carried_tables.proofs.range_lines.known_or_gathered.Goals as goal
+
+-- the text is that of the file
+pub returns-in_ok-file-in-None : goal.returns-in_ok-file-in-None
+returns-in_ok-file-in-None c =
+    IfOk-weaker c.of.result _ _ (λ numbers are.
+    subst (λ ranges. AreNumbersOf ranges numbers)
+    (records-in subid_format (lines_of c.text_of.result.now) c.args.table.now
+    (c.text_of.ensures ∙ ap lines_in c.in_ok-file-in-None.ensures)) are)
+    c.of.ensures

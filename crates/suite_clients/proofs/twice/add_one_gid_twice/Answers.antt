@@ -1,6 +1,0 @@
-use Rattle.suite_clients.proofs.TwiceLemmas.{second-refused}
-use Rattle.suite_clients.proofs.twice.add_one_gid_twice.Goals as goal
-
-pub returns : goal.returns
-returns c = second-refused _ _ _ c.in_ok-folder.ensures c.in_ok-first.first c.in_ok-second.second
-    c.in_ok-first.ensures.step c.in_ok-second.ensures.step
