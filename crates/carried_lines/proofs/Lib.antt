@@ -7,5 +7,4 @@ pub mod GoneEdits
 pub mod PlacedLemmas
 pub mod KeyPlaceLemmas
 pub mod KeyFollowing
-pub mod KeyCounts
 pub mod PlacedSearch

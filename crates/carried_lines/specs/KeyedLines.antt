@@ -1,6 +1,6 @@
 -- The lines of a table with an index of where the records of each key are, and what edits do to both
 -- (passwd(5), shadow(5), group(5), gshadow(5)). Places count the lines from 0.
-use Rattle.std.specs.Prelude.{◌≡◌, ℕ, ◌<◌, ◌≤◌, AllPairs, Bool, true, false, List, [], ◌∷◌, count_by, Option, Some, ⊤}
+use Rattle.std.specs.Prelude.{◌≡◌, ℕ, ◌<◌, ◌≤◌, AllPairs, Bool, true, false, List, [], ◌∷◌, Option, Some}
 use Rattle.acct_text.specs.Lines.{Line}
 use Rattle.account_formats.specs.Edits.{Edit, edited}
 use Rattle.account_formats.specs.Format.{Format}
@@ -10,8 +10,6 @@ use Rattle.acct_tables.specs.TableLines.{record_at}
 use Rattle.line_edits.specs.Naming.{KeepsNames}
 use Rattle.record_keys.specs.KeyPlaces.{MayBeAt, Widens, has_key}
 use Rattle.record_keys.specs.Keys.{TellsKeys}
-use Rattle.record_keys.specs.declared.key_places.Most.{Most}
-use Rattle.record_keys.specs.declared.key_places.Most.TheVariants.{Nothing, One, Any}
 
 -- ---- What an index tells of the lines
 
@@ -22,16 +20,6 @@ TellsBefore {R = R} format keys_of lines end told = (place : ℕ) (r : R)
     → place < end
     → record_at format lines place ≡ Some r
     → (key : ℕ) → has_key key (keys_of r) ≡ true → MayBeAt told key place
-
--- how many of the records have the key
-abbrev pub count_with : {R : Type 0} → (R → List ℕ) → ℕ → List R → ℕ
-count_with keys_of key records = count_by (λ r. has_key key (keys_of r)) records
-
--- so many are no more than is told
-abbrev pub IsAtMost : Most → ℕ → Type 0
-IsAtMost Nothing count = count ≡ 0
-IsAtMost One count = count ≤ 1
-IsAtMost Any count = ⊤
 
 -- ---- Where a change touches records, and a test accepts them
 

@@ -3,14 +3,13 @@
 ghost use Rattle.std.specs.Prelude.{◌≡◌, None, find, is_some, nat_le, IfOk, OnOk};
 ghost use Rattle.account_formats.specs.Format.{count_named, find_named, has_named};
 ghost use Rattle.account_formats.specs.Tables.{table_records};
-ghost use Rattle.carried_lines.specs.KeyedLines.{IsAtMost, count_with};
 ghost use Rattle.carried_lines.specs.TableEdits.{AreWritten, multiple_by, table_by};
 
 use crate::left_lines::LeftLines;
 use crate::search::RecordTest;
 use acct_text::Bytes;
 use line_edits::Edit;
-use record_keys::{KeyedRecord, Most};
+use record_keys::KeyedRecord;
 use std::alloc::{AllocError, Global};
 use std::marker::Model;
 use std::mem::replace;
@@ -110,16 +109,6 @@ impl<R: KeyedRecord + Drop> CarriedTable<R> {
         match &self.lines {
             Some(lines) => lines.has_several(name),
             None => false,
-        }
-    }
-
-    /// How many records have the key, at most. It takes no pass.
-    pub fn most_with(&self, key: u64) -> Most
-        ensures { IsAtMost result (count_with R.keys key (table_records R.format self.now)) }
-    {
-        match &self.lines {
-            Some(lines) => lines.most_with(key),
-            None => Most::Nothing,
         }
     }
 

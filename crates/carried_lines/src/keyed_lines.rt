@@ -9,14 +9,14 @@ ghost use Rattle.account_formats.specs.RecordEdits.{IsWrittenEdit};
 ghost use Rattle.acct_tables.specs.SeenLines.{AreOfFile};
 ghost use Rattle.line_edits.specs.SeenEdits.{seen_edit, seen_edits};
 ghost use Rattle.line_edits.specs.Touching.{HoldsOfMultiple, LeavesTo};
-ghost use Rattle.carried_lines.specs.KeyedLines.{AcceptsAt, IsAtMost, TouchesAt, count_with};
+ghost use Rattle.carried_lines.specs.KeyedLines.{AcceptsAt, TouchesAt};
 
 use crate::key_following::{followed, gathered, with_brought};
 use crate::placed_changes::{change_each, leaves_each};
 use crate::search::RecordTest;
 use acct_tables::EditedLines;
 use line_edits::{Edit, EditedRecord, apply, touches_single};
-use record_keys::{KeyPlaces, KeyedRecord, Most};
+use record_keys::{KeyPlaces, KeyedRecord};
 use std::alloc::{AllocError, Global};
 use std::marker::Model;
 
@@ -62,16 +62,6 @@ impl<R: KeyedRecord + Drop> KeyedLines<R> {
         ensures { result.now ≡ self.now }
     {
         &self.lines
-    }
-
-    /// How many records have the key, at most. It takes no pass.
-    pub(crate) fn most_with(&self, key: u64) -> Most
-        ensures { IsAtMost result (count_with R.keys key (records_of R.format self.now)) }
-    {
-        match &self.keys {
-            Some(keys) => keys.most(key),
-            None => Most::Any,
-        }
     }
 
     /// The places where the test may accept records, from the last to the first; none where they

@@ -11,7 +11,6 @@ ghost use Rattle.account_formats.specs.Text.{is_listed};
 ghost use Rattle.acct_tables.specs.SeenLines.{AreOfFile};
 ghost use Rattle.line_edits.specs.SeenEdits.{seen_edit, seen_edits};
 ghost use Rattle.carried_lines.specs.Gone.{AreEdited, IsRemoval, IsSettled, PassesBy, left_lines};
-ghost use Rattle.carried_lines.specs.KeyedLines.{IsAtMost, count_with};
 ghost use Rattle.carried_lines.specs.TableEdits.{AreWritten, multiple_by};
 
 use crate::gone_names::{GoneNames, left_text};
@@ -20,7 +19,7 @@ use crate::placed_search::first_among;
 use crate::search::{RecordTest, first_passing};
 use acct_text::Bytes;
 use line_edits::{Edit, EditedRecord, first_multiple};
-use record_keys::{KeyedRecord, Most, Renaming};
+use record_keys::{KeyedRecord, Renaming};
 use std::alloc::{AllocError, Global};
 use std::marker::Model;
 
@@ -97,14 +96,6 @@ impl<R: KeyedRecord + Drop> LeftLines<R> {
             return false;
         }
         self.lines.lines().has_several(name)
-    }
-
-    /// How many records have the key, at most: no more than among all lines, gone ones among them. It
-    /// takes no pass.
-    pub(crate) fn most_with(&self, key: u64) -> Most
-        ensures { IsAtMost result (count_with R.keys key (records_of R.format self.now)) }
-    {
-        self.lines.most_with(key)
     }
 
     /// The first record that passes the test. Where the places of the test's key are known, it takes

@@ -4,8 +4,6 @@
 use Rattle.std.specs.Prelude.{◌≡◌, ℕ, ◌+◌, ◌%◌, ◌<◌, ◌≤◌, ◌==◌, AllPairs, Bool, true, false, List, [], ◌∷◌, get_or, length, IfSome, Option, None, Some, ⊤, if◌then◌else◌}
 use Rattle.std.specs.List.{list_any}
 use Rattle.account_words.specs.Ids.{is_used}
-use Rattle.record_keys.specs.declared.key_places.Most.{Most}
-use Rattle.record_keys.specs.declared.key_places.Most.TheVariants.{Nothing, One, Any}
 use Rattle.record_keys.specs.declared.key_places.Spot.{Spot}
 use Rattle.record_keys.specs.declared.key_places.Spot.TheVariants.{At, Anywhere}
 use Rattle.record_keys.specs.declared.place_lists.Link.{Link}
@@ -37,12 +35,6 @@ pub record Notes (keys : List ℕ) (spot : Spot) (before after : ℕ → Option 
 -- no key is told of
 abbrev pub IsOfNone : (ℕ → Option (List ℕ)) → Type 0
 IsOfNone told = (key : ℕ) → told key ≡ Some []
-
--- so many places at most are told
-abbrev pub IsMost : Most → Option (List ℕ) → Type 0
-IsMost Nothing places = places ≡ Some []
-IsMost One places = (place : ℕ) × (places ≡ Some (place ∷ []))
-IsMost Any places = ⊤
 
 -- these are the places that are told of the key, from the last to the first
 pub record ArePlacesOf (told : ℕ → Option (List ℕ)) (key : ℕ) (places : List ℕ) : Type 0 where

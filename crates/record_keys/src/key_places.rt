@@ -1,7 +1,7 @@
 // The places where records may have a key, told without a pass over the lines (passwd(5), group(5),
 // gshadow(5)).
 ghost use Rattle.std.specs.Prelude.{◌==◌, ◌≡◌, ℕ, ◌%◌, ◌<◌, ◌≤◌, ◌∷◌, [], false, length, option_map, IfOk, IfSome};
-ghost use Rattle.record_keys.specs.KeyPlaces.{ArePlacesOf, IsHeldWith, IsMost, IsOfNone, Notes, listed_places, open_slot, told_places};
+ghost use Rattle.record_keys.specs.KeyPlaces.{ArePlacesOf, IsHeldWith, IsOfNone, Notes, listed_places, open_slot, told_places};
 
 use crate::place_lists::PlaceLists;
 use std::alloc::{AllocError, Global};
@@ -22,17 +22,6 @@ pub enum Spot {
     At(usize),
     /// At any place.
     Anywhere,
-}
-
-/// How many records have a key, at most.
-#[derive(Clone, Copy)]
-pub enum Most {
-    /// None has it.
-    Nothing,
-    /// One has it, or none.
-    One,
-    /// Any number may have it.
-    Any,
 }
 
 /// For each key the places where records may have it, counted from 0 over all lines. Keys fall into a
@@ -81,16 +70,6 @@ impl KeyPlaces {
             return;
         }
         self.slots[slot] = held_with(&mut self.lists, held, spot);
-    }
-
-    /// How many records have the key.
-    pub fn most(&self, key: u64) -> Most
-        ensures { IsMost result (told_places self.now key) }
-    {
-        match self.list(key) {
-            Some(list) => self.lists.most(list),
-            None => Most::Any,
-        }
     }
 
     /// The places where records may have the key, from the last to the first, each once; none where any

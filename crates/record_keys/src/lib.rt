@@ -13,5 +13,5 @@ mod keys;
 mod list_keys;
 mod place_lists;
 
-pub use key_places::{KeyPlaces, Most, Spot};
+pub use key_places::{KeyPlaces, Spot};
 pub use keys::{KeyedRecord, Renaming};

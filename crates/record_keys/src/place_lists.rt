@@ -1,9 +1,8 @@
 // Lists of places, of which each longer one is a place in front of another (passwd(5), group(5),
 // gshadow(5)).
 ghost use Rattle.std.specs.Prelude.{◌≡◌, ◌∷◌, ℕ, ◌<◌, ◌≤◌, [], length, IfOk, IfSome, Some, true, false};
-ghost use Rattle.record_keys.specs.KeyPlaces.{IsMost, list_from, listed_places, with_place};
+ghost use Rattle.record_keys.specs.KeyPlaces.{list_from, listed_places, with_place};
 
-use crate::Most;
 use std::alloc::{AllocError, Global};
 use std::marker::Model;
 
@@ -71,18 +70,6 @@ impl PlaceLists {
             return None;
         }
         Some(self.links.len() as u32)
-    }
-
-    /// How many places the list has, at most.
-    pub(crate) fn most(&self, number: u32) -> Most
-        requires { number ≤ length self.now }
-        ensures { IsMost result (Some (listed_places self.now number)) }
-    {
-        match self.link(number) {
-            None => Most::Nothing,
-            Some(link) if link.older == 0 => Most::One,
-            Some(_) => Most::Any,
-        }
     }
 
     /// The places of the list, each as often as it is there.

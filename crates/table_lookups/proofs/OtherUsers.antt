@@ -1,16 +1,12 @@
--- Claims: where no user has an ID, none is found that has it (`none-found`, `none-among`); and where at
--- most one has it, and the user of a name does, none is found among the others (`none-beside`). Way:
--- user by user, a count of none leaves none. Users are counted so by their GIDs (`gid-counted`) and by
--- their UIDs (`uid-counted`).
+-- Claim: where at most one user has an ID, and the user of a name does, none is found among the others
+-- (`none-beside`). Way: user by user, a count of none leaves none. Users are counted so by their UIDs
+-- (`uid-counted`).
 use Rattle.std.proofs.Common.{◌≡◌, ◌∙◌, ℕ, ◌+◌, ◌≤◌, Bool, true, false, List, [], ◌∷◌, cond, refl, sym, ap, arith}
-use Rattle.std.specs.Prelude.{◌==◌, ◌||◌, count_by, filter, find, map, not, IsSomeAnd, Option, None, Some, if◌then◌else◌}
+use Rattle.std.specs.Prelude.{◌==◌, count_by, filter, find, map, not, IsSomeAnd, Option, None, Some, if◌then◌else◌}
 use Rattle.std.proofs.lemmas.List.Sums.{sum_by-cons}
 use Rattle.account_formats.specs.declared.records.PasswdRecord.{PasswdRecord}
 use Rattle.account_formats.specs.Format.{find_named, is_named}
 use Rattle.account_formats.specs.Records.{passwd_format}
-use Rattle.carried_lines.specs.KeyedLines.{count_with}
-use Rattle.record_keys.specs.KeyPlaces.{has_key}
-use Rattle.record_keys.specs.Keys.{user_keys}
 
 -- so many users have the ID
 module _ (has_id : PasswdRecord → Bool) where
@@ -57,14 +53,6 @@ module _ (has_id : PasswdRecord → Bool) where
   none-kept keeps (user ∷ users) none =
       let both = none-first (has_id user) (count_id users) (sym (count-first user users) ∙ none) in
       kept-by keeps (keeps user) user users both.0 (none-kept keeps users both.1)
-
-  -- nor among all
-  pub none-found :
-      (users : List PasswdRecord) → count_id users ≡ 0 → find has_id users ≡ None
-  none-found [] none = refl
-  none-found (user ∷ users) none =
-      let both = none-first (has_id user) (count_id users) (sym (count-first user users) ∙ none) in
-      found-behind (has_id user) user users both.0 (none-found users both.1)
 
   module _ (name : List ℕ) where
     -- whether a user has another name
@@ -170,29 +158,6 @@ module _ (has_id : PasswdRecord → Bool) where
         → find has_id (filter is_other users) ≡ None
     none-beside users has most =
         other-told users (find_named passwd_format name users) refl has most
-
-    -- where none has it, none of the others does
-    pub none-among :
-        (users : List PasswdRecord)
-        → count_id users ≡ 0
-        → find has_id (filter is_other users) ≡ None
-    none-among users none = none-kept is_other users none
-
--- by whether a user has the ID
-has-alone : (has : Bool) → ◌≡◌ {A = ℕ} (cond (has || false) 1 0) (cond has 1 0)
-has-alone true = refl
-has-alone false = refl
-
--- the users with a key are those of the GID
-pub gid-counted :
-    (gid : ℕ) (users : List PasswdRecord)
-    → count_with user_keys gid users ≡ count_by (λ user. user.gid == gid) users
-gid-counted gid [] = refl
-gid-counted gid (user ∷ users) =
-    sum_by-cons (λ r. cond (has_key gid (user_keys r)) 1 0) user users
-    ∙ ap (λ first. first + count_with user_keys gid users) (has-alone (user.gid == gid))
-    ∙ ap (λ count. cond (user.gid == gid) 1 0 + count) (gid-counted gid users)
-    ∙ sym (sum_by-cons (λ r. cond (r.gid == gid) 1 0) user users)
 
 -- the UIDs that are this one are those of the users that have it
 pub uid-counted :

@@ -6,9 +6,7 @@ ghost use Rattle.account_model.specs.Refusals.{missing_user, missing_users};
 ghost use Rattle.account_formats.specs.Tables.{passwd_records};
 ghost use Rattle.account_model.specs.Users.{find_user, has_user, other_users};
 ghost use Rattle.carried_tables.specs.KeptIds.{table_counts};
-ghost use Rattle.carried_lines.specs.KeyedLines.{IsAtMost, count_with};
 ghost use Rattle.id_choice.specs.Used.{AreThoseOf};
-ghost use Rattle.record_keys.specs.Keys.{user_keys};
 ghost use Rattle.table_lookups.specs.FirstLines.{TellsNames};
 ghost use Rattle.table_lookups.specs.Stopping.{StopsBy};
 
@@ -21,7 +19,6 @@ use acct_text::{Bytes, Names};
 use carried_lines::{OfGid, OfUid, RecordTest, first_passing};
 use carried_tables::{IdsInUse, used_ids};
 use line_edits::NameSet;
-use record_keys::Most;
 use std::alloc::{AllocError, Global};
 use tool_answers::ToolFault;
 
@@ -33,45 +30,6 @@ impl<'a> Tables<'a> {
             found ≡ find (λ user. user.gid == gid) (passwd_records self.now)) }
     {
         self.first_user(alloc, &OfGid { gid })
-    }
-
-    /// Whether surely no user with another name has the primary group of the GID. It takes no pass; files
-    /// tell nothing.
-    pub fn lacks_other_of_gid(
-        &self,
-        alloc: Global,
-        name: &[u8],
-        gid: u32,
-    ) -> Result<bool, AllocError>
-        ensures { IfOk result (λ lacks. lacks ≡ true
-            → find (λ user. user.gid == gid) (other_users name.now self.now) ≡ None) }
-    {
-        match self.most_of_gid(gid) {
-            Most::Nothing => Ok(true),
-            Most::One => self.is_of_gid(alloc, name, gid),
-            Most::Any => Ok(false),
-        }
-    }
-
-    // How many users have the primary group of the GID, at most; files tell nothing.
-    fn most_of_gid(&self, gid: u32) -> Most
-        ensures { IsAtMost result (count_with user_keys gid (passwd_records self.now)) }
-    {
-        match self.source() {
-            Source::Files(_) => Most::Any,
-            Source::Carried(tables) => tables.passwd().table().most_with(u64::from(gid)),
-        }
-    }
-
-    // Whether the user of the name has the primary group of the GID.
-    fn is_of_gid(&self, alloc: Global, name: &[u8], gid: u32) -> Result<bool, AllocError>
-        ensures { IfOk result (λ is. is ≡ true
-            → IsSomeAnd (find_user name.now self.now) (λ user. (user.gid == gid) ≡ true)) }
-    {
-        match self.user_named(alloc, name)? {
-            Some(user) => Ok(user.gid == gid),
-            None => Ok(false),
-        }
     }
 
     /// Whether surely no user with another name has the UID. It takes no pass; files tell nothing.

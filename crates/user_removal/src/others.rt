@@ -37,7 +37,8 @@ pub(crate) fn first_other(
     tables.first_user(alloc, &OtherWith { name, id })
 }
 
-// Whether surely no user with another name has the ID.
+// Whether surely no user with another name has the ID; of a GID nothing is told, as its users are found
+// by their places.
 fn lacks_other(
     alloc: Global,
     tables: &Tables,
@@ -49,7 +50,7 @@ fn lacks_other(
 {
     match id {
         AccountId::Uid(uid) => tables.lacks_other_of_uid(alloc, name, uid),
-        AccountId::Gid(gid) => tables.lacks_other_of_gid(alloc, name, gid),
+        AccountId::Gid(_) => Ok(false),
     }
 }
 

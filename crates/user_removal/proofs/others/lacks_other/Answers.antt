@@ -12,11 +12,3 @@ returns-in-Uid c =
     IfOk-weaker c.lacks_other_of_uid.result _ _ (λ lacks told yes.
     ap (λ id. find (has_id id) others) c.in-Uid.is ∙ told yes)
     c.lacks_other_of_uid.ensures
-
--- the ID is the GID that is asked for
-pub returns-in-Gid : goal.returns-in-Gid
-returns-in-Gid c =
-    let others = other_users c.args.name.now c.args.tables.now in
-    IfOk-weaker c.lacks_other_of_gid.result _ _ (λ lacks told yes.
-    ap (λ id. find (has_id id) others) c.in-Gid.is ∙ told yes)
-    c.lacks_other_of_gid.ensures
