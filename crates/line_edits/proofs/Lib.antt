@@ -4,6 +4,9 @@ pub mod OpenLemmas
 pub mod PutLines
 pub mod EditLists
 pub mod TouchedRecords
+mod SingleEdits
+mod NamedTouches
+mod ToldPlaces
 pub mod LeftLemmas
 pub mod NamedLemmas
 pub mod NamesDone

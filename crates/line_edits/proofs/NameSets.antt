@@ -1,15 +1,14 @@
 -- Claim: a set with one more text has it, and of the others those that it had (`set-takes`); so it
--- has the names of a list once each was added (`listed-more`, `added-more`). Its keys are these names,
+-- has the names of a list once each was added (`listed-more`). Its keys are these names,
 -- of which no two are the same (`keys-listed`, `keys-apart`), so none stands in front of itself
 -- (`distinct-before`). Way: by whether a text is the new one.
-use Rattle.std.proofs.Common.{◌≡◌, ◌∙◌, ℕ, ◌+◌, ◌<◌, Bool, true, false, List, [], ◌∷◌, ◌++◌, length, map, take, get_or, zero, suc, refl, sym, ap, ap₂, arith}
+use Rattle.std.proofs.Common.{◌≡◌, ◌∙◌, ℕ, ◌<◌, Bool, true, false, List, [], ◌∷◌, ◌++◌, length, map, take, get_or, zero, suc, refl, sym, ap, ap₂, arith}
 use Rattle.std.specs.Prelude.{◌||◌, bytes_eq}
 use Rattle.std.specs.Cmp.Lexicographic.{bytes_decides, nat_list_eq_equiv}
 use Rattle.std.specs.HashSet.{HashSet}
 use Rattle.std.specs.HashSet as bag
 use Rattle.std.specs.List.{AllByRecursion, IsDistinct, list_any}
 use Rattle.std.specs.Set.{KeepsOthers}
-use Rattle.std.proofs.lemmas.List.{take_more}
 use Rattle.std.proofs.lemmas.List.Folds.{list_any-append}
 use Rattle.std.proofs.lemmas.Map.Keys.{IsDistinct-cons, IsDistinct-head, IsDistinct-tail}
 use Rattle.account_formats.specs.Text.{is_listed}
@@ -65,25 +64,6 @@ listed-more name new names before is =
     ap₂ (λ last before. last || before) (nat_list_eq_equiv.symm new name) is
     ∙ last-or (bytes_eq name new) (is_listed name names)
     ∙ sym (list_any-append (bytes_eq name) names (new ∷ []))
-
--- three tests, of which the first two come together
-or-three : (last before old : Bool) → (last || (before || old)) ≡ ((last || before) || old)
-or-three true before old = refl
-or-three false before old = refl
-
--- so many names of a list were added, and one more
-pub added-more :
-    (name new : List ℕ) (names : List (List ℕ)) (place : ℕ) (old : Bool)
-    → place < length names
-    → new ≡ get_or names place []
-    → (bytes_eq new name || (is_listed name (take place names) || old))
-    ≡ (is_listed name (take (place + 1) names) || old)
-added-more name new names place old inside is =
-    or-three (bytes_eq new name) (is_listed name (take place names)) old
-    ∙ ap (λ listed. listed || old)
-    (listed-more name new (take place names) (is_listed name (take place names)) refl
-    ∙ ap (λ (last : List ℕ). is_listed name (take place names ++ last ∷ [])) is
-    ∙ ap (is_listed name) (sym (take_more names place [] inside)))
 
 -- ---- The keys
 

@@ -4,7 +4,7 @@
 -- record whose name has several (`none-touched`, place by place `multiple-next`); and a name is that of
 -- a record (`record-named`). Way: by what the line reads as.
 use Rattle.std.proofs.Common.{◌≡◌, ℕ, suc, ◌+◌, ◌<◌, Bool, true, false, inl, inr, List, [], ◌∷◌, length, refl, sym, ◌∙◌, ap, subst, arith}
-use Rattle.std.specs.Prelude.{◌&&◌, ◌||◌, bytes_eq, IfSome, Option, Some, None, option_map, find, if◌then◌else◌}
+use Rattle.std.specs.Prelude.{◌&&◌, ◌||◌, bytes_eq, Option, Some, None, option_map, find, if◌then◌else◌}
 use Rattle.std.specs.List.{cons_option, list_any}
 use Rattle.std.proofs.lemmas.Bool.{cases_Bool, cases_eq}
 use Rattle.std.proofs.lemmas.Slice.Eq.{bytes_eq-Decides}
@@ -12,10 +12,8 @@ use Rattle.acct_text.specs.Lines.{Line}
 use Rattle.account_formats.specs.Format.{Format, records_of}
 use Rattle.account_formats.specs.Edits.{Edit, first_multiple, is_multiple, touches}
 use Rattle.account_formats.specs.Text.{is_listed}
-use Rattle.std.specs.HashSet.{HashSet}
-use denote.Ref.{Bor}
 use Rattle.acct_tables.specs.TableLines.{record_at}
-use Rattle.line_edits.specs.Touching.{HoldsOfMultiple, HoldsOfMultipleAt, LacksName, TouchOnly, is_met, first_touched, met_in}
+use Rattle.line_edits.specs.Touching.{HoldsOfMultiple, HoldsOfMultipleAt, is_met, first_touched, met_in}
 use Rattle.line_edits.proofs.LeftLemmas.{neither}
 
 -- what was found is a record of this name
@@ -122,16 +120,6 @@ module _ {R : Type 0} (format : Format R) (edits : List (Edit R)) where
         ∙ ap (λ touched. if touched && is_multiple format whole r
         then Some (format.name r) else None)
         untouched
-
--- where the names that the edits touch are told and lack that of a record, it isn't touched
-pub untouched :
-    {R S : Type 0} (format : Format R) (edits : List (Edit R)) (r : R)
-    (names : Option (HashSet (Bor (List ℕ)) S))
-    → IfSome names (TouchOnly format edits)
-    → LacksName names (format.name r)
-    → touches format edits r ≡ false
-untouched format edits r None only lacks = absurd lacks
-untouched format edits r (Some names) only lacks = only r lacks
 
 -- ---- Names without several records
 

@@ -3,6 +3,7 @@ pub mod Places
 pub mod OpenLines
 pub mod CheckedTexts
 pub mod Touching
+pub mod EditsByName
 pub mod GroupChanges
 pub mod GshadowChanges
 pub mod PasswdChanges
@@ -11,6 +12,7 @@ pub mod SubidChanges
 pub mod HashChanges
 pub mod Memberships
 pub mod Naming
+pub mod SingleEdits
 pub mod KeptNames
 pub mod WrittenLines
 pub mod NameSets

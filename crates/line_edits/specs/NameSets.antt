@@ -1,4 +1,4 @@
--- Sets of texts: the names of the groups of `-G`, and those that edits touch (usermod(8), chpasswd(8)).
+-- Sets of texts: the names of the groups of `-G` (usermod(8)).
 use Rattle.std.specs.Prelude.{ℕ, Bool, List, bytes_eq}
 use Rattle.std.specs.HashSet.{HashSet, contains_by}
 

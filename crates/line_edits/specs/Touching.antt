@@ -6,9 +6,6 @@ use Rattle.account_formats.specs.Format.{Format, count_named, records_of}
 use Rattle.account_formats.specs.Edits.{Edit, edited, touches, is_multiple}
 use Rattle.account_formats.specs.Text.{is_listed}
 use Rattle.acct_tables.specs.TableLines.{record_at}
-use Rattle.std.specs.HashSet.{HashSet}
-use Rattle.line_edits.specs.NameSets.{has_text}
-use denote.Ref.{Bor}
 
 -- whether the edit touches a record of the old table, were it the only one
 abbrev pub touches_alone : {R : Type 0} → Format R → Edit R → R → Bool
@@ -23,16 +20,6 @@ LeavesTo {R = R} format edit r =
 abbrev pub LeavesOthers : {R : Type 0} → Format R → Edit R → List (List ℕ) → Type 0
 LeavesOthers {R = R} format edit names =
     (r : R) → is_listed (format.name r) names ≡ false → LeavesTo format edit r
-
--- the edits touch no record of a name that the set lacks
-abbrev pub TouchOnly : {R S : Type 0} → Format R → List (Edit R) → HashSet (Bor (List ℕ)) S → Type 0
-TouchOnly {R = R} format edits names = (r : R)
-    → has_text names (λ key. key.now) (format.name r) ≡ false → touches format edits r ≡ false
-
--- the names are told, and this one isn't among them
-abbrev pub LacksName : {S : Type 0} → Option (HashSet (Bor (List ℕ)) S) → List ℕ → Type 0
-LacksName None name = ⊥
-LacksName (Some names) name = has_text names (λ key. key.now) name ≡ false
 
 -- whether the edits touch the record, and its name is multiple in the whole table
 abbrev pub is_met : {R : Type 0} → Format R → List (Edit R) → List R → R → Bool

@@ -8,11 +8,13 @@ ghost use Rattle.account_formats.specs.RecordEdits.{IsWrittenEdit};
 ghost use Rattle.line_edits.specs.CheckedTexts.{checked_by};
 ghost use Rattle.line_edits.specs.Reach.{IsOpened};
 ghost use Rattle.line_edits.specs.SeenEdits.{seen_edits};
+ghost use Rattle.line_edits.specs.SingleEdits.{TouchesSingle};
 
+use crate::applied::single_edited_text;
 use crate::line_changes::changed_from;
 use crate::multiple::multiple_among;
 use crate::reach::{Opened, open_for};
-use crate::{Edit, EditedRecord, edited_text};
+use crate::{Edit, EditedRecord};
 use acct_text::Bytes;
 use std::alloc::{AllocError, Global};
 
@@ -45,7 +47,7 @@ pub fn checked_text<R: EditedRecord + Drop>(
     }
 }
 
-// The text after the edits of a file that is opened for them.
+// The text after the edits of a file that is opened for them, which touch no multiple entry in it.
 fn edited_from<R: EditedRecord + Drop>(
     alloc: Global,
     file: &Opened<'_, '_>,
@@ -53,12 +55,14 @@ fn edited_from<R: EditedRecord + Drop>(
 ) -> Result<Bytes, AllocError>
     requires written { AllByRecursion (IsWrittenEdit R.format) (seen_edits R.becomes edits.now) }
     requires opened { IsOpened R.format (seen_edits R.becomes edits.now) file.now }
+    requires single { TouchesSingle R.format (seen_edits R.becomes edits.now)
+        (lines_of file.now.text.now) }
     ensures { IfOk result (λ bytes. bytes ≡ file_bytes
         (edited_by R.format (seen_edits R.becomes edits.now) (lines_of file.now.text.now))) }
 {
     match single_change(edits) {
         Some(change) => changed_from::<R>(alloc, file.text, file.part, change),
-        None => edited_text(alloc, file.text, edits),
+        None => single_edited_text(alloc, file.text, edits),
     }
 }
 

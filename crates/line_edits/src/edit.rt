@@ -91,6 +91,10 @@ pub trait EditedRecord: TableRecord {
     fn keeps_names(change: &Self::Change) -> bool
         ensures { result ≡ true → KeepsNames Self.format (becomes change.now) };
 
+    /// Whether both changes surely are the same.
+    fn are_same(one: &Self::Change, other: &Self::Change) -> bool
+        ensures { result ≡ true → one.now ≡ other.now };
+
     /// The name of the records that go by the change, where it does nothing else; none at others.
     fn removed(change: &Self::Change) -> Option<&[u8]>
         ensures { IfSome result (λ name. Removes Self.format (becomes change.now) name.now) };

@@ -113,6 +113,10 @@ impl EditedRecord for GroupRecord {
         }
     }
 
+    fn are_same(_one: &GroupChange, _other: &GroupChange) -> bool {
+        false
+    }
+
     fn removed(change: &GroupChange) -> Option<&[u8]> {
         match change {
             GroupChange::Remove(name) => Some(name.as_slice()),

@@ -115,6 +115,10 @@ impl EditedRecord for GshadowRecord {
         }
     }
 
+    fn are_same(_one: &GshadowChange, _other: &GshadowChange) -> bool {
+        false
+    }
+
     fn removed(change: &GshadowChange) -> Option<&[u8]> {
         match change {
             GshadowChange::Remove(name) => Some(name.as_slice()),

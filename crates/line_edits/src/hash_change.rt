@@ -1,5 +1,5 @@
 // What is done with the hash of a user (usermod(8), `-p`, `-L` and `-U`).
-ghost use Rattle.std.specs.Prelude.{◌≡◌, IfOk};
+ghost use Rattle.std.specs.Prelude.{◌≡◌, true, IfOk};
 ghost use Rattle.account_formats.specs.Text.{begins_with, exclamation};
 ghost use Rattle.account_model.specs.UsermodHash.{locked_hash, unlocked_hash};
 ghost use Rattle.line_edits.specs.HashChanges.{hash_by};
@@ -21,6 +21,16 @@ pub enum HashChange {
 }
 
 impl HashChange {
+    /// Whether both changes set the same hash.
+    pub(crate) fn is_same(&self, other: &HashChange) -> bool
+        ensures { result ≡ true → self.now ≡ other.now }
+    {
+        match (self, other) {
+            (HashChange::Set(hash), HashChange::Set(same)) => hash.as_slice() == same.as_slice(),
+            _ => false,
+        }
+    }
+
     /// The hash after the change.
     pub(crate) fn of(&self, alloc: Global, hash: &Bytes) -> Result<Bytes, AllocError>
         ensures { IfOk result (λ new. new ≡ hash_by self.now hash.now) }

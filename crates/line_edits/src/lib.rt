@@ -7,14 +7,16 @@
 //! stand: by the names of these where an edit tells them (`named_edits`), and place by place where it
 //! doesn't (`placed_edits`). In the text of a file it carries out few of them one after another
 //! (`line_changes`), many by names, and so those that take records away. `multiple` and
-//! `multiple_in` find the first record that they touch and whose name has several; `checked` does both
-//! in a text, which it searches for touched records once.
+//! `multiple_in` find the first record that they touch and whose name has several, among many edits by
+//! those that may touch its name (`edits_by_name`); `checked` does both in a text, which it searches for
+//! touched records once.
 #![tactic(auto)]
 
 mod applied;
 mod changed_names;
 mod checked;
 mod edit;
+mod edits_by_name;
 mod fields;
 mod group_changes;
 mod gshadow_changes;

@@ -1,5 +1,5 @@
 // Which records the edits of a table touch, and the first of them whose name has several records.
-ghost use Rattle.std.specs.Prelude.{◌≡◌, true, false, Some, None, nat_le, IfOk, IfSome};
+ghost use Rattle.std.specs.Prelude.{◌≡◌, true, false, Some, None, nat_le, slice_get, IfOk, IfSome};
 ghost use Rattle.std.specs.List.{AllByRecursion};
 ghost use Rattle.acct_text.specs.Bytes.{newline};
 ghost use Rattle.acct_text.specs.Lines.{lines_of};
@@ -10,17 +10,18 @@ ghost use Rattle.account_formats.specs.Format.{count_named, records_of};
 ghost use Rattle.account_formats.specs.RecordEdits.{IsWrittenEdit};
 ghost use Rattle.account_formats.specs.Written.{IsWritten};
 ghost use Rattle.acct_tables.specs.NameIndex.{Tells, line_names, told};
+ghost use Rattle.line_edits.specs.EditsByName.{LacksName, TellTouched, touched_at, touches_if};
 ghost use Rattle.line_edits.specs.Reach.{IsOpenTo, IsOpened};
 ghost use Rattle.line_edits.specs.SeenEdits.{seen_edit, seen_edits};
-ghost use Rattle.line_edits.specs.Touching.{LacksName, LeavesTo, TouchOnly, met_in, touches_alone};
+ghost use Rattle.line_edits.specs.Touching.{LeavesTo, met_in, touches_alone};
 
+use crate::edits_by_name::EditsByName;
 use crate::fields::has_other_name;
 use crate::reach::{Opened, open_for, open_to, part_with, reach_of_all};
-use crate::touched::touched_names;
+use crate::touched::by_names;
 use crate::{Becoming, Edit, EditedRecord};
 use acct_tables::{Lines, MANY, NameIndex, has_several_records, name_of, read_record};
 use acct_text::Bytes;
-use indexmap::IndexSet;
 use std::alloc::{AllocError, Global};
 
 /// The name of the first record of a file with these bytes that the edits touch and whose name has two
@@ -49,10 +50,10 @@ pub(crate) fn multiple_among<R: EditedRecord + Drop>(
         (records_of R.format (lines_of file.now.text.now))) }
 {
     let names = &names_for(alloc, file.text, file.part, edits)?;
-    let touched = &touched_names(alloc, edits)?;
+    let named = &by_names(alloc, edits)?;
     let mut left = Lines::of(file.part);
     'lines: while let Some(line) = left.take() {
-        if let Some(name) = met_in(alloc, file, edits, names, touched, line.text)? {
+        if let Some(name) = met_in(alloc, file, edits, names, named, line.text)? {
             return Ok(Some(name));
         }
         left = Lines::of(open_to(left.bytes(), file.reach));
@@ -100,25 +101,25 @@ fn met_in<R: EditedRecord + Drop>(
     file: &Opened<'_, '_>,
     edits: &[Edit<R, R::Change>],
     names: &Option<NameIndex<'_>>,
-    touched: &Option<IndexSet<&[u8]>>,
+    named: &Option<EditsByName<'_>>,
     line: &[u8],
 ) -> Result<Option<Bytes>, AllocError>
     requires opened { IsOpened R.format (seen_edits R.becomes edits.now) file.now }
     requires edits { AllByRecursion (IsWrittenEdit R.format) (seen_edits R.becomes edits.now) }
     requires told { IfSome names.now (λ names.
         Tells (line_names R.format (lines_of file.now.text.now)) (told names)) }
-    requires only { IfSome touched.now (TouchOnly R.format (seen_edits R.becomes edits.now)) }
+    requires touched { IfSome named.now (TellTouched R.format R.becomes edits.now) }
     requires one_line { Lacks newline line.now }
     ensures { IfOk result (λ name. name ≡ met_in R.format (seen_edits R.becomes edits.now)
         (records_of R.format (lines_of file.now.text.now)) line.now) }
 {
-    if !may_meet(file, edits, names, touched, line) {
+    if !may_meet(file, edits, names, named, line) {
         return Ok(None);
     }
     let Some(item) = read_record::<R>(alloc, line)? else {
         return Ok(None);
     };
-    if !is_touched(alloc, edits, &item)? {
+    if !is_touched(alloc, edits, named, &item)? {
         return Ok(None);
     }
     Ok(Some(Bytes::of(alloc, item.name())?))
@@ -129,13 +130,13 @@ fn may_meet<R: EditedRecord>(
     file: &Opened<'_, '_>,
     edits: &[Edit<R, R::Change>],
     names: &Option<NameIndex<'_>>,
-    touched: &Option<IndexSet<&[u8]>>,
+    named: &Option<EditsByName<'_>>,
     line: &[u8],
 ) -> bool
     requires opened { IsOpened R.format (seen_edits R.becomes edits.now) file.now }
     requires told { IfSome names.now (λ names.
         Tells (line_names R.format (lines_of file.now.text.now)) (told names)) }
-    requires only { IfSome touched.now (TouchOnly R.format (seen_edits R.becomes edits.now)) }
+    requires touched { IfSome named.now (TellTouched R.format R.becomes edits.now) }
     ensures passed { result ≡ false → met_in R.format (seen_edits R.becomes edits.now)
         (records_of R.format (lines_of file.now.text.now)) line.now ≡ None }
     ensures several { result ≡ true → (r : R) → R.format.read line.now ≡ Some r
@@ -147,18 +148,18 @@ fn may_meet<R: EditedRecord>(
     let Some(name) = name_of::<R>(line) else {
         return false;
     };
-    if !may_touch(touched, name) {
+    if !may_touch(named, name) {
         return false;
     }
     has_several::<R>(file, names, name)
 }
 
 // Whether the edits may touch a record of the name.
-fn may_touch(touched: &Option<IndexSet<&[u8]>>, name: &[u8]) -> bool
-    ensures { result ≡ false → LacksName touched.now name.now }
+fn may_touch(named: &Option<EditsByName<'_>>, name: &[u8]) -> bool
+    ensures { result ≡ false → LacksName named.now name.now }
 {
-    match touched {
-        Some(names) => names.contains(name),
+    match named {
+        Some(named) => !named.of_name(name).is_empty(),
         None => true,
     }
 }
@@ -206,8 +207,65 @@ pub(crate) fn leaves<R: EditedRecord>(edit: &Edit<R, R::Change>, line: &[u8]) ->
     }
 }
 
-// Whether one of the edits touches the record.
+// Whether one of the edits touches the record: of those that are told by names one of its name.
 fn is_touched<R: EditedRecord + Drop>(
+    alloc: Global,
+    edits: &[Edit<R, R::Change>],
+    named: &Option<EditsByName<'_>>,
+    item: &R,
+) -> Result<bool, AllocError>
+    requires edits { AllByRecursion (IsWrittenEdit R.format) (seen_edits R.becomes edits.now) }
+    requires written { IsWritten R.format item.now }
+    requires touched { IfSome named.now (TellTouched R.format R.becomes edits.now) }
+    ensures { IfOk result (λ touched. touched ≡
+        touches R.format (seen_edits R.becomes edits.now) item.now) }
+{
+    match named {
+        Some(named) => is_touched_at(alloc, edits, named.of_name(item.name()), item),
+        None => is_touched_by(alloc, edits, item),
+    }
+}
+
+// Whether one of the edits at these places touches the record.
+fn is_touched_at<R: EditedRecord + Drop>(
+    alloc: Global,
+    edits: &[Edit<R, R::Change>],
+    places: &[usize],
+    item: &R,
+) -> Result<bool, AllocError>
+    requires edits { AllByRecursion (IsWrittenEdit R.format) (seen_edits R.becomes edits.now) }
+    requires written { IsWritten R.format item.now }
+    ensures { IfOk result (λ touched. touched ≡
+        touched_at R.format R.becomes edits.now places.now item.now) }
+{
+    'places: for place in places {
+        if touches_at(alloc, edits, *place, item)? {
+            return Ok(true);
+        }
+    }
+    Ok(false)
+}
+
+// Whether the edit at a place touches the record; none does past the last.
+fn touches_at<R: EditedRecord + Drop>(
+    alloc: Global,
+    edits: &[Edit<R, R::Change>],
+    place: usize,
+    item: &R,
+) -> Result<bool, AllocError>
+    requires edits { AllByRecursion (IsWrittenEdit R.format) (seen_edits R.becomes edits.now) }
+    requires written { IsWritten R.format item.now }
+    ensures { IfOk result (λ touched. touched ≡
+        touches_if R.format R.becomes item.now (slice_get edits.now place)) }
+{
+    if place >= edits.len() {
+        return Ok(false);
+    }
+    touches(alloc, &edits[place], item)
+}
+
+// Whether one of the edits touches the record.
+fn is_touched_by<R: EditedRecord + Drop>(
     alloc: Global,
     edits: &[Edit<R, R::Change>],
     item: &R,

@@ -115,6 +115,15 @@ impl EditedRecord for PasswdRecord {
         }
     }
 
+    fn are_same(one: &PasswdChange, other: &PasswdChange) -> bool {
+        match (one, other) {
+            (PasswdChange::Named(name, act), PasswdChange::Named(same, same_act)) => {
+                name.as_slice() == same.as_slice() && are_same_acts(act, same_act)
+            }
+            _ => false,
+        }
+    }
+
     fn removed(change: &PasswdChange) -> Option<&[u8]> {
         match change {
             PasswdChange::Remove(name) => Some(name.as_slice()),
@@ -133,6 +142,18 @@ fn has_gid(line: &[u8], gid: u32) -> bool
     match read_decimal(fourth_field(line), u64::from(GREATEST_ID)) {
         Ok(found) => found == u64::from(gid),
         Err(_) => false,
+    }
+}
+
+// Whether both acts surely are the same: a change of the hash that is repeated.
+fn are_same_acts(act: &PasswdAct, other: &PasswdAct) -> bool
+    ensures { result ≡ true → act.now ≡ other.now }
+{
+    match (act, other) {
+        (PasswdAct::ChangePassword(change), PasswdAct::ChangePassword(same)) => change.is_same(
+            same,
+        ),
+        _ => false,
     }
 }
 

@@ -1,5 +1,5 @@
 // What the tools do with records of shadow (shadow(5)).
-ghost use Rattle.std.specs.Prelude.{◌≡◌, None, IfOk, OnOk, option_map, unwrap_or};
+ghost use Rattle.std.specs.Prelude.{◌≡◌, true, None, IfOk, OnOk, option_map, unwrap_or};
 ghost use Rattle.acct_lines.specs.DaysValues.{days_held};
 ghost use Rattle.line_edits.specs.ShadowChanges.{given_days, shadow_after, with_shadow_fields};
 ghost use Rattle.line_edits.specs.KeptNames.{keeps_shadow_name};
@@ -166,6 +166,15 @@ impl EditedRecord for ShadowRecord {
         }
     }
 
+    fn are_same(one: &ShadowChange, other: &ShadowChange) -> bool {
+        match (one, other) {
+            (ShadowChange::Named(name, act), ShadowChange::Named(same, same_act)) => {
+                name.as_slice() == same.as_slice() && are_same_acts(act, same_act)
+            }
+            _ => false,
+        }
+    }
+
     fn removed(change: &ShadowChange) -> Option<&[u8]> {
         match change {
             ShadowChange::Remove(name) => Some(name.as_slice()),
@@ -174,6 +183,17 @@ impl EditedRecord for ShadowRecord {
     }
 
     ghost no_blank = { refl };
+}
+
+// Whether both acts surely are the same: a change of the hash or of the last change that is repeated.
+fn are_same_acts(act: &ShadowAct, other: &ShadowAct) -> bool
+    ensures { result ≡ true → act.now ≡ other.now }
+{
+    match (act, other) {
+        (ShadowAct::ChangeHash(change), ShadowAct::ChangeHash(same)) => change.is_same(same),
+        (ShadowAct::SetLastChange(day), ShadowAct::SetLastChange(same)) => *day == *same,
+        _ => false,
+    }
 }
 
 // Whether the act leaves this name of a user.

@@ -103,6 +103,10 @@ impl EditedRecord for SubidRecord {
         false
     }
 
+    fn are_same(_one: &SubidChange, _other: &SubidChange) -> bool {
+        false
+    }
+
     fn removed(change: &SubidChange) -> Option<&[u8]> {
         match change {
             SubidChange::Remove(user, uid) if uid.is_none() => Some(user.as_slice()),

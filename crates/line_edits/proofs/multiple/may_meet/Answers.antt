@@ -3,8 +3,9 @@ use Rattle.std.specs.Prelude.{nat_le}
 use Rattle.acct_text.specs.Lines.{lines_of}
 use Rattle.account_formats.specs.Format.{count_named, records_of}
 use Rattle.line_edits.specs.SeenEdits.{seen_edits}
-use Rattle.line_edits.specs.Touching.{LacksName}
-use Rattle.line_edits.proofs.TouchedRecords.{met-single, met-untouched, record-named, untouched}
+use Rattle.line_edits.specs.EditsByName.{LacksName}
+use Rattle.line_edits.proofs.NamedTouches.{untouched}
+use Rattle.line_edits.proofs.TouchedRecords.{met-single, met-untouched, record-named}
 use Rattle.line_edits.proofs.multiple.may_meet.Goals as goal
 
 pub returns-then-not-may_touch-clause-passed : goal.returns-then-not-may_touch-clause-passed
@@ -16,8 +17,9 @@ returns-then-not-may_touch-clause-passed g c = λ no.
     met-untouched format edits (records_of format (lines_of c.args.file.now.text.now))
     c.args.line.now here.item
     here.is
-    (untouched format edits here.item c.args.touched.now c.requires.only
-    (subst (LacksName c.args.touched.now) (sym here.named)
+    (untouched format g.R.EditedRecord.becomes c.args.edits.now here.item c.args.named.now
+    c.requires.touched
+    (subst (LacksName c.args.named.now) (sym here.named)
     (c.may_touch.ensures c.if-not-may_touch.true)))
 
 pub returns-clause-passed : goal.returns-clause-passed
