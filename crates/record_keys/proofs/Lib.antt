@@ -5,3 +5,4 @@ pub mod ActKeys
 pub mod ChangeKeys
 pub mod LeaverKeys
 pub mod FoundPlaces
+pub mod NewNames

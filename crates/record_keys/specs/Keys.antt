@@ -8,7 +8,9 @@ use Rattle.account_formats.specs.declared.records.GshadowRecord.{GshadowRecord}
 use Rattle.account_formats.specs.declared.records.PasswdRecord.{PasswdRecord}
 use Rattle.account_formats.specs.declared.records.ShadowRecord.{ShadowRecord}
 use Rattle.account_formats.specs.declared.records.SubidRecord.{SubidRecord}
+use Rattle.account_formats.specs.Edits.{Become}
 use Rattle.account_formats.specs.Format.{Format, is_named}
+use Rattle.account_formats.specs.RecordEdits.{IsWrittenEdit}
 use Rattle.acct_tables.specs.NameHashes.{name_hash}
 use Rattle.acct_tables.specs.TableLines.{record_at}
 use Rattle.line_edits.specs.declared.group_changes.GroupAct.{GroupAct}
@@ -158,3 +160,11 @@ KeepsPlaces {R = R} f = (r : R) → length (f r) ≡ 1
 abbrev pub Renames : {R : Type 0} → Format R → (R → List R) → List ℕ → List ℕ → Type 0
 Renames {R = R} format f old new = (r : R)
     → map format.name (f r) ≡ (if is_named format old r then new else format.name r) ∷ []
+
+-- by f each record of the old name gets the new one, and nothing else is done; what it makes of records
+-- can be written
+pub record IsRenaming {R : Type 0} (format : Format R) (f : R → List R) (old new : List ℕ)
+    : Type 0 where
+  pub named : (r : R) → is_named format old r ≡ true → map format.name (f r) ≡ new ∷ []
+  pub others : (r : R) → is_named format old r ≡ false → f r ≡ r ∷ []
+  pub written : IsWrittenEdit format (Become f)

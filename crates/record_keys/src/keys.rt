@@ -1,14 +1,19 @@
 // The keys of records, and what changes do to them: those of users are their primary groups (passwd(5)),
 // and records of shadow (shadow(5)) and of subordinate IDs (subuid(5), subgid(5)) have none.
-ghost use Rattle.std.specs.Prelude.{◌≡◌, ℕ, List, Some, true, IfSome};
+ghost use Rattle.std.specs.Prelude.{◌≡◌, ℕ, List, Some, true, IfOk, IfSome};
+ghost use Rattle.account_formats.specs.Written.{IsNameField};
 ghost use Rattle.record_keys.specs.KeyPlaces.{Notes, told_places};
-ghost use Rattle.record_keys.specs.Keys.{BringsOnly, KeepsPlaces, Needs, Renames, gid_given, keys_in};
+ghost use Rattle.record_keys.specs.Keys.{BringsOnly, IsRenaming, KeepsPlaces, Needs, Renames, gid_given, keys_in};
 ghost use Rattle.record_keys.specs.declared.key_places.Spot.TheVariants.{At};
 
 use crate::{KeyPlaces, Spot};
 use acct_lines::{PasswdLine, PasswdRecord, ShadowRecord, SubidRecord};
 use acct_text::Bytes;
-use line_edits::{EditedRecord, PasswdAct, PasswdChange, ShadowAct, ShadowChange, SubidChange};
+use line_edits::{
+    DaysChange, EditedRecord, PasswdAct, PasswdChange, ShadowAct, ShadowChange, ShadowFields,
+    SubidChange, UserFields,
+};
+use std::alloc::{AllocError, Global};
 
 /// The names of records that take another one.
 #[derive(Clone, Copy)]
@@ -55,6 +60,12 @@ pub trait KeyedRecord: EditedRecord {
     fn renamed(change: &Self::Change) -> Option<Renaming<'_>>
         ensures { IfSome result (λ names.
             Renames Self.format (Self.becomes change.now) names.old.now names.new.now) };
+
+    /// The change by which records of the first name take the second. It does nothing else.
+    fn renaming(alloc: Global, old: &[u8], new: &[u8]) -> Result<Self::Change, AllocError>
+        requires { IsNameField new.now }
+        ensures { IfOk result (λ change.
+            IsRenaming Self.format (Self.becomes change) old.now new.now) };
 }
 
 impl KeyedRecord for PasswdRecord {
@@ -102,6 +113,20 @@ impl KeyedRecord for PasswdRecord {
             _ => None,
         }
     }
+
+    fn renaming(alloc: Global, old: &[u8], new: &[u8]) -> Result<PasswdChange, AllocError> {
+        let name = Bytes::of(alloc, old)?;
+        let given = Bytes::of(alloc, new)?;
+        let fields = UserFields {
+            name: Some(given),
+            uid: None,
+            gid: None,
+            comment: None,
+            home: None,
+            shell: None,
+        };
+        Ok(PasswdChange::Named(name, PasswdAct::SetFields(fields)))
+    }
 }
 
 // Notes the GID there that the act gives.
@@ -148,6 +173,21 @@ impl KeyedRecord for ShadowRecord {
             _ => None,
         }
     }
+
+    fn renaming(alloc: Global, old: &[u8], new: &[u8]) -> Result<ShadowChange, AllocError> {
+        let name = Bytes::of(alloc, old)?;
+        let given = Bytes::of(alloc, new)?;
+        let fields = ShadowFields {
+            name: Some(given),
+            last_change: DaysChange::Stays,
+            minimum: DaysChange::Stays,
+            maximum: DaysChange::Stays,
+            warning: DaysChange::Stays,
+            inactive: DaysChange::Stays,
+            expiration: DaysChange::Stays,
+        };
+        Ok(ShadowChange::Named(name, ShadowAct::SetFields(fields)))
+    }
 }
 
 impl KeyedRecord for SubidRecord {
@@ -179,6 +219,12 @@ impl KeyedRecord for SubidRecord {
             }),
             SubidChange::Remove(..) | SubidChange::Cut(_) => None,
         }
+    }
+
+    fn renaming(alloc: Global, old: &[u8], new: &[u8]) -> Result<SubidChange, AllocError> {
+        let owner = Bytes::of(alloc, old)?;
+        let given = Bytes::of(alloc, new)?;
+        Ok(SubidChange::Rename(owner, given))
     }
 }
 

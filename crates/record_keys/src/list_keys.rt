@@ -9,7 +9,9 @@ use crate::key_names::{note_listed, note_name, note_names};
 use crate::{KeyPlaces, KeyedRecord, Renaming, Spot};
 use acct_lines::{GroupLine, GroupRecord, GshadowLine, GshadowRecord};
 use acct_tables::name_hash;
+use acct_text::Bytes;
 use line_edits::{GroupAct, GroupChange, GshadowAct, GshadowChange, Membership, UserGroups};
+use std::alloc::{AllocError, Global};
 
 impl KeyedRecord for GroupRecord {
     ghost use Rattle.record_keys.specs.Keys.{group_brought, group_keys};
@@ -56,6 +58,12 @@ impl KeyedRecord for GroupRecord {
             }),
             _ => None,
         }
+    }
+
+    fn renaming(alloc: Global, old: &[u8], new: &[u8]) -> Result<GroupChange, AllocError> {
+        let name = Bytes::of(alloc, old)?;
+        let given = Bytes::of(alloc, new)?;
+        Ok(GroupChange::Named(name, GroupAct::Rename(given)))
     }
 }
 
@@ -130,6 +138,12 @@ impl KeyedRecord for GshadowRecord {
             }),
             _ => None,
         }
+    }
+
+    fn renaming(alloc: Global, old: &[u8], new: &[u8]) -> Result<GshadowChange, AllocError> {
+        let name = Bytes::of(alloc, old)?;
+        let given = Bytes::of(alloc, new)?;
+        Ok(GshadowChange::Named(name, GshadowAct::Rename(given)))
     }
 }
 
