@@ -1,19 +1,22 @@
 -- Claims: the numbers of ranges are followed where one more range comes (`numbers-more`) and where one
--- of ranges that lie apart goes (`numbers-fewer`), and depend on no owner (`renamed-numbers`). Way:
--- each number is counted among the ranges; one that lies in a range that goes lies in no other.
-use Rattle.std.proofs.Common.{◌≡◌, ◌∙◌, ℕ, ◌+◌, ◌-◌, ◌≤◌, max, Bool, true, false, List, [], ◌∷◌, ◌++◌, refl, sym, ap, arith, inl, inr}
+-- of ranges that lie apart goes (`numbers-fewer`), and depend on no order (`alike-numbers`) and on no
+-- owner (`renamed-numbers`). Way: each number is counted among the ranges; one that lies in a range
+-- that goes lies in no other.
+use Rattle.std.proofs.Common.{◌≡◌, ◌∙◌, ℕ, ◌+◌, ◌-◌, ◌<◌, ◌≤◌, max, Bool, true, false, List, [], ◌∷◌, ◌++◌, append_assoc, arith, ap, drop, get_or, inl, inr, length, refl, suc, subst, sym, take, zero}
 use Rattle.std.specs.Prelude.{◌&&◌, ◌||◌, MatchOption, None, Option, Some, cond, is_some, map, nat_le, not}
-use Rattle.std.specs.List.{count_by, list_any}
-use Rattle.std.proofs.lemmas.Bool.{and_from, and_parts, false_from_ne_true, false≢true, le-leb, leb-true, or_cases, or_parts}
+use Rattle.std.specs.List.{AllByRecursion, count_by}
+use Rattle.std.proofs.lemmas.Bool.{and_from, and_parts, cases_Bool, false_from_ne_true, false≢true, le-leb, leb-true, or_cases, or_parts}
+use Rattle.std.proofs.lemmas.List.{take-append-drop, take_more}
 use Rattle.std.proofs.lemmas.List.Folds.{list_any-append}
 use Rattle.std.proofs.lemmas.List.Sums.{sum_by-append, sum_by-cons, sum_by_push}
-use Rattle.account_formats.specs.Records.{last_id}
+use Rattle.account_formats.specs.Records.{last_id, subid_format}
+use Rattle.account_formats.specs.Written.{IsWritten}
 use Rattle.account_formats.specs.declared.records.SubidRecord.{SubidRecord}
 use Rattle.account_words.specs.FreeRange.{meets}
 use Rattle.account_words.specs.Ids.{in_range}
 use Rattle.subid_ranges.specs.Numbers.{is_ranged}
 use Rattle.subid_ranges.specs.Owned.{first_and_count}
-use Rattle.subid_ranges.specs.RangeNumbers.{AreApart, AreNumbersOf}
+use Rattle.subid_ranges.specs.RangeNumbers.{AreApart, AreNumbersOf, LosesRange, LosesRanges}
 use Rattle.subid_ranges.specs.Taken.{AreFree, AreMet, TakesThoseOf, is_taken}
 use Rattle.subid_ranges.specs.declared.range_numbers.RangeNumbers.{RangeNumbers}
 
@@ -254,21 +257,52 @@ module _ (before behind : List SubidRecord) (r : SubidRecord) (old new : RangeNu
     );
   }
 
+-- ---- Ranges in which each number lies as often
+
+-- a number that lies in as many of them lies in one of both, or in none of both
+ranged-alike :
+    (number : ℕ) (ranges others : List SubidRecord)
+    → count_by (meets number number) ranges ≡ count_by (meets number number) others
+    → is_ranged ranges number ≡ is_ranged others number
+ranged-alike number ranges others counted = elim (cases_Bool (is_ranged others number)) [
+  | inl is ↦ elim (cases_Bool (is_ranged ranges number)) [
+    | inl both ↦ both ∙ sym is
+    | inr free ↦
+        absurd (omega (
+          arith,
+          counted,
+          free-uncounted number ranges free,
+          ranged-counted number others is,
+        ))
+  ]
+  | inr free ↦
+      uncounted-free number ranges (counted ∙ free-uncounted number others free) ∙ sym free
+]
+
+-- such ranges have the same numbers
+pub alike-numbers :
+    (ranges others : List SubidRecord) (numbers : RangeNumbers)
+    → ((number : ℕ)
+    → count_by (meets number number) ranges ≡ count_by (meets number number) others)
+    → AreNumbersOf ranges numbers
+    → AreNumbersOf others numbers
+alike-numbers ranges others numbers counted are = record {
+  taken = record {
+    same = λ number. are.taken.same number ∙ ranged-alike number ranges others (counted number);
+  };
+  apart = (
+    λ is number. omega (arith, counted number, are.apart.0 is number),
+    λ apart. are.apart.1 (λ number. omega (arith, counted number, apart number)),
+  );
+}
+
 -- ---- Owners
 
 -- a number is one of so many from a first on
 abbrev lies_in : ℕ → ℕ × ℕ → Bool
 lies_in number part = nat_le part.0 number && nat_le number (part.0 + part.1 - 1)
 
--- whether a number is one of the ranges, by the first ID and the count of each
-ranged-parts :
-    (number : ℕ) (ranges : List SubidRecord)
-    → is_ranged ranges number ≡ list_any (lies_in number) (map first_and_count ranges)
-ranged-parts number [] = refl
-ranged-parts number (r ∷ ranges) =
-    ap (λ (rest : Bool). meets number number r || rest) (ranged-parts number ranges)
-
--- and in how many of them it lies
+-- in how many of the ranges a number lies, by the first ID and the count of each
 counted-parts :
     (number : ℕ) (ranges : List SubidRecord)
     → count_by (meets number number) ranges
@@ -287,20 +321,75 @@ pub renamed-numbers :
     → AreNumbersOf ranges numbers
     → AreNumbersOf others numbers
 renamed-numbers ranges others numbers same are =
-    let counted = λ (number : ℕ).
+    alike-numbers ranges others numbers
+    (λ number.
     counted-parts number ranges
     ∙ ap (count_by (lies_in number)) same
-    ∙ sym (counted-parts number others) in
-    record {
-      taken = record {
-        same = λ number.
-            are.taken.same number
-            ∙ ranged-parts number ranges
-            ∙ ap (list_any (lies_in number)) same
-            ∙ sym (ranged-parts number others);
-      };
-      apart = (
-        λ is number. omega (arith, counted number, are.apart.0 is number),
-        λ apart. are.apart.1 (λ number. omega (arith, counted number, apart number)),
-      );
-    }
+    ∙ sym (counted-parts number others))
+    are
+
+-- ---- Ranges that go one after another
+
+-- ranges of which some lie apart with others do so alone
+behind-apart :
+    (ranges others : List SubidRecord) → AreApart (ranges ++ others) → AreApart others
+behind-apart ranges others apart = λ number.
+    omega (
+      arith,
+      sum_by-append (λ (r : SubidRecord). tally (meets number number r)) ranges others,
+      apart number,
+    )
+
+module _ (ranges : List SubidRecord) (index : ℕ) (old between : RangeNumbers)
+    (lost : LosesRanges (take index ranges) old between) where
+  -- one more of the ranges goes
+  pub lost-more :
+      (r : SubidRecord) (new : RangeNumbers)
+      → index < length ranges
+      → r ≡ get_or ranges index r
+      → LosesRange r between new
+      → LosesRanges (take (index + 1) ranges) old new
+  lost-more r new inside is loses = λ kept are.
+      loses [] kept
+      (lost (r ∷ kept)
+      (subst (λ all. AreNumbersOf all old)
+      (ap (λ gone. gone ++ kept) (take_more ranges index r inside)
+      ∙ append_assoc (take index ranges) (get_or ranges index r ∷ []) kept
+      ∙ ap (λ last. take index ranges ++ last ∷ kept) (sym is))
+      are))
+
+  -- what is left then are the numbers of the ranges behind them, and of others
+  pub lost-behind :
+      (kept : List SubidRecord)
+      → AreNumbersOf (ranges ++ kept) old
+      → AreNumbersOf (drop index ranges ++ kept) between
+  lost-behind kept are =
+      lost (drop index ranges ++ kept)
+      (subst (λ all. AreNumbersOf all old)
+      (ap (λ all. all ++ kept) (sym (take-append-drop index ranges))
+      ∙ append_assoc (take index ranges) (drop index ranges) kept)
+      are)
+
+  -- which lie apart where all do
+  pub apart-behind :
+      (kept : List SubidRecord)
+      → AreApart (ranges ++ kept)
+      → AreApart (drop index ranges ++ kept)
+  apart-behind kept apart =
+      behind-apart (take index ranges) (drop index ranges ++ kept)
+      (subst AreApart
+      (ap (λ all. all ++ kept) (sym (take-append-drop index ranges))
+      ∙ append_assoc (take index ranges) (drop index ranges) kept)
+      apart)
+
+-- what holds of all ranges holds of the one at a place
+pub item-written :
+    (ranges : List SubidRecord) (index : ℕ) (r : SubidRecord)
+    → AllByRecursion (IsWritten subid_format) ranges
+    → index < length ranges
+    → r ≡ get_or ranges index r
+    → IsWritten subid_format r
+item-written [] index r all inside is = absurd (omega arith)
+item-written (first ∷ ranges) zero r all inside is = subst (IsWritten subid_format) (sym is) all.0
+item-written (first ∷ ranges) (suc index) r all inside is =
+    item-written ranges index r all.1 (omega arith) is

@@ -22,3 +22,10 @@ LosesRange range old new =
     (before behind : List SubidRecord)
     → AreNumbersOf (before ++ range ∷ behind) old
     → AreNumbersOf (before ++ behind) new
+
+-- whatever other ranges there are, the new numbers are those of the others without these
+abbrev pub LosesRanges : List SubidRecord → RangeNumbers → RangeNumbers → Type 0
+LosesRanges gone old new =
+    (kept : List SubidRecord)
+    → AreNumbersOf (gone ++ kept) old
+    → AreNumbersOf kept new

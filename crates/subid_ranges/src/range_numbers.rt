@@ -1,6 +1,7 @@
 // The numbers that the ranges of a file take, which follow ranges that come and go (useradd(8),
 // userdel(8), subuid(5), subgid(5)).
-ghost use Rattle.std.specs.Prelude.{◌≡◌, ◌<◌, ◌≤◌, ◌↔◌, ◌∷◌, [], false, true, IfOk, IsTrue, List, MatchOption, OnOk};
+ghost use Rattle.std.specs.Prelude.{◌≡◌, ◌<◌, ◌≤◌, ◌↔◌, ◌∷◌, ◌++◌, [], false, true, IfOk, IsTrue, List, MatchOption, OnOk};
+ghost use Rattle.std.specs.List.{AllByRecursion};
 ghost use Rattle.acct_text.specs.Lines.{Line, lines_of};
 ghost use Rattle.account_formats.specs.Records.{greatest_id, last_id, subid_format};
 ghost use Rattle.account_formats.specs.Written.{IsWritten};
@@ -25,7 +26,7 @@ pub struct RangeNumbers {
 }
 
 impl RangeNumbers {
-    ghost use Rattle.subid_ranges.specs.RangeNumbers.{AreApart, AreNumbersOf, LosesRange};
+    ghost use Rattle.subid_ranges.specs.RangeNumbers.{AreApart, AreNumbersOf, LosesRange, LosesRanges};
 
     /// Those of the ranges of a file with these bytes, in one pass.
     pub fn of(alloc: Global, text: &[u8]) -> Result<RangeNumbers, AllocError>
@@ -78,6 +79,26 @@ impl RangeNumbers {
             }
             _ => Ok(false),
         }
+    }
+
+    /// Takes the numbers of these ranges out, which are among the ranges.
+    ///
+    /// It answers `false` where two of the ranges have a number in common, as `remove` does; nothing is
+    /// known of the numbers from then on, nor at `AllocError`.
+    pub fn remove_each(&mut self, ranges: &[SubidRecord]) -> Result<bool, AllocError>
+        ensures removed { IfOk result (λ goes.
+            goes ≡ true → LosesRanges ranges.now self.old self.new) }
+        ensures answered { IfOk result (λ goes. (kept : List SubidRecord) →
+            AreNumbersOf (ranges.now ++ kept) self.old →
+            AllByRecursion (IsWritten subid_format) ranges.now →
+            AreApart (ranges.now ++ kept) → goes ≡ true) }
+    {
+        'pieces: for range in ranges {
+            if !self.remove(range)? {
+                return Ok(false);
+            }
+        }
+        Ok(true)
     }
 
     /// The least start, from `min` on, of `count` IDs of which none passes `max` and none lies in a
