@@ -1,21 +1,26 @@
 -- Claims: a record that a change makes of another has only keys of that one, and such as its act brings
--- (`user-brings`, `group-brings`, `gshadow-brings`). Way: a change does its act with the records that
--- pass a test, or lets these go.
-use Rattle.std.proofs.Common.{◌≡◌, ℕ, Bool, true, false, List, [], ◌∷◌, get_or, sym, ap, subst}
-use Rattle.std.specs.Prelude.{◌==◌, if◌then◌else◌}
+-- (`user-brings`, `group-brings`, `gshadow-brings`, `subid-brings`). Way: a change does its act with the
+-- records that pass a test, or lets these go; what is left of a range has its owner.
+use Rattle.std.proofs.Common.{◌≡◌, ◌∙◌, ℕ, Bool, true, false, List, [], ◌∷◌, ◌++◌, get_or, refl, sym, ap, subst}
+use Rattle.std.specs.Prelude.{◌==◌, if◌then◌else◌, nat_lt}
 use Rattle.account_formats.specs.Format.{is_named}
-use Rattle.account_formats.specs.Records.{group_format, gshadow_format, passwd_format}
+use Rattle.account_formats.specs.Records.{group_format, gshadow_format, last_id, passwd_format, subid_format}
+use Rattle.account_formats.specs.declared.records.SubidRecord.{SubidRecord}
+use Rattle.account_words.specs.SubidOwner.{is_owned, left_without}
 use Rattle.line_edits.specs.GroupChanges.{group_after, group_becomes}
 use Rattle.line_edits.specs.GshadowChanges.{gshadow_after, gshadow_becomes}
 use Rattle.line_edits.specs.PasswdChanges.{passwd_after, passwd_becomes}
+use Rattle.line_edits.specs.SubidChanges.{subid_becomes}
 use Rattle.line_edits.specs.declared.group_changes.GroupChange.{GroupChange}
 use Rattle.line_edits.specs.declared.group_changes.GroupChange.TheVariants.{All as AllGroups, Named as NamedGroup, Remove as RemoveGroup}
 use Rattle.line_edits.specs.declared.gshadow_changes.GshadowChange.{GshadowChange}
 use Rattle.line_edits.specs.declared.gshadow_changes.GshadowChange.TheVariants.{All as AllGshadows, Named as NamedGshadow, Remove as RemoveGshadow}
 use Rattle.line_edits.specs.declared.passwd_changes.PasswdChange.{PasswdChange}
 use Rattle.line_edits.specs.declared.passwd_changes.PasswdChange.TheVariants.{Named as NamedUser, OfGroup, Remove as RemoveUser}
+use Rattle.line_edits.specs.declared.subid_changes.SubidChange.{SubidChange}
+use Rattle.line_edits.specs.declared.subid_changes.SubidChange.TheVariants.{Cut as CutRanges, Remove as RemoveOwner, Rename as RenameOwner}
 use Rattle.record_keys.specs.KeyPlaces.{has_key}
-use Rattle.record_keys.specs.Keys.{BringsOnly, gid_given, group_brought, group_keys, gshadow_brought, gshadow_keys, joining_group, joining_gshadow, name_keys, user_brought, user_keys}
+use Rattle.record_keys.specs.Keys.{BringsOnly, gid_given, group_brought, group_keys, gshadow_brought, gshadow_keys, joining_group, joining_gshadow, name_keys, subid_brought, subid_keys, user_brought, user_keys}
 use Rattle.record_keys.proofs.ActKeys.{group-kept, gshadow-kept, user-kept}
 
 module _ {R : Type 0} (keys_of : R → List ℕ) (test : R → Bool) where
@@ -87,3 +92,38 @@ gshadow-brings (AllGshadows act) =
     act-brings gshadow_keys (λ group. true) (gshadow_after act)
     (name_keys (joining_gshadow act)) (λ key. gshadow-kept key act)
 gshadow-brings (RemoveGshadow name) = going-brings gshadow_keys (is_named gshadow_format name)
+
+-- ---- Ranges of subordinate IDs
+
+-- the first of what is left, if something is, has the owner: by whether there is something below the
+-- first number that goes, and above the last
+piece-owner :
+    (below above : Bool) (r low high : SubidRecord)
+    → low.owner ≡ r.owner
+    → high.owner ≡ r.owner
+    → (get_or ((if below then low ∷ [] else []) ++ (if above then high ∷ [] else [])) 0 r).owner
+    ≡ r.owner
+piece-owner true above r low high below_owned above_owned = below_owned
+piece-owner false true r low high below_owned above_owned = above_owned
+piece-owner false false r low high below_owned above_owned = refl
+
+-- so is it of what becomes of a range, by whether it's the owner's
+pub left-owner :
+    (owned : Bool) (first last : ℕ) (r s : SubidRecord)
+    → (if owned then left_without first last r else r ∷ []) ≡ s ∷ []
+    → s.owner ≡ r.owner
+left-owner true first last r s is =
+    sym (ap (λ made. (get_or made 0 r).owner) is)
+    ∙ piece-owner (nat_lt r.first first) (nat_lt last (last_id r)) r _ _ refl refl
+left-owner false first last r s is = sym (ap (λ made. (get_or made 0 r).owner) is)
+
+-- with ranges
+pub subid-brings :
+    (change : SubidChange) → BringsOnly subid_keys (subid_becomes change) (subid_brought change)
+subid-brings (RenameOwner old new) =
+    act-brings subid_keys (is_named subid_format old) (λ r. record r { owner = new })
+    (name_keys (new ∷ [])) (λ key r none has. absurd cc)
+subid-brings (RemoveOwner user uid) = going-brings subid_keys (is_owned user uid)
+subid-brings (CutRanges cut) = λ r s is key none has.
+    subst (λ owner. has_key key (name_keys (owner ∷ [])) ≡ true)
+    (left-owner (is_owned cut.owner cut.uid r) cut.first cut.last r s is) has

@@ -28,6 +28,7 @@ use Rattle.line_edits.specs.declared.passwd_changes.PasswdChange.{PasswdChange}
 use Rattle.line_edits.specs.declared.passwd_changes.PasswdChange.TheVariants.{Named as NamedUser, OfGroup, Remove as RemoveUser}
 use Rattle.line_edits.specs.declared.shadow_changes.ShadowChange.{ShadowChange}
 use Rattle.line_edits.specs.declared.subid_changes.SubidChange.{SubidChange}
+use Rattle.line_edits.specs.declared.subid_changes.SubidChange.TheVariants.{Cut as CutRanges, Remove as RemoveOwner, Rename as RenameOwner}
 use Rattle.line_edits.specs.Memberships.{joins}
 use Rattle.record_keys.specs.KeyPlaces.{MayBeAt, has_key}
 
@@ -45,9 +46,9 @@ user_keys user = user.gid ∷ []
 abbrev pub shadow_keys : ShadowRecord → List ℕ
 shadow_keys user = []
 
--- a range of subordinate IDs has none
+-- that of a range of subordinate IDs: its owner
 abbrev pub subid_keys : SubidRecord → List ℕ
-subid_keys range = []
+subid_keys range = name_keys (range.owner ∷ [])
 
 -- those of a group: its members
 abbrev pub group_keys : GroupRecord → List ℕ
@@ -87,9 +88,11 @@ user_brought (RemoveUser name) = []
 abbrev pub shadow_brought : ShadowChange → List ℕ
 shadow_brought change = []
 
--- nor to a range of subordinate IDs
+-- the key that a change may bring to ranges of subordinate IDs
 abbrev pub subid_brought : SubidChange → List ℕ
-subid_brought change = []
+subid_brought (RenameOwner old new) = name_keys (new ∷ [])
+subid_brought (RemoveOwner user uid) = []
+subid_brought (CutRanges cut) = []
 
 -- the names that a membership may bring into a list
 abbrev pub either_name : Membership → List (List ℕ)

@@ -1,13 +1,15 @@
 // The keys of records, and what changes do to them: those of users are their primary groups (passwd(5)),
-// and records of shadow (shadow(5)) and of subordinate IDs (subuid(5), subgid(5)) have none.
+// those of ranges of subordinate IDs their owners (subuid(5), subgid(5)), and records of shadow
+// (shadow(5)) have none.
 ghost use Rattle.std.specs.Prelude.{◌≡◌, ℕ, List, Some, true, IfOk, IfSome};
 ghost use Rattle.account_formats.specs.Written.{IsNameField};
 ghost use Rattle.record_keys.specs.KeyPlaces.{Notes, told_places};
 ghost use Rattle.record_keys.specs.Keys.{BringsOnly, IsRenaming, KeepsPlaces, Needs, Renames, gid_given, keys_in};
 ghost use Rattle.record_keys.specs.declared.key_places.Spot.TheVariants.{At};
 
+use crate::key_names::note_name;
 use crate::{KeyPlaces, Spot};
-use acct_lines::{PasswdLine, PasswdRecord, ShadowRecord, SubidRecord};
+use acct_lines::{PasswdLine, PasswdRecord, ShadowRecord, SubidLine, SubidRecord};
 use acct_text::Bytes;
 use line_edits::{
     DaysChange, EditedRecord, PasswdAct, PasswdChange, ShadowAct, ShadowChange, ShadowFields,
@@ -197,15 +199,26 @@ impl KeyedRecord for SubidRecord {
 
     ghost brought = { subid_brought };
 
-    fn note_line(_line: &[u8], _place: usize, _index: &mut KeyPlaces) {}
+    fn note_line(line: &[u8], place: usize, index: &mut KeyPlaces) {
+        if let Ok(range) = SubidLine::read(line) {
+            note_name(range.owner, Spot::At(place), index);
+        }
+    }
 
-    fn note(&self, _spot: Spot, _index: &mut KeyPlaces) {}
+    fn note(&self, spot: Spot, index: &mut KeyPlaces) {
+        note_name(self.owner.as_slice(), spot, index);
+    }
 
     fn needed(_change: &SubidChange) -> Option<u64> {
         None
     }
 
-    fn bring(_change: &SubidChange, _spot: Spot, _index: &mut KeyPlaces) {}
+    fn bring(change: &SubidChange, spot: Spot, index: &mut KeyPlaces) {
+        match change {
+            SubidChange::Rename(_, new) => note_name(new.as_slice(), spot, index),
+            SubidChange::Remove(..) | SubidChange::Cut(_) => {}
+        }
+    }
 
     fn keeps_places(change: &SubidChange) -> bool {
         matches!(change, SubidChange::Rename(..))

@@ -1,8 +1,8 @@
 //! The keys of records, by which commands ask for them, and an index of the places where they stand
 //! (passwd(5), shadow(5), group(5), gshadow(5)).
 //!
-//! A user has the GID of the primary group for a key, and a group each name in its lists (`keys`,
-//! `list_keys`, `key_names`). `KeyPlaces` tells for a key where records may have it (`key_places`), by
+//! A user has the GID of the primary group for a key, a range of subordinate IDs its owner, and a group
+//! each name in its lists (`keys`, `list_keys`, `key_names`). `KeyPlaces` tells for a key where records may have it (`key_places`), by
 //! lists of places that grow from one another (`place_lists`), so that an edit which concerns records
 //! with a key takes no pass over the others.
 #![tactic(auto)]
