@@ -93,7 +93,7 @@ module _ {R : Type 0} (format : Format R) (gone : List (List ℕ)) where
       refl (records-left lines)
 
   -- a record of a name is gone where the name is
-  named-gone :
+  pub named-gone :
       (name : List ℕ) (r : R) (is : Bool)
       → is_listed name gone ≡ is
       → is_named format name r ≡ true

@@ -2,8 +2,9 @@
 -- change, `add-follows`, `missing-follows` and `put-follows` of a new record). Way: the record at a place
 -- is what the change made of the one there, or the new one.
 use Rattle.std.proofs.Common.{◌≡◌, ℕ, Bool, true, false, List, [], ◌∷◌, ◌++◌, length, zero, suc, refl, sym, ◌∙◌, ap, subst, inl, inr, arith}
-use Rattle.std.specs.Prelude.{◌⊎◌, ⊤, flat_map, Option, None, Some, if◌then◌else◌}
+use Rattle.std.specs.Prelude.{◌⊎◌, flat_map, Option, None, Some, if◌then◌else◌}
 use Rattle.std.specs.List.{AllByRecursion}
+use Rattle.std.proofs.Math.Bool.{or-false}
 use Rattle.std.proofs.lemmas.Bool.{cases_Bool}
 use Rattle.acct_text.specs.Lines.{Line, file_bytes}
 use Rattle.account_formats.specs.declared.fault.LineFault.{LineFault}
@@ -20,8 +21,8 @@ use Rattle.line_edits.proofs.WrittenLines.{lines-written}
 use Rattle.record_keys.specs.KeyPlaces.{IsIn, MayBeAt, Notes, has_key}
 use Rattle.record_keys.specs.Keys.{BringsOnly, KeepsPlaces, TellsKeys}
 use Rattle.record_keys.specs.declared.key_places.Spot.{Spot}
-use Rattle.record_keys.specs.declared.key_places.Spot.TheVariants.{At, Anywhere}
-use Rattle.carried_lines.specs.KeyedLines.{FollowsEdit, NotesAt}
+use Rattle.record_keys.specs.declared.key_places.Spot.TheVariants.{At}
+use Rattle.carried_lines.specs.KeyedLines.{FollowsEdit, IsOfNames, NotesAt}
 
 -- ---- What a change makes of the record at a place
 
@@ -232,93 +233,111 @@ module _ {R : Type 0} (format : Format R) (keys_of : R → List ℕ) (r : R)
         at-end lines end place s (record_at format lines place ≡ Some s) is
         (missing-at there lines place s found))
 
-  -- in a line, which may be of the same record
-  line-at :
-      (line : Line) (lines : List Line) (same : Bool) (place : ℕ) (s : R)
-      → record_at format
-      ((if same then line ∷ [] else record line { text = format.print r } ∷ []) ++ lines) place
-      ≡ Some s
-      → (record_at format (line ∷ lines) place ≡ Some s) ⊎ (s ≡ r)
-  line-at line lines true place s found = inl found
-  line-at line lines false zero s found = inr (reads-new s found)
-  line-at line lines false (suc place) s found = inl found
+  -- at a place the record that is put stands, in the line of one of its name
+  abbrev IsPutAt : List Line → ℕ → R → Type 0
+  IsPutAt lines place s = (s ≡ r) × IsOfNames format lines (format.name r ∷ []) place
 
-  -- behind a line that stays
-  behind-at :
-      (line : Line) (lines new : List Line) (place : ℕ) (s : R)
-      → ((later : ℕ) → record_at format new later ≡ Some s
-      → (record_at format lines later ≡ Some s) ⊎ (s ≡ r))
-      → record_at format (line ∷ new) place ≡ Some s
-      → (record_at format (line ∷ lines) place ≡ Some s) ⊎ (s ≡ r)
-  behind-at line lines new zero s later found = inl found
-  behind-at line lines new (suc place) s later found = later place found
+  -- the line before them makes no difference
+  put-behind :
+      (line : Line) (lines : List Line) (place : ℕ) (s : R)
+      → (record_at format lines place ≡ Some s) ⊎ IsPutAt lines place s
+      → (record_at format lines place ≡ Some s) ⊎ IsPutAt (line ∷ lines) (suc place) s
+  put-behind line lines place s (inl old) = inl old
+  put-behind line lines place s (inr put) =
+      inr (put.0, record { item = put.1.item; is = put.1.is; listed = put.1.listed })
 
-  -- by whether the line's record has the name
-  named-at :
-      (line : Line) (lines : List Line) (t : R) (named : Bool) (place : ℕ) (s : R)
-      → ((later : ℕ) → record_at format (put_first format r lines) later ≡ Some s
-      → (record_at format lines later ≡ Some s) ⊎ (s ≡ r))
-      → record_at format (if named
-      then line_becomes format line t (r ∷ []) ++ lines
-      else line ∷ put_first format r lines) place ≡ Some s
-      → (record_at format (line ∷ lines) place ≡ Some s) ⊎ (s ≡ r)
-  named-at line lines t true place s later found =
-      line-at line lines (format.same t r) place s found
-  named-at line lines t false place s later found =
-      behind-at line lines (put_first format r lines) place s later found
+  module _ (line : Line) (lines : List Line) (t : R) (reads : format.read line.text ≡ Some t) where
+    -- in the line of a record of its name, which may be the same
+    line-at :
+        (same : Bool) (place : ℕ) (s : R)
+        → is_named format (format.name r) t ≡ true
+        → record_at format
+        ((if same then line ∷ [] else record line { text = format.print r } ∷ []) ++ lines) place
+        ≡ Some s
+        → (record_at format (line ∷ lines) place ≡ Some s) ⊎ IsPutAt (line ∷ lines) place s
+    line-at true place s named found = inl found
+    line-at false zero s named found = inr (
+      reads-new s found,
+      record {
+        item = t;
+        is = reads;
+        listed = or-false (is_named format (format.name r) t) ∙ named;
+      },
+    )
+    line-at false (suc place) s named found = inl found
+
+    -- by whether the line's record has the name
+    named-at :
+        (named : Bool) (place : ℕ) (s : R)
+        → is_named format (format.name r) t ≡ named
+        → ((later : ℕ) → record_at format (put_first format r lines) later ≡ Some s
+        → (record_at format lines later ≡ Some s) ⊎ IsPutAt lines later s)
+        → record_at format (if named
+        then line_becomes format line t (r ∷ []) ++ lines
+        else line ∷ put_first format r lines) place ≡ Some s
+        → (record_at format (line ∷ lines) place ≡ Some s) ⊎ IsPutAt (line ∷ lines) place s
+    named-at true place s is later found = line-at (format.same t r) place s is found
+    named-at false zero s is later found = inl found
+    named-at false (suc place) s is later found =
+        put-behind line lines place s (later place found)
 
   -- by what the line reads as
   read-at :
       (line : Line) (lines : List Line) (kept : Option R) (place : ℕ) (s : R)
+      → format.read line.text ≡ kept
       → ((later : ℕ) → record_at format (put_first format r lines) later ≡ Some s
-      → (record_at format lines later ≡ Some s) ⊎ (s ≡ r))
+      → (record_at format lines later ≡ Some s) ⊎ IsPutAt lines later s)
       → record_at format (elim kept [
         | None ↦ line ∷ put_first format r lines
         | Some t ↦ if is_named format (format.name r) t
             then line_becomes format line t (r ∷ []) ++ lines
             else line ∷ put_first format r lines
       ]) place ≡ Some s
-      → (record_at format (line ∷ lines) place ≡ Some s) ⊎ (s ≡ r)
-  read-at line lines None place s later found =
-      behind-at line lines (put_first format r lines) place s later found
-  read-at line lines (Some t) place s later found =
-      named-at line lines t (is_named format (format.name r) t) place s later found
+      → (record_at format (line ∷ lines) place ≡ Some s) ⊎ IsPutAt (line ∷ lines) place s
+  read-at line lines None zero s reads later found = inl found
+  read-at line lines None (suc place) s reads later found =
+      put-behind line lines place s (later place found)
+  read-at line lines (Some t) place s reads later found =
+      named-at line lines t reads (is_named format (format.name r) t) place s refl later found
 
   -- in the line of the first of the name
   first-at :
       (lines : List Line) (place : ℕ) (s : R)
       → record_at format (put_first format r lines) place ≡ Some s
-      → (record_at format lines place ≡ Some s) ⊎ (s ≡ r)
+      → (record_at format lines place ≡ Some s) ⊎ IsPutAt lines place s
   first-at [] place s found = inl found
   first-at (line ∷ lines) place s found =
-      read-at line lines (format.read line.text) place s (λ later. first-at lines later s) found
+      read-at line lines (format.read line.text) place s refl (λ later. first-at lines later s)
+      found
 
-  -- in the place of another, or behind all lines
-  pub put-at :
-      (there : Bool) (lines : List Line) (place : ℕ) (s : R)
-      → record_at format
-      (if there then put_first format r lines else with_line (format.print r) lines) place ≡ Some s
-      → (record_at format lines place ≡ Some s) ⊎ (s ≡ r)
-  put-at true lines place s found = first-at lines place s found
-  put-at false lines place s found = elim (added-at lines place s found) [
-    | inl old ↦ inl old
-    | inr both ↦ inr both.0
-  ]
+  module _ (lines : List Line) (spot : Spot)
+      (there : (place : ℕ) → IsOfNames format lines (format.name r ∷ []) place → IsIn spot place)
+      (behind : has_named format (format.name r) (records_of format lines) ≡ false
+      → IsIn spot (length lines)) where
+    -- in the place of another, or behind all lines
+    put-at :
+        (named : Bool) (place : ℕ) (s : R)
+        → has_named format (format.name r) (records_of format lines) ≡ named
+        → record_at format
+        (if named then put_first format r lines else with_line (format.print r) lines) place
+        ≡ Some s
+        → (record_at format lines place ≡ Some s) ⊎ ((s ≡ r) × IsIn spot place)
+    put-at true place s is found = elim (first-at lines place s found) [
+      | inl old ↦ inl old
+      | inr put ↦ inr (put.0, there place put.1)
+    ]
+    put-at false place s is found = elim (added-at lines place s found) [
+      | inl old ↦ inl old
+      | inr both ↦ inr (both.0, subst (IsIn spot) both.1 (behind is))
+    ]
 
-  -- noted anywhere
-  anywhere : (s : R) (Old : Type 0) → Old ⊎ (s ≡ r) → Old ⊎ ((s ≡ r) × ⊤)
-  anywhere s Old (inl old) = inl old
-  anywhere s Old (inr same) = inr (same, tt)
-
-  -- an index that notes it anywhere follows the edit that puts it
-  pub put-follows :
-      (lines : List Line) (before after : ℕ → Option (List ℕ))
-      → Notes (keys_of r) Anywhere before after
-      → FollowsEdit format keys_of lines (Put r) before after
-  put-follows lines before after notes =
-      let there = has_named format (format.name r) (records_of format lines) in
-      new-follows Anywhere lines
-      (if there then put_first format r lines else with_line (format.print r) lines) before after
-      notes
-      (λ place s found.
-      anywhere s (record_at format lines place ≡ Some s) (put-at there lines place s found))
+    -- an index that notes it there follows the edit that puts it
+    pub put-follows :
+        (before after : ℕ → Option (List ℕ))
+        → Notes (keys_of r) spot before after
+        → FollowsEdit format keys_of lines (Put r) before after
+    put-follows before after notes =
+        let named = has_named format (format.name r) (records_of format lines) in
+        new-follows spot lines
+        (if named then put_first format r lines else with_line (format.print r) lines) before after
+        notes (λ place s found. put-at named place s refl found)

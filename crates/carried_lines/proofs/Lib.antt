@@ -8,3 +8,4 @@ pub mod PlacedLemmas
 pub mod KeyPlaceLemmas
 pub mod KeyFollowing
 pub mod PlacedSearch
+pub mod NamedSearch

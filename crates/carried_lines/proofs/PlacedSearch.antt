@@ -81,7 +81,7 @@ told-at format test lines place text told no_blank here tells =
 -- ---- Place by place
 
 -- a place of a list is the last, or one in front of it
-used-last :
+pub used-last :
     (front : List ℕ) (last place : ℕ)
     → is_used (front ++ last ∷ []) place ≡ true
     → (is_used front place ≡ true) ⊎ (last ≡ place)
@@ -96,7 +96,7 @@ used-last front last place used =
     ]
 
 -- where places descend, the last is below those in front of it
-below-others :
+pub below-others :
     (front : List ℕ) (last place : ℕ)
     → AllPairs (λ earlier later. later < earlier) (front ++ last ∷ [])
     → is_used front place ≡ true
@@ -112,6 +112,20 @@ below-others (first ∷ front) last place pairs used =
           below-others front last place
           (λ i j d before inside. pairs (suc i) (suc j) d (omega arith) (omega arith)) behind
     ]
+
+-- and those in front of it descend
+pub front-descending :
+    (front : List ℕ) (last : ℕ)
+    → AllPairs (λ earlier later. later < earlier) (front ++ last ∷ [])
+    → AllPairs (λ earlier later. later < earlier) front
+front-descending front last pairs i j d before inside =
+    let below = pairs i j d before (omega (arith, length-append front (last ∷ []))) in
+    omega (
+      arith,
+      below,
+      get_or-append front (last ∷ []) d i (omega arith),
+      get_or-append front (last ∷ []) d j inside,
+    )
 
 module _ {R : Type 0} (format : Format R) (test : R → Bool) (lines : List Line) where
   module _ (front : List ℕ) (last : ℕ) (at : AcceptsAt format test lines (front ++ last ∷ [])) where
@@ -140,15 +154,7 @@ module _ {R : Type 0} (format : Format R) (test : R → Bool) (lines : List Line
                 ap (is_accepted test) (ap (record_at format lines) same ∙ found) ∙ accepts in
                 let both : true ≡ false = sym here ∙ refused in absurd cc
           ];
-      descending = λ i j d before inside.
-          let below = at.descending i j d before
-          (omega (arith, length-append front (last ∷ []))) in
-          omega (
-            arith,
-            below,
-            get_or-append front (last ∷ []) d i (omega arith),
-            get_or-append front (last ∷ []) d j inside,
-          );
+      descending = front-descending front last at.descending;
     }
 
   -- at no place is one accepted

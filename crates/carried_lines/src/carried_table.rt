@@ -1,8 +1,9 @@
 // A table that is carried from command to command: the lines of its file, which edits change where
 // they stand, with the names of the records that are gone (passwd(5), shadow(5), group(5), gshadow(5)).
-ghost use Rattle.std.specs.Prelude.{◌≡◌, None, find, is_some, nat_le, IfOk, OnOk};
-ghost use Rattle.account_formats.specs.Format.{count_named, find_named, has_named};
+ghost use Rattle.std.specs.Prelude.{◌≡◌, None, filter, find, is_some, nat_le, IfOk, IfSome, OnOk};
+ghost use Rattle.account_formats.specs.Format.{count_named, find_named, has_named, is_named};
 ghost use Rattle.account_formats.specs.Tables.{table_records};
+ghost use Rattle.carried_lines.specs.Accepting.{IsKeyOf};
 ghost use Rattle.carried_lines.specs.TableEdits.{AreWritten, multiple_by, table_by};
 
 use crate::left_lines::LeftLines;
@@ -109,6 +110,24 @@ impl<R: KeyedRecord + Drop> CarriedTable<R> {
         match &self.lines {
             Some(lines) => lines.has_several(name),
             None => false,
+        }
+    }
+
+    /// The records of the name, each of which has the key, in the order of lines; none where it isn't
+    /// known where such records stand. It takes no pass over the lines.
+    pub fn all_named(
+        &self,
+        alloc: Global,
+        name: &[u8],
+        key: u64,
+    ) -> Result<Option<Vec<R>>, AllocError>
+        requires { IsKeyOf R.keys (is_named R.format name.now) key }
+        ensures { IfOk result (λ all. IfSome all (λ found. found.items
+            ≡ filter (is_named R.format name.now) (table_records R.format self.now))) }
+    {
+        match &self.lines {
+            Some(lines) => lines.all_named(alloc, name, key),
+            None => Ok(Some(Vec::new(alloc))),
         }
     }
 

@@ -1,8 +1,9 @@
 // The index of the keys of lines: how it is gathered, and how it follows an edit (passwd(5), shadow(5),
 // group(5), gshadow(5)). What an edit may bring is noted before the lines change.
-ghost use Rattle.std.specs.Prelude.{◌≡◌, ◌≤◌, ℕ, ◌∷◌, [], true, IfOk, IfSome};
+ghost use Rattle.std.specs.Prelude.{◌≡◌, ◌≤◌, ℕ, ◌∷◌, [], false, length, true, IfOk, IfSome};
 ghost use Rattle.account_formats.specs.Edits.{edited};
 ghost use Rattle.account_formats.specs.Edits as model;
+ghost use Rattle.account_formats.specs.Format.{has_named, records_of};
 ghost use Rattle.account_formats.specs.RecordEdits.{IsWrittenEdit};
 ghost use Rattle.account_words.specs.Ids.{is_used};
 ghost use Rattle.acct_tables.specs.SeenLines.{AreOfFile};
@@ -105,7 +106,7 @@ fn follow<R: KeyedRecord + Drop>(
         Edit::Become(change) => return follow_change(lines, change, index),
         Edit::Add(item) => item.note(Spot::At(lines.len()), index),
         Edit::AddMissing(item) => item.note(Spot::At(lines.len()), index),
-        Edit::Put(item) => item.note(Spot::Anywhere, index),
+        Edit::Put(item) => item.note(spot_for(lines, item.name()), index),
     }
     true
 }
@@ -164,6 +165,20 @@ fn bring_to_name<R: KeyedRecord + Drop>(
 {
     if let Some(there) = lines.get(name) {
         R::bring(change, spot_of(there), index);
+    }
+}
+
+// Where a record that is put comes to be: in the place of the only one of its name, behind the last line
+// where there is none, and anywhere where they are several.
+fn spot_for<R: KeyedRecord + Drop>(lines: &EditedLines<'_, R>, name: &[u8]) -> Spot
+    ensures there { (place : ℕ) → IsOfNames R.format lines.now (name.now ∷ []) place
+        → IsIn result place }
+    ensures behind { has_named R.format name.now (records_of R.format lines.now) ≡ false
+        → IsIn result (length lines.now) }
+{
+    match lines.get(name) {
+        Some(there) => spot_of(there),
+        None => Spot::At(lines.len()),
     }
 }
 

@@ -9,6 +9,7 @@ ghost use Rattle.account_formats.specs.RecordEdits.{IsWrittenEdit};
 ghost use Rattle.acct_tables.specs.SeenLines.{AreOfFile};
 ghost use Rattle.line_edits.specs.SeenEdits.{seen_edit, seen_edits};
 ghost use Rattle.line_edits.specs.Touching.{HoldsOfMultiple, LeavesTo};
+ghost use Rattle.record_keys.specs.KeyPlaces.{has_key};
 ghost use Rattle.carried_lines.specs.KeyedLines.{AcceptsAt, TouchesAt};
 
 use crate::key_following::{followed, gathered, with_brought};
@@ -62,6 +63,22 @@ impl<R: KeyedRecord + Drop> KeyedLines<R> {
         ensures { result.now ≡ self.now }
     {
         &self.lines
+    }
+
+    /// The places where records may have the key, from the last to the first; none where they aren't
+    /// known. It takes no pass.
+    pub(crate) fn places_with(
+        &self,
+        alloc: Global,
+        key: u64,
+    ) -> Result<Option<Vec<usize>>, AllocError>
+        ensures { IfOk result (λ places. IfSome places (λ found.
+            AcceptsAt R.format (λ r. has_key key (R.keys r)) self.now found.items)) }
+    {
+        match &self.keys {
+            Some(keys) => keys.places(alloc, key),
+            None => Ok(None),
+        }
     }
 
     /// The places where the test may accept records, from the last to the first; none where they

@@ -1,21 +1,22 @@
 // The lines of a table of which some records are gone: a record that goes is remembered by its name,
 // and its line stands until an edit needs the text without it (passwd(5), shadow(5), group(5),
 // gshadow(5)).
-ghost use Rattle.std.specs.Prelude.{◌≡◌, true, false, find, length, nat_le, IfOk, IfSome, OnOk};
+ghost use Rattle.std.specs.Prelude.{◌≡◌, true, false, filter, find, length, nat_le, IfOk, IfSome, OnOk};
 ghost use Rattle.acct_text.specs.Lines.{file_bytes, lines_of};
 ghost use Rattle.account_formats.specs.Edits.{edited_by};
 ghost use Rattle.account_formats.specs.Edits as model;
-ghost use Rattle.account_formats.specs.Format.{count_named, find_named, has_named, records_of};
+ghost use Rattle.account_formats.specs.Format.{count_named, find_named, has_named, is_named, records_of};
 ghost use Rattle.account_formats.specs.RecordEdits.{IsWrittenEdit};
 ghost use Rattle.account_formats.specs.Text.{is_listed};
 ghost use Rattle.acct_tables.specs.SeenLines.{AreOfFile};
 ghost use Rattle.line_edits.specs.SeenEdits.{seen_edit, seen_edits};
+ghost use Rattle.carried_lines.specs.Accepting.{IsKeyOf};
 ghost use Rattle.carried_lines.specs.Gone.{AreEdited, IsRemoval, IsSettled, PassesBy, left_lines};
 ghost use Rattle.carried_lines.specs.TableEdits.{AreWritten, multiple_by};
 
 use crate::gone_names::{GoneNames, left_text};
 use crate::keyed_lines::KeyedLines;
-use crate::placed_search::first_among;
+use crate::placed_search::{first_among, named_among};
 use crate::search::{RecordTest, first_passing};
 use acct_text::Bytes;
 use line_edits::{Edit, EditedRecord, first_multiple};
@@ -96,6 +97,28 @@ impl<R: KeyedRecord + Drop> LeftLines<R> {
             return false;
         }
         self.lines.lines().has_several(name)
+    }
+
+    /// The records of the name, which have the key, in the order of lines, where their places are known.
+    /// It takes no pass over the lines.
+    pub(crate) fn all_named(
+        &self,
+        alloc: Global,
+        name: &[u8],
+        key: u64,
+    ) -> Result<Option<Vec<R>>, AllocError>
+        requires { IsKeyOf R.keys (is_named R.format name.now) key }
+        ensures { IfOk result (λ all. IfSome all (λ found. found.items
+            ≡ filter (is_named R.format name.now) (records_of R.format self.now))) }
+    {
+        if self.gone.has(name) {
+            return Ok(Some(Vec::new(alloc)));
+        }
+        let Some(places) = self.lines.places_with(alloc, key)? else {
+            return Ok(None);
+        };
+        let found = named_among(alloc, self.lines.lines(), name, places)?;
+        Ok(Some(found))
     }
 
     /// The first record that passes the test. Where the places of the test's key are known, it takes
