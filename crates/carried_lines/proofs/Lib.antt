@@ -3,6 +3,7 @@ pub mod FileLemmas
 pub mod NumberLemmas
 pub mod CarriedLemmas
 pub mod GoneLemmas
+pub mod FreedNames
 pub mod GoneEdits
 pub mod PlacedLemmas
 pub mod KeyPlaceLemmas

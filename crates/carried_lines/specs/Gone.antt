@@ -43,6 +43,12 @@ PassesBy format gone edit =
     → left_lines format gone (edited format lines edit)
     ≡ edited format (left_lines format gone lines) edit
 
+-- the same lines are left, of other lines or by other names that are gone
+pub record LeavesSame {R : Type 0} (format : Format R) (old_gone : List (List ℕ)) (old : List Line)
+    (gone : List (List ℕ)) (new : List Line) : Type 0 where
+  pub left : left_lines format gone new ≡ left_lines format old_gone old
+  pub of_file : AreOfFile new
+
 -- the gone records are taken out of the lines
 pub record IsSettled {R : Type 0} (format : Format R) (old_gone : List (List ℕ)) (old : List Line)
     (gone : List (List ℕ)) (new : List Line) : Type 0 where

@@ -1,6 +1,6 @@
 // The names of records that are gone from a table, while their lines still stand, and the text without
-// these lines.
-ghost use Rattle.std.specs.Prelude.{◌≡◌, true, [], ◌∷◌, List, ℕ, IfOk, OnOk, option_map};
+// these lines. Where such a name came again, its line stands by a hidden one (`freed_names`).
+ghost use Rattle.std.specs.Prelude.{◌≡◌, true, ◌&&◌, not, [], ◌∷◌, List, ℕ, bytes_eq, IfOk, OnOk, option_map};
 ghost use Rattle.acct_text.specs.Lines.{file_bytes, lines_of};
 ghost use Rattle.account_formats.specs.Text.{is_listed};
 ghost use Rattle.acct_tables.specs.SeenLines.{AreOfFile};
@@ -45,6 +45,14 @@ impl GoneNames {
         let name = Vec::from_slice(*self.texts.allocator(), name)?;
         self.texts.insert(name)?;
         Ok(())
+    }
+
+    /// Takes a name out, if it is there.
+    pub(crate) fn remove(&mut self, name: &[u8])
+        ensures { (other : List ℕ) → is_listed other self.new
+            ≡ (is_listed other self.old && not (bytes_eq other name.now)) }
+    {
+        self.texts.swap_remove(name);
     }
 
     /// Whether it is one of the names.

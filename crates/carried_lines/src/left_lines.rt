@@ -14,6 +14,7 @@ ghost use Rattle.carried_lines.specs.Accepting.{IsKeyOf};
 ghost use Rattle.carried_lines.specs.Gone.{AreEdited, IsRemoval, IsSettled, PassesBy, left_lines};
 ghost use Rattle.carried_lines.specs.TableEdits.{AreWritten, multiple_by};
 
+use crate::freed_names::free_names;
 use crate::gone_names::{GoneNames, left_text};
 use crate::keyed_lines::KeyedLines;
 use crate::placed_search::{first_among, named_among};
@@ -219,7 +220,8 @@ fn edit_one<R: KeyedRecord + Drop>(
     lines.edit(alloc, edit, one)
 }
 
-// Takes the lines of gone records out, where the edit may not be made while they stand.
+// Frees the names that the edit brings, and takes the lines of gone records out, where it still may not
+// be made while they stand.
 fn settle_for<R: KeyedRecord + Drop>(
     alloc: Global,
     lines: &mut KeyedLines<R>,
@@ -237,6 +239,7 @@ fn settle_for<R: KeyedRecord + Drop>(
     if gone.is_empty() {
         return Ok(());
     }
+    free_names(alloc, lines, gone, edit)?;
     if passes_by(gone, edit) {
         return Ok(());
     }

@@ -2,7 +2,8 @@
 //! (passwd(5), shadow(5), group(5), gshadow(5), subuid(5), subgid(5)).
 //!
 //! A `CarriedTable` keeps the lines of its file with an index of their names (`left_lines`), of which
-//! those of records that are gone stay a while (`gone_names`), and edits change them where they stand.
+//! those of records that are gone stay a while (`gone_names`), also where their names come again
+//! (`freed_names`), and edits change them where they stand.
 //! Where the records of a key are, as the users of a primary group or the groups that list a name, is
 //! told by an index beside the lines (`keyed_lines`, `key_following`), so that an edit that needs a key
 //! looks at no other record (`placed_changes`).
@@ -12,6 +13,7 @@
 #![tactic(auto)]
 
 mod carried_table;
+mod freed_names;
 mod gone_names;
 mod key_following;
 mod keyed_lines;

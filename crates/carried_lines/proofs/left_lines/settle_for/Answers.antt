@@ -22,7 +22,8 @@ returns-clause-left g c =
     on_ok_weaker c.settle.result (λ settled.
     ap (λ gone. left_lines format gone c.settle.new.lines) settled.none
     ∙ left-all format c.settle.new.lines
-    ∙ settled.left)
+    ∙ settled.left
+    ∙ c.in_ok-free_names.ensures.left)
     c.settle.ensures
 
 -- they are those of a file
@@ -31,7 +32,8 @@ returns-clause-of_file g c =
     on_ok_weaker c.settle.result (λ settled.
     subst AreOfFile (sym settled.left)
     (left-of_file g.R.TableRecord.format _ g.met.R.TableRecord.is_line_format
-    g.met.R.EditedRecord.no_blank c.args.gone.now c.args.lines.now c.requires.of_file))
+    g.met.R.EditedRecord.no_blank c.free_names.new.gone c.free_names.new.lines
+    c.in_ok-free_names.ensures.of_file))
     c.settle.ensures
 
 -- and none is gone any more
