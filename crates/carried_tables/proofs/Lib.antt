@@ -2,3 +2,4 @@ pub mod EditedTables
 pub mod OwnerLemmas
 pub mod NumberLemmas
 pub mod KeptIdLemmas
+pub mod OwnedRanges

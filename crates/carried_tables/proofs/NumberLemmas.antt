@@ -1,27 +1,28 @@
 -- Claims: the numbers of ranges are those of the table after a range is added (`numbers-added`), after
--- a change that keeps them (`numbers-kept`), as of an owner's name (`renamed-keep`), and after the only
--- range of an owner goes (`numbers-lost`). Way: the ranges after an edit are the ranges, edited
--- (`after-edit`).
-use Rattle.std.proofs.Common.{◌≡◌, ◌∙◌, ℕ, ◌+◌, ◌<◌, Bool, true, false, List, [], ◌∷◌, ◌++◌, cond, refl, sym, ap, ap₂, subst, inl, inr, arith, if◌then◌else◌}
-use Rattle.std.specs.Prelude.{Option, Some, None, IfSome, is_some, flat_map}
+-- a change that keeps them (`numbers-kept`), as of an owner's name (`renamed-keep`), and after the
+-- ranges of an owner go (`numbers-lost`). Way: the ranges after an edit are the ranges, edited
+-- (`after-edit`), and each number is counted in those of the owner and in the others.
+use Rattle.std.proofs.Common.{◌≡◌, ◌∙◌, ℕ, ◌+◌, Bool, true, false, List, [], ◌∷◌, ◌++◌, cond, refl, sym, ap, ap₂, subst, inl, inr, arith, if◌then◌else◌}
+use Rattle.std.specs.Prelude.{Option, Some, None, IfSome, count_by, filter, flat_map, is_some, not}
 use Rattle.std.proofs.lemmas.Bool.{cases_Bool}
-use Rattle.std.proofs.lemmas.List.Sums.{sum_by-cons}
+use Rattle.std.proofs.lemmas.List.Sums.{sum_by-append, sum_by-cons}
 use Rattle.account_formats.specs.declared.records.SubidRecord.{SubidRecord}
 use Rattle.account_formats.specs.Edits.{Edit}
 use Rattle.account_formats.specs.Edits.Edit.{Add, Become}
-use Rattle.account_formats.specs.Format.{count_named, find_named, is_named}
+use Rattle.account_formats.specs.Format.{is_named}
 use Rattle.account_formats.specs.RecordEdits.{IsWrittenEdit, records_edited}
 use Rattle.account_formats.specs.Records.{subid_format}
 use Rattle.account_formats.specs.Tables.{table_after, table_records}
 use Rattle.account_formats.proofs.EditLines.{table-edited}
 use Rattle.account_formats.proofs.SameLaws.{subid-tells}
+use Rattle.account_words.specs.FreeRange.{meets}
 use Rattle.line_edits.specs.SubidChanges.{subid_becomes}
 use Rattle.line_edits.specs.declared.subid_changes.SubidChange.TheVariants.{Remove, Rename}
 use Rattle.subid_ranges.specs.Gathered.{GoesOn}
 use Rattle.subid_ranges.specs.Owned.{first_and_count}
-use Rattle.subid_ranges.specs.RangeNumbers.{AreNumbersOf, LosesRange}
+use Rattle.subid_ranges.specs.RangeNumbers.{AreNumbersOf, LosesRanges}
 use Rattle.subid_ranges.specs.declared.range_numbers.RangeNumbers.{RangeNumbers}
-use Rattle.subid_ranges.proofs.RangeNumbersLemmas.{renamed-numbers}
+use Rattle.subid_ranges.proofs.RangeNumbersLemmas.{alike-numbers, renamed-numbers}
 use Rattle.carried_tables.specs.RangeNumbers.{AreNumbersIn, KeepsNumbers}
 use Rattle.carried_tables.proofs.OwnerLemmas.{removal-written}
 
@@ -37,7 +38,7 @@ after-edit edit (Some text) written there =
     table-edited subid_format subid-tells refl (edit ∷ []) text (written, tt)
 
 -- those of an absent one are none, as what a change makes of none
-after-change :
+pub after-change :
     (f : SubidRecord → List SubidRecord) (file : Option (List ℕ))
     → IsWrittenEdit subid_format (Become f)
     → table_records subid_format (table_after subid_format (Become f ∷ []) file)
@@ -88,119 +89,119 @@ numbers-kept f file (Some numbers) written keeps are =
     subst (λ ranges. AreNumbersOf ranges numbers) (sym (after-change f file written))
     (renamed-numbers ranges (flat_map f ranges) numbers (keeps ranges) are)
 
--- ---- The only range of an owner
+-- ---- Ranges that go, or become others
 
--- the ranges are others around this one, and these stay when the owner's go
-record IsOnly (owner : List ℕ) (r : SubidRecord) (ranges : List SubidRecord) : Type 0 where
-  before : List SubidRecord
-  behind : List SubidRecord
-  are : ranges ≡ before ++ r ∷ behind
-  left : flat_map (subid_becomes (Remove owner None)) ranges ≡ before ++ behind
+module _ (test : SubidRecord → Bool) where
+  -- the ranges that the test leaves
+  abbrev pub left_by : List SubidRecord → List SubidRecord
+  left_by ranges = filter (λ r. not (test r)) ranges
+
+  module _ (passes : SubidRecord → Bool) where
+    -- one for a range that passes
+    abbrev tally : SubidRecord → ℕ
+    tally r = cond (passes r) 1 0
+
+    -- as many of all ranges pass as of those of the test and of those that it leaves
+    pub counted-parts :
+        (ranges : List SubidRecord)
+        → count_by passes ranges ≡ count_by passes (filter test ranges ++ left_by ranges)
+    counted-parts [] = refl
+    counted-parts (r ∷ ranges) = elim (cases_Bool (test r)) [
+      | inl is ↦
+          rw is (sum_by-cons tally r ranges
+          ∙ ap (λ rest. tally r + rest) (counted-parts ranges)
+          ∙ sym (sum_by-cons tally r (filter test ranges ++ left_by ranges)))
+      | inr is ↦
+          rw is (omega (
+            arith,
+            sum_by-cons tally r ranges,
+            counted-parts ranges,
+            sum_by-append tally (filter test ranges) (r ∷ left_by ranges),
+            sum_by-append tally (filter test ranges) (left_by ranges),
+            sum_by-cons tally r (left_by ranges),
+          ))
+    ]
+
+    -- so it is of what becomes of them, where the ranges that the test leaves stay
+    counted-changed :
+        (f : SubidRecord → List SubidRecord) (ranges : List SubidRecord)
+        → ((r : SubidRecord) → test r ≡ false → f r ≡ r ∷ [])
+        → count_by passes (left_by ranges ++ flat_map f (filter test ranges))
+        ≡ count_by passes (flat_map f ranges)
+    counted-changed f [] leaves = refl
+    counted-changed f (r ∷ ranges) leaves = elim (cases_Bool (test r)) [
+      | inl is ↦
+          let made = flat_map f (filter test ranges) in
+          rw is (omega (
+            arith,
+            sum_by-append tally (left_by ranges) (f r ++ made),
+            sum_by-append tally (f r) made,
+            sum_by-append tally (left_by ranges) made,
+            sum_by-append tally (f r) (flat_map f ranges),
+            counted-changed f ranges leaves,
+          ))
+      | inr is ↦
+          rw (is, leaves r is)
+          (sum_by-cons tally r (left_by ranges ++ flat_map f (filter test ranges))
+          ∙ ap (λ rest. tally r + rest) (counted-changed f ranges leaves)
+          ∙ sym (sum_by-cons tally r (flat_map f ranges)))
+    ]
+
+  -- the numbers without those of the test's ranges are those of the others
+  numbers-left :
+      (ranges : List SubidRecord) (old new : RangeNumbers)
+      → AreNumbersOf ranges old
+      → LosesRanges (filter test ranges) old new
+      → AreNumbersOf (left_by ranges) new
+  numbers-left ranges old new are loses =
+      loses (left_by ranges)
+      (alike-numbers ranges (filter test ranges ++ left_by ranges) old
+      (λ number. counted-parts (meets number number) ranges) are)
+
+  -- and with those of what becomes of them the numbers of what becomes of all
+  pub numbers-made :
+      (f : SubidRecord → List SubidRecord) (ranges : List SubidRecord) (numbers : RangeNumbers)
+      → ((r : SubidRecord) → test r ≡ false → f r ≡ r ∷ [])
+      → AreNumbersOf (left_by ranges ++ flat_map f (filter test ranges)) numbers
+      → AreNumbersOf (flat_map f ranges) numbers
+  numbers-made f ranges numbers leaves =
+      alike-numbers (left_by ranges ++ flat_map f (filter test ranges)) (flat_map f ranges) numbers
+      (λ number. counted-changed (meets number number) f ranges leaves)
+
+-- ---- The ranges of an owner
 
 module _ (owner : List ℕ) where
-  -- what becomes of the ranges
-  abbrev left_of : List SubidRecord → List SubidRecord
-  left_of ranges = flat_map (subid_becomes (Remove owner None)) ranges
+  -- by whether the first range is the owner's
+  first-left :
+      (is : Bool) (r : SubidRecord) (rest left : List SubidRecord)
+      → rest ≡ left
+      → (if is then [] else r ∷ []) ++ rest ≡ (if not is then r ∷ left else left)
+  first-left true r rest left same = same
+  first-left false r rest left same = ap (λ rest. r ∷ rest) same
 
-  -- so many have the name as their owner, the first among them
-  counted :
-      (r : SubidRecord) (ranges : List SubidRecord) (named : Bool)
-      → is_named subid_format owner r ≡ named
-      → count_named subid_format owner (r ∷ ranges)
-      ≡ cond named 1 0 + count_named subid_format owner ranges
-  counted r ranges named is =
-      sum_by-cons (λ s. cond (is_named subid_format owner s) 1 0) r ranges
-      ∙ ap (λ named. cond named 1 0 + count_named subid_format owner ranges) is
-
-  -- the first goes where it has the name
-  first-goes :
-      (r : SubidRecord) (ranges : List SubidRecord)
-      → is_named subid_format owner r ≡ true
-      → left_of (r ∷ ranges) ≡ left_of ranges
-  first-goes r ranges named = rw named refl
-
-  -- and stays where it hasn't
-  first-stays :
-      (r : SubidRecord) (ranges : List SubidRecord)
-      → is_named subid_format owner r ≡ false
-      → left_of (r ∷ ranges) ≡ r ∷ left_of ranges
-  first-stays r ranges other = rw other refl
-
-  -- where none has it, all stay
-  none-left :
+  -- those of others are left
+  others-left :
       (ranges : List SubidRecord)
-      → count_named subid_format owner ranges ≡ 0
-      → left_of ranges ≡ ranges
-  none-left [] none = refl
-  none-left (r ∷ ranges) none = elim (cases_Bool (is_named subid_format owner r)) [
-    | inl named ↦ absurd (omega (arith, none, counted r ranges true named))
-    | inr other ↦
-        first-stays r ranges other
-        ∙ ap (λ rest. r ∷ rest)
-        (none-left ranges (omega (arith, none, counted r ranges false other)))
-  ]
+      → flat_map (subid_becomes (Remove owner None)) ranges
+      ≡ left_by (is_named subid_format owner) ranges
+  others-left [] = refl
+  others-left (r ∷ ranges) =
+      first-left (is_named subid_format owner r) r
+      (flat_map (subid_becomes (Remove owner None)) ranges)
+      (left_by (is_named subid_format owner) ranges) (others-left ranges)
 
-  -- what is found is the first
-  found-first :
-      (s r : SubidRecord) (found : Option SubidRecord) (named : Bool)
-      → named ≡ true
-      → (if named then Some s else found) ≡ Some r
-      → s ≡ r
-  found-first s r found true is same =
-      ap (λ found. elim found [ None ↦ s | Some x ↦ x ]) same
-  found-first s r found false is same = absurd cc
-
-  -- or is found behind it
-  found-behind :
-      (s r : SubidRecord) (found : Option SubidRecord) (named : Bool)
-      → named ≡ false
-      → (if named then Some s else found) ≡ Some r
-      → found ≡ Some r
-  found-behind s r found true is same = absurd cc
-  found-behind s r found false is same = same
-
-  -- the range that is found, where the owner has one at most, is the only one
-  only-found :
-      (r : SubidRecord) (ranges : List SubidRecord)
-      → find_named subid_format owner ranges ≡ Some r
-      → count_named subid_format owner ranges < 2
-      → IsOnly owner r ranges
-  only-found r [] found single = absurd cc
-  only-found r (s ∷ ranges) found single =
-      let later = find_named subid_format owner ranges in
-      elim (cases_Bool (is_named subid_format owner s)) [
-        | inl named ↦ record {
-          before = [];
-          behind = ranges;
-          are = ap (λ first. first ∷ ranges)
-              (found-first s r later (is_named subid_format owner s) named found);
-          left = first-goes s ranges named
-              ∙ none-left ranges (omega (arith, single, counted s ranges true named));
-        }
-        | inr other ↦
-            let rest = only-found r ranges
-            (found-behind s r later (is_named subid_format owner s) other found)
-            (omega (arith, single, counted s ranges false other)) in
-            record {
-              before = s ∷ rest.before;
-              behind = rest.behind;
-              are = ap (λ ranges. s ∷ ranges) rest.are;
-              left = first-stays s ranges other ∙ ap (λ ranges. s ∷ ranges) rest.left;
-            }
-      ]
-
-  -- the numbers without those of the range are those of the file without it
+  -- the numbers without those of the owner's ranges are those of the file without them
   pub numbers-lost :
-      (r : SubidRecord) (file : Option (List ℕ)) (old new : RangeNumbers)
-      → find_named subid_format owner (table_records subid_format file) ≡ Some r
-      → count_named subid_format owner (table_records subid_format file) < 2
+      (owned : List SubidRecord) (file : Option (List ℕ)) (old new : RangeNumbers)
+      → owned ≡ filter (is_named subid_format owner) (table_records subid_format file)
       → AreNumbersIn file old
-      → LosesRange r old new
+      → LosesRanges owned old new
       → AreNumbersIn
       (table_after subid_format (Become (subid_becomes (Remove owner None)) ∷ []) file) new
-  numbers-lost r file old new found single are loses =
-      let only = only-found r (table_records subid_format file) found single in
+  numbers-lost owned file old new is are loses =
+      let ranges = table_records subid_format file in
       subst (λ ranges. AreNumbersOf ranges new)
       (sym (after-change (subid_becomes (Remove owner None)) file (removal-written owner None)
-      ∙ only.left))
-      (loses only.before only.behind (subst (λ ranges. AreNumbersOf ranges old) only.are are))
+      ∙ others-left ranges))
+      (numbers-left (is_named subid_format owner) ranges old new are
+      (subst (λ owned. LosesRanges owned old new) is loses))

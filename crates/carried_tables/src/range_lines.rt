@@ -1,8 +1,9 @@
 // The lines of a table of subordinate IDs, beside which the numbers of its ranges are kept: these follow
 // ranges that come and go (useradd(8), userdel(8), usermod(8), `-l`; subuid(5), subgid(5)).
-ghost use Rattle.std.specs.Prelude.{◌≡◌, ◌<◌, ◌∷◌, [], None, true, is_some, length, IfOk, IfSome, OnOk};
-ghost use Rattle.std.specs.List.{list_any};
+ghost use Rattle.std.specs.Prelude.{◌≡◌, ◌<◌, ◌∷◌, [], None, true, filter, is_some, length, IfOk, IfSome, OnOk};
+ghost use Rattle.std.specs.List.{cons_option, list_any};
 ghost use Rattle.account_formats.specs.Edits.Edit.{Become};
+ghost use Rattle.account_formats.specs.Format.{is_named};
 ghost use Rattle.account_formats.specs.RecordEdits.{IsWrittenEdit};
 ghost use Rattle.account_formats.specs.Records.{subid_format};
 ghost use Rattle.account_formats.specs.Tables.{table_after, table_records};
@@ -15,6 +16,7 @@ ghost use Rattle.carried_tables.specs.RangeNumbers.{AreNumbersIn, KeepsNumbers};
 
 use crate::range_table::gap_in;
 use acct_lines::SubidRecord;
+use acct_tables::name_hash;
 use acct_text::Bytes;
 use carried_lines::{CarriedTable, text_of};
 use itoa::Buffer;
@@ -28,7 +30,7 @@ use subid_ranges::RangeNumbers;
 #[derive(Drop)]
 pub(crate) struct RangeLines {
     table: CarriedTable<SubidRecord>,
-    // none until a range is added, and behind an edit that they don't follow
+    // none until a range is added; known from then on
     numbers: Option<RangeNumbers>,
 }
 
@@ -101,7 +103,8 @@ impl RangeLines {
     }
 
     /// Carries the edits out, in their order. The numbers follow a range that is added, an owner that
-    /// gets another name, and one whose only range goes while no two ranges have a number in common.
+    /// gets another name, and one whose ranges go while no two ranges have a number in common. Where
+    /// they don't follow and were known, they are gathered again, in a pass over the lines.
     /// At `AllocError` some of the edits may be made, or the file is gone.
     pub(crate) fn edit(
         &mut self,
@@ -138,9 +141,29 @@ impl RangeLines {
         if let Some(removal) = removal_by(edit) {
             return self.remove(alloc, removal.name, removal.uid);
         }
-        let known = numbers_after(alloc, self.numbers.take(), &self.table, edit)?;
-        self.table.edit(alloc, one)?;
-        self.numbers = known;
+        let before = self.numbers.take();
+        let are_wanted = before.is_some();
+        let after = numbers_after(alloc, before, &self.table, edit)?;
+        self.edit_lines(alloc, one, after, are_wanted)
+    }
+
+    // Makes edits of the lines, behind which the numbers are these. Where they aren't known and are
+    // wanted, they are gathered.
+    fn edit_lines(
+        &mut self,
+        alloc: Global,
+        edits: &[Edit<SubidRecord, SubidChange>],
+        after: Option<RangeNumbers>,
+        are_wanted: bool,
+    ) -> Result<(), AllocError>
+        requires written { AreWritten subid_format subid_becomes edits.now }
+        requires after { IfSome after
+            (AreNumbersIn (table_by subid_format subid_becomes edits.now self.old)) }
+        ensures { OnOk result (self.new ≡ table_by subid_format subid_becomes edits.now self.old) }
+    {
+        self.numbers = None;
+        self.table.edit(alloc, edits)?;
+        self.numbers = wanted_numbers(alloc, after, are_wanted, &self.table)?;
         Ok(())
     }
 
@@ -165,11 +188,11 @@ impl RangeLines {
         if !self.table.has(owner) {
             return Ok(());
         }
-        let known = numbers_without(alloc, self.numbers.take(), &self.table, owner)?;
+        let before = self.numbers.take();
+        let are_wanted = before.is_some();
+        let after = numbers_without(alloc, before, &self.table, owner)?;
         let removal = [Edit::Become(SubidChange::Remove(Bytes::of(alloc, owner)?, None))];
-        self.table.edit(alloc, &removal)?;
-        self.numbers = known;
-        Ok(())
+        self.edit_lines(alloc, &removal, after, are_wanted)
     }
 }
 
@@ -254,8 +277,24 @@ fn known_or_gathered(
     }
 }
 
-// The numbers without those of the ranges of the owner, where it has one alone, and those before tell
-// them.
+// The numbers of the ranges, if they are known, and gathered where they aren't and are wanted.
+fn wanted_numbers(
+    alloc: Global,
+    known: Option<RangeNumbers>,
+    are_wanted: bool,
+    table: &CarriedTable<SubidRecord>,
+) -> Result<Option<RangeNumbers>, AllocError>
+    requires { IfSome known (AreNumbersIn table.now) }
+    ensures numbers { IfOk result (λ numbers. IfSome numbers (AreNumbersIn table.now)) }
+    ensures given { are_wanted ≡ true → IfOk result (λ numbers. is_some numbers ≡ true) }
+{
+    if !are_wanted {
+        return Ok(known);
+    }
+    Ok(Some(known_or_gathered(alloc, known, table)?))
+}
+
+// The numbers without those of the ranges of the owner, where those before tell them.
 fn numbers_without(
     alloc: Global,
     known: Option<RangeNumbers>,
@@ -269,14 +308,39 @@ fn numbers_without(
     let Some(mut numbers) = known else {
         return Ok(None);
     };
-    if table.has_several(owner) {
-        return Ok(None);
-    }
-    let Some(range) = table.find(alloc, owner)? else {
+    let Some(ranges) = owned_by(alloc, table, owner)? else {
         return Ok(None);
     };
-    if !numbers.remove(&range)? {
+    if !numbers.remove_each(&ranges)? {
         return Ok(None);
     }
     Ok(Some(numbers))
+}
+
+// The ranges of an owner, in the order of lines; none where it has several and it isn't known where
+// these stand.
+fn owned_by(
+    alloc: Global,
+    table: &CarriedTable<SubidRecord>,
+    owner: &[u8],
+) -> Result<Option<Vec<SubidRecord>>, AllocError>
+    ensures { IfOk result (λ owned. IfSome owned (λ ranges. ranges.items
+        ≡ filter (is_named subid_format owner.now) (table_records subid_format table.now))) }
+{
+    if table.has_several(owner) {
+        return table.all_named(alloc, owner, name_hash(owner));
+    }
+    let only = table.find(alloc, owner)?;
+    Ok(Some(listed(alloc, only)?))
+}
+
+// A list of the range, if there is one.
+fn listed(alloc: Global, range: Option<SubidRecord>) -> Result<Vec<SubidRecord>, AllocError>
+    ensures { IfOk result (λ ranges. ranges.items ≡ cons_option range []) }
+{
+    let mut ranges = Vec::new(alloc);
+    if let Some(range) = range {
+        ranges.push(range)?;
+    }
+    Ok(ranges)
 }

@@ -15,5 +15,5 @@ returns-then-not-has c =
     ∙ sym c.has.ensures ∙ c.if-not-has.true)
 
 -- the removal prints nothing new
-pub edit-requires : goal.edit-requires
-edit-requires c = (removal-written c.in_ok-of.field-0 None, tt)
+pub edit_lines-requires-clause-written : goal.edit_lines-requires-clause-written
+edit_lines-requires-clause-written c = (removal-written c.in_ok-of.field-0 None, tt)
