@@ -3,3 +3,4 @@ pub mod OwnerLemmas
 pub mod NumberLemmas
 pub mod KeptIdLemmas
 pub mod OwnedRanges
+pub mod CutLemmas

@@ -1,13 +1,17 @@
 -- What is known of the ranges of a file while edits change it (subuid(5), subgid(5)), and which edits
--- take no pass over its lines (useradd(8), userdel(8), usermod(8), `-l`).
-use Rattle.std.specs.Prelude.{◌≡◌, ℕ, Bool, true, false, List, map, flat_map, Option}
+-- it follows (useradd(8), userdel(8), usermod(8), `-l`, `-V` and `-W`).
+use Rattle.std.specs.Prelude.{◌≡◌, ℕ, Bool, false, List, [], ◌∷◌, ◌++◌, bytes_eq, decimal, filter, flat_map, map, IfSome, Option, None, Some}
+use Rattle.account_formats.specs.Edits.Edit.{Become}
 use Rattle.account_formats.specs.Records.{subid_format}
 use Rattle.account_formats.specs.Tables.{table_records}
 use Rattle.account_formats.specs.declared.records.SubidRecord.{SubidRecord}
+use Rattle.account_words.specs.SubidOwner.{is_owned}
 use Rattle.line_edits.specs.declared.edit.Edit.{Edit}
-use Rattle.line_edits.specs.declared.edit.Edit.TheVariants.{Become, Add, AddMissing, Put}
+use Rattle.line_edits.specs.declared.subid_changes.RangeCut.{RangeCut}
 use Rattle.line_edits.specs.declared.subid_changes.SubidChange.{SubidChange}
-use Rattle.line_edits.specs.declared.subid_changes.SubidChange.TheVariants.{Rename, Remove, Cut}
+use Rattle.line_edits.specs.declared.subid_changes.SubidChange.TheVariants.{Cut}
+use Rattle.line_edits.specs.SeenEdits.{seen_edits}
+use Rattle.line_edits.specs.SubidChanges.{subid_becomes}
 use Rattle.subid_ranges.specs.Owned.{first_and_count}
 use Rattle.subid_ranges.specs.RangeNumbers.{AreNumbersOf}
 use Rattle.subid_ranges.specs.declared.range_numbers.RangeNumbers.{RangeNumbers}
@@ -22,11 +26,33 @@ KeepsNumbers f =
     (ranges : List SubidRecord)
     → map first_and_count ranges ≡ map first_and_count (flat_map f ranges)
 
--- whether the edit is one of a whole range or of all ranges of an owner, of which no part is cut
-abbrev pub is_carried : Edit SubidRecord SubidChange → Bool
-is_carried (Add range) = true
-is_carried (Become (Rename old new)) = true
-is_carried (Become (Remove user uid)) = true
-is_carried (Become (Cut cut)) = false
-is_carried (AddMissing range) = false
-is_carried (Put range) = false
+-- the edits are one alone, by a change that takes these IDs out of ranges
+pub record IsCutBy (change : SubidChange) (cut : RangeCut) (edits : List (Edit SubidRecord SubidChange))
+    : Type 0 where
+  pub alone : seen_edits subid_becomes edits ≡ Become (subid_becomes change) ∷ []
+  pub cuts : change ≡ Cut cut
+
+-- whether the owner is the decimal text of the UID, where it is known
+abbrev pub is_numbered : Option ℕ → SubidRecord → Bool
+is_numbered None r = false
+is_numbered (Some uid) r = bytes_eq r.owner (decimal uid)
+
+-- the range is the only one whose owner is the name or the text of the UID, and has the name
+pub record IsOnlyOf (name : List ℕ) (uid : Option ℕ) (ranges : List SubidRecord) (only : SubidRecord)
+    : Type 0 where
+  pub alone : filter (is_owned name uid) ranges ≡ only ∷ []
+  pub named : only.owner ≡ name
+
+-- whatever the other ranges are, what was known of them with this one is known without it, if any
+abbrev pub FollowsLoss : SubidRecord → Option RangeNumbers → Option RangeNumbers → Type 0
+FollowsLoss r known lost =
+    (others : List SubidRecord)
+    → IfSome known (AreNumbersOf (r ∷ others))
+    → IfSome lost (AreNumbersOf others)
+
+-- and what was known of them alone is known with one more
+abbrev pub FollowsGain : SubidRecord → Option RangeNumbers → Option RangeNumbers → Type 0
+FollowsGain r known gained =
+    (others : List SubidRecord)
+    → IfSome known (AreNumbersOf others)
+    → IfSome gained (AreNumbersOf (others ++ r ∷ []))

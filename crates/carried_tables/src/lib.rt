@@ -8,8 +8,8 @@
 //! `ids` gathers the IDs that are used in a file; `in_use` is how they are answered. A `RangeTable` of
 //! subordinate IDs is its file, as long as no edit came, and then the lines with an index of their
 //! owners and the numbers that their ranges take (`range_lines`): a range that comes, an owner that
-//! gets another name, and one whose ranges go take no pass over them. Commands ask it as a
-//! `RangeFile`, which is a file by itself as well.
+//! gets another name, one whose ranges go, and one whose only range loses an end take no pass over
+//! them. Commands ask it as a `RangeFile`, which is a file by itself as well.
 #![tactic(auto)]
 
 mod carried_tables;
@@ -26,4 +26,4 @@ pub use id_table::IdTable;
 pub use ids::{IdRecord, Renumbering, used_ids};
 pub use in_use::IdsInUse;
 pub use range_file::RangeFile;
-pub use range_table::{RangeTable, are_carried};
+pub use range_table::RangeTable;

@@ -1,18 +1,20 @@
 // The lines of a table of subordinate IDs, beside which the numbers of its ranges are kept: these follow
 // ranges that come and go (useradd(8), userdel(8), usermod(8), `-l`; subuid(5), subgid(5)).
-ghost use Rattle.std.specs.Prelude.{◌≡◌, ◌<◌, ◌∷◌, [], None, true, filter, is_some, length, IfOk, IfSome, OnOk};
+ghost use Rattle.std.specs.Prelude.{◌≡◌, ◌<◌, ◌∷◌, [], None, Option, true, filter, is_some, length, IfOk, IfSome, OnOk};
 ghost use Rattle.std.specs.List.{cons_option, list_any};
-ghost use Rattle.account_formats.specs.Edits.Edit.{Become};
+ghost use Rattle.account_formats.specs.Edits.Edit.{Become, Put};
 ghost use Rattle.account_formats.specs.Format.{is_named};
 ghost use Rattle.account_formats.specs.RecordEdits.{IsWrittenEdit};
 ghost use Rattle.account_formats.specs.Records.{subid_format};
 ghost use Rattle.account_formats.specs.Tables.{table_after, table_records};
+ghost use Rattle.account_formats.specs.Written.{IsWritten};
 ghost use Rattle.account_words.specs.FreeRange.{free_range};
 ghost use Rattle.account_words.specs.SubidOwner.{is_owned};
 ghost use Rattle.carried_lines.specs.TableEdits.{AreWritten, table_by};
 ghost use Rattle.line_edits.specs.SeenEdits.{seen_edit};
 ghost use Rattle.line_edits.specs.SubidChanges.{subid_becomes};
-ghost use Rattle.carried_tables.specs.RangeNumbers.{AreNumbersIn, KeepsNumbers};
+ghost use Rattle.carried_tables.specs.RangeNumbers.{AreNumbersIn, FollowsGain, FollowsLoss, IsCutBy, IsOnlyOf, KeepsNumbers, is_numbered};
+ghost use Rattle.subid_ranges.specs.declared.range_numbers.RangeNumbers.{RangeNumbers};
 
 use crate::range_table::gap_in;
 use acct_lines::SubidRecord;
@@ -20,7 +22,7 @@ use acct_tables::name_hash;
 use acct_text::Bytes;
 use carried_lines::{CarriedTable, text_of};
 use itoa::Buffer;
-use line_edits::{Edit, SubidChange};
+use line_edits::{Becoming, Edit, EditedRecord, RangeCut, SubidChange};
 use std::alloc::{AllocError, Global};
 use std::marker::Model;
 use subid_ranges::RangeNumbers;
@@ -54,6 +56,16 @@ impl RangeLines {
             table: CarriedTable::of(alloc, file)?,
             numbers: None,
         })
+    }
+
+    /// The lines of another file in the place of these, in two passes. The numbers of its ranges are
+    /// gathered where those of these were known.
+    pub(crate) fn renewed(self, alloc: Global, file: &Option<Bytes>) -> Result<Self, AllocError>
+        ensures { IfOk result (λ lines. lines ≡ file.now) }
+    {
+        let mut lines = RangeLines::of(alloc, file)?;
+        lines.numbers = wanted_numbers(alloc, None, self.numbers.is_some(), &lines.table)?;
+        Ok(lines)
     }
 
     /// Whether there is a file.
@@ -103,8 +115,9 @@ impl RangeLines {
     }
 
     /// Carries the edits out, in their order. The numbers follow a range that is added, an owner that
-    /// gets another name, and one whose ranges go while no two ranges have a number in common. Where
-    /// they don't follow and were known, they are gathered again, in a pass over the lines.
+    /// gets another name, and, while no two ranges have a number in common, one whose ranges go, or
+    /// whose only range loses an end. Where they don't follow and were known, they are gathered again,
+    /// in a pass over the lines.
     /// At `AllocError` some of the edits may be made, or the file is gone.
     pub(crate) fn edit(
         &mut self,
@@ -141,6 +154,9 @@ impl RangeLines {
         if let Some(removal) = removal_by(edit) {
             return self.remove(alloc, removal.name, removal.uid);
         }
+        if let Some(cutting) = cutting_by(edit) {
+            return self.cut(alloc, cutting, one);
+        }
         let before = self.numbers.take();
         let are_wanted = before.is_some();
         let after = numbers_after(alloc, before, &self.table, edit)?;
@@ -165,6 +181,83 @@ impl RangeLines {
         self.table.edit(alloc, edits)?;
         self.numbers = wanted_numbers(alloc, after, are_wanted, &self.table)?;
         Ok(())
+    }
+
+    // Takes IDs out of the ranges of an owner, by the only edit of a list. Where it has one range alone,
+    // of which a part at most is left, no other line is looked at.
+    fn cut(
+        &mut self,
+        alloc: Global,
+        cutting: Cutting<'_>,
+        one: &[Edit<SubidRecord, SubidChange>],
+    ) -> Result<(), AllocError>
+        requires by { IsCutBy cutting.change.now cutting.cut.now one.now }
+        requires written { AreWritten subid_format subid_becomes one.now }
+        ensures { OnOk result (self.new ≡ table_by subid_format subid_becomes one.now self.old) }
+    {
+        if let Some(range) = only_range(alloc, &self.table, cutting.cut)? {
+            return self.cut_only(alloc, range, cutting, one);
+        }
+        let are_wanted = self.numbers.is_some();
+        self.edit_lines(alloc, one, None, are_wanted)
+    }
+
+    // Takes IDs out of the only range of an owner.
+    fn cut_only(
+        &mut self,
+        alloc: Global,
+        range: SubidRecord,
+        cutting: Cutting<'_>,
+        one: &[Edit<SubidRecord, SubidChange>],
+    ) -> Result<(), AllocError>
+        requires by { IsCutBy cutting.change.now cutting.cut.now one.now }
+        requires written { AreWritten subid_format subid_becomes one.now }
+        requires only { IsOnlyOf cutting.cut.now.owner cutting.cut.now.uid
+            (table_records subid_format self.old) range }
+        ensures { OnOk result (self.new ≡ table_by subid_format subid_becomes one.now self.old) }
+    {
+        let before = self.numbers.take();
+        let are_wanted = before.is_some();
+        let lost = numbers_but(before, &range)?;
+        match range.becoming(alloc, cutting.change)? {
+            Becoming::Changes(left) => self.put_left(alloc, left, lost, are_wanted),
+            Becoming::Goes => self.take_only(alloc, &cutting.cut.owner, lost, are_wanted),
+            _ => self.edit_lines(alloc, one, None, are_wanted),
+        }
+    }
+
+    // Puts what is left of the only range of an owner in its place; `lost` are the numbers of the others.
+    fn put_left(
+        &mut self,
+        alloc: Global,
+        left: SubidRecord,
+        lost: Option<RangeNumbers>,
+        are_wanted: bool,
+    ) -> Result<(), AllocError>
+        requires written { IsWritten subid_format left }
+        requires lost { (after : Option RangeNumbers) → FollowsGain left lost after
+            → IfSome after (AreNumbersIn (table_after subid_format (Put left ∷ []) self.old)) }
+        ensures { OnOk result (self.new ≡ table_after subid_format (Put left ∷ []) self.old) }
+    {
+        let after = numbers_and(alloc, lost, &left)?;
+        self.edit_lines(alloc, &[Edit::Put(left)], after, are_wanted)
+    }
+
+    // Takes the only range of an owner out; `lost` are the numbers of the others.
+    fn take_only(
+        &mut self,
+        alloc: Global,
+        owner: &Bytes,
+        lost: Option<RangeNumbers>,
+        are_wanted: bool,
+    ) -> Result<(), AllocError>
+        requires { IfSome lost (AreNumbersIn (table_after subid_format
+            (Become (subid_becomes (SubidChange.Remove owner.now None)) ∷ []) self.old)) }
+        ensures { OnOk result (self.new ≡ table_after subid_format
+            (Become (subid_becomes (SubidChange.Remove owner.now None)) ∷ []) self.old) }
+    {
+        let removal = [Edit::Become(SubidChange::Remove(owner.copy()?, None))];
+        self.edit_lines(alloc, &removal, lost, are_wanted)
     }
 
     // Removes the ranges of an owner, by the name and by the decimal text of the UID.
@@ -194,6 +287,15 @@ impl RangeLines {
         let removal = [Edit::Become(SubidChange::Remove(Bytes::of(alloc, owner)?, None))];
         self.edit_lines(alloc, &removal, after, are_wanted)
     }
+}
+
+// IDs that go out of the ranges of an owner.
+#[derive(Clone, Copy)]
+struct Cutting<'a> {
+    // the change by which they go
+    change: &'a SubidChange,
+    // which go, and whose
+    cut: &'a RangeCut,
 }
 
 // The removal of the ranges of an owner.
@@ -226,6 +328,29 @@ fn removal_of(change: &SubidChange) -> Option<Removal<'_>>
             name: name.as_slice(),
             uid: *uid,
         }),
+        _ => None,
+    }
+}
+
+// The IDs that the edit takes out of ranges, if it's such a one.
+fn cutting_by(edit: &Edit<SubidRecord, SubidChange>) -> Option<Cutting<'_>>
+    ensures { IfSome result (λ cutting.
+        (seen_edit subid_becomes edit.now ≡ Become (subid_becomes cutting.change.now))
+        × (cutting.change.now ≡ SubidChange.Cut cutting.cut.now)) }
+{
+    match edit {
+        Edit::Become(change) => cutting_of(change),
+        _ => None,
+    }
+}
+
+// The IDs that the change takes out of ranges, if it's such a one.
+fn cutting_of(change: &SubidChange) -> Option<Cutting<'_>>
+    ensures { IfSome result (λ cutting. (change.now ≡ cutting.change.now)
+        × (cutting.change.now ≡ SubidChange.Cut cutting.cut.now)) }
+{
+    match change {
+        SubidChange::Cut(cut) => Some(Cutting { change, cut }),
         _ => None,
     }
 }
@@ -343,4 +468,65 @@ fn listed(alloc: Global, range: Option<SubidRecord>) -> Result<Vec<SubidRecord>,
         ranges.push(range)?;
     }
     Ok(ranges)
+}
+
+// The range of an owner that has one alone, with its name.
+fn only_range(
+    alloc: Global,
+    table: &CarriedTable<SubidRecord>,
+    cut: &RangeCut,
+) -> Result<Option<SubidRecord>, AllocError>
+    ensures { IfOk result (λ found. IfSome found
+        (IsOnlyOf cut.now.owner cut.now.uid (table_records subid_format table.now))) }
+{
+    if has_number(table, cut.uid) {
+        return Ok(None);
+    }
+    if table.has_several(cut.owner.as_slice()) {
+        return Ok(None);
+    }
+    table.find(alloc, cut.owner.as_slice())
+}
+
+// Whether the owner of a range is the decimal text of the UID.
+fn has_number(table: &CarriedTable<SubidRecord>, uid: Option<u32>) -> bool
+    ensures { result ≡ list_any (is_numbered uid) (table_records subid_format table.now) }
+{
+    let Some(uid) = uid else {
+        return false;
+    };
+    let mut buffer = Buffer::new();
+    table.has(buffer.format(uid).as_bytes())
+}
+
+// The numbers without those of a range, where those before tell them.
+fn numbers_but(
+    known: Option<RangeNumbers>,
+    range: &SubidRecord,
+) -> Result<Option<RangeNumbers>, AllocError>
+    ensures { IfOk result (FollowsLoss range.now known) }
+{
+    let Some(mut numbers) = known else {
+        return Ok(None);
+    };
+    if !numbers.remove(range)? {
+        return Ok(None);
+    }
+    Ok(Some(numbers))
+}
+
+// The numbers with those of one more range, if they are known.
+fn numbers_and(
+    alloc: Global,
+    known: Option<RangeNumbers>,
+    range: &SubidRecord,
+) -> Result<Option<RangeNumbers>, AllocError>
+    requires { IsWritten subid_format range.now }
+    ensures { IfOk result (FollowsGain range.now known) }
+{
+    let Some(mut numbers) = known else {
+        return Ok(None);
+    };
+    numbers.add(alloc, range)?;
+    Ok(Some(numbers))
 }

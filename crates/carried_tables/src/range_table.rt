@@ -1,14 +1,13 @@
 // A table of subordinate IDs that is carried from command to command: the file as it was read, and from
 // the first edit on its lines (useradd(8), userdel(8), usermod(8), `-l`; subuid(5), subgid(5)).
 ghost use Rattle.std.specs.Prelude.{◌≡◌, ◌<◌, None, Some, is_some, IfOk, OnOk};
-ghost use Rattle.std.specs.List.{list_all, list_any};
+ghost use Rattle.std.specs.List.{list_any};
 ghost use Rattle.account_formats.specs.Records.{subid_format};
 ghost use Rattle.account_formats.specs.Tables.{table_records};
 ghost use Rattle.account_words.specs.FreeRange.{free_range};
 ghost use Rattle.account_words.specs.SubidOwner.{is_owned};
 ghost use Rattle.carried_lines.specs.TableEdits.{AreWritten, table_by};
 ghost use Rattle.line_edits.specs.SubidChanges.{subid_becomes};
-ghost use Rattle.carried_tables.specs.RangeNumbers.{is_carried};
 ghost use Rattle.carried_tables.specs.Standing.{file_in};
 
 use crate::RangeFile;
@@ -91,9 +90,10 @@ impl RangeTable {
     }
 
     /// Carries the edits out, in their order: a range that is added, an owner that gets another name,
-    /// and one whose ranges go take no pass over the lines. These are made in two passes where no edit
-    /// came before, and the numbers of their ranges gathered in one where a range is added and they
-    /// aren't known. At `AllocError` some of the edits may be made, or the table is gone.
+    /// one whose ranges go, and one whose only range loses an end take no pass over the lines. These are
+    /// made in two passes where no edit came before, and the numbers of their ranges gathered in one
+    /// where a range is added and they aren't known, or where they were and don't follow an edit. At
+    /// `AllocError` some of the edits may be made, or the table is gone.
     pub fn edit(
         &mut self,
         alloc: Global,
@@ -108,11 +108,14 @@ impl RangeTable {
         Ok(())
     }
 
-    /// Puts these bytes in the place of those of the file.
-    pub fn put(&mut self, text: Bytes)
-        ensures { self.new ≡ Some text }
+    /// Puts these bytes in the place of those of the file. Where it stands as lines they are made anew,
+    /// in two passes, and the numbers of their ranges gathered again where they were known. At
+    /// `AllocError` the table is gone.
+    pub fn put(&mut self, alloc: Global, text: Bytes) -> Result<(), AllocError>
+        ensures { OnOk result (self.new ≡ Some text) }
     {
-        self.standing = Standing::File(Some(text));
+        self.standing = renewed(alloc, self.take_standing(), Some(text))?;
+        Ok(())
     }
 
     /// Whether there is a file.
@@ -173,21 +176,13 @@ impl RangeTable {
     }
 }
 
-/// Whether the edits take no pass over a table: each adds a range, or is one of all ranges of an owner.
-pub fn are_carried(edits: &[Edit<SubidRecord, SubidChange>]) -> bool
-    ensures { result ≡ list_all is_carried edits.now }
+// A file in the place of what stands, as lines where that does.
+fn renewed(alloc: Global, standing: Standing, file: Option<Bytes>) -> Result<Standing, AllocError>
+    ensures { IfOk result (λ renewed. file_in renewed ≡ file) }
 {
-    edits.iter().all(|edit| is_carried(edit))
-}
-
-// Whether the edit takes no pass.
-fn is_carried(edit: &Edit<SubidRecord, SubidChange>) -> bool
-    ensures { result ≡ is_carried edit.now }
-{
-    match edit {
-        Edit::Add(_) => true,
-        Edit::Become(change) => !matches!(change, SubidChange::Cut(_)),
-        Edit::AddMissing(_) | Edit::Put(_) => false,
+    match standing {
+        Standing::File(_) => Ok(Standing::File(file)),
+        Standing::Lines(lines) => Ok(Standing::Lines(lines.renewed(alloc, &file)?)),
     }
 }
 

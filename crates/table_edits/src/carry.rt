@@ -13,7 +13,7 @@ use crate::decide::output_of;
 use crate::multiple::multiple_carried;
 use crate::{Report, Script, SubidRecord};
 use account_words::Tool;
-use carried_tables::{CarriedTables, RangeTable, are_carried};
+use carried_tables::{CarriedTables, RangeTable};
 use line_edits::{Edit, SubidChange};
 use range_edits::{edited_ranges, leave_all};
 use std::alloc::{AllocError, Global};
@@ -63,8 +63,12 @@ fn edit_tables(alloc: Global, tables: &mut CarriedTables, script: &Script) -> Re
     Ok(())
 }
 
-// Makes the edits of subuid or subgid. Edits that leave all ranges, and those of whole ranges, take no
-// pass over the lines.
+// From so many edits on, of which one takes IDs out of ranges, these are made in one pass, as an owner
+// may have many ranges.
+const MANY_WITH_CUT: usize = 8;
+
+// Makes the edits of subuid or subgid: none that leave all ranges, those with many cuts in a pass over
+// the lines, and others where the ranges stand.
 fn edit_ranges(
     alloc: Global,
     table: &mut RangeTable,
@@ -76,10 +80,23 @@ fn edit_ranges(
     if leave_all(edits) {
         return Ok(());
     }
-    if are_carried(edits) {
-        return table.edit(alloc, edits);
+    if are_many_with_cut(edits) {
+        return remake_ranges(alloc, table, edits);
     }
-    remake_ranges(alloc, table, edits)
+    table.edit(alloc, edits)
+}
+
+// Whether the edits are many, and one of them takes IDs out of ranges.
+fn are_many_with_cut(edits: &[Edit<SubidRecord, SubidChange>]) -> bool {
+    edits.len() >= MANY_WITH_CUT && edits.iter().any(|edit| is_cut(edit))
+}
+
+// Whether the edit takes IDs out of ranges.
+fn is_cut(edit: &Edit<SubidRecord, SubidChange>) -> bool {
+    match edit {
+        Edit::Become(change) => matches!(change, SubidChange::Cut(_)),
+        Edit::Add(_) | Edit::AddMissing(_) | Edit::Put(_) => false,
+    }
 }
 
 // Makes the edits in a pass over the lines. Where these stay, the table is left as it stands.
@@ -96,7 +113,7 @@ fn remake_ranges(
     };
     let new = edited_ranges(alloc, text.as_slice(), edits)?;
     if new.as_slice() != text.as_slice() {
-        table.put(new);
+        table.put(alloc, new)?;
     }
     Ok(())
 }
