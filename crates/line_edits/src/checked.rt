@@ -10,10 +10,10 @@ ghost use Rattle.line_edits.specs.Reach.{IsOpened};
 ghost use Rattle.line_edits.specs.SeenEdits.{seen_edits};
 ghost use Rattle.line_edits.specs.SingleEdits.{TouchesSingle};
 
-use crate::applied::single_edited_text;
 use crate::line_changes::changed_from;
 use crate::multiple::multiple_among;
 use crate::reach::{Opened, open_for};
+use crate::single::single_edited_text;
 use crate::{Edit, EditedRecord};
 use acct_text::Bytes;
 use std::alloc::{AllocError, Global};

@@ -1,5 +1,5 @@
 // The edits of a table as data, and what a record has so that edits can be made of it.
-ghost use Rattle.std.specs.Prelude.{◌≡◌, true, List, [], None, IfOk, IfSome};
+ghost use Rattle.std.specs.Prelude.{◌≡◌, true, List, [], ◌∷◌, None, IfOk, IfSome};
 ghost use Rattle.account_formats.specs.Written.{IsWritten};
 ghost use Rattle.acct_tables.specs.Marks.{marks_in};
 ghost use Rattle.line_edits.specs.Naming.{AreMarksOf, KeepsNames, Leaves, Removes, TouchesOnly, names_in};
@@ -94,6 +94,10 @@ pub trait EditedRecord: TableRecord {
     /// Whether both changes surely are the same.
     fn are_same(one: &Self::Change, other: &Self::Change) -> bool
         ensures { result ≡ true → one.now ≡ other.now };
+
+    /// Whether the change surely leaves the record, by what can be seen without memory.
+    fn is_left(&self, change: &Self::Change) -> bool
+        ensures { result ≡ true → becomes change.now self.now ≡ self.now ∷ [] };
 
     /// The name of the records that go by the change, where it does nothing else; none at others.
     fn removed(change: &Self::Change) -> Option<&[u8]>

@@ -117,6 +117,10 @@ impl EditedRecord for GroupRecord {
         false
     }
 
+    fn is_left(&self, _change: &GroupChange) -> bool {
+        false
+    }
+
     fn removed(change: &GroupChange) -> Option<&[u8]> {
         match change {
             GroupChange::Remove(name) => Some(name.as_slice()),

@@ -119,6 +119,10 @@ impl EditedRecord for GshadowRecord {
         false
     }
 
+    fn is_left(&self, _change: &GshadowChange) -> bool {
+        false
+    }
+
     fn removed(change: &GshadowChange) -> Option<&[u8]> {
         match change {
             GshadowChange::Remove(name) => Some(name.as_slice()),

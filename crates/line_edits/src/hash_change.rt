@@ -31,6 +31,18 @@ impl HashChange {
         }
     }
 
+    /// Whether the hash stays as it is by the change.
+    pub(crate) fn leaves(&self, hash: &[u8]) -> bool
+        ensures { result ≡ true → hash_by self.now hash.now ≡ hash.now }
+    {
+        match self {
+            HashChange::Set(new) => new.as_slice() == hash,
+            HashChange::Lock => is_locked(hash),
+            HashChange::Unlock => !is_locked(hash),
+            HashChange::Keep => true,
+        }
+    }
+
     /// The hash after the change.
     pub(crate) fn of(&self, alloc: Global, hash: &Bytes) -> Result<Bytes, AllocError>
         ensures { IfOk result (λ new. new ≡ hash_by self.now hash.now) }

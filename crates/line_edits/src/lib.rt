@@ -6,10 +6,10 @@
 //! line by its parts alone. `applied` carries edits out in lines that are kept, where their records
 //! stand: by the names of these where an edit tells them (`named_edits`), and place by place where it
 //! doesn't (`placed_edits`). In the text of a file it carries out few of them one after another
-//! (`line_changes`), many by names, and so those that take records away. `multiple` and
-//! `multiple_in` find the first record that they touch and whose name has several, among many edits by
-//! those that may touch its name (`edits_by_name`); `checked` does both in a text, which it searches for
-//! touched records once.
+//! (`line_changes`), many by names, and so those that take records away; `single` passes by those of a
+//! name with several records, where none is touched. `multiple` and `multiple_in` find the first record
+//! that they touch (`touches`) and whose name has several, among many edits by those that may touch its
+//! name (`edits_by_name`); `checked` does both in a text, which it searches for touched records once.
 #![tactic(auto)]
 
 mod applied;
@@ -34,8 +34,10 @@ mod placed_edits;
 mod primary_group;
 mod reach;
 mod shadow_changes;
+mod single;
 mod subid_changes;
 mod touched;
+mod touches;
 
 pub use applied::{apply, edited_text};
 pub use changed_names::ChangedNames;

@@ -124,6 +124,14 @@ impl EditedRecord for PasswdRecord {
         }
     }
 
+    fn is_left(&self, change: &PasswdChange) -> bool {
+        match change {
+            PasswdChange::Named(_, act) => is_done(act, self),
+            PasswdChange::OfGroup(_, act) => is_done(act, self),
+            PasswdChange::Remove(_) => false,
+        }
+    }
+
     fn removed(change: &PasswdChange) -> Option<&[u8]> {
         match change {
             PasswdChange::Remove(name) => Some(name.as_slice()),
@@ -154,6 +162,18 @@ fn are_same_acts(act: &PasswdAct, other: &PasswdAct) -> bool
             same,
         ),
         _ => false,
+    }
+}
+
+// Whether the record surely is as the act makes it.
+fn is_done(act: &PasswdAct, user: &PasswdRecord) -> bool
+    ensures { result ≡ true → passwd_after act.now user.now ≡ user.now }
+{
+    match act {
+        PasswdAct::SetPassword(password) => user.password.as_slice() == password.as_slice(),
+        PasswdAct::SetGid(gid) => user.gid == *gid,
+        PasswdAct::ChangePassword(change) => change.leaves(user.password.as_slice()),
+        PasswdAct::SetFields(_) => false,
     }
 }
 

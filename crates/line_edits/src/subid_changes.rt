@@ -107,6 +107,10 @@ impl EditedRecord for SubidRecord {
         false
     }
 
+    fn is_left(&self, _change: &SubidChange) -> bool {
+        false
+    }
+
     fn removed(change: &SubidChange) -> Option<&[u8]> {
         match change {
             SubidChange::Remove(user, uid) if uid.is_none() => Some(user.as_slice()),

@@ -1,5 +1,6 @@
 -- Claim: an owner that gets the name which it has leaves all lines (`renamed-same`); so do edits of
--- which each does (`rest-left`), and a file after them is what it was (`left-file`).
+-- which the first does are those behind it (`rest-same`), and a file after edits is what it is after
+-- others that make the same of lines (`same-file`).
 use Rattle.std.proofs.Common.{◌≡◌, ◌∙◌, ℕ, Bool, true, false, List, [], ◌∷◌, ◌++◌, Option, Some, None, refl, sym, ap, if◌then◌else◌}
 use Rattle.std.specs.Prelude.{bytes_eq, flat_map}
 use Rattle.std.proofs.lemmas.Slice.Eq.{bytes_eq-Decides}
@@ -14,7 +15,7 @@ use Rattle.account_formats.proofs.SameLaws.{subid-tells}
 use Rattle.line_edits.specs.SubidChanges.{subid_becomes}
 use Rattle.line_edits.specs.declared.subid_changes.SubidChange.TheVariants.{Rename}
 use Rattle.line_edits.proofs.ChangedLines.{left-line}
-use Rattle.range_edits.specs.LeftRanges.{LeaveLines}
+use Rattle.range_edits.specs.LeftRanges.{LeaveLines, MakeSame}
 
 -- a range whose owner gets its own name stays
 same-owner :
@@ -37,17 +38,22 @@ renamed-same old new same (line ∷ lines) =
     ∙ ap (λ rest. line ∷ rest) (renamed-same old new same lines)
 
 -- the edits behind one that leaves the lines make of them what all make
-pub rest-left :
+pub rest-same :
     (edit : Edit SubidRecord) (rest : List (Edit SubidRecord)) (lines : List Line)
     → edited_by subid_format (edit ∷ []) lines ≡ lines
     → edited_by subid_format rest lines ≡ edited_by subid_format (edit ∷ rest) lines
-rest-left edit rest lines left = ap (edited_by subid_format rest) (sym left)
+rest-same edit rest lines left = ap (edited_by subid_format rest) (sym left)
 
--- a file after edits that leave all lines
-pub left-file :
-    (edits : List (Edit SubidRecord)) (file : Option (List ℕ))
-    → LeaveLines edits
-    → table_after subid_format edits file ≡ file
-left-file edits None leave = refl
-left-file edits (Some text) leave =
-    ap (λ lines. Some (file_bytes lines)) (leave (lines_of text)) ∙ ap Some (lines_of-are text).joined
+-- a file after edits is what others make of it that make the same of lines
+pub same-file :
+    (edits others : List (Edit SubidRecord)) (file : Option (List ℕ))
+    → MakeSame edits others
+    → table_after subid_format edits file ≡ table_after subid_format others file
+same-file edits others None same = refl
+same-file edits others (Some text) same =
+    ap (λ lines. Some (file_bytes lines)) (same (lines_of text))
+
+-- without edits it is what it was
+pub file-left : (file : Option (List ℕ)) → table_after subid_format [] file ≡ file
+file-left None = refl
+file-left (Some text) = ap Some (lines_of-are text).joined

@@ -1,25 +1,34 @@
 // Edits of subuid and subgid that leave all ranges, as those of usermod(8) without `-l`, `-v`, `-V`,
-// `-w` and `-W` do: its files aren't made anew.
+// `-w` and `-W` do, and as the first one is where its user keeps its name: nothing is made anew for them.
 ghost use Rattle.std.specs.Prelude.{◌≡◌, ◌∷◌, [], true};
 ghost use Rattle.account_formats.specs.Edits.Edit.{Become};
+ghost use Rattle.account_formats.specs.RecordEdits.{IsWrittenEdit};
+ghost use Rattle.account_formats.specs.Records.{subid_format};
 ghost use Rattle.line_edits.specs.SeenEdits.{seen_edit, seen_edits};
 ghost use Rattle.line_edits.specs.SubidChanges.{subid_becomes};
-ghost use Rattle.range_edits.specs.LeftRanges.{LeaveLines};
+ghost use Rattle.range_edits.specs.LeftRanges.{LeaveLines, MakeSame};
+ghost use Rattle.std.specs.List.{AllByRecursion};
 
 use acct_lines::SubidRecord;
 use line_edits::{Edit, SubidChange};
 
-/// Whether the edits surely leave all lines: there are none, or each gives an owner the name that it
-/// has.
-pub fn leave_all(edits: &[Edit<SubidRecord, SubidChange>]) -> bool
-    ensures { result ≡ true → LeaveLines (seen_edits subid_becomes edits.now) }
+/// The edits from the first on that may change a line. Those in front surely leave all lines: each
+/// gives an owner the name that it has.
+pub fn open_edits(edits: &[Edit<SubidRecord, SubidChange>]) -> &[Edit<SubidRecord, SubidChange>]
+    requires { AllByRecursion (IsWrittenEdit subid_format) (seen_edits subid_becomes edits.now) }
+    ensures same { MakeSame (seen_edits subid_becomes result.now)
+        (seen_edits subid_becomes edits.now) }
+    ensures written { AllByRecursion (IsWrittenEdit subid_format)
+        (seen_edits subid_becomes result.now) }
 {
-    'edits: for edit in edits {
-        if !leaves_all(edit) {
-            return false;
+    let mut open = edits;
+    'edits: while let Some((first, later)) = open.split_first() {
+        if !leaves_all(first) {
+            return open;
         }
+        open = later;
     }
-    true
+    open
 }
 
 // Whether the edit surely leaves all lines.

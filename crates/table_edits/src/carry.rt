@@ -15,7 +15,7 @@ use crate::{Report, Script, SubidRecord};
 use account_words::Tool;
 use carried_tables::{CarriedTables, RangeTable};
 use line_edits::{Edit, SubidChange};
-use range_edits::{edited_ranges, leave_all};
+use range_edits::{edited_ranges, open_edits};
 use std::alloc::{AllocError, Global};
 use tool_answers::{Output, ToolFault};
 
@@ -67,8 +67,8 @@ fn edit_tables(alloc: Global, tables: &mut CarriedTables, script: &Script) -> Re
 // may have many ranges.
 const MANY_WITH_CUT: usize = 8;
 
-// Makes the edits of subuid or subgid: none that leave all ranges, those with many cuts in a pass over
-// the lines, and others where the ranges stand.
+// Makes the edits of subuid or subgid: none of the first that leave all ranges, those with many cuts in a
+// pass over the lines, and others where the ranges stand.
 fn edit_ranges(
     alloc: Global,
     table: &mut RangeTable,
@@ -77,13 +77,14 @@ fn edit_ranges(
     requires { AreWritten subid_format subid_becomes edits.now }
     ensures { OnOk result (table.new ≡ table_by subid_format subid_becomes edits.now table.old) }
 {
-    if leave_all(edits) {
+    let open = open_edits(edits);
+    if open.is_empty() {
         return Ok(());
     }
-    if are_many_with_cut(edits) {
-        return remake_ranges(alloc, table, edits);
+    if are_many_with_cut(open) {
+        return remake_ranges(alloc, table, open);
     }
-    table.edit(alloc, edits)
+    table.edit(alloc, open)
 }
 
 // Whether the edits are many, and one of them takes IDs out of ranges.

@@ -17,7 +17,7 @@ use crate::idle_edits::{IdleRecord, leave_all_records};
 use crate::{Refusal, Script, SubidRecord};
 use acct_text::{Bytes, Files, NewTables, Tab};
 use line_edits::{Checked, Edit, SubidChange, checked_text};
-use range_edits::{edited_ranges, leave_all};
+use range_edits::{edited_ranges, open_edits};
 use std::alloc::{AllocError, Global};
 
 /// What the edits of a script make of the tables.
@@ -105,9 +105,10 @@ fn add_ranges(
         (table_after subid_format (seen_edits subid_becomes edits.now) file.now)) []) }
 {
     let Some(text) = file else { return Ok(()) };
-    if leave_all(edits) {
+    let open = open_edits(edits);
+    if open.is_empty() {
         return Ok(());
     }
-    let bytes = edited_ranges(alloc, text.as_slice(), edits)?;
+    let bytes = edited_ranges(alloc, text.as_slice(), open)?;
     new.push(table, text, bytes)
 }

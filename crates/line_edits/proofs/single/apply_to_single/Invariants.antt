@@ -5,7 +5,7 @@ use Rattle.account_formats.specs.RecordEdits.{IsWrittenEdit}
 use Rattle.acct_tables.specs.SeenLines.{AreOfFile}
 use Rattle.line_edits.specs.SeenEdits.{seen_edits}
 use Rattle.line_edits.specs.SingleEdits.{TouchesSingle}
-use Rattle.line_edits.proofs.applied.apply_to_single.Given as goal
+use Rattle.line_edits.proofs.single.apply_to_single.Given as goal
 
 -- the edits left make of the lines what all make of the first lines, which are those of a file, and
 -- touch no record whose name has several

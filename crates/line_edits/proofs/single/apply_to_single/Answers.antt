@@ -6,7 +6,7 @@ use Rattle.acct_tables.specs.SeenLines.{AreOfFile}
 use Rattle.acct_tables.proofs.EditedFiles.{edit-of_file}
 use Rattle.line_edits.specs.SeenEdits.{seen_edit, seen_edits}
 use Rattle.line_edits.specs.SingleEdits.{TouchesSingle}
-use Rattle.line_edits.proofs.applied.apply_to_single.Goals as goal
+use Rattle.line_edits.proofs.single.apply_to_single.Goals as goal
 
 pub edits-preserved : goal.edits-preserved
 edits-preserved g c =

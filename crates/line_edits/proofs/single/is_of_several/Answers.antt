@@ -1,7 +1,7 @@
 use Rattle.std.proofs.Common.{◌∙◌, sym}
 use Rattle.line_edits.specs.SeenEdits.{seen_edit}
 use Rattle.line_edits.proofs.SingleEdits.{single-left}
-use Rattle.line_edits.proofs.applied.is_of_several.Goals as goal
+use Rattle.line_edits.proofs.single.is_of_several.Goals as goal
 
 pub returns-in-Some : goal.returns-in-Some
 returns-in-Some g c = λ is later single.

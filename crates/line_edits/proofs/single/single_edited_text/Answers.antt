@@ -6,7 +6,7 @@ use Rattle.acct_tables.specs.SeenLines.{AreOfFile}
 use Rattle.acct_tables.proofs.EditedFiles.{text-of_file}
 use Rattle.line_edits.specs.SeenEdits.{seen_edits}
 use Rattle.line_edits.specs.SingleEdits.{TouchesSingle}
-use Rattle.line_edits.proofs.applied.single_edited_text.Goals as goal
+use Rattle.line_edits.proofs.single.single_edited_text.Goals as goal
 
 pub apply_to_single-requires-clause-of_file : goal.apply_to_single-requires-clause-of_file
 apply_to_single-requires-clause-of_file g c =

@@ -4,7 +4,7 @@ use Rattle.std.proofs.lemmas.Result.{IfOk-weaker}
 use Rattle.account_formats.specs.Edits.{touches}
 use Rattle.line_edits.specs.EditsByName.{TellTouched, places_of, touched_at}
 use Rattle.line_edits.specs.SeenEdits.{seen_edits}
-use Rattle.line_edits.proofs.multiple.is_touched.Goals as goal
+use Rattle.line_edits.proofs.touches.is_touched.Goals as goal
 
 pub returns-in-Some : goal.returns-in-Some
 returns-in-Some g c =

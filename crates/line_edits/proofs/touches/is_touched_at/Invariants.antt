@@ -1,6 +1,6 @@
 use Rattle.std.proofs.Common.{◌≡◌, false, take}
 use Rattle.line_edits.specs.EditsByName.{touched_at}
-use Rattle.line_edits.proofs.multiple.is_touched_at.Given as goal
+use Rattle.line_edits.proofs.touches.is_touched_at.Given as goal
 
 -- none at the places so far touches the record
 abbrev pub invariant-places : goal.invariant-places

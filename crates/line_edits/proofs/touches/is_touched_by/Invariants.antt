@@ -1,7 +1,7 @@
 use Rattle.std.proofs.Common.{◌≡◌, drop}
 use Rattle.account_formats.specs.Edits.{touches}
 use Rattle.line_edits.specs.SeenEdits.{seen_edits}
-use Rattle.line_edits.proofs.multiple.is_touched_by.Given as goal
+use Rattle.line_edits.proofs.touches.is_touched_by.Given as goal
 
 -- the edits left touch the record where one of all does
 abbrev pub invariant-edits : goal.invariant-edits

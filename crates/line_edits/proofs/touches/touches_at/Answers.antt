@@ -5,7 +5,7 @@ use Rattle.std.proofs.lemmas.Result.{IfOk-weaker}
 use Rattle.account_formats.specs.RecordEdits.{IsWrittenEdit}
 use Rattle.line_edits.specs.EditsByName.{touches_if}
 use Rattle.line_edits.proofs.EditLists.{edit-at}
-use Rattle.line_edits.proofs.multiple.touches_at.Goals as goal
+use Rattle.line_edits.proofs.touches.touches_at.Goals as goal
 
 pub touches-requires-clause-edit : goal.touches-requires-clause-edit
 touches-requires-clause-edit g c =

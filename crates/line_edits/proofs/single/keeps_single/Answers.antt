@@ -2,7 +2,7 @@ use Rattle.std.proofs.Common.{◌∙◌, sym, subst}
 use Rattle.line_edits.specs.SeenEdits.{seen_edit}
 use Rattle.line_edits.specs.SingleEdits.{KeepsSingle}
 use Rattle.line_edits.proofs.SingleEdits.{found-kept, missing-kept}
-use Rattle.line_edits.proofs.applied.keeps_single.Goals as goal
+use Rattle.line_edits.proofs.single.keeps_single.Goals as goal
 
 pub returns-in-Become : goal.returns-in-Become
 returns-in-Become g c = λ is.

@@ -1,7 +1,7 @@
 use Rattle.account_formats.specs.RecordEdits.{IsWrittenEdit}
 use Rattle.std.proofs.Common.{arith}
 use Rattle.line_edits.proofs.EditLists.{edit-at}
-use Rattle.line_edits.proofs.multiple.is_touched_by.Goals as goal
+use Rattle.line_edits.proofs.touches.is_touched_by.Goals as goal
 
 pub touches-requires-clause-edit : goal.touches-requires-clause-edit
 touches-requires-clause-edit g c =
