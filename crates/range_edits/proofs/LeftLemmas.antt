@@ -1,7 +1,7 @@
 -- Claim: an owner that gets the name which it has leaves all lines (`renamed-same`); so do edits of
 -- which the first does are those behind it (`rest-same`), and a file after edits is what it is after
--- others that make the same of lines (`same-file`).
-use Rattle.std.proofs.Common.{◌≡◌, ◌∙◌, ℕ, Bool, true, false, List, [], ◌∷◌, ◌++◌, Option, Some, None, refl, sym, ap, if◌then◌else◌}
+-- others that make the same of lines (`same-file`), and what it was where no edit is left (`file-left`).
+use Rattle.std.proofs.Common.{◌≡◌, ◌==◌, ◌∙◌, ℕ, Bool, true, false, List, [], ◌∷◌, ◌++◌, length, Option, Some, None, refl, sym, ap, if◌then◌else◌}
 use Rattle.std.specs.Prelude.{bytes_eq, flat_map}
 use Rattle.std.proofs.lemmas.Slice.Eq.{bytes_eq-Decides}
 use Rattle.acct_text.specs.Lines.{Line, file_bytes, lines_of}
@@ -12,9 +12,13 @@ use Rattle.account_formats.specs.Edits.Edit.{Become}
 use Rattle.account_formats.specs.Records.{subid_format}
 use Rattle.account_formats.specs.Tables.{table_after}
 use Rattle.account_formats.proofs.SameLaws.{subid-tells}
+use Rattle.line_edits.specs.SeenEdits.{seen_edits}
 use Rattle.line_edits.specs.SubidChanges.{subid_becomes}
+use Rattle.line_edits.specs.declared.edit.Edit.{Edit as TableEdit}
+use Rattle.line_edits.specs.declared.subid_changes.SubidChange.{SubidChange}
 use Rattle.line_edits.specs.declared.subid_changes.SubidChange.TheVariants.{Rename}
 use Rattle.line_edits.proofs.ChangedLines.{left-line}
+use Rattle.line_edits.proofs.EditLists.{no-edits}
 use Rattle.range_edits.specs.LeftRanges.{LeaveLines, MakeSame}
 
 -- a range whose owner gets its own name stays
@@ -54,6 +58,18 @@ same-file edits others (Some text) same =
     ap (λ lines. Some (file_bytes lines)) (same (lines_of text))
 
 -- without edits it is what it was
-pub file-left : (file : Option (List ℕ)) → table_after subid_format [] file ≡ file
-file-left None = refl
-file-left (Some text) = ap Some (lines_of-are text).joined
+same-without : (file : Option (List ℕ)) → table_after subid_format [] file ≡ file
+same-without None = refl
+same-without (Some text) = ap Some (lines_of-are text).joined
+
+-- so it is after edits of which none may change a line
+pub file-left :
+    (left edits : List (TableEdit SubidRecord SubidChange)) (file : Option (List ℕ))
+    → MakeSame (seen_edits subid_becomes left) (seen_edits subid_becomes edits)
+    → (length left == 0) ≡ true
+    → table_after subid_format (seen_edits subid_becomes edits) file ≡ file
+file-left left edits file same none =
+    sym (same-file (seen_edits subid_becomes left) (seen_edits subid_becomes edits) file same)
+    ∙ ap (λ more. table_after subid_format (seen_edits subid_becomes more) file)
+    (no-edits left none)
+    ∙ same-without file

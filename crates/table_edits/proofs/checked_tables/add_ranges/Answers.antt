@@ -1,14 +1,20 @@
+use Rattle.std.proofs.Common.{◌∙◌, ◌++◌, [], ap, sym}
+use Rattle.std.proofs.lemmas.Result.{on_ok_weaker}
+use Rattle.acct_text.specs.ChangedTables.{changed_bytes, with_new_table}
 use Rattle.account_formats.specs.Records.{subid_format}
 use Rattle.account_formats.specs.Tables.{table_after}
 use Rattle.line_edits.specs.SeenEdits.{seen_edits}
 use Rattle.line_edits.specs.SubidChanges.{subid_becomes}
-use Rattle.range_edits.proofs.LeftLemmas.{left-file}
+use Rattle.range_edits.proofs.LeftLemmas.{file-left, same-file}
 use Rattle.table_edits.proofs.ListedFile.{stays-unlisted}
 use Rattle.table_edits.proofs.checked_tables.add_ranges.Goals as goal
 
-pub returns-then-leave_all : goal.returns-then-leave_all
-returns-then-leave_all c =
-    let edits = seen_edits subid_becomes c.args.edits.now in
+-- none of the edits may change a line
+pub returns-then-is_empty : goal.returns-then-is_empty
+returns-then-is_empty c =
+    let edits = c.args.edits.now in
     let file = c.args.file.now in
-    stays-unlisted c.args.table file (table_after subid_format edits file) c.args.new.now
-    (left-file edits file (c.leave_all.ensures c.if-leave_all.true))
+    stays-unlisted c.args.table file (table_after subid_format (seen_edits subid_becomes edits) file)
+    c.args.new.now
+    (file-left c.open_edits.result.now edits file c.open_edits.ensures.same
+    (sym c.is_empty.ensures ∙ c.if-is_empty.true))
