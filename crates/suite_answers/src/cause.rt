@@ -11,8 +11,8 @@ use tool_answers::{MEMORY_STATUS, file_status, lock_status, update_status};
 // The input can't be read.
 const INPUT_FAULT_STATUS: u8 = 101;
 
-// The output or the message can't be written.
-const OUTPUT_FAULT_STATUS: u8 = 102;
+/// The status of a command whose output or message can't be written, whatever its tool is.
+pub const OUTPUT_FAULT_STATUS: u8 = 102;
 
 // The clock gives no day.
 const CLOCK_FAULT_STATUS: u8 = 103;

@@ -14,6 +14,7 @@ pub use account_model::{LineProblem, Refusal};
 pub use account_words::{Tool, WordFault};
 pub use acct_outside::{CommitStage, Name, Token};
 pub use answer::Answer;
-pub use cause::{Cause, Outcome, Which};
+pub use cause::{Cause, OUTPUT_FAULT_STATUS, Outcome, Which};
 pub use laws::changes_succeed;
 pub use memory::put_memory_text;
+pub use tool_answers::MEMORY_STATUS;

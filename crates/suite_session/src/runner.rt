@@ -12,10 +12,7 @@ use acct_text::{Bytes, Word};
 use option_words::{FaultyLine, Parsed, Tool, first_faulty};
 use std::alloc::{AllocError, Global};
 use std::marker::Model;
-use suite_answers::{Answer, Cause, Outcome};
-
-/// The status of a command that found no memory.
-const MEMORY_STATUS: u8 = 100;
+use suite_answers::{Answer, Cause, MEMORY_STATUS, Outcome};
 
 /// What a session was asked: its words with what they ask for, its input, and the day.
 #[derive(Drop)]

@@ -21,7 +21,7 @@ use option_words::{Parsed, Tool, read_words};
 use std::alloc::{AllocError, Global};
 use std::marker::{Model, PhantomData};
 use std::mem;
-use suite_answers::{Answer, Cause, Outcome};
+use suite_answers::{Answer, Cause, MEMORY_STATUS, OUTPUT_FAULT_STATUS, Outcome};
 
 /// How far a session has come.
 #[derive(Drop)]
@@ -218,11 +218,11 @@ pub fn outcome_after(fault: SinkFault, stage: CommitStage) -> Outcome
 {
     match fault {
         SinkFault::Failed => Outcome {
-            status: 102,
+            status: OUTPUT_FAULT_STATUS,
             cause: Cause::OutputFault(stage),
         },
         SinkFault::Memory => Outcome {
-            status: 100,
+            status: MEMORY_STATUS,
             cause: Cause::Memory(stage),
         },
     }
