@@ -3,4 +3,5 @@ pub mod OwnerLemmas
 pub mod NumberLemmas
 pub mod KeptIdLemmas
 pub mod OwnedRanges
+pub mod OnlyRange
 pub mod CutLemmas

@@ -7,7 +7,7 @@ ghost use Rattle.account_formats.specs.Tables.{table_after, table_records};
 ghost use Rattle.account_words.specs.Ids.{is_used};
 ghost use Rattle.id_choice.specs.Used.{AreThoseOf};
 ghost use Rattle.line_edits.specs.SeenEdits.{seen_edit};
-ghost use Rattle.carried_tables.specs.KeptIds.{AreIdsOf, FollowEdit, FollowSwap, Renumbers, new_ids, table_counts};
+ghost use Rattle.carried_tables.specs.KeptIds.{AreIdsOf, FollowEdit, Renumbers, table_counts};
 ghost use Rattle.carried_lines.specs.TableEdits.{AreWritten, table_by};
 
 use crate::IdsInUse;

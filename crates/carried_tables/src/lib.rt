@@ -9,7 +9,8 @@
 //! subordinate IDs is its file, as long as no edit came, and then the lines with an index of their
 //! owners and the numbers that their ranges take (`range_lines`): a range that comes, an owner that
 //! gets another name, one whose ranges go, and one whose only range loses an end take no pass over
-//! them. Commands ask it as a `RangeFile`, which is a file by itself as well.
+//! them. How the numbers follow an edit is in `range_numbers`, and which edits take from the ranges of
+//! one owner in `owner_edits`. Commands ask it as a `RangeFile`, which is a file by itself as well.
 #![tactic(auto)]
 
 mod carried_tables;
@@ -17,8 +18,10 @@ mod id_table;
 mod ids;
 mod in_use;
 mod kept_ids;
+mod owner_edits;
 mod range_file;
 mod range_lines;
+mod range_numbers;
 mod range_table;
 
 pub use carried_tables::CarriedTables;

@@ -1,39 +1,48 @@
-// The lines of a table of subordinate IDs, beside which the numbers of its ranges are kept: these follow
-// ranges that come and go (useradd(8), userdel(8), usermod(8), `-l`; subuid(5), subgid(5)).
-ghost use Rattle.std.specs.Prelude.{◌≡◌, ◌<◌, ◌∷◌, [], None, Option, true, filter, is_some, length, IfOk, IfSome, OnOk};
-ghost use Rattle.std.specs.List.{cons_option, list_any};
+// The lines of a table of subordinate IDs, beside which the numbers of its ranges are kept, and what
+// edits do with both (useradd(8), userdel(8), usermod(8), `-l`; subuid(5), subgid(5)).
+ghost use Rattle.std.specs.Prelude.{◌≡◌, ◌<◌, ◌∷◌, [], None, Option, true, is_some, length, IfOk, IfSome, OnOk};
+ghost use Rattle.std.specs.List.{list_any};
 ghost use Rattle.account_formats.specs.Edits.Edit.{Become, Put};
-ghost use Rattle.account_formats.specs.Format.{is_named};
-ghost use Rattle.account_formats.specs.RecordEdits.{IsWrittenEdit};
 ghost use Rattle.account_formats.specs.Records.{subid_format};
 ghost use Rattle.account_formats.specs.Tables.{table_after, table_records};
 ghost use Rattle.account_formats.specs.Written.{IsWritten};
 ghost use Rattle.account_words.specs.FreeRange.{free_range};
 ghost use Rattle.account_words.specs.SubidOwner.{is_owned};
 ghost use Rattle.carried_lines.specs.TableEdits.{AreWritten, table_by};
-ghost use Rattle.line_edits.specs.SeenEdits.{seen_edit};
 ghost use Rattle.line_edits.specs.SubidChanges.{subid_becomes};
-ghost use Rattle.carried_tables.specs.RangeNumbers.{AreNumbersIn, FollowsGain, FollowsLoss, IsCutBy, IsOnlyOf, KeepsNumbers, is_numbered};
+ghost use Rattle.carried_tables.specs.RangeNumbers.{AreNumbersIn, FollowsGain, IsCutBy, IsOnlyOf};
 ghost use Rattle.subid_ranges.specs.declared.range_numbers.RangeNumbers.{RangeNumbers};
 
+use crate::owner_edits::{Cutting, cutting_by, only_range, removal_by};
+use crate::range_numbers::{
+    numbers_after, numbers_and, numbers_but, numbers_without, wanted_numbers,
+};
 use crate::range_table::gap_in;
 use acct_lines::SubidRecord;
-use acct_tables::name_hash;
 use acct_text::Bytes;
-use carried_lines::{CarriedTable, text_of};
+use carried_lines::CarriedTable;
 use itoa::Buffer;
-use line_edits::{Becoming, Edit, EditedRecord, RangeCut, SubidChange};
+use line_edits::{Becoming, Edit, EditedRecord, SubidChange};
 use std::alloc::{AllocError, Global};
 use std::marker::Model;
 use subid_ranges::RangeNumbers;
 
 /// The lines of a table of ranges, and their numbers where these are known. Contracts see them as the
 /// bytes of the file, and none where it is absent.
-#[derive(Drop)]
 pub(crate) struct RangeLines {
     table: CarriedTable<SubidRecord>,
     // none until a range is added; known from then on
     numbers: Option<RangeNumbers>,
+}
+
+// One call for what may be there, so that who holds the lines has few ways through them.
+impl Drop for RangeLines {
+    fn drop(self) {
+        let RangeLines {
+            table: _,
+            numbers: _,
+        } = self;
+    }
 }
 
 impl Model for RangeLines {
@@ -287,246 +296,4 @@ impl RangeLines {
         let removal = [Edit::Become(SubidChange::Remove(Bytes::of(alloc, owner)?, None))];
         self.edit_lines(alloc, &removal, after, are_wanted)
     }
-}
-
-// IDs that go out of the ranges of an owner.
-#[derive(Clone, Copy)]
-struct Cutting<'a> {
-    // the change by which they go
-    change: &'a SubidChange,
-    // which go, and whose
-    cut: &'a RangeCut,
-}
-
-// The removal of the ranges of an owner.
-#[derive(Clone, Copy)]
-struct Removal<'a> {
-    // the name of the owner
-    name: &'a [u8],
-    // the UID of the owner, where it is known
-    uid: Option<u32>,
-}
-
-// The removal that the edit is, if it is one.
-fn removal_by(edit: &Edit<SubidRecord, SubidChange>) -> Option<Removal<'_>>
-    ensures { IfSome result (λ removal. seen_edit subid_becomes edit.now
-        ≡ Become (subid_becomes (SubidChange.Remove removal.name.now removal.uid))) }
-{
-    match edit {
-        Edit::Become(change) => removal_of(change),
-        _ => None,
-    }
-}
-
-// The removal that the change is, if it is one.
-fn removal_of(change: &SubidChange) -> Option<Removal<'_>>
-    ensures { IfSome result (λ removal.
-        change.now ≡ SubidChange.Remove removal.name.now removal.uid) }
-{
-    match change {
-        SubidChange::Remove(name, uid) => Some(Removal {
-            name: name.as_slice(),
-            uid: *uid,
-        }),
-        _ => None,
-    }
-}
-
-// The IDs that the edit takes out of ranges, if it's such a one.
-fn cutting_by(edit: &Edit<SubidRecord, SubidChange>) -> Option<Cutting<'_>>
-    ensures { IfSome result (λ cutting.
-        (seen_edit subid_becomes edit.now ≡ Become (subid_becomes cutting.change.now))
-        × (cutting.change.now ≡ SubidChange.Cut cutting.cut.now)) }
-{
-    match edit {
-        Edit::Become(change) => cutting_of(change),
-        _ => None,
-    }
-}
-
-// The IDs that the change takes out of ranges, if it's such a one.
-fn cutting_of(change: &SubidChange) -> Option<Cutting<'_>>
-    ensures { IfSome result (λ cutting. (change.now ≡ cutting.change.now)
-        × (cutting.change.now ≡ SubidChange.Cut cutting.cut.now)) }
-{
-    match change {
-        SubidChange::Cut(cut) => Some(Cutting { change, cut }),
-        _ => None,
-    }
-}
-
-// The numbers after the edit, where those before tell them, or a range is added: then they are gathered
-// where they aren't known.
-fn numbers_after(
-    alloc: Global,
-    known: Option<RangeNumbers>,
-    table: &CarriedTable<SubidRecord>,
-    edit: &Edit<SubidRecord, SubidChange>,
-) -> Result<Option<RangeNumbers>, AllocError>
-    requires there { is_some table.now ≡ true }
-    requires written { IsWrittenEdit subid_format (seen_edit subid_becomes edit.now) }
-    requires known { IfSome known (AreNumbersIn table.now) }
-    ensures { IfOk result (λ after. IfSome after (AreNumbersIn
-        (table_after subid_format (seen_edit subid_becomes edit.now ∷ []) table.now))) }
-{
-    match edit {
-        Edit::Add(range) => {
-            let mut numbers = known_or_gathered(alloc, known, table)?;
-            numbers.add(alloc, range)?;
-            Ok(Some(numbers))
-        }
-        Edit::Become(change) if keeps_numbers(change) => Ok(known),
-        _ => Ok(None),
-    }
-}
-
-// Whether each range surely keeps its numbers by the change.
-fn keeps_numbers(change: &SubidChange) -> bool
-    ensures { result ≡ true → KeepsNumbers (subid_becomes change.now) }
-{
-    matches!(change, SubidChange::Rename(..))
-}
-
-// The numbers of the ranges, in a pass over the lines where they aren't known.
-fn known_or_gathered(
-    alloc: Global,
-    known: Option<RangeNumbers>,
-    table: &CarriedTable<SubidRecord>,
-) -> Result<RangeNumbers, AllocError>
-    requires { IfSome known (AreNumbersIn table.now) }
-    ensures { IfOk result (AreNumbersIn table.now) }
-{
-    match known {
-        Some(numbers) => Ok(numbers),
-        None => RangeNumbers::of(alloc, text_of(&table.file()?)),
-    }
-}
-
-// The numbers of the ranges, if they are known, and gathered where they aren't and are wanted.
-fn wanted_numbers(
-    alloc: Global,
-    known: Option<RangeNumbers>,
-    are_wanted: bool,
-    table: &CarriedTable<SubidRecord>,
-) -> Result<Option<RangeNumbers>, AllocError>
-    requires { IfSome known (AreNumbersIn table.now) }
-    ensures numbers { IfOk result (λ numbers. IfSome numbers (AreNumbersIn table.now)) }
-    ensures given { are_wanted ≡ true → IfOk result (λ numbers. is_some numbers ≡ true) }
-{
-    if !are_wanted {
-        return Ok(known);
-    }
-    Ok(Some(known_or_gathered(alloc, known, table)?))
-}
-
-// The numbers without those of the ranges of the owner, where those before tell them.
-fn numbers_without(
-    alloc: Global,
-    known: Option<RangeNumbers>,
-    table: &CarriedTable<SubidRecord>,
-    owner: &[u8],
-) -> Result<Option<RangeNumbers>, AllocError>
-    requires { IfSome known (AreNumbersIn table.now) }
-    ensures { IfOk result (λ after. IfSome after (AreNumbersIn (table_after subid_format
-        (Become (subid_becomes (SubidChange.Remove owner.now None)) ∷ []) table.now))) }
-{
-    let Some(mut numbers) = known else {
-        return Ok(None);
-    };
-    let Some(ranges) = owned_by(alloc, table, owner)? else {
-        return Ok(None);
-    };
-    if !numbers.remove_each(&ranges)? {
-        return Ok(None);
-    }
-    Ok(Some(numbers))
-}
-
-// The ranges of an owner, in the order of lines; none where it has several and it isn't known where
-// these stand.
-fn owned_by(
-    alloc: Global,
-    table: &CarriedTable<SubidRecord>,
-    owner: &[u8],
-) -> Result<Option<Vec<SubidRecord>>, AllocError>
-    ensures { IfOk result (λ owned. IfSome owned (λ ranges. ranges.items
-        ≡ filter (is_named subid_format owner.now) (table_records subid_format table.now))) }
-{
-    if table.has_several(owner) {
-        return table.all_named(alloc, owner, name_hash(owner));
-    }
-    let only = table.find(alloc, owner)?;
-    Ok(Some(listed(alloc, only)?))
-}
-
-// A list of the range, if there is one.
-fn listed(alloc: Global, range: Option<SubidRecord>) -> Result<Vec<SubidRecord>, AllocError>
-    ensures { IfOk result (λ ranges. ranges.items ≡ cons_option range []) }
-{
-    let mut ranges = Vec::new(alloc);
-    if let Some(range) = range {
-        ranges.push(range)?;
-    }
-    Ok(ranges)
-}
-
-// The range of an owner that has one alone, with its name.
-fn only_range(
-    alloc: Global,
-    table: &CarriedTable<SubidRecord>,
-    cut: &RangeCut,
-) -> Result<Option<SubidRecord>, AllocError>
-    ensures { IfOk result (λ found. IfSome found
-        (IsOnlyOf cut.now.owner cut.now.uid (table_records subid_format table.now))) }
-{
-    if has_number(table, cut.uid) {
-        return Ok(None);
-    }
-    if table.has_several(cut.owner.as_slice()) {
-        return Ok(None);
-    }
-    table.find(alloc, cut.owner.as_slice())
-}
-
-// Whether the owner of a range is the decimal text of the UID.
-fn has_number(table: &CarriedTable<SubidRecord>, uid: Option<u32>) -> bool
-    ensures { result ≡ list_any (is_numbered uid) (table_records subid_format table.now) }
-{
-    let Some(uid) = uid else {
-        return false;
-    };
-    let mut buffer = Buffer::new();
-    table.has(buffer.format(uid).as_bytes())
-}
-
-// The numbers without those of a range, where those before tell them.
-fn numbers_but(
-    known: Option<RangeNumbers>,
-    range: &SubidRecord,
-) -> Result<Option<RangeNumbers>, AllocError>
-    ensures { IfOk result (FollowsLoss range.now known) }
-{
-    let Some(mut numbers) = known else {
-        return Ok(None);
-    };
-    if !numbers.remove(range)? {
-        return Ok(None);
-    }
-    Ok(Some(numbers))
-}
-
-// The numbers with those of one more range, if they are known.
-fn numbers_and(
-    alloc: Global,
-    known: Option<RangeNumbers>,
-    range: &SubidRecord,
-) -> Result<Option<RangeNumbers>, AllocError>
-    requires { IsWritten subid_format range.now }
-    ensures { IfOk result (FollowsGain range.now known) }
-{
-    let Some(mut numbers) = known else {
-        return Ok(None);
-    };
-    numbers.add(alloc, range)?;
-    Ok(Some(numbers))
 }

@@ -1,15 +1,12 @@
-use Rattle.std.proofs.Common.{◌≡◌, ◌∙◌, [], ◌∷◌, ap, sym, subst, rules}
+use Rattle.std.proofs.Common.{◌∙◌, [], ◌∷◌, ap, sym, subst, rules}
 use Rattle.std.specs.Prelude.{IfSome}
-use Rattle.std.specs.List.{AllByRecursion}
 use Rattle.std.proofs.lemmas.Result.{on_ok_weaker}
 use Rattle.account_formats.specs.Edits.Edit.{Become}
-use Rattle.account_formats.specs.RecordEdits.{IsWrittenEdit}
 use Rattle.account_formats.specs.Records.{subid_format}
 use Rattle.account_formats.specs.Tables.{table_after, table_records}
 use Rattle.carried_lines.specs.TableEdits.{table_by}
-use Rattle.line_edits.specs.SeenEdits.{records_in, seen_edits}
+use Rattle.line_edits.specs.SeenEdits.{records_in}
 use Rattle.line_edits.specs.SubidChanges.{subid_becomes}
-use Rattle.line_edits.specs.declared.subid_changes.SubidChange.TheVariants.{Cut}
 use Rattle.carried_tables.specs.RangeNumbers.{AreNumbersIn, IsOnlyOf}
 use Rattle.carried_tables.proofs.CutLemmas.{cut-gone, cut-gone-numbers, cut-lost, cut-made, cut-put, left-owned, left-written, only-written, written-cut}
 use Rattle.carried_tables.proofs.range_lines.RangeLines.cut_only.Goals as goal

@@ -1,7 +1,7 @@
 use Rattle.std.proofs.Common.{[], ◌∷◌, subst}
 use Rattle.std.specs.Prelude.{IfSome}
 use Rattle.subid_ranges.specs.RangeNumbers.{AreNumbersOf}
-use Rattle.carried_tables.proofs.range_lines.numbers_but.Goals as goal
+use Rattle.carried_tables.proofs.range_numbers.numbers_but.Goals as goal
 
 -- the numbers of the range go
 pub returns : goal.returns

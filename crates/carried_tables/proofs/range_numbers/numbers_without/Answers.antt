@@ -1,8 +1,8 @@
-use Rattle.std.proofs.Common.{◌≡◌, ◌∙◌, true, subst, rules}
+use Rattle.std.proofs.Common.{◌≡◌, true, subst, rules}
 use Rattle.std.specs.Prelude.{IfSome}
 use Rattle.carried_tables.specs.RangeNumbers.{AreNumbersIn}
 use Rattle.carried_tables.proofs.NumberLemmas.{numbers-lost}
-use Rattle.carried_tables.proofs.range_lines.numbers_without.Goals as goal
+use Rattle.carried_tables.proofs.range_numbers.numbers_without.Goals as goal
 
 -- the numbers of the owner's ranges go
 pub returns : goal.returns

@@ -4,8 +4,8 @@ use Rattle.std.proofs.lemmas.Result.{IfOk-weaker}
 use Rattle.account_formats.specs.Format.{count_named, find_named}
 use Rattle.account_formats.specs.Records.{subid_format}
 use Rattle.account_formats.specs.Tables.{table_records}
-use Rattle.carried_tables.proofs.CutLemmas.{only-if-found}
-use Rattle.carried_tables.proofs.range_lines.only_range.Goals as goal
+use Rattle.carried_tables.proofs.OwnedRanges.{only-if-found}
+use Rattle.carried_tables.proofs.owner_edits.only_range.Goals as goal
 
 -- no range has the number, and one at most the name
 pub returns : goal.returns

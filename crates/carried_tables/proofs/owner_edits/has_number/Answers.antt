@@ -5,9 +5,9 @@ use Rattle.account_formats.specs.Format.{has_named}
 use Rattle.account_formats.specs.Records.{subid_format}
 use Rattle.account_formats.specs.Tables.{table_records}
 use Rattle.carried_tables.specs.RangeNumbers.{is_numbered}
-use Rattle.carried_tables.proofs.CutLemmas.{none-numbered}
+use Rattle.carried_tables.proofs.OwnedRanges.{none-numbered}
 use Rattle.carried_tables.proofs.OwnerLemmas.{owned-named}
-use Rattle.carried_tables.proofs.range_lines.has_number.Goals as goal
+use Rattle.carried_tables.proofs.owner_edits.has_number.Goals as goal
 
 -- the UID isn't known
 pub returns-in_default : goal.returns-in_default

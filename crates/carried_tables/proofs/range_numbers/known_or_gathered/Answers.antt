@@ -5,7 +5,7 @@ use Rattle.account_formats.specs.Records.{subid_format}
 use Rattle.subid_ranges.specs.RangeNumbers.{AreNumbersOf}
 use Rattle.carried_lines.specs.TablesOfLines.{lines_in}
 use Rattle.carried_lines.proofs.FileLemmas.{records-in}
-use Rattle.carried_tables.proofs.range_lines.known_or_gathered.Goals as goal
+use Rattle.carried_tables.proofs.range_numbers.known_or_gathered.Goals as goal
 
 -- the text is that of the file
 pub returns-in_ok-file-in-None : goal.returns-in_ok-file-in-None

@@ -1,7 +1,7 @@
 use Rattle.std.proofs.Common.{subst}
 use Rattle.std.specs.Prelude.{IfSome}
 use Rattle.subid_ranges.specs.RangeNumbers.{AreNumbersOf}
-use Rattle.carried_tables.proofs.range_lines.numbers_and.Goals as goal
+use Rattle.carried_tables.proofs.range_numbers.numbers_and.Goals as goal
 
 -- the numbers of the range come
 pub returns : goal.returns

@@ -6,7 +6,7 @@ use Rattle.account_formats.specs.Records.{subid_format}
 use Rattle.carried_lines.specs.Accepting.{IsKeyOf}
 use Rattle.record_keys.specs.Keys.{subid_keys}
 use Rattle.carried_tables.proofs.OwnedRanges.{owned-found, owner-key}
-use Rattle.carried_tables.proofs.range_lines.owned_by.Goals as goal
+use Rattle.carried_tables.proofs.range_numbers.owned_by.Goals as goal
 
 -- each range of the owner has the key
 pub all_named-requires : goal.all_named-requires

@@ -7,7 +7,7 @@ use Rattle.line_edits.specs.SeenEdits.{seen_edit}
 use Rattle.line_edits.specs.SubidChanges.{subid_becomes}
 use Rattle.carried_tables.specs.RangeNumbers.{AreNumbersIn}
 use Rattle.carried_tables.proofs.NumberLemmas.{numbers-added, numbers-kept}
-use Rattle.carried_tables.proofs.range_lines.numbers_after.Goals as goal
+use Rattle.carried_tables.proofs.range_numbers.numbers_after.Goals as goal
 
 -- the range may be printed
 pub add-requires : goal.add-requires

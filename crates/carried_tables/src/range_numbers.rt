@@ -1,0 +1,167 @@
+// How the numbers that the ranges of a table take follow an edit of its lines, and how they are gathered
+// where they don't (useradd(8), userdel(8), usermod(8), `-l`; subuid(5), subgid(5)).
+ghost use Rattle.std.specs.Prelude.{◌≡◌, ◌∷◌, [], None, true, filter, is_some, IfOk, IfSome};
+ghost use Rattle.std.specs.List.{cons_option};
+ghost use Rattle.account_formats.specs.Edits.Edit.{Become};
+ghost use Rattle.account_formats.specs.Format.{is_named};
+ghost use Rattle.account_formats.specs.RecordEdits.{IsWrittenEdit};
+ghost use Rattle.account_formats.specs.Records.{subid_format};
+ghost use Rattle.account_formats.specs.Tables.{table_after, table_records};
+ghost use Rattle.account_formats.specs.Written.{IsWritten};
+ghost use Rattle.line_edits.specs.SeenEdits.{seen_edit};
+ghost use Rattle.line_edits.specs.SubidChanges.{subid_becomes};
+ghost use Rattle.carried_tables.specs.RangeNumbers.{AreNumbersIn, FollowsGain, FollowsLoss, KeepsNumbers};
+
+use acct_lines::SubidRecord;
+use acct_tables::name_hash;
+use carried_lines::{CarriedTable, text_of};
+use line_edits::{Edit, SubidChange};
+use std::alloc::{AllocError, Global};
+use subid_ranges::RangeNumbers;
+
+/// The numbers after the edit, where those before tell them, or a range is added: then they are gathered
+/// where they aren't known.
+pub(crate) fn numbers_after(
+    alloc: Global,
+    known: Option<RangeNumbers>,
+    table: &CarriedTable<SubidRecord>,
+    edit: &Edit<SubidRecord, SubidChange>,
+) -> Result<Option<RangeNumbers>, AllocError>
+    requires there { is_some table.now ≡ true }
+    requires written { IsWrittenEdit subid_format (seen_edit subid_becomes edit.now) }
+    requires known { IfSome known (AreNumbersIn table.now) }
+    ensures { IfOk result (λ after. IfSome after (AreNumbersIn
+        (table_after subid_format (seen_edit subid_becomes edit.now ∷ []) table.now))) }
+{
+    match edit {
+        Edit::Add(range) => {
+            let mut numbers = known_or_gathered(alloc, known, table)?;
+            numbers.add(alloc, range)?;
+            Ok(Some(numbers))
+        }
+        Edit::Become(change) if keeps_numbers(change) => Ok(known),
+        _ => Ok(None),
+    }
+}
+
+// Whether each range surely keeps its numbers by the change.
+fn keeps_numbers(change: &SubidChange) -> bool
+    ensures { result ≡ true → KeepsNumbers (subid_becomes change.now) }
+{
+    matches!(change, SubidChange::Rename(..))
+}
+
+/// The numbers without those of the ranges of the owner, where those before tell them.
+pub(crate) fn numbers_without(
+    alloc: Global,
+    known: Option<RangeNumbers>,
+    table: &CarriedTable<SubidRecord>,
+    owner: &[u8],
+) -> Result<Option<RangeNumbers>, AllocError>
+    requires { IfSome known (AreNumbersIn table.now) }
+    ensures { IfOk result (λ after. IfSome after (AreNumbersIn (table_after subid_format
+        (Become (subid_becomes (SubidChange.Remove owner.now None)) ∷ []) table.now))) }
+{
+    let Some(mut numbers) = known else {
+        return Ok(None);
+    };
+    let Some(ranges) = owned_by(alloc, table, owner)? else {
+        return Ok(None);
+    };
+    if !numbers.remove_each(&ranges)? {
+        return Ok(None);
+    }
+    Ok(Some(numbers))
+}
+
+// The ranges of an owner, in the order of lines; none where it has several and it isn't known where
+// these stand.
+fn owned_by(
+    alloc: Global,
+    table: &CarriedTable<SubidRecord>,
+    owner: &[u8],
+) -> Result<Option<Vec<SubidRecord>>, AllocError>
+    ensures { IfOk result (λ owned. IfSome owned (λ ranges. ranges.items
+        ≡ filter (is_named subid_format owner.now) (table_records subid_format table.now))) }
+{
+    if table.has_several(owner) {
+        return table.all_named(alloc, owner, name_hash(owner));
+    }
+    let only = table.find(alloc, owner)?;
+    Ok(Some(listed(alloc, only)?))
+}
+
+// A list of the range, if there is one.
+fn listed(alloc: Global, range: Option<SubidRecord>) -> Result<Vec<SubidRecord>, AllocError>
+    ensures { IfOk result (λ ranges. ranges.items ≡ cons_option range []) }
+{
+    let mut ranges = Vec::new(alloc);
+    if let Some(range) = range {
+        ranges.push(range)?;
+    }
+    Ok(ranges)
+}
+
+/// The numbers without those of a range, where those before tell them.
+pub(crate) fn numbers_but(
+    known: Option<RangeNumbers>,
+    range: &SubidRecord,
+) -> Result<Option<RangeNumbers>, AllocError>
+    ensures { IfOk result (FollowsLoss range.now known) }
+{
+    let Some(mut numbers) = known else {
+        return Ok(None);
+    };
+    if !numbers.remove(range)? {
+        return Ok(None);
+    }
+    Ok(Some(numbers))
+}
+
+/// The numbers with those of one more range, if they are known.
+pub(crate) fn numbers_and(
+    alloc: Global,
+    known: Option<RangeNumbers>,
+    range: &SubidRecord,
+) -> Result<Option<RangeNumbers>, AllocError>
+    requires { IsWritten subid_format range.now }
+    ensures { IfOk result (FollowsGain range.now known) }
+{
+    let Some(mut numbers) = known else {
+        return Ok(None);
+    };
+    numbers.add(alloc, range)?;
+    Ok(Some(numbers))
+}
+
+/// The numbers of the ranges, if they are known, and gathered where they aren't and are wanted.
+pub(crate) fn wanted_numbers(
+    alloc: Global,
+    known: Option<RangeNumbers>,
+    are_wanted: bool,
+    table: &CarriedTable<SubidRecord>,
+) -> Result<Option<RangeNumbers>, AllocError>
+    requires { IfSome known (AreNumbersIn table.now) }
+    ensures numbers { IfOk result (λ numbers. IfSome numbers (AreNumbersIn table.now)) }
+    ensures given { are_wanted ≡ true → IfOk result (λ numbers. is_some numbers ≡ true) }
+{
+    if !are_wanted {
+        return Ok(known);
+    }
+    Ok(Some(known_or_gathered(alloc, known, table)?))
+}
+
+// The numbers of the ranges, in a pass over the lines where they aren't known.
+fn known_or_gathered(
+    alloc: Global,
+    known: Option<RangeNumbers>,
+    table: &CarriedTable<SubidRecord>,
+) -> Result<RangeNumbers, AllocError>
+    requires { IfSome known (AreNumbersIn table.now) }
+    ensures { IfOk result (AreNumbersIn table.now) }
+{
+    match known {
+        Some(numbers) => Ok(numbers),
+        None => RangeNumbers::of(alloc, text_of(&table.file()?)),
+    }
+}
