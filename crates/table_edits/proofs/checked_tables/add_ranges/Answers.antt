@@ -1,11 +1,9 @@
-use Rattle.std.proofs.Common.{◌∙◌, ◌++◌, [], ap, sym}
-use Rattle.std.proofs.lemmas.Result.{on_ok_weaker}
-use Rattle.acct_text.specs.ChangedTables.{changed_bytes, with_new_table}
+use Rattle.std.proofs.Common.{◌∙◌, sym}
 use Rattle.account_formats.specs.Records.{subid_format}
 use Rattle.account_formats.specs.Tables.{table_after}
 use Rattle.line_edits.specs.SeenEdits.{seen_edits}
 use Rattle.line_edits.specs.SubidChanges.{subid_becomes}
-use Rattle.range_edits.proofs.LeftLemmas.{file-left, same-file}
+use Rattle.range_edits.proofs.LeftLemmas.{file-left}
 use Rattle.table_edits.proofs.ListedFile.{stays-unlisted}
 use Rattle.table_edits.proofs.checked_tables.add_ranges.Goals as goal
 
@@ -16,5 +14,5 @@ returns-then-is_empty c =
     let file = c.args.file.now in
     stays-unlisted c.args.table file (table_after subid_format (seen_edits subid_becomes edits) file)
     c.args.new.now
-    (file-left c.open_edits.result.now edits file c.open_edits.ensures.same
+    (file-left c.open_edits-open.result.now edits file c.open_edits-open.ensures.same
     (sym c.is_empty.ensures ∙ c.if-is_empty.true))
