@@ -14,30 +14,30 @@ use Rattle.acct_text.specs.Lines.{Line, lines_of}
 use Rattle.acct_text.specs.Numbers.{is_digits, number_within}
 use Rattle.acct_text.proofs.LinesLaws.{lines_of-are}
 use Rattle.acct_text.proofs.NumberLaws.{some-inj, number-is, is_digits-numeral}
-use Rattle.account_formats.specs.declared.records.ShadowRecord.{ShadowRecord}
+use Rattle.account_model.specs.declared.records.ShadowRecord.{ShadowRecord}
 use Rattle.account_model.specs.declared.refusal.LineProblem.{LineProblem}
 use Rattle.account_model.specs.declared.refusal.LineProblem.TheVariants.{NoColon, HashColon, UnknownUser}
 use Rattle.account_model.specs.declared.refusal.Refusal.{Refusal}
 use Rattle.account_model.specs.declared.refusal.Refusal.TheVariants.{BadLine}
-use Rattle.account_formats.specs.Text.{hyphen, has_byte, first_some}
-use Rattle.account_formats.specs.Format.{is_named}
-use Rattle.account_formats.specs.Edits.{each_where}
-use Rattle.account_formats.specs.Records.{shadow_format, greatest_days}
-use Rattle.account_formats.specs.Written.{IsField, IsDaysNumber, IsShadow}
-use Rattle.account_formats.specs.Tables.{no_edits}
-use Rattle.account_formats.specs.WrittenScript.{IsWrittenScript}
-use Rattle.account_words.specs.Dates.{Date, DayFault, is_leap_year, no_day_shape, no_such_day, day_out_of_range, is_date, day_of, days_of_years, days_in_year, are_digits, written_date, day_of_written, read_date_pieces, read_day_number, read_day}
-use Rattle.account_words.specs.Values.{days_value, date_value}
+use Rattle.account_model.specs.Text.{hyphen, has_byte, first_some}
+use Rattle.account_model.specs.Format.{is_named}
+use Rattle.account_model.specs.Edits.{each_where}
+use Rattle.account_model.specs.Records.{shadow_format, greatest_days}
+use Rattle.account_model.specs.Written.{IsField, IsDaysNumber, IsShadow}
+use Rattle.account_model.specs.Tables.{no_edits}
+use Rattle.account_model.specs.WrittenScript.{IsWrittenScript}
+use Rattle.account_model.specs.Dates.{Date, DayFault, is_leap_year, no_day_shape, no_such_day, day_out_of_range, is_date, day_of, days_of_years, days_in_year, are_digits, written_date, day_of_written, read_date_pieces, read_day_number, read_day}
+use Rattle.account_model.specs.Values.{days_value, date_value}
 use Rattle.account_model.specs.Hashes.{demand_shadow, each_user_hash}
 use Rattle.account_model.specs.Users.{has_user, aging_of}
-use Rattle.account_words.specs.Request.{Request, has_option, operand}
+use Rattle.account_model.specs.Request.{Request, has_option, operand}
 use Rattle.account_model.specs.Action.{changes, reports}
 use Rattle.account_model.specs.Chage.{with_aging, chage_refusals, chage_script, aging_report, chage}
 use Rattle.account_model.specs.Chpasswd.{line_name, line_hash, line_problem, bad_line_from, set_last_change, set_hash, line_script, chpasswd}
-use Rattle.account_words.proofs.DatesLaws.{date_parts, within_year}
+use Rattle.account_model.proofs.DatesLaws.{date_parts, within_year}
 use Rattle.account_model.proofs.DeedLaws.{first-none}
-use Rattle.account_words.proofs.FieldFacts.{lacks-byte}
-use Rattle.account_formats.proofs.HeldLaws.{shadow-holds, each_where-written}
+use Rattle.account_model.proofs.FieldFacts.{lacks-byte}
+use Rattle.account_model.proofs.HeldLaws.{shadow-holds, each_where-written}
 use Rattle.account_model.proofs.RefusalFacts.{field-kept}
 use Rattle.account_model.proofs.WrittenScripts.{none-written, users-written, order-written, demand-shadow-written, user-hash-written}
 

@@ -4,23 +4,23 @@ use Rattle.std.specs.Prelude.{◌≡◌, ℕ, ◌&&◌, if◌then◌else◌, tru
 use Rattle.std.specs.Fmt.{digits}
 use Rattle.acct_text.specs.declared.files.Files.{Files}
 use Rattle.acct_text.specs.declared.Tab.TheVariants.{Passwd, Group}
-use Rattle.account_words.specs.declared.tool.Tool.{Tool}
-use Rattle.account_words.specs.declared.tool.Tool.TheVariants.{Groupadd}
+use Rattle.account_model.specs.declared.tool.Tool.{Tool}
+use Rattle.account_model.specs.declared.tool.Tool.TheVariants.{Groupadd}
 use Rattle.account_model.specs.Change.{action_of}
-use Rattle.account_formats.specs.Text.{first_some}
+use Rattle.account_model.specs.Text.{first_some}
 use Rattle.account_model.specs.Action.{Action, Made, made_by, multiple_entries, outcome_of}
-use Rattle.account_words.specs.Request.{Request}
+use Rattle.account_model.specs.Request.{Request}
 use Rattle.account_model.specs.Groupadd.{groupadd}
 use Rattle.account_model.specs.declared.refusal.Refusal.TheVariants.{Multiple}
 use Rattle.std.proofs.Common.{◌∙◌, ap}
-use Rattle.account_words.specs.Words.{is_batch, request_of}
+use Rattle.account_model.specs.Words.{is_batch, request_of}
 use Rattle.account_model.specs.Batch.{written_by}
 use Rattle.account_model.specs.Answer.{Changed, FileProblem, files_problem, files_eq, succeeding, answer, answer_under, answer_written, unusable as unusable_answer, deed, new_problem, passes_limit, TableTooLarge, TableAbsent, SettingsTooLarge, BadSettingAt}
 use Rattle.account_model.proofs.Image.{image}
-use Rattle.account_words.proofs.SettingsImage.{image_defs, file}
-use Rattle.account_formats.specs.Tables.{passwd_records, files_after}
+use Rattle.account_model.proofs.SettingsImage.{image_defs, file}
+use Rattle.account_model.specs.Tables.{passwd_records, files_after}
 use Rattle.acct_text.proofs.LinesLaws.{lines_of-are}
-use Rattle.account_formats.proofs.SameLaws.{bytes-self}
+use Rattle.account_model.proofs.SameLaws.{bytes-self}
 use Rattle.account_model.proofs.Commands.{words, lines, today, answer_to, unusable, nothing}
 
 -- the deed of words

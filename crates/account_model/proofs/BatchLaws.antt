@@ -4,9 +4,9 @@ use Rattle.std.proofs.Common.{◌≡◌, ℕ, List, [], ◌∷◌, refl, subst, 
 use Rattle.std.specs.Prelude.{Option, Some, None, Result, Ok, Err}
 use Rattle.std.specs.List.{AllByRecursion}
 use Rattle.acct_text.specs.declared.files.Files.{Files}
-use Rattle.account_formats.specs.Text.{first_some}
-use Rattle.account_words.specs.BatchLines.{LineRequest}
-use Rattle.account_words.specs.Settings.{Setting}
+use Rattle.account_model.specs.Text.{first_some}
+use Rattle.account_model.specs.BatchLines.{LineRequest}
+use Rattle.account_model.specs.Settings.{Setting}
 use Rattle.account_model.specs.declared.refusal.Refusal.{Refusal}
 use Rattle.account_model.specs.Action.{Action, Made, made_by, multiple_entries, outcome_of}
 use Rattle.account_model.specs.Batch.{LineRefusal, Written, batch, before_others, with_rest, written_by}

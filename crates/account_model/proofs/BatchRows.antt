@@ -5,8 +5,8 @@ use Rattle.std.specs.Fmt.{digits}
 use Rattle.acct_text.specs.Bytes.{newline}
 use Rattle.acct_text.specs.declared.files.Files.{Files}
 use Rattle.acct_text.specs.declared.Tab.TheVariants.{Group}
-use Rattle.account_words.specs.LineWords.{backslash}
-use Rattle.account_words.specs.declared.word_fault.WordFault.{WordFault}
+use Rattle.account_model.specs.LineWords.{backslash}
+use Rattle.account_model.specs.declared.word_fault.WordFault.{WordFault}
 use Rattle.account_model.specs.declared.refusal.Refusal.{Refusal}
 use Rattle.account_model.specs.declared.refusal.Refusal.TheVariants.{GroupExists, Multiple, NoShadow}
 use Rattle.account_model.specs.Answer.{Answer, RefusedLine}

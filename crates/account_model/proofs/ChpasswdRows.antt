@@ -5,7 +5,7 @@ use Rattle.acct_text.specs.declared.Tab.TheVariants.{Passwd}
 use Rattle.account_model.specs.declared.refusal.Refusal.TheVariants.{BadLine, Multiple}
 use Rattle.account_model.specs.declared.refusal.LineProblem.TheVariants.{NoColon, HashColon, UnknownUser}
 use Rattle.account_model.proofs.Image.{image}
-use Rattle.account_words.proofs.SettingsImage.{image_defs, file}
+use Rattle.account_model.proofs.SettingsImage.{image_defs, file}
 use Rattle.account_model.proofs.Commands.{words, lines, answer_with, changed, same, refused, small}
 
 -- `chpasswd -P R -e` with a bad third line: the whole input is refused

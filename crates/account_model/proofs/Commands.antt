@@ -3,13 +3,13 @@ use Prim.Native.String.{String}
 use Rattle.std.specs.Prelude.{ℕ, ◌==◌, List, [], ◌∷◌, ◌++◌, codes, Option, Some, None, Result, Ok, Err}
 use Rattle.std.specs.List.{slice_split}
 use Rattle.acct_text.specs.declared.files.Files.{Files}
-use Rattle.account_words.specs.declared.word_fault.WordFault.{WordFault}
+use Rattle.account_model.specs.declared.word_fault.WordFault.{WordFault}
 use Rattle.account_model.specs.declared.refusal.Refusal.{Refusal}
 use Rattle.acct_text.specs.Bytes.{newline}
-use Rattle.account_words.specs.Words.{request_of}
+use Rattle.account_model.specs.Words.{request_of}
 use Rattle.account_model.specs.Answer.{Answer, FileProblem, answer, Unusable, Refused, Same, Changed}
 use Rattle.account_model.proofs.Image.{image, image_passwd, image_shadow, image_group, image_gshadow, two_files}
-use Rattle.account_words.proofs.SettingsImage.{image_defs, file}
+use Rattle.account_model.proofs.SettingsImage.{image_defs, file}
 
 -- the words of a text without quotes, cut at blanks as a shell does
 abbrev pub words : String → List (List ℕ)

@@ -3,24 +3,24 @@
 use Rattle.std.proofs.Common.{◌≡◌, ◌≢◌, ℕ, ◌≤◌, Bool, true, false, not, List, [], ◌∷◌, length, refl, sym, ◌∙◌, subst, inl, inr, map}
 use Rattle.std.specs.Prelude.{◌⊎◌, ⊤, Result, Option, Some, None, is_some, nat_le, unwrap_or, Ok, Err, if◌then◌else◌}
 use Rattle.std.specs.List.{list_all, AllByRecursion}
-use Rattle.account_formats.specs.Records.{passwd_format, shadow_format, group_format, gshadow_format, subid_format}
+use Rattle.account_model.specs.Records.{passwd_format, shadow_format, group_format, gshadow_format, subid_format}
 use Rattle.std.proofs.lemmas.Bool.{leb-true, and_cases, true≢false}
 use Rattle.std.proofs.lemmas.Slice.Eq.{bytes_eq-Decides}
-use Rattle.account_words.specs.declared.tool.Tool.{Tool}
+use Rattle.account_model.specs.declared.tool.Tool.{Tool}
 use Rattle.acct_text.specs.declared.Tab.{Tab}
 use Rattle.acct_text.specs.declared.Tab.TheVariants.{Passwd, Shadow, Group, Gshadow, Subuid, Subgid}
 use Rattle.acct_text.specs.declared.files.Files.{Files}
 use Rattle.account_model.specs.declared.refusal.Refusal.{Refusal}
-use Rattle.account_formats.specs.Text.{first_some}
-use Rattle.account_formats.specs.Format.{Format}
-use Rattle.account_formats.specs.Edits.{Edit}
+use Rattle.account_model.specs.Text.{first_some}
+use Rattle.account_model.specs.Format.{Format}
+use Rattle.account_model.specs.Edits.{Edit}
 use Rattle.acct_text.specs.Files.{table_of}
-use Rattle.account_formats.specs.Tables.{Script, table_after, files_after}
-use Rattle.account_words.specs.declared.tool.Tool.TheVariants.{Batch}
-use Rattle.account_words.specs.BatchLines.{LineRequest, line_requests}
-use Rattle.account_words.specs.Settings.{Setting, settings_of}
-use Rattle.account_words.specs.Words.{is_batch}
-use Rattle.account_words.specs.Request.{Request}
+use Rattle.account_model.specs.Tables.{Script, table_after, files_after}
+use Rattle.account_model.specs.declared.tool.Tool.TheVariants.{Batch}
+use Rattle.account_model.specs.BatchLines.{LineRequest, line_requests}
+use Rattle.account_model.specs.Settings.{Setting, settings_of}
+use Rattle.account_model.specs.Words.{is_batch}
+use Rattle.account_model.specs.Request.{Request}
 use Rattle.account_model.specs.Action.{Action, Made, outcome_of}
 use Rattle.account_model.specs.Batch.{LineRefusal, Written, batch, written_by}
 use Rattle.account_model.specs.Change.{action_of}

@@ -3,17 +3,17 @@
 use Rattle.std.proofs.Common.{◌≡◌, ℕ, ◌≤◌, Bool, true, false, List, refl}
 use Rattle.std.specs.Prelude.{Option, Some, None, ◌==◌, codes, option_map, option_and_then, unwrap_or, if◌then◌else◌}
 use Rattle.acct_text.specs.declared.files.Files.{Files}
-use Rattle.account_formats.specs.declared.records.GroupRecord.{GroupRecord}
+use Rattle.account_model.specs.declared.records.GroupRecord.{GroupRecord}
 use Rattle.acct_text.specs.Bytes.{is_empty}
 use Rattle.acct_text.specs.Numbers.{is_digits}
-use Rattle.account_formats.specs.Format.{find_named}
-use Rattle.account_formats.specs.Records.{group_format, greatest_id, read_id}
-use Rattle.account_formats.specs.Written.{IsDaysNumber, IsGroup}
-use Rattle.account_formats.specs.Tables.{group_records}
-use Rattle.account_words.specs.Values.{expiration_value, date_value}
+use Rattle.account_model.specs.Format.{find_named}
+use Rattle.account_model.specs.Records.{group_format, greatest_id, read_id}
+use Rattle.account_model.specs.Written.{IsDaysNumber, IsGroup}
+use Rattle.account_model.specs.Tables.{group_records}
+use Rattle.account_model.specs.Values.{expiration_value, date_value}
 use Rattle.account_model.specs.GivenGroups.{find_gid, find_group, given_group}
-use Rattle.account_words.specs.Request.{Request, value_of}
-use Rattle.account_formats.proofs.HeldLaws.{group-holds}
+use Rattle.account_model.specs.Request.{Request, value_of}
+use Rattle.account_model.proofs.HeldLaws.{group-holds}
 use Rattle.account_model.proofs.RefusalFacts.{table-held, find-held, group-held}
 use Rattle.account_model.proofs.AgingToolScripts.{date-held}
 

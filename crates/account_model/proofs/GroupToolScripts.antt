@@ -6,22 +6,22 @@ use Rattle.std.specs.Prelude.{Option, Some, None, ◌==◌, codes, is_some, if�
 use Rattle.std.specs.List.{AllByRecursion}
 use Rattle.acct_text.specs.declared.files.Files.{Files}
 use Rattle.acct_text.proofs.NumberLaws.{some-inj}
-use Rattle.account_formats.specs.declared.records.GroupRecord.{GroupRecord}
+use Rattle.account_model.specs.declared.records.GroupRecord.{GroupRecord}
 use Rattle.account_model.specs.declared.refusal.Refusal.{Refusal}
 use Rattle.account_model.specs.declared.refusal.Refusal.TheVariants.{BadName}
-use Rattle.account_formats.specs.Text.{first_some}
-use Rattle.account_formats.specs.Names.{is_valid_name}
-use Rattle.account_formats.specs.Records.{passwd_format, group_format, gshadow_format, greatest_id, is_id}
-use Rattle.account_formats.specs.Format.{is_named}
-use Rattle.account_formats.specs.Written.{IsField, IsNameField, IsListed, IsPasswd, IsGroup, IsGshadow}
-use Rattle.account_formats.specs.Tables.{no_edits}
-use Rattle.account_formats.specs.WrittenScript.{IsWrittenScript}
-use Rattle.account_words.specs.Values.{is_field, given_gid, list_value}
-use Rattle.account_words.specs.Settings.{Setting}
+use Rattle.account_model.specs.Text.{first_some}
+use Rattle.account_model.specs.Names.{is_valid_name}
+use Rattle.account_model.specs.Records.{passwd_format, group_format, gshadow_format, greatest_id, is_id}
+use Rattle.account_model.specs.Format.{is_named}
+use Rattle.account_model.specs.Written.{IsField, IsNameField, IsListed, IsPasswd, IsGroup, IsGshadow}
+use Rattle.account_model.specs.Tables.{no_edits}
+use Rattle.account_model.specs.WrittenScript.{IsWrittenScript}
+use Rattle.account_model.specs.Values.{is_field, given_gid, list_value}
+use Rattle.account_model.specs.Settings.{Setting}
 use Rattle.account_model.specs.Members.{each_members, add_to_group, remove_from_group}
 use Rattle.account_model.specs.Hashes.{locked, elsewhere, set_group_hash, set_administrators}
 use Rattle.account_model.specs.Users.{group_named}
-use Rattle.account_words.specs.Request.{Request, has_option, value_of, operand}
+use Rattle.account_model.specs.Request.{Request, has_option, value_of, operand}
 use Rattle.account_model.specs.Refusals.{refuse_value, bad_name, bad_value, bad_key, missing_group, missing_user, missing_users, bad_list_name}
 use Rattle.account_model.specs.Action.{Action, changes, with_option, with_flag}
 use Rattle.account_model.specs.NewAccount.{kind_of, settings_for, new_hash, new_group, new_gshadow, add_group}
@@ -30,8 +30,8 @@ use Rattle.account_model.specs.Groupmod.{set_gid, gid_script, rename_group, grou
 use Rattle.account_model.specs.Groupdel.{remove_group, groupdel}
 use Rattle.account_model.specs.Gpasswd.{not_member, gpasswd_refusals, gpasswd_script, gpasswd}
 use Rattle.account_model.proofs.DeedLaws.{first-none}
-use Rattle.account_formats.proofs.HeldLaws.{passwd-holds, group-holds, gshadow-holds, each_where-written, drop_where-written}
-use Rattle.account_words.proofs.FieldFacts.{is_field-is, empty-field, valid-name}
+use Rattle.account_model.proofs.HeldLaws.{passwd-holds, group-holds, gshadow-holds, each_where-written, drop_where-written}
+use Rattle.account_model.proofs.FieldFacts.{is_field-is, empty-field, valid-name}
 use Rattle.account_model.proofs.RefusalFacts.{refuse-none, value-none, good-value, text-kept, given-small, users-listed, user-listed}
 use Rattle.account_model.proofs.SettingBounds.{free-gid-small}
 use Rattle.account_model.proofs.WrittenScripts.{none-written, groups-written, order-written, some-written, option-written, flag-written, members-written, add-to-group-written, remove-from-group-written, elsewhere-field, locked-field, group-hash-written, administrators-written}

@@ -6,7 +6,7 @@ use Rattle.acct_text.specs.declared.Tab.TheVariants.{Passwd, Group, Gshadow}
 use Rattle.account_model.specs.declared.refusal.Refusal.TheVariants.{BadName, BadKey, BadValue, GroupExists, GidInUse, NoFreeGid, Multiple}
 use Rattle.account_model.specs.Answer.{TableAbsent}
 use Rattle.account_model.proofs.Image.{image, image_group, image_gshadow}
-use Rattle.account_words.proofs.SettingsImage.{file}
+use Rattle.account_model.proofs.SettingsImage.{file}
 use Rattle.account_model.proofs.Commands.{words, lines, on, plainly_on, changed, same, refused, unusable, nothing}
 
 -- `groupadd -P R -g 1500 staff`: without gshadow the hash stands in group

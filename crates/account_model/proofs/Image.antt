@@ -1,7 +1,7 @@
 -- The image of a small system, on which the rows are computed.
 use Rattle.std.specs.Prelude.{ℕ, List, [], ◌∷◌, codes, Some, None}
 use Rattle.acct_text.specs.declared.files.Files.{Files}
-use Rattle.account_words.proofs.SettingsImage.{file}
+use Rattle.account_model.proofs.SettingsImage.{file}
 
 -- the lines of passwd
 abbrev pub image_passwd : List (List ℕ)

@@ -33,3 +33,41 @@ mod PwckRows
 mod GrpckRows
 mod GetsubidsRows
 pub mod UsermodRangeScripts
+pub mod FieldReads
+pub mod ReadsLaws
+pub mod WrittenLaws
+pub mod ListLaws
+pub mod ScriptLaws
+pub mod EditLaws
+pub mod SameLaws
+pub mod EditLines
+pub mod FineLines
+pub mod FaultRows
+pub mod FaultLaws
+pub mod HeldLaws
+pub mod OtherText
+pub mod NoEdits
+pub mod TouchedLaws
+pub mod UntouchedLaws
+pub mod FormatLaws
+pub mod NamingLaws
+pub mod TextLaws
+pub mod SubidLaws
+pub mod DateTextLaws
+pub mod DatesLaws
+pub mod AsksLaws
+pub mod LineWordsLaws
+pub mod ReadIsSpelled
+pub mod SpelledIsRead
+pub mod DateRows
+pub mod WordRows
+mod LineRows
+mod BatchLineRows
+mod SettingRows
+pub mod Sets
+pub mod IdsLaws
+pub mod FreeRangeLaws
+pub mod FieldFacts
+pub mod CountedLaws
+pub mod FreeIds
+pub mod SettingsImage

@@ -3,10 +3,10 @@
 use Rattle.std.proofs.Common.{◌≡◌, ℕ, Bool, true, false, ◌&&◌, not, List, [], ◌∷◌, ◌++◌, refl}
 use Rattle.std.specs.Prelude.{bytes_eq, if◌then◌else◌}
 use Rattle.std.specs.List.{AllByRecursion}
-use Rattle.account_formats.specs.Text.{is_listed}
+use Rattle.account_model.specs.Text.{is_listed}
 use Rattle.account_model.specs.Members.{with_name, without_name, name_once, in_place_of, renamed_in}
-use Rattle.account_formats.specs.Written.{IsListed}
-use Rattle.account_formats.proofs.ListLaws.{all-append, all-filter}
+use Rattle.account_model.specs.Written.{IsListed}
+use Rattle.account_model.proofs.ListLaws.{all-append, all-filter}
 
 -- a list with a name more
 with-by :

@@ -4,7 +4,7 @@ use Rattle.std.specs.Prelude.{◌≡◌, ℕ, ◌==◌, List, [], ◌∷◌, ◌
 use Rattle.std.specs.List.{slice_split}
 use Rattle.std.specs.Fmt.{digits}
 use Rattle.acct_text.specs.Bytes.{newline}
-use Rattle.account_words.specs.Words.{fault}
+use Rattle.account_model.specs.Words.{fault}
 use Rattle.account_model.specs.WordMessages.{word_fault_status, word_fault_message}
 
 -- a status and a line

@@ -11,21 +11,21 @@ use Rattle.acct_text.specs.Pieces.{Lacks}
 use Rattle.acct_text.specs.Lines.{Line, lines_of}
 use Rattle.acct_text.proofs.LinesLaws.{lines_of-are}
 use Rattle.acct_text.proofs.NumberLaws.{some-inj, number-is}
-use Rattle.account_formats.specs.declared.records.PasswdRecord.{PasswdRecord}
-use Rattle.account_formats.specs.declared.records.GroupRecord.{GroupRecord}
+use Rattle.account_model.specs.declared.records.PasswdRecord.{PasswdRecord}
+use Rattle.account_model.specs.declared.records.GroupRecord.{GroupRecord}
 use Rattle.account_model.specs.declared.refusal.Refusal.{Refusal}
 use Rattle.account_model.specs.declared.refusal.Refusal.TheVariants.{BadName, NoUser}
-use Rattle.account_formats.specs.Text.{comma, has_byte}
-use Rattle.account_formats.specs.Format.{Format, records_of, is_named}
-use Rattle.account_formats.specs.Records.{passwd_format, group_format, read_id, greatest_id}
-use Rattle.account_formats.specs.Written.{IsNameField, IsListed, IsPasswd, IsGroup, Holds}
-use Rattle.account_formats.specs.Tables.{table_records, passwd_records, group_records}
+use Rattle.account_model.specs.Text.{comma, has_byte}
+use Rattle.account_model.specs.Format.{Format, records_of, is_named}
+use Rattle.account_model.specs.Records.{passwd_format, group_format, read_id, greatest_id}
+use Rattle.account_model.specs.Written.{IsNameField, IsListed, IsPasswd, IsGroup, Holds}
+use Rattle.account_model.specs.Tables.{table_records, passwd_records, group_records}
 use Rattle.account_model.specs.Users.{find_user, has_user, group_named}
-use Rattle.account_words.specs.Values.{given_id, text_value, field_value, list_value}
-use Rattle.account_words.specs.Request.{Request, value_of}
+use Rattle.account_model.specs.Values.{given_id, text_value, field_value, list_value}
+use Rattle.account_model.specs.Request.{Request, value_of}
 use Rattle.account_model.specs.Refusals.{refuse_if, refuse_value, bad_value, bad_value_of, bad_list_name, missing_user, missing_users}
-use Rattle.account_formats.proofs.HeldLaws.{passwd-holds, group-holds}
-use Rattle.account_words.proofs.FieldFacts.{lacks-byte, not-false, both-listed, list-no_comma}
+use Rattle.account_model.proofs.HeldLaws.{passwd-holds, group-holds}
+use Rattle.account_model.proofs.FieldFacts.{lacks-byte, not-false, both-listed, list-no_comma}
 
 -- ---- Values
 

@@ -1,11 +1,11 @@
 -- Claim: a record that a line can hold stays one where a name in its lists is renamed to one that
 -- a list can hold (`group-written`, `gshadow-written`). Way: so does each of its lists.
 use Rattle.std.specs.Prelude.{ℕ, List}
-use Rattle.account_formats.specs.declared.records.GroupRecord.{GroupRecord}
-use Rattle.account_formats.specs.declared.records.GshadowRecord.{GshadowRecord}
-use Rattle.account_formats.specs.Records.{group_format, gshadow_format}
-use Rattle.account_formats.specs.Written.{IsWritten, IsListed}
-use Rattle.account_formats.proofs.HeldLaws.{group-holds, gshadow-holds}
+use Rattle.account_model.specs.declared.records.GroupRecord.{GroupRecord}
+use Rattle.account_model.specs.declared.records.GshadowRecord.{GshadowRecord}
+use Rattle.account_model.specs.Records.{group_format, gshadow_format}
+use Rattle.account_model.specs.Written.{IsWritten, IsListed}
+use Rattle.account_model.proofs.HeldLaws.{group-holds, gshadow-holds}
 use Rattle.account_model.specs.Members.{group_renamed, gshadow_renamed}
 use Rattle.account_model.proofs.MemberLaws.{renamed-listed}
 

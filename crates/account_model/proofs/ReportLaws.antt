@@ -6,9 +6,9 @@ use Rattle.std.specs.Prelude.{cond, filter, Option, Some}
 use Rattle.std.specs.List.{AllByRecursion}
 use Rattle.std.proofs.lemmas.Bool.{eq-eqb, ne_eqb}
 use Rattle.acct_text.specs.Lines.{Line, lines_of}
-use Rattle.account_formats.specs.Format.{Format, records_of}
+use Rattle.account_model.specs.Format.{Format, records_of}
 use Rattle.account_model.specs.Problems.{Problem, RecordProblems, Located, problems_of_line, at_line, is_at, AreAscending, IsReport, problems_behind, table_problems}
-use Rattle.account_formats.proofs.ListLaws.{all-append}
+use Rattle.account_model.proofs.ListLaws.{all-append}
 
 -- ---- The numbers
 

@@ -7,18 +7,18 @@ use Rattle.std.proofs.lemmas.Bool.{leb-true}
 use Rattle.std.proofs.Math.Nat.{le_trans}
 use Rattle.acct_text.specs.declared.files.Files.{Files}
 use Rattle.acct_text.proofs.NumberLaws.{some-inj}
-use Rattle.account_words.specs.declared.settings.Key.{Key}
-use Rattle.account_words.specs.declared.settings.Key.TheVariants.{UidMin, GidMin, UidMax, GidMax, SysUidMin, SysGidMin, SysUidMax, SysGidMax, SubUidMax, SubGidMax, PassMinDays, PassMaxDays, PassWarnAge}
-use Rattle.account_words.specs.declared.settings.Kind.{Kind}
-use Rattle.account_words.specs.declared.settings.Kind.TheVariants.{Regular, System}
-use Rattle.account_words.specs.declared.settings.IdSort.TheVariants.{Uid, Gid}
-use Rattle.account_formats.specs.Records.{greatest_id, greatest_days}
-use Rattle.account_formats.specs.Written.{IsDaysNumber}
-use Rattle.account_words.specs.Settings.{Setting, key_name, setting_number, within, is_days_key, allowed_value, last_setting_value, given_value, default_value, one_less, number, range_between, range}
-use Rattle.account_words.specs.Ids.{chosen_id, used_uids, used_gids}
+use Rattle.account_model.specs.declared.settings.Key.{Key}
+use Rattle.account_model.specs.declared.settings.Key.TheVariants.{UidMin, GidMin, UidMax, GidMax, SysUidMin, SysGidMin, SysUidMax, SysGidMax, SubUidMax, SubGidMax, PassMinDays, PassMaxDays, PassWarnAge}
+use Rattle.account_model.specs.declared.settings.Kind.{Kind}
+use Rattle.account_model.specs.declared.settings.Kind.TheVariants.{Regular, System}
+use Rattle.account_model.specs.declared.settings.IdSort.TheVariants.{Uid, Gid}
+use Rattle.account_model.specs.Records.{greatest_id, greatest_days}
+use Rattle.account_model.specs.Written.{IsDaysNumber}
+use Rattle.account_model.specs.Settings.{Setting, key_name, setting_number, within, is_days_key, allowed_value, last_setting_value, given_value, default_value, one_less, number, range_between, range}
+use Rattle.account_model.specs.Ids.{chosen_id, used_uids, used_gids}
 use Rattle.account_model.specs.NewAccount.{free_uid, free_gid}
 use Rattle.account_model.specs.NewRanges.{id_number}
-use Rattle.account_words.proofs.IdsLaws.{chosen-free}
+use Rattle.account_model.proofs.IdsLaws.{chosen-free}
 
 -- ---- The value of a key
 

@@ -3,15 +3,15 @@
 use Rattle.std.proofs.Common.{◌≡◌, ℕ, ◌≤◌, Bool, true, false, List, []}
 use Rattle.std.specs.Prelude.{None, codes, if◌then◌else◌}
 use Rattle.acct_text.specs.declared.files.Files.{Files}
-use Rattle.account_words.specs.declared.tool.Tool.{Tool}
-use Rattle.account_words.specs.declared.tool.Tool.TheVariants.{Useradd, Usermod, Userdel, Groupadd, Groupmod, Groupdel, Gpasswd, Chage, Chpasswd, Pwck, Grpck, Getsubids, Batch}
-use Rattle.account_formats.specs.Text.{first_some}
-use Rattle.account_formats.specs.Records.{greatest_days}
-use Rattle.account_words.specs.Request.{Request, has_option}
-use Rattle.account_words.specs.Settings.{Setting}
+use Rattle.account_model.specs.declared.tool.Tool.{Tool}
+use Rattle.account_model.specs.declared.tool.Tool.TheVariants.{Useradd, Usermod, Userdel, Groupadd, Groupmod, Groupdel, Gpasswd, Chage, Chpasswd, Pwck, Grpck, Getsubids, Batch}
+use Rattle.account_model.specs.Text.{first_some}
+use Rattle.account_model.specs.Records.{greatest_days}
+use Rattle.account_model.specs.Request.{Request, has_option}
+use Rattle.account_model.specs.Settings.{Setting}
 use Rattle.account_model.specs.Action.{changes}
 use Rattle.account_model.specs.Change.{action_by, action_of}
-use Rattle.account_formats.specs.WrittenScript.{IsWrittenScript}
+use Rattle.account_model.specs.WrittenScript.{IsWrittenScript}
 use Rattle.account_model.specs.Pwck.{pwck_sort, pwck_report}
 use Rattle.account_model.specs.Grpck.{grpck_sort, grpck_report}
 use Rattle.account_model.proofs.WrittenScripts.{none-written}

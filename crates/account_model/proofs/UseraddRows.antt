@@ -5,10 +5,10 @@ use Rattle.std.specs.Str.{byte}
 use Rattle.acct_text.specs.declared.Tab.TheVariants.{Shadow, Group, Gshadow, Subuid, Subgid}
 use Rattle.account_model.specs.declared.refusal.Refusal.TheVariants.{BadName, BadKey, BadValue, UserExists, GroupExists, NoGroup, UidInUse, NoFreeUid, NoFreeGid, NoGap, Multiple}
 use Rattle.acct_text.specs.Bytes.{newline}
-use Rattle.account_words.specs.declared.word_fault.WordFault.TheVariants.{UnknownOption}
+use Rattle.account_model.specs.declared.word_fault.WordFault.TheVariants.{UnknownOption}
 use Rattle.account_model.specs.Answer.{BadSettingAt}
 use Rattle.account_model.proofs.Image.{image, image_passwd, image_shadow}
-use Rattle.account_words.proofs.SettingsImage.{file}
+use Rattle.account_model.proofs.SettingsImage.{file}
 use Rattle.account_model.proofs.Commands.{words, lines, answer_to, on, plainly_on, changed, refused, unusable, image_group_with, image_gshadow_with, with_ann, image_and, small, nothing}
 
 -- `useradd -P R -c "Ann Lee" -G sudo ann`: a user with a comment and a group

@@ -7,43 +7,43 @@ use Rattle.std.proofs.lemmas.Bool.{and_parts}
 use Rattle.std.proofs.Math.Nat.{le_trans}
 use Rattle.acct_text.specs.declared.files.Files.{Files}
 use Rattle.acct_text.proofs.NumberLaws.{some-inj}
-use Rattle.account_formats.specs.declared.records.GroupRecord.{GroupRecord}
+use Rattle.account_model.specs.declared.records.GroupRecord.{GroupRecord}
 use Rattle.account_model.specs.declared.new_user.Allotment.TheVariants.{Unwanted, Full, Range}
-use Rattle.account_words.specs.declared.settings.Key.TheVariants.{PassMinDays, PassMaxDays, PassWarnAge}
+use Rattle.account_model.specs.declared.settings.Key.TheVariants.{PassMinDays, PassMaxDays, PassWarnAge}
 use Rattle.account_model.specs.declared.refusal.Refusal.{Refusal}
 use Rattle.account_model.specs.declared.refusal.Refusal.TheVariants.{BadName}
 use Rattle.acct_text.specs.Bytes.{newline, colon}
-use Rattle.account_formats.specs.Text.{first_some, has_byte}
-use Rattle.account_formats.specs.Names.{is_valid_name}
-use Rattle.account_formats.specs.Records.{subid_format, greatest_id, greatest_days}
-use Rattle.account_formats.specs.RecordEdits.{IsWrittenEdit}
-use Rattle.account_formats.specs.Edits.Edit.{Add, Put}
-use Rattle.account_formats.specs.Written.{IsField, IsListed, IsDaysNumber, IsPasswd, IsShadow, IsSubid}
-use Rattle.account_formats.specs.Tables.{no_edits}
-use Rattle.account_formats.specs.WrittenScript.{IsWrittenScript}
-use Rattle.account_words.specs.Settings.{Setting, number}
-use Rattle.account_words.specs.Values.{is_field, is_folder, is_shell, is_days_value, is_expiration_value, given_uid, days_value, expiration_value, text_value}
+use Rattle.account_model.specs.Text.{first_some, has_byte}
+use Rattle.account_model.specs.Names.{is_valid_name}
+use Rattle.account_model.specs.Records.{subid_format, greatest_id, greatest_days}
+use Rattle.account_model.specs.RecordEdits.{IsWrittenEdit}
+use Rattle.account_model.specs.Edits.Edit.{Add, Put}
+use Rattle.account_model.specs.Written.{IsField, IsListed, IsDaysNumber, IsPasswd, IsShadow, IsSubid}
+use Rattle.account_model.specs.Tables.{no_edits}
+use Rattle.account_model.specs.WrittenScript.{IsWrittenScript}
+use Rattle.account_model.specs.Settings.{Setting, number}
+use Rattle.account_model.specs.Values.{is_field, is_folder, is_shell, is_days_value, is_expiration_value, given_uid, days_value, expiration_value, text_value}
 use Rattle.account_model.specs.GivenGroups.{given_group, given_groups}
 use Rattle.account_model.specs.Hashes.{locked}
 use Rattle.account_model.specs.Members.{add_to_group}
-use Rattle.account_words.specs.Request.{Request, has_option, operand}
+use Rattle.account_model.specs.Request.{Request, has_option, operand}
 use Rattle.account_model.specs.Refusals.{bad_name, bad_value, bad_key}
 use Rattle.account_model.specs.NewAccount.{kind_of, settings_for, free_uid, free_gid, new_hash, add_group}
-use Rattle.account_words.specs.FreeRange.{IsFreeRange}
-use Rattle.account_words.specs.Ids.{is_used, used_gids}
-use Rattle.account_words.specs.SubidOwner.{is_owned}
+use Rattle.account_model.specs.FreeRange.{IsFreeRange}
+use Rattle.account_model.specs.Ids.{is_used, used_gids}
+use Rattle.account_model.specs.SubidOwner.{is_owned}
 use Rattle.account_model.specs.NewRanges.{Subordinate, subordinate_uids, subordinate_gids, may_have_ranges, is_allotted, free_start, new_range, allotment, allotted}
 use Rattle.account_model.specs.Useradd.{makes_group, new_uid, gid_beside, own_gid, default_gid, primary_gid, useradd_checks, useradd_conflicts, new_home, new_user, new_shadow, plan_of, add_own_group, join_groups, add_user, useradd_script, useradd_under, useradd}
 use Rattle.account_model.proofs.DeedLaws.{first-none}
-use Rattle.account_formats.proofs.HeldLaws.{passwd-holds, shadow-holds, subid-holds}
-use Rattle.account_words.proofs.FieldFacts.{is_field-is, is_folder-is, is_shell-is, field-append, empty-field, valid-name, valid-listed, lacks-byte}
+use Rattle.account_model.proofs.HeldLaws.{passwd-holds, shadow-holds, subid-holds}
+use Rattle.account_model.proofs.FieldFacts.{is_field-is, is_folder-is, is_shell-is, field-append, empty-field, valid-name, valid-listed, lacks-byte}
 use Rattle.account_model.proofs.RefusalFacts.{refuse-none, text-kept, field-kept, given-small}
 use Rattle.account_model.proofs.SettingBounds.{free-uid-small, free-gid-small, minimum-days, maximum-days, warning-days, subuid-maximum, subgid-maximum}
 use Rattle.account_model.proofs.WrittenScripts.{none-written, users-written, order-written, either-written, add-to-group-written, locked-field}
 use Rattle.account_model.proofs.GroupToolScripts.{add-group-written, password-by, new-hash-field}
 use Rattle.account_model.proofs.GivenFacts.{given-group-gid, expiration-held}
 use Rattle.account_model.proofs.AgingToolScripts.{days-held}
-use Rattle.account_words.proofs.FreeRangeLaws.{free_range-is}
+use Rattle.account_model.proofs.FreeRangeLaws.{free_range-is}
 
 -- ---- useradd: the IDs
 

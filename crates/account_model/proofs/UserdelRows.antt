@@ -6,7 +6,7 @@ use Rattle.account_model.specs.declared.refusal.Refusal.TheVariants.{NoUser, Mul
 use Rattle.acct_text.specs.Bytes.{newline}
 use Rattle.account_model.specs.Answer.{Changed}
 use Rattle.account_model.proofs.Image.{image, image_passwd, image_group, image_gshadow}
-use Rattle.account_words.proofs.SettingsImage.{file}
+use Rattle.account_model.proofs.SettingsImage.{file}
 use Rattle.account_model.proofs.Commands.{words, lines, answer_to, on, plainly_on, changed, refused, with_ann, small}
 
 -- `userdel -P R ann`: the group of the user's name stays: carl has it

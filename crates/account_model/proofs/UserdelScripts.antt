@@ -3,20 +3,20 @@ use Rattle.std.proofs.Common.{ℕ, Bool, List, [], ◌∷◌}
 use Rattle.std.specs.Prelude.{Option, Some, None}
 use Rattle.std.specs.List.{AllByRecursion}
 use Rattle.acct_text.specs.declared.files.Files.{Files}
-use Rattle.account_formats.specs.declared.records.GroupRecord.{GroupRecord}
-use Rattle.account_formats.specs.declared.records.SubidRecord.{SubidRecord}
-use Rattle.account_formats.specs.Format.{is_named}
-use Rattle.account_formats.specs.Records.{passwd_format, shadow_format, group_format, gshadow_format, subid_format}
-use Rattle.account_formats.specs.RecordEdits.{IsWrittenEdit}
-use Rattle.account_formats.specs.Edits.{drop_where}
-use Rattle.account_formats.specs.Written.{IsPasswd, IsShadow, IsGroup, IsGshadow, IsSubid}
-use Rattle.account_formats.specs.Tables.{no_edits}
-use Rattle.account_formats.specs.WrittenScript.{IsWrittenScript}
-use Rattle.account_words.specs.Settings.{Setting}
-use Rattle.account_words.specs.Request.{Request, operand}
+use Rattle.account_model.specs.declared.records.GroupRecord.{GroupRecord}
+use Rattle.account_model.specs.declared.records.SubidRecord.{SubidRecord}
+use Rattle.account_model.specs.Format.{is_named}
+use Rattle.account_model.specs.Records.{passwd_format, shadow_format, group_format, gshadow_format, subid_format}
+use Rattle.account_model.specs.RecordEdits.{IsWrittenEdit}
+use Rattle.account_model.specs.Edits.{drop_where}
+use Rattle.account_model.specs.Written.{IsPasswd, IsShadow, IsGroup, IsGshadow, IsSubid}
+use Rattle.account_model.specs.Tables.{no_edits}
+use Rattle.account_model.specs.WrittenScript.{IsWrittenScript}
+use Rattle.account_model.specs.Settings.{Setting}
+use Rattle.account_model.specs.Request.{Request, operand}
 use Rattle.account_model.specs.Groupdel.{remove_group}
 use Rattle.account_model.specs.Userdel.{Kept, group_without, gshadow_without, remove_user, own_group, reason_to_keep, own_group_script, userdel}
-use Rattle.account_formats.proofs.HeldLaws.{passwd-holds, shadow-holds, group-holds, gshadow-holds, subid-holds, each-written, drop_where-written}
+use Rattle.account_model.proofs.HeldLaws.{passwd-holds, shadow-holds, group-holds, gshadow-holds, subid-holds, each-written, drop_where-written}
 use Rattle.account_model.proofs.WrittenScripts.{none-written, order-written, some-written}
 use Rattle.account_model.proofs.MemberLaws.{without-listed}
 use Rattle.account_model.proofs.GroupToolScripts.{remove-group-written}

@@ -6,16 +6,16 @@ use Rattle.std.specs.List.{AllByRecursion, cons_option}
 use Rattle.std.proofs.lemmas.Bool.{leb-true, ltb-true}
 use Rattle.acct_text.specs.Pieces.{cut_at}
 use Rattle.acct_text.proofs.NumberLaws.{some-inj, number-is}
-use Rattle.account_formats.specs.declared.records.SubidRecord.{SubidRecord}
-use Rattle.account_formats.specs.Text.{hyphen}
-use Rattle.account_formats.specs.Format.{is_named}
-use Rattle.account_formats.specs.Records.{subid_format, greatest_id, read_id, last_id}
-use Rattle.account_formats.specs.RecordEdits.{IsWrittenEdit}
-use Rattle.account_formats.specs.Written.{IsWritten, IsNameField, IsSubid}
-use Rattle.account_words.specs.SubidOwner.{is_owned, left_below, left_above, left_without}
+use Rattle.account_model.specs.declared.records.SubidRecord.{SubidRecord}
+use Rattle.account_model.specs.Text.{hyphen}
+use Rattle.account_model.specs.Format.{is_named}
+use Rattle.account_model.specs.Records.{subid_format, greatest_id, read_id, last_id}
+use Rattle.account_model.specs.RecordEdits.{IsWrittenEdit}
+use Rattle.account_model.specs.Written.{IsWritten, IsNameField, IsSubid}
+use Rattle.account_model.specs.SubidOwner.{is_owned, left_below, left_above, left_without}
 use Rattle.account_model.specs.UsermodRanges.{IdRange, range_of_ids, range_of_pieces, range_value, RangeOwner, RangeChange, rename_owner, cut_range, add_range, edits_before_adding, range_edits}
-use Rattle.account_formats.proofs.HeldLaws.{subid-holds, each_where-written}
-use Rattle.account_formats.proofs.ListLaws.{all-append}
+use Rattle.account_model.proofs.HeldLaws.{subid-holds, each_where-written}
+use Rattle.account_model.proofs.ListLaws.{all-append}
 
 -- two IDs in their order
 pub record IsOrdered (ids : IdRange) : Type 0 where

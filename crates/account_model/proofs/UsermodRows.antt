@@ -4,7 +4,7 @@ use Rattle.std.specs.Fmt.{digits}
 use Rattle.acct_text.specs.declared.Tab.TheVariants.{Passwd, Group, Subuid, Subgid}
 use Rattle.account_model.specs.declared.refusal.Refusal.TheVariants.{Meets, NoShadow, Multiple}
 use Rattle.account_model.proofs.Image.{image, image_passwd, image_shadow}
-use Rattle.account_words.proofs.SettingsImage.{file}
+use Rattle.account_model.proofs.SettingsImage.{file}
 use Rattle.account_model.proofs.Commands.{words, lines, on, plainly_on, changed, same, refused, image_group_with, image_gshadow_with, image_shadow_with, with_ann, small, nothing}
 
 -- `usermod -P R -v 165535-165540 ann`: the range of `-v` meets one that stands

@@ -9,29 +9,29 @@ use Rattle.acct_text.specs.declared.files.Files.{Files}
 use Rattle.acct_text.specs.declared.Tab.TheVariants.{Subuid, Subgid}
 use Rattle.acct_text.specs.Bytes.{newline, colon, is_empty}
 use Rattle.acct_text.proofs.NumberLaws.{number-is}
-use Rattle.account_formats.specs.declared.records.PasswdRecord.{PasswdRecord}
-use Rattle.account_formats.specs.declared.records.ShadowRecord.{ShadowRecord}
-use Rattle.account_formats.specs.declared.records.GroupRecord.{GroupRecord}
-use Rattle.account_formats.specs.declared.records.GshadowRecord.{GshadowRecord}
-use Rattle.account_formats.specs.Text.{exclamation, begins_with, is_listed, first_some}
-use Rattle.account_formats.specs.Format.{is_named}
-use Rattle.account_formats.specs.Names.{is_valid_name}
-use Rattle.account_formats.specs.Records.{passwd_format, shadow_format, group_format, gshadow_format, greatest_id, greatest_days, read_id}
-use Rattle.account_formats.specs.Written.{IsField, IsNameField, IsListed, IsDaysNumber, IsPasswd, IsShadow, IsGroup, IsGshadow}
-use Rattle.account_formats.specs.Tables.{no_edits}
-use Rattle.account_formats.specs.WrittenScript.{IsWrittenScript}
-use Rattle.account_words.specs.Values.{is_field, is_folder, is_shell, is_days_value, is_expiration_value, days_value, expiration_value}
+use Rattle.account_model.specs.declared.records.PasswdRecord.{PasswdRecord}
+use Rattle.account_model.specs.declared.records.ShadowRecord.{ShadowRecord}
+use Rattle.account_model.specs.declared.records.GroupRecord.{GroupRecord}
+use Rattle.account_model.specs.declared.records.GshadowRecord.{GshadowRecord}
+use Rattle.account_model.specs.Text.{exclamation, begins_with, is_listed, first_some}
+use Rattle.account_model.specs.Format.{is_named}
+use Rattle.account_model.specs.Names.{is_valid_name}
+use Rattle.account_model.specs.Records.{passwd_format, shadow_format, group_format, gshadow_format, greatest_id, greatest_days, read_id}
+use Rattle.account_model.specs.Written.{IsField, IsNameField, IsListed, IsDaysNumber, IsPasswd, IsShadow, IsGroup, IsGshadow}
+use Rattle.account_model.specs.Tables.{no_edits}
+use Rattle.account_model.specs.WrittenScript.{IsWrittenScript}
+use Rattle.account_model.specs.Values.{is_field, is_folder, is_shell, is_days_value, is_expiration_value, days_value, expiration_value}
 use Rattle.account_model.specs.GivenGroups.{given_groups, unknown_group, unknown_groups}
 use Rattle.account_model.specs.Hashes.{locked, demand_shadow, each_user_hash}
 use Rattle.account_model.specs.Members.{with_name, without_name}
-use Rattle.account_words.specs.Request.{Request, has_option, value_of, values_of, operand}
+use Rattle.account_model.specs.Request.{Request, has_option, value_of, values_of, operand}
 use Rattle.account_model.specs.Refusals.{bad_value, missing_user, bad_list_name}
 use Rattle.account_model.specs.UsermodHash.{sets_hash, sets_aging, locked_hash, unlocked_hash, relocked_hash, hash_after, hash_script}
 use Rattle.account_model.specs.UsermodRanges.{meeting_in}
 use Rattle.account_model.specs.Usermod.{new_name, changed_user, changed_shadow, is_listed_group, joined_or_left, members_after, changed_group, changed_gshadow, range_owner, subuid_change, subgid_change, taken_name, taken_uid, empty_hash, no_shadow, unlistable_name, usermod_checks, usermod_conflicts, usermod_refusals, change_user, usermod}
 use Rattle.account_model.proofs.DeedLaws.{first-none}
-use Rattle.account_formats.proofs.HeldLaws.{passwd-holds, shadow-holds, group-holds, gshadow-holds, each-written, each_where-written}
-use Rattle.account_words.proofs.FieldFacts.{is_field-is, is_folder-is, is_shell-is, valid-name, valid-listed}
+use Rattle.account_model.proofs.HeldLaws.{passwd-holds, shadow-holds, group-holds, gshadow-holds, each-written, each_where-written}
+use Rattle.account_model.proofs.FieldFacts.{is_field-is, is_folder-is, is_shell-is, valid-name, valid-listed}
 use Rattle.account_model.proofs.RefusalFacts.{text-kept, field-kept, good-value, user-named, user-listed}
 use Rattle.account_model.proofs.WrittenScripts.{none-written, order-written, either-written, locked-field, demand-shadow-written, user-hash-written}
 use Rattle.account_model.proofs.MemberLaws.{with-listed, without-listed, renamed-listed}

@@ -4,24 +4,24 @@ use Rattle.std.proofs.Common.{◌≡◌, ℕ, Bool, true, false, List, [], ◌�
 use Rattle.std.specs.Prelude.{Option, Some, None, is_some, if◌then◌else◌}
 use Rattle.std.specs.List.{AllByRecursion}
 use Rattle.acct_text.specs.declared.files.Files.{Files}
-use Rattle.account_formats.specs.declared.records.PasswdRecord.{PasswdRecord}
-use Rattle.account_formats.specs.declared.records.ShadowRecord.{ShadowRecord}
-use Rattle.account_formats.specs.declared.records.GroupRecord.{GroupRecord}
-use Rattle.account_formats.specs.declared.records.GshadowRecord.{GshadowRecord}
-use Rattle.account_formats.specs.Format.{is_named}
-use Rattle.account_formats.specs.Edits.{Edit, each_where}
-use Rattle.account_formats.specs.Records.{passwd_format, shadow_format, group_format, gshadow_format, hash_alone}
-use Rattle.account_formats.specs.RecordEdits.{IsWrittenEdit}
-use Rattle.account_formats.specs.Written.{IsField, IsListed, IsPasswd, IsShadow, IsGroup, IsGshadow}
-use Rattle.account_formats.specs.Tables.{Script, no_edits, followed_by, in_order}
-use Rattle.account_formats.specs.WrittenScript.{IsWrittenScript}
+use Rattle.account_model.specs.declared.records.PasswdRecord.{PasswdRecord}
+use Rattle.account_model.specs.declared.records.ShadowRecord.{ShadowRecord}
+use Rattle.account_model.specs.declared.records.GroupRecord.{GroupRecord}
+use Rattle.account_model.specs.declared.records.GshadowRecord.{GshadowRecord}
+use Rattle.account_model.specs.Format.{is_named}
+use Rattle.account_model.specs.Edits.{Edit, each_where}
+use Rattle.account_model.specs.Records.{passwd_format, shadow_format, group_format, gshadow_format, hash_alone}
+use Rattle.account_model.specs.RecordEdits.{IsWrittenEdit}
+use Rattle.account_model.specs.Written.{IsField, IsListed, IsPasswd, IsShadow, IsGroup, IsGshadow}
+use Rattle.account_model.specs.Tables.{Script, no_edits, followed_by, in_order}
+use Rattle.account_model.specs.WrittenScript.{IsWrittenScript}
 use Rattle.account_model.specs.Members.{with_name, without_name, each_members, add_to_group, remove_from_group}
 use Rattle.account_model.specs.Hashes.{elsewhere, locked, lacks_shadow, make_shadow, demand_shadow, each_password, each_user_hash, lacks_gshadow, gshadow_of, make_gshadow, demand_gshadow, set_password, write_group_hash, write_administrators, set_group_hash, set_administrators}
 use Rattle.account_model.specs.Users.{find_user, group_named}
-use Rattle.account_words.specs.Request.{Request, has_option, value_of}
+use Rattle.account_model.specs.Request.{Request, has_option, value_of}
 use Rattle.account_model.specs.Action.{with_option, with_flag}
-use Rattle.account_formats.proofs.HeldLaws.{passwd-holds, shadow-holds, group-holds, gshadow-holds, each_where-written}
-use Rattle.account_formats.proofs.ListLaws.{all-append}
+use Rattle.account_model.proofs.HeldLaws.{passwd-holds, shadow-holds, group-holds, gshadow-holds, each_where-written}
+use Rattle.account_model.proofs.ListLaws.{all-append}
 use Rattle.account_model.proofs.MemberLaws.{with-listed, without-listed}
 use Rattle.account_model.proofs.RefusalFacts.{user-held, group-held}
 

@@ -7,12 +7,12 @@ use Rattle.acct_text.specs.declared.Tab.TheVariants.{Passwd, Shadow, Group, Gsha
 use Rattle.acct_text.specs.declared.files.Files.{Files}
 use Rattle.account_model.specs.declared.refusal.Refusal.{Refusal}
 use Rattle.account_model.specs.declared.refusal.Refusal.TheVariants.{Multiple}
-use Rattle.account_formats.specs.Text.{first_some}
-use Rattle.account_formats.specs.Format.{Format}
-use Rattle.account_formats.specs.Edits.{Edit, first_multiple}
-use Rattle.account_formats.specs.Records.{passwd_format, shadow_format, group_format, gshadow_format}
-use Rattle.account_words.specs.Request.{Request, has_option, value_of}
-use Rattle.account_formats.specs.Tables.{Script, no_edits, files_after, passwd_records, shadow_records, group_records, gshadow_records}
+use Rattle.account_model.specs.Text.{first_some}
+use Rattle.account_model.specs.Format.{Format}
+use Rattle.account_model.specs.Edits.{Edit, first_multiple}
+use Rattle.account_model.specs.Records.{passwd_format, shadow_format, group_format, gshadow_format}
+use Rattle.account_model.specs.Request.{Request, has_option, value_of}
+use Rattle.account_model.specs.Tables.{Script, no_edits, files_after, passwd_records, shadow_records, group_records, gshadow_records}
 
 -- what a tool does on given files
 pub record Action : Type 0 where

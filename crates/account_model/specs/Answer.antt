@@ -1,18 +1,18 @@
 -- What a command answers on given files, and the new files that it makes.
 use Rattle.std.specs.List.{list_all}
 use Rattle.std.specs.Prelude.{map, ℕ, Bool, true, false, not, List, [], ◌∷◌, ◌++◌, codes, decimal, length, nat_le, Option, Some, None, option_map, unwrap_or, Result, Ok, Err, if◌then◌else◌}
-use Rattle.account_words.specs.declared.tool.Tool.{Tool}
-use Rattle.account_words.specs.declared.tool.Tool.TheVariants.{Batch}
+use Rattle.account_model.specs.declared.tool.Tool.{Tool}
+use Rattle.account_model.specs.declared.tool.Tool.TheVariants.{Batch}
 use Rattle.acct_text.specs.declared.Tab.{Tab}
 use Rattle.acct_text.specs.declared.Tab.TheVariants.{Passwd, Group}
 use Rattle.acct_text.specs.declared.files.Files.{Files}
 use Rattle.account_model.specs.declared.refusal.Refusal.{Refusal}
-use Rattle.account_formats.specs.Text.{first_some}
+use Rattle.account_model.specs.Text.{first_some}
 use Rattle.acct_text.specs.Files.{table_of}
-use Rattle.account_words.specs.BatchLines.{line_requests}
-use Rattle.account_words.specs.Settings.{Setting, settings_of, bad_line}
-use Rattle.account_words.specs.Request.{Request}
-use Rattle.account_words.specs.Words.{is_batch}
+use Rattle.account_model.specs.BatchLines.{line_requests}
+use Rattle.account_model.specs.Settings.{Setting, settings_of, bad_line}
+use Rattle.account_model.specs.Request.{Request}
+use Rattle.account_model.specs.Words.{is_batch}
 use Rattle.account_model.specs.Action.{Made, outcome_of}
 use Rattle.acct_text.specs.Tables.{table_name, all_tables}
 use Rattle.account_model.specs.Batch.{LineRefusal, Written, batch, written_by}

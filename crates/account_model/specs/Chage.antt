@@ -1,19 +1,19 @@
 -- chage LOGIN (chage(1)): changes or lists the aging of a user.
 use Rattle.std.specs.Prelude.{ℕ, ◌+◌, ◌==◌, nat_lt, if◌then◌else◌, List, [], ◌∷◌, ◌++◌, decimal, codes, Option, Some, None, is_none}
 use Rattle.acct_text.specs.declared.files.Files.{Files}
-use Rattle.account_formats.specs.declared.records.ShadowRecord.{ShadowRecord}
+use Rattle.account_model.specs.declared.records.ShadowRecord.{ShadowRecord}
 use Rattle.account_model.specs.declared.refusal.Refusal.{Refusal}
 use Rattle.account_model.specs.declared.refusal.Refusal.TheVariants.{NoShadow}
 use Rattle.acct_text.specs.Bytes.{newline}
-use Rattle.account_formats.specs.Format.{is_named}
-use Rattle.account_formats.specs.Edits.{each_where}
-use Rattle.account_formats.specs.Records.{shadow_format}
-use Rattle.account_formats.specs.Tables.{Script, no_edits, in_order}
-use Rattle.account_words.specs.Request.{Request, has_option, operand}
+use Rattle.account_model.specs.Format.{is_named}
+use Rattle.account_model.specs.Edits.{each_where}
+use Rattle.account_model.specs.Records.{shadow_format}
+use Rattle.account_model.specs.Tables.{Script, no_edits, in_order}
+use Rattle.account_model.specs.Request.{Request, has_option, operand}
 use Rattle.account_model.specs.Refusals.{refuse_if, bad_value, missing_user}
 use Rattle.account_model.specs.Action.{Action, changes, reports}
-use Rattle.account_words.specs.Dates.{print_day}
-use Rattle.account_words.specs.Values.{is_days_value, is_date_value, days_value, date_value, field_value}
+use Rattle.account_model.specs.Dates.{print_day}
+use Rattle.account_model.specs.Values.{is_days_value, is_date_value, days_value, date_value, field_value}
 use Rattle.account_model.specs.Hashes.{demand_shadow}
 use Rattle.account_model.specs.Users.{aging_of}
 

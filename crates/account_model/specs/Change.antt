@@ -1,11 +1,11 @@
 -- What each tool does: one function over all of them.
 use Rattle.std.specs.Prelude.{ℕ, List, []}
-use Rattle.account_words.specs.declared.tool.Tool.{Tool}
-use Rattle.account_words.specs.declared.tool.Tool.TheVariants.{Useradd, Usermod, Userdel, Groupadd, Groupmod, Groupdel, Gpasswd, Chage, Chpasswd, Pwck, Grpck, Getsubids, Batch}
+use Rattle.account_model.specs.declared.tool.Tool.{Tool}
+use Rattle.account_model.specs.declared.tool.Tool.TheVariants.{Useradd, Usermod, Userdel, Groupadd, Groupmod, Groupdel, Gpasswd, Chage, Chpasswd, Pwck, Grpck, Getsubids, Batch}
 use Rattle.acct_text.specs.declared.files.Files.{Files}
-use Rattle.account_words.specs.Settings.{Setting}
-use Rattle.account_words.specs.Request.{Request}
-use Rattle.account_formats.specs.Tables.{no_edits}
+use Rattle.account_model.specs.Settings.{Setting}
+use Rattle.account_model.specs.Request.{Request}
+use Rattle.account_model.specs.Tables.{no_edits}
 use Rattle.account_model.specs.Action.{Action, changes}
 use Rattle.account_model.specs.Useradd.{useradd}
 use Rattle.account_model.specs.Usermod.{usermod}

@@ -7,12 +7,12 @@ use Rattle.account_model.specs.declared.refusal.LineProblem.TheVariants.{NoColon
 use Rattle.account_model.specs.declared.refusal.Refusal.{Refusal}
 use Rattle.account_model.specs.declared.refusal.Refusal.TheVariants.{BadLine}
 use Rattle.acct_text.specs.Bytes.{colon}
-use Rattle.account_formats.specs.Text.{has_byte}
+use Rattle.account_model.specs.Text.{has_byte}
 use Rattle.acct_text.specs.Lines.{Line, lines_of}
-use Rattle.account_formats.specs.Format.{is_named}
-use Rattle.account_formats.specs.Edits.{each_where}
-use Rattle.account_formats.specs.Records.{shadow_format}
-use Rattle.account_formats.specs.Tables.{Script, no_edits, in_order}
+use Rattle.account_model.specs.Format.{is_named}
+use Rattle.account_model.specs.Edits.{each_where}
+use Rattle.account_model.specs.Records.{shadow_format}
+use Rattle.account_model.specs.Tables.{Script, no_edits, in_order}
 use Rattle.account_model.specs.Action.{Action, changes}
 use Rattle.account_model.specs.Users.{has_user}
 use Rattle.account_model.specs.Hashes.{demand_shadow, each_user_hash}

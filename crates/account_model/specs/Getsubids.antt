@@ -1,14 +1,14 @@
 -- getsubids NAME (getsubids(1)): lists the subordinate ranges of a user (subuid(5), subgid(5)).
 use Rattle.std.specs.Prelude.{ℕ, suc, if◌then◌else◌, List, [], ◌∷◌, ◌++◌, filter, decimal, codes}
 use Rattle.acct_text.specs.declared.files.Files.{Files}
-use Rattle.account_formats.specs.declared.records.SubidRecord.{SubidRecord}
+use Rattle.account_model.specs.declared.records.SubidRecord.{SubidRecord}
 use Rattle.account_model.specs.declared.refusal.Refusal.TheVariants.{NoRanges}
 use Rattle.acct_text.specs.Bytes.{newline, is_empty}
-use Rattle.account_formats.specs.Tables.{subuid_records, subgid_records}
-use Rattle.account_words.specs.Request.{Request, has_option, operand}
+use Rattle.account_model.specs.Tables.{subuid_records, subgid_records}
+use Rattle.account_model.specs.Request.{Request, has_option, operand}
 use Rattle.account_model.specs.Refusals.{refuse_if}
 use Rattle.account_model.specs.Action.{Action, reports}
-use Rattle.account_words.specs.SubidOwner.{is_owned}
+use Rattle.account_model.specs.SubidOwner.{is_owned}
 use Rattle.account_model.specs.Users.{uid_of}
 
 -- I: NAME START COUNT

@@ -1,15 +1,15 @@
 -- The groups that `-g` and `-G` name (useradd(8), usermod(8)): by GID where the word is all digits, else by name.
 use Rattle.std.specs.Prelude.{ℕ, Bool, ◌==◌, List, [], find, filter_map, Option, option_map, option_and_then, is_none, codes, if◌then◌else◌}
 use Rattle.acct_text.specs.declared.files.Files.{Files}
-use Rattle.account_formats.specs.declared.records.GroupRecord.{GroupRecord}
+use Rattle.account_model.specs.declared.records.GroupRecord.{GroupRecord}
 use Rattle.account_model.specs.declared.refusal.Refusal.{Refusal}
 use Rattle.account_model.specs.declared.refusal.Refusal.TheVariants.{NoGroup}
 use Rattle.acct_text.specs.Numbers.{is_digits}
-use Rattle.account_formats.specs.Format.{find_named}
-use Rattle.account_formats.specs.Records.{read_id, group_format}
-use Rattle.account_formats.specs.Tables.{group_records}
-use Rattle.account_words.specs.Values.{list_value, text_value}
-use Rattle.account_words.specs.Request.{Request, value_of}
+use Rattle.account_model.specs.Format.{find_named}
+use Rattle.account_model.specs.Records.{read_id, group_format}
+use Rattle.account_model.specs.Tables.{group_records}
+use Rattle.account_model.specs.Values.{list_value, text_value}
+use Rattle.account_model.specs.Request.{Request, value_of}
 use Rattle.account_model.specs.Refusals.{refuse_if, refuse_value}
 
 -- the first group with the GID

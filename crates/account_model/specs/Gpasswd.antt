@@ -3,12 +3,12 @@ use Rattle.std.specs.Prelude.{ℕ, Bool, ◌||◌, not, List, [], ◌∷◌, cod
 use Rattle.acct_text.specs.declared.files.Files.{Files}
 use Rattle.account_model.specs.declared.refusal.Refusal.{Refusal}
 use Rattle.account_model.specs.declared.refusal.Refusal.TheVariants.{NotMember}
-use Rattle.account_formats.specs.Text.{is_listed}
-use Rattle.account_formats.specs.Tables.{Script, in_order}
-use Rattle.account_words.specs.Values.{list_value}
+use Rattle.account_model.specs.Text.{is_listed}
+use Rattle.account_model.specs.Tables.{Script, in_order}
+use Rattle.account_model.specs.Values.{list_value}
 use Rattle.account_model.specs.Members.{each_members, add_to_group, remove_from_group}
 use Rattle.account_model.specs.Hashes.{locked, set_group_hash, set_administrators}
-use Rattle.account_words.specs.Request.{Request, operand}
+use Rattle.account_model.specs.Request.{Request, operand}
 use Rattle.account_model.specs.Refusals.{refuse_if, refuse_value, missing_group, missing_user, missing_users, bad_list_name}
 use Rattle.account_model.specs.Action.{Action, changes, with_option, with_flag}
 use Rattle.account_model.specs.Users.{group_named, gshadow_named}

@@ -3,12 +3,12 @@ use Rattle.std.specs.Prelude.{ℕ, Bool, ◌&&◌, not, List, [], ◌∷◌, ◌
 use Rattle.acct_text.specs.declared.files.Files.{Files}
 use Rattle.account_model.specs.declared.refusal.Refusal.{Refusal}
 use Rattle.account_model.specs.declared.refusal.Refusal.TheVariants.{GroupExists, GidInUse, NoFreeGid}
-use Rattle.account_formats.specs.Tables.{Script, no_edits}
-use Rattle.account_words.specs.Values.{is_field, given_gid}
-use Rattle.account_formats.specs.Records.{is_id}
-use Rattle.account_words.specs.Settings.{Setting}
-use Rattle.account_words.specs.Ids.{used_gids, is_used}
-use Rattle.account_words.specs.Request.{Request, has_option, operand}
+use Rattle.account_model.specs.Tables.{Script, no_edits}
+use Rattle.account_model.specs.Values.{is_field, given_gid}
+use Rattle.account_model.specs.Records.{is_id}
+use Rattle.account_model.specs.Settings.{Setting}
+use Rattle.account_model.specs.Ids.{used_gids, is_used}
+use Rattle.account_model.specs.Request.{Request, has_option, operand}
 use Rattle.account_model.specs.Refusals.{refuse_if, bad_value, bad_key, bad_name}
 use Rattle.account_model.specs.Action.{Action, changes}
 use Rattle.account_model.specs.NewAccount.{kind_of, settings_for, free_gid, new_hash, add_group}

@@ -1,15 +1,15 @@
 -- groupdel GROUP (groupdel(8)): removes a group.
 use Rattle.std.specs.Prelude.{ℕ, List, [], ◌∷◌, codes, find, ◌==◌, Option, None, option_map, option_and_then, if◌then◌else◌}
 use Rattle.acct_text.specs.declared.files.Files.{Files}
-use Rattle.account_formats.specs.declared.records.GroupRecord.{GroupRecord}
-use Rattle.account_formats.specs.declared.records.PasswdRecord.{PasswdRecord}
+use Rattle.account_model.specs.declared.records.GroupRecord.{GroupRecord}
+use Rattle.account_model.specs.declared.records.PasswdRecord.{PasswdRecord}
 use Rattle.account_model.specs.declared.refusal.Refusal.{Refusal}
 use Rattle.account_model.specs.declared.refusal.Refusal.TheVariants.{PrimaryGroup}
-use Rattle.account_formats.specs.Format.{is_named}
-use Rattle.account_formats.specs.Edits.{drop_where}
-use Rattle.account_formats.specs.Records.{group_format, gshadow_format}
-use Rattle.account_formats.specs.Tables.{Script, no_edits, passwd_records}
-use Rattle.account_words.specs.Request.{Request, has_option, operand}
+use Rattle.account_model.specs.Format.{is_named}
+use Rattle.account_model.specs.Edits.{drop_where}
+use Rattle.account_model.specs.Records.{group_format, gshadow_format}
+use Rattle.account_model.specs.Tables.{Script, no_edits, passwd_records}
+use Rattle.account_model.specs.Request.{Request, has_option, operand}
 use Rattle.account_model.specs.Refusals.{missing_group}
 use Rattle.account_model.specs.Action.{Action, changes}
 use Rattle.account_model.specs.Users.{group_named}

@@ -1,18 +1,18 @@
 -- groupmod GROUP (groupmod(8)): changes a group's GID, name or password.
 use Rattle.std.specs.Prelude.{ℕ, ◌&&◌, ◌||◌, not, List, [], ◌∷◌, codes, bytes_eq, ◌==◌, option_and_then, Option, Some, None, if◌then◌else◌}
 use Rattle.acct_text.specs.declared.files.Files.{Files}
-use Rattle.account_formats.specs.declared.records.GroupRecord.{GroupRecord}
+use Rattle.account_model.specs.declared.records.GroupRecord.{GroupRecord}
 use Rattle.account_model.specs.declared.refusal.Refusal.{Refusal}
 use Rattle.account_model.specs.declared.refusal.Refusal.TheVariants.{GroupExists, GidInUse}
-use Rattle.account_formats.specs.Format.{is_named}
-use Rattle.account_formats.specs.Edits.{each_where}
-use Rattle.account_formats.specs.Records.{group_format, gshadow_format, is_id}
-use Rattle.account_formats.specs.Tables.{Script, no_edits, in_order}
-use Rattle.account_formats.specs.Names.{is_valid_name}
-use Rattle.account_words.specs.Values.{is_field, given_gid}
-use Rattle.account_words.specs.Ids.{used_gids, is_used}
+use Rattle.account_model.specs.Format.{is_named}
+use Rattle.account_model.specs.Edits.{each_where}
+use Rattle.account_model.specs.Records.{group_format, gshadow_format, is_id}
+use Rattle.account_model.specs.Tables.{Script, no_edits, in_order}
+use Rattle.account_model.specs.Names.{is_valid_name}
+use Rattle.account_model.specs.Values.{is_field, given_gid}
+use Rattle.account_model.specs.Ids.{used_gids, is_used}
 use Rattle.account_model.specs.Hashes.{set_group_hash}
-use Rattle.account_words.specs.Request.{Request, has_option, operand}
+use Rattle.account_model.specs.Request.{Request, has_option, operand}
 use Rattle.account_model.specs.Refusals.{refuse_if, refuse_value, bad_value, missing_group}
 use Rattle.account_model.specs.Action.{Action, changes, with_option}
 use Rattle.account_model.specs.Users.{group_named, has_group, has_gshadow}

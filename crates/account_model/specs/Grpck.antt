@@ -3,14 +3,14 @@ use Rattle.std.specs.Prelude.{map, filter, ℕ, not, ◌&&◌, if◌then◌else�
 use Rattle.std.specs.List.{position_or_len}
 use Rattle.acct_text.specs.declared.files.Files.{Files}
 use Rattle.acct_text.specs.declared.Tab.TheVariants.{Group, Gshadow}
-use Rattle.account_formats.specs.declared.records.GroupRecord.{GroupRecord}
-use Rattle.account_formats.specs.declared.records.GshadowRecord.{GshadowRecord}
-use Rattle.account_formats.specs.Format.{is_named}
-use Rattle.account_formats.specs.Edits.{Arrange}
-use Rattle.account_formats.specs.Records.{group_format, gshadow_format}
-use Rattle.account_formats.specs.Tables.{Script, no_edits, table_after, table_records}
-use Rattle.account_formats.specs.Names.{is_valid_name}
-use Rattle.account_words.specs.Request.{Request, has_option}
+use Rattle.account_model.specs.declared.records.GroupRecord.{GroupRecord}
+use Rattle.account_model.specs.declared.records.GshadowRecord.{GshadowRecord}
+use Rattle.account_model.specs.Format.{is_named}
+use Rattle.account_model.specs.Edits.{Arrange}
+use Rattle.account_model.specs.Records.{group_format, gshadow_format}
+use Rattle.account_model.specs.Tables.{Script, no_edits, table_after, table_records}
+use Rattle.account_model.specs.Names.{is_valid_name}
+use Rattle.account_model.specs.Request.{Request, has_option}
 use Rattle.account_model.specs.Action.{Action, changes, reports}
 use Rattle.account_model.specs.Users.{has_user, has_group, has_gshadow}
 use Rattle.account_model.specs.Problems.{Problem, Located, InvalidGroupName, NoGshadowEntry, NoGroupEntry, UnknownAdministrator, UnknownMember, problem_if, duplicate_name, table_problems, problem_lines, report_status}

@@ -3,14 +3,14 @@
 -- isn't is made on demand.
 use Rattle.std.specs.Prelude.{ℕ, Bool, ◌&&◌, not, List, [], ◌∷◌, codes, is_some, Some, None, if◌then◌else◌}
 use Rattle.acct_text.specs.declared.files.Files.{Files}
-use Rattle.account_formats.specs.declared.records.PasswdRecord.{PasswdRecord}
-use Rattle.account_formats.specs.declared.records.GroupRecord.{GroupRecord}
-use Rattle.account_formats.specs.declared.records.GshadowRecord.{GshadowRecord}
-use Rattle.account_formats.specs.Format.{is_named}
-use Rattle.account_formats.specs.Edits.{Edit, each_where}
-use Rattle.account_formats.specs.Edits.Edit.{AddMissing}
-use Rattle.account_formats.specs.Records.{hash_alone, passwd_format, shadow_format, group_format, gshadow_format}
-use Rattle.account_formats.specs.Tables.{Script, no_edits, followed_by}
+use Rattle.account_model.specs.declared.records.PasswdRecord.{PasswdRecord}
+use Rattle.account_model.specs.declared.records.GroupRecord.{GroupRecord}
+use Rattle.account_model.specs.declared.records.GshadowRecord.{GshadowRecord}
+use Rattle.account_model.specs.Format.{is_named}
+use Rattle.account_model.specs.Edits.{Edit, each_where}
+use Rattle.account_model.specs.Edits.Edit.{AddMissing}
+use Rattle.account_model.specs.Records.{hash_alone, passwd_format, shadow_format, group_format, gshadow_format}
+use Rattle.account_model.specs.Tables.{Script, no_edits, followed_by}
 use Rattle.account_model.specs.Users.{has_shadow, has_gshadow, find_user, group_named}
 
 -- what stands in the password field where the hash stands in the other table

@@ -2,11 +2,11 @@
 use Rattle.std.specs.Prelude.{None, ◌≡◌, ℕ, ◌≤◌, List, Option, Some}
 use Rattle.acct_text.specs.declared.files.Files.{Files}
 use Rattle.acct_text.specs.Lines.{lines_of}
-use Rattle.account_formats.specs.Records.{passwd_format, shadow_format, group_format, gshadow_format, greatest_days}
-use Rattle.account_formats.specs.Text.{first_some}
-use Rattle.account_words.specs.Settings.{Setting}
-use Rattle.account_words.specs.Request.{Request}
-use Rattle.account_formats.specs.WrittenScript.{IsWrittenScript}
+use Rattle.account_model.specs.Records.{passwd_format, shadow_format, group_format, gshadow_format, greatest_days}
+use Rattle.account_model.specs.Text.{first_some}
+use Rattle.account_model.specs.Settings.{Setting}
+use Rattle.account_model.specs.Request.{Request}
+use Rattle.account_model.specs.WrittenScript.{IsWrittenScript}
 use Rattle.account_model.specs.Change.{action_of}
 use Rattle.account_model.specs.Problems.{IsReport}
 use Rattle.account_model.specs.Pwck.{user_problems, shadow_problems, passwd_report, shadow_report}

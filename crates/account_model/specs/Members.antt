@@ -1,12 +1,12 @@
 -- The members and administrators of groups (group(5), gshadow(5)).
 use Rattle.std.specs.Prelude.{ℕ, ◌&&◌, not, List, [], ◌∷◌, ◌++◌, filter, map, bytes_eq, if◌then◌else◌}
-use Rattle.account_formats.specs.declared.records.GroupRecord.{GroupRecord}
-use Rattle.account_formats.specs.declared.records.GshadowRecord.{GshadowRecord}
-use Rattle.account_formats.specs.Text.{is_listed}
-use Rattle.account_formats.specs.Format.{is_named}
-use Rattle.account_formats.specs.Edits.{each_where}
-use Rattle.account_formats.specs.Records.{group_format, gshadow_format}
-use Rattle.account_formats.specs.Tables.{Script, no_edits}
+use Rattle.account_model.specs.declared.records.GroupRecord.{GroupRecord}
+use Rattle.account_model.specs.declared.records.GshadowRecord.{GshadowRecord}
+use Rattle.account_model.specs.Text.{is_listed}
+use Rattle.account_model.specs.Format.{is_named}
+use Rattle.account_model.specs.Edits.{each_where}
+use Rattle.account_model.specs.Records.{group_format, gshadow_format}
+use Rattle.account_model.specs.Tables.{Script, no_edits}
 
 -- ---- Lists of names
 

@@ -1,18 +1,18 @@
 -- What useradd(8) and groupadd(8) share: the kind and the settings of a new account, its hash, and a new group.
 use Rattle.std.specs.Prelude.{ℕ, List, [], ◌∷◌, codes, is_some, Option, if◌then◌else◌}
 use Rattle.acct_text.specs.declared.files.Files.{Files}
-use Rattle.account_formats.specs.declared.records.GroupRecord.{GroupRecord}
-use Rattle.account_formats.specs.declared.records.GshadowRecord.{GshadowRecord}
-use Rattle.account_words.specs.declared.settings.Kind.{Kind}
-use Rattle.account_words.specs.declared.settings.Kind.TheVariants.{Regular, System}
-use Rattle.account_words.specs.declared.settings.IdSort.TheVariants.{Uid, Gid}
-use Rattle.account_formats.specs.Edits.Edit.{Add, Put}
-use Rattle.account_formats.specs.Tables.{Script, no_edits}
-use Rattle.account_words.specs.Values.{text_value}
-use Rattle.account_words.specs.Settings.{Setting, range, with_words}
-use Rattle.account_words.specs.Ids.{used_uids, used_gids, chosen_id}
+use Rattle.account_model.specs.declared.records.GroupRecord.{GroupRecord}
+use Rattle.account_model.specs.declared.records.GshadowRecord.{GshadowRecord}
+use Rattle.account_model.specs.declared.settings.Kind.{Kind}
+use Rattle.account_model.specs.declared.settings.Kind.TheVariants.{Regular, System}
+use Rattle.account_model.specs.declared.settings.IdSort.TheVariants.{Uid, Gid}
+use Rattle.account_model.specs.Edits.Edit.{Add, Put}
+use Rattle.account_model.specs.Tables.{Script, no_edits}
+use Rattle.account_model.specs.Values.{text_value}
+use Rattle.account_model.specs.Settings.{Setting, range, with_words}
+use Rattle.account_model.specs.Ids.{used_uids, used_gids, chosen_id}
 use Rattle.account_model.specs.Hashes.{elsewhere, locked}
-use Rattle.account_words.specs.Request.{Request, has_option, values_of}
+use Rattle.account_model.specs.Request.{Request, has_option, values_of}
 
 -- `-r` makes a system account
 abbrev pub kind_of : Request → Kind

@@ -4,20 +4,20 @@ use Rattle.std.specs.Prelude.{ℕ, Bool, not, ◌&&◌, ◌||◌, ◌==◌, List
 use Rattle.std.specs.List.{list_any}
 use Rattle.acct_text.specs.declared.files.Files.{Files}
 use Rattle.acct_text.specs.declared.Tab.{Tab}
-use Rattle.account_formats.specs.declared.records.SubidRecord.{SubidRecord}
+use Rattle.account_model.specs.declared.records.SubidRecord.{SubidRecord}
 use Rattle.account_model.specs.declared.new_user.Allotment.{Allotment}
 use Rattle.account_model.specs.declared.new_user.Allotment.TheVariants.{Unwanted, Full, Range}
-use Rattle.account_words.specs.declared.settings.Key.{Key}
-use Rattle.account_words.specs.declared.settings.Key.TheVariants.{SubUidMin, SubGidMin, SubUidMax, SubGidMax, SubUidCount, SubGidCount}
+use Rattle.account_model.specs.declared.settings.Key.{Key}
+use Rattle.account_model.specs.declared.settings.Key.TheVariants.{SubUidMin, SubGidMin, SubUidMax, SubGidMax, SubUidCount, SubGidCount}
 use Rattle.account_model.specs.declared.refusal.Refusal.{Refusal}
 use Rattle.account_model.specs.declared.refusal.Refusal.TheVariants.{NoGap}
-use Rattle.account_formats.specs.Edits.{Edit}
-use Rattle.account_formats.specs.Edits.Edit.{Add}
-use Rattle.account_formats.specs.Tables.{subuid_records, subgid_records}
-use Rattle.account_words.specs.Settings.{Setting, number}
-use Rattle.account_words.specs.FreeRange.{free_range}
-use Rattle.account_words.specs.Request.{Request, has_option, operand}
-use Rattle.account_words.specs.SubidOwner.{is_owned}
+use Rattle.account_model.specs.Edits.{Edit}
+use Rattle.account_model.specs.Edits.Edit.{Add}
+use Rattle.account_model.specs.Tables.{subuid_records, subgid_records}
+use Rattle.account_model.specs.Settings.{Setting, number}
+use Rattle.account_model.specs.FreeRange.{free_range}
+use Rattle.account_model.specs.Request.{Request, has_option, operand}
+use Rattle.account_model.specs.SubidOwner.{is_owned}
 
 -- a table of subordinate IDs, with the bounds and the count of a new range
 pub record Subordinate : Type 0 where

@@ -5,8 +5,8 @@ use Rattle.acct_text.specs.declared.Tab.{Tab}
 use Rattle.acct_text.specs.Bytes.{newline, is_empty}
 use Rattle.acct_text.specs.Lines.{Line, lines_of}
 use Rattle.acct_text.specs.Tables.{table_name}
-use Rattle.account_formats.specs.Text.{hyphen, begins_with}
-use Rattle.account_formats.specs.Format.{Format, records_of, has_named}
+use Rattle.account_model.specs.Text.{hyphen, begins_with}
+use Rattle.account_model.specs.Format.{Format, records_of, has_named}
 
 -- what is wrong with a line
 pub data Problem : Type 0 where

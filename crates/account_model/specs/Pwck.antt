@@ -3,14 +3,14 @@ use Rattle.std.specs.Prelude.{ℕ, Bool, false, not, ◌&&◌, ◌==◌, nat_lt,
 use Rattle.std.specs.List.{list_any, position_or_len}
 use Rattle.acct_text.specs.declared.files.Files.{Files}
 use Rattle.acct_text.specs.declared.Tab.TheVariants.{Passwd, Shadow}
-use Rattle.account_formats.specs.declared.records.PasswdRecord.{PasswdRecord}
-use Rattle.account_formats.specs.declared.records.ShadowRecord.{ShadowRecord}
-use Rattle.account_formats.specs.Format.{is_named}
-use Rattle.account_formats.specs.Edits.{Arrange}
-use Rattle.account_formats.specs.Records.{passwd_format, shadow_format}
-use Rattle.account_formats.specs.Tables.{Script, no_edits, table_after, table_records, group_records}
-use Rattle.account_formats.specs.Names.{is_valid_name}
-use Rattle.account_words.specs.Request.{Request, has_option}
+use Rattle.account_model.specs.declared.records.PasswdRecord.{PasswdRecord}
+use Rattle.account_model.specs.declared.records.ShadowRecord.{ShadowRecord}
+use Rattle.account_model.specs.Format.{is_named}
+use Rattle.account_model.specs.Edits.{Arrange}
+use Rattle.account_model.specs.Records.{passwd_format, shadow_format}
+use Rattle.account_model.specs.Tables.{Script, no_edits, table_after, table_records, group_records}
+use Rattle.account_model.specs.Names.{is_valid_name}
+use Rattle.account_model.specs.Request.{Request, has_option}
 use Rattle.account_model.specs.Action.{Action, changes, reports}
 use Rattle.account_model.specs.Hashes.{elsewhere}
 use Rattle.account_model.specs.Users.{has_user, has_shadow}

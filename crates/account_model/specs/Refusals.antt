@@ -3,10 +3,10 @@ use Rattle.std.specs.Prelude.{find, ℕ, Bool, not, List, codes, slice_index, Op
 use Rattle.account_model.specs.declared.refusal.Refusal.{Refusal}
 use Rattle.account_model.specs.declared.refusal.Refusal.TheVariants.{BadName, BadKey, BadValue, NoGroup, NoUser}
 use Rattle.acct_text.specs.declared.files.Files.{Files}
-use Rattle.account_formats.specs.Text.{comma, has_byte}
-use Rattle.account_formats.specs.Names.{is_valid_name}
-use Rattle.account_words.specs.Settings.{bad_word}
-use Rattle.account_words.specs.Request.{Request, value_of, values_of}
+use Rattle.account_model.specs.Text.{comma, has_byte}
+use Rattle.account_model.specs.Names.{is_valid_name}
+use Rattle.account_model.specs.Settings.{bad_word}
+use Rattle.account_model.specs.Request.{Request, value_of, values_of}
 use Rattle.account_model.specs.Users.{has_user, has_group}
 
 -- the refusal where the test holds

@@ -3,8 +3,8 @@
 -- pwck(8) and grpck(8). Where the pages of a tool differ between versions or name no number, the
 -- number is this profile's own.
 use Rattle.std.specs.Prelude.{ℕ}
-use Rattle.account_words.specs.declared.tool.Tool.{Tool}
-use Rattle.account_words.specs.declared.tool.Tool.TheVariants.{Useradd, Usermod, Userdel, Groupadd, Groupmod, Groupdel, Gpasswd, Chage, Pwck, Grpck}
+use Rattle.account_model.specs.declared.tool.Tool.{Tool}
+use Rattle.account_model.specs.declared.tool.Tool.TheVariants.{Useradd, Usermod, Userdel, Groupadd, Groupmod, Groupdel, Gpasswd, Chage, Pwck, Grpck}
 use Rattle.acct_text.specs.declared.Tab.{Tab}
 use Rattle.acct_text.specs.declared.Tab.TheVariants.{Group, Gshadow}
 use Rattle.account_model.specs.declared.refusal.Refusal.{Refusal}

@@ -2,23 +2,23 @@
 use Rattle.std.specs.Prelude.{ℕ, Bool, not, ◌&&◌, ◌||◌, if◌then◌else◌, List, [], ◌∷◌, ◌++◌, map, codes, Option, Some, None, is_some, is_none, option_map, option_and_then, unwrap_or}
 use Rattle.acct_text.specs.declared.files.Files.{Files}
 use Rattle.acct_text.specs.declared.Tab.TheVariants.{Subuid, Subgid}
-use Rattle.account_formats.specs.declared.records.PasswdRecord.{PasswdRecord}
-use Rattle.account_formats.specs.declared.records.ShadowRecord.{ShadowRecord}
+use Rattle.account_model.specs.declared.records.PasswdRecord.{PasswdRecord}
+use Rattle.account_model.specs.declared.records.ShadowRecord.{ShadowRecord}
 use Rattle.account_model.specs.declared.new_user.Plan.{Plan}
-use Rattle.account_words.specs.declared.settings.Key.{Key}
-use Rattle.account_words.specs.declared.settings.Key.TheVariants.{PassMinDays, PassMaxDays, PassWarnAge}
+use Rattle.account_model.specs.declared.settings.Key.{Key}
+use Rattle.account_model.specs.declared.settings.Key.TheVariants.{PassMinDays, PassMaxDays, PassWarnAge}
 use Rattle.account_model.specs.declared.refusal.Refusal.{Refusal}
 use Rattle.account_model.specs.declared.refusal.Refusal.TheVariants.{UserExists, GroupExists, UidInUse, NoFreeUid, NoFreeGid}
-use Rattle.account_formats.specs.Edits.Edit.{Add, Put}
-use Rattle.account_formats.specs.Tables.{Script, no_edits, in_order}
-use Rattle.account_words.specs.Values.{is_field, is_folder, is_shell, is_days_value, is_expiration_value, days_value, expiration_value, field_value, text_value, given_uid}
-use Rattle.account_formats.specs.Records.{is_id}
+use Rattle.account_model.specs.Edits.Edit.{Add, Put}
+use Rattle.account_model.specs.Tables.{Script, no_edits, in_order}
+use Rattle.account_model.specs.Values.{is_field, is_folder, is_shell, is_days_value, is_expiration_value, days_value, expiration_value, field_value, text_value, given_uid}
+use Rattle.account_model.specs.Records.{is_id}
 use Rattle.account_model.specs.GivenGroups.{given_group, given_groups, unknown_group, unknown_groups}
-use Rattle.account_words.specs.Settings.{Setting, number, user_groups}
-use Rattle.account_words.specs.Ids.{used_uids, used_gids, is_used}
+use Rattle.account_model.specs.Settings.{Setting, number, user_groups}
+use Rattle.account_model.specs.Ids.{used_uids, used_gids, is_used}
 use Rattle.account_model.specs.Members.{add_to_group}
 use Rattle.account_model.specs.Hashes.{elsewhere, locked}
-use Rattle.account_words.specs.Request.{Request, has_option, operand}
+use Rattle.account_model.specs.Request.{Request, has_option, operand}
 use Rattle.account_model.specs.Refusals.{refuse_if, bad_value, bad_key, bad_name}
 use Rattle.account_model.specs.Action.{Action, changes}
 use Rattle.account_model.specs.NewAccount.{kind_of, settings_for, free_uid, free_gid, add_group, new_hash}

@@ -2,19 +2,19 @@
 use Rattle.std.specs.Prelude.{ℕ, Bool, not, ◌==◌, if◌then◌else◌, List, [], ◌∷◌, ◌++◌, find, codes, Option, Some, None, option_map}
 use Rattle.std.specs.List.{list_any}
 use Rattle.acct_text.specs.declared.files.Files.{Files}
-use Rattle.account_formats.specs.declared.records.GroupRecord.{GroupRecord}
-use Rattle.account_formats.specs.declared.records.GshadowRecord.{GshadowRecord}
+use Rattle.account_model.specs.declared.records.GroupRecord.{GroupRecord}
+use Rattle.account_model.specs.declared.records.GshadowRecord.{GshadowRecord}
 use Rattle.acct_text.specs.Bytes.{is_empty}
-use Rattle.account_formats.specs.Format.{is_named}
-use Rattle.account_formats.specs.Edits.{each, drop_where}
-use Rattle.account_formats.specs.Records.{passwd_format, shadow_format}
-use Rattle.account_formats.specs.Tables.{Script, no_edits, in_order}
-use Rattle.account_words.specs.Settings.{Setting, user_groups}
+use Rattle.account_model.specs.Format.{is_named}
+use Rattle.account_model.specs.Edits.{each, drop_where}
+use Rattle.account_model.specs.Records.{passwd_format, shadow_format}
+use Rattle.account_model.specs.Tables.{Script, no_edits, in_order}
+use Rattle.account_model.specs.Settings.{Setting, user_groups}
 use Rattle.account_model.specs.Members.{without_name}
-use Rattle.account_words.specs.Request.{Request, has_option, operand}
+use Rattle.account_model.specs.Request.{Request, has_option, operand}
 use Rattle.account_model.specs.Refusals.{missing_user}
 use Rattle.account_model.specs.Action.{Action}
-use Rattle.account_words.specs.SubidOwner.{is_owned}
+use Rattle.account_model.specs.SubidOwner.{is_owned}
 use Rattle.account_model.specs.Users.{uid_of, other_users, group_named}
 use Rattle.account_model.specs.Groupdel.{remove_group}
 

@@ -2,25 +2,25 @@
 use Rattle.std.specs.Prelude.{ℕ, Bool, false, not, ◌&&◌, ◌||◌, ◌==◌, if◌then◌else◌, List, [], ◌∷◌, ◌++◌, map, bytes_eq, codes, Option, Some, None, is_none, option_map, option_and_then, unwrap_or}
 use Rattle.acct_text.specs.declared.files.Files.{Files}
 use Rattle.acct_text.specs.declared.Tab.TheVariants.{Subuid, Subgid}
-use Rattle.account_formats.specs.declared.records.PasswdRecord.{PasswdRecord}
-use Rattle.account_formats.specs.declared.records.ShadowRecord.{ShadowRecord}
-use Rattle.account_formats.specs.declared.records.GroupRecord.{GroupRecord}
-use Rattle.account_formats.specs.declared.records.GshadowRecord.{GshadowRecord}
+use Rattle.account_model.specs.declared.records.PasswdRecord.{PasswdRecord}
+use Rattle.account_model.specs.declared.records.ShadowRecord.{ShadowRecord}
+use Rattle.account_model.specs.declared.records.GroupRecord.{GroupRecord}
+use Rattle.account_model.specs.declared.records.GshadowRecord.{GshadowRecord}
 use Rattle.account_model.specs.declared.refusal.Refusal.{Refusal}
 use Rattle.account_model.specs.declared.refusal.Refusal.TheVariants.{UserExists, UidInUse, EmptyHash, NoShadow}
 use Rattle.acct_text.specs.Bytes.{is_empty}
-use Rattle.account_formats.specs.Text.{is_listed}
-use Rattle.account_formats.specs.Format.{is_named}
-use Rattle.account_formats.specs.Edits.{each, each_where}
-use Rattle.account_formats.specs.Records.{passwd_format, shadow_format, read_id, is_id}
-use Rattle.account_formats.specs.Tables.{Script, in_order}
-use Rattle.account_formats.specs.Names.{is_valid_name}
-use Rattle.account_words.specs.Values.{is_field, is_folder, is_shell, is_days_value, is_expiration_value, days_value, expiration_value, field_value, text_value, given_uid}
+use Rattle.account_model.specs.Text.{is_listed}
+use Rattle.account_model.specs.Format.{is_named}
+use Rattle.account_model.specs.Edits.{each, each_where}
+use Rattle.account_model.specs.Records.{passwd_format, shadow_format, read_id, is_id}
+use Rattle.account_model.specs.Tables.{Script, in_order}
+use Rattle.account_model.specs.Names.{is_valid_name}
+use Rattle.account_model.specs.Values.{is_field, is_folder, is_shell, is_days_value, is_expiration_value, days_value, expiration_value, field_value, text_value, given_uid}
 use Rattle.account_model.specs.GivenGroups.{given_group, given_groups, unknown_group, unknown_groups}
-use Rattle.account_words.specs.Ids.{used_uids, is_used}
+use Rattle.account_model.specs.Ids.{used_uids, is_used}
 use Rattle.account_model.specs.Members.{with_name, without_name, renamed_in}
 use Rattle.account_model.specs.Hashes.{locked}
-use Rattle.account_words.specs.Request.{Request, has_option, operand}
+use Rattle.account_model.specs.Request.{Request, has_option, operand}
 use Rattle.account_model.specs.Refusals.{refuse_if, bad_value, bad_values, missing_user, bad_list_name}
 use Rattle.account_model.specs.Action.{Action, changes}
 use Rattle.account_model.specs.Users.{has_user, has_shadow, uid_of, hash_of}

@@ -1,11 +1,11 @@
 -- The hash of a user whom usermod changes (usermod(8), `-p`, `-L` and `-U`; shadow(5)).
 use Rattle.std.specs.Prelude.{ℕ, Bool, ◌||◌, if◌then◌else◌, List, [], ◌∷◌, ◌++◌, drop, codes}
 use Rattle.acct_text.specs.declared.files.Files.{Files}
-use Rattle.account_formats.specs.Text.{begins_with, exclamation}
-use Rattle.account_formats.specs.Tables.{Script, no_edits, in_order}
-use Rattle.account_words.specs.Values.{text_value}
+use Rattle.account_model.specs.Text.{begins_with, exclamation}
+use Rattle.account_model.specs.Tables.{Script, no_edits, in_order}
+use Rattle.account_model.specs.Values.{text_value}
 use Rattle.account_model.specs.Hashes.{locked, demand_shadow, each_user_hash}
-use Rattle.account_words.specs.Request.{Request, has_option, operand}
+use Rattle.account_model.specs.Request.{Request, has_option, operand}
 
 -- `-p`, `-L` and `-U` set the hash, also where it stays as it is
 abbrev pub sets_hash : Request → Bool

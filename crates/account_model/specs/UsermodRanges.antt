@@ -2,19 +2,19 @@
 use Rattle.std.specs.Prelude.{ℕ, ◌+◌, ◌-◌, Bool, false, List, [], ◌∷◌, ◌++◌, map, filter_map, nat_le, Option, Some, None, is_some, option_and_then, if◌then◌else◌}
 use Rattle.std.specs.List.{position_from}
 use Rattle.acct_text.specs.declared.Tab.{Tab}
-use Rattle.account_formats.specs.declared.records.SubidRecord.{SubidRecord}
+use Rattle.account_model.specs.declared.records.SubidRecord.{SubidRecord}
 use Rattle.account_model.specs.declared.refusal.Refusal.{Refusal}
 use Rattle.account_model.specs.declared.refusal.Refusal.TheVariants.{Meets}
 use Rattle.acct_text.specs.Lines.{Line, lines_of}
 use Rattle.acct_text.specs.Pieces.{cut_at}
-use Rattle.account_formats.specs.Text.{hyphen}
-use Rattle.account_formats.specs.Format.{is_named}
-use Rattle.account_formats.specs.Edits.{Edit, each_where, edited_by}
-use Rattle.account_formats.specs.Edits.Edit.{Add, Become}
-use Rattle.account_formats.specs.Records.{subid_format, read_id}
-use Rattle.account_words.specs.FreeRange.{meets}
-use Rattle.account_words.specs.Request.{Request, values_of}
-use Rattle.account_words.specs.SubidOwner.{is_owned, left_without}
+use Rattle.account_model.specs.Text.{hyphen}
+use Rattle.account_model.specs.Format.{is_named}
+use Rattle.account_model.specs.Edits.{Edit, each_where, edited_by}
+use Rattle.account_model.specs.Edits.Edit.{Add, Become}
+use Rattle.account_model.specs.Records.{subid_format, read_id}
+use Rattle.account_model.specs.FreeRange.{meets}
+use Rattle.account_model.specs.Request.{Request, values_of}
+use Rattle.account_model.specs.SubidOwner.{is_owned, left_without}
 
 -- ---- The values
 

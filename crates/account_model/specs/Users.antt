@@ -2,13 +2,13 @@
 -- first record counts.
 use Rattle.std.specs.Prelude.{ℕ, Bool, not, List, [], filter, Option, is_some, option_map, unwrap_or}
 use Rattle.acct_text.specs.declared.files.Files.{Files}
-use Rattle.account_formats.specs.declared.records.PasswdRecord.{PasswdRecord}
-use Rattle.account_formats.specs.declared.records.ShadowRecord.{ShadowRecord}
-use Rattle.account_formats.specs.declared.records.GroupRecord.{GroupRecord}
-use Rattle.account_formats.specs.declared.records.GshadowRecord.{GshadowRecord}
-use Rattle.account_formats.specs.Format.{is_named, find_named}
-use Rattle.account_formats.specs.Records.{hash_alone, passwd_format, shadow_format, group_format, gshadow_format}
-use Rattle.account_formats.specs.Tables.{passwd_records, shadow_records, group_records, gshadow_records}
+use Rattle.account_model.specs.declared.records.PasswdRecord.{PasswdRecord}
+use Rattle.account_model.specs.declared.records.ShadowRecord.{ShadowRecord}
+use Rattle.account_model.specs.declared.records.GroupRecord.{GroupRecord}
+use Rattle.account_model.specs.declared.records.GshadowRecord.{GshadowRecord}
+use Rattle.account_model.specs.Format.{is_named, find_named}
+use Rattle.account_model.specs.Records.{hash_alone, passwd_format, shadow_format, group_format, gshadow_format}
+use Rattle.account_model.specs.Tables.{passwd_records, shadow_records, group_records, gshadow_records}
 
 -- the user's record in passwd
 abbrev pub find_user : List ℕ → Files → Option PasswdRecord

@@ -1,12 +1,12 @@
 -- The statuses and the texts of faults of words. The texts are this profile's own.
 use Rattle.std.specs.Prelude.{ℕ, List, [], ◌++◌, codes, decimal, Option, Some, None, unwrap_or, slice_get}
-use Rattle.account_words.specs.declared.tool.Tool.{Tool}
-use Rattle.account_words.specs.declared.tool.Tool.TheVariants.{Pwck, Grpck, Getsubids, Batch}
-use Rattle.account_words.specs.declared.word_fault.WordFault.{WordFault}
-use Rattle.account_words.specs.declared.word_fault.WordFault.TheVariants.{WordLimit, NoTool, UnknownTool, UnknownOption, MissingValue, UnexpectedValue, TooMany, NoPrefix, TooFew, Clash, Memory}
-use Rattle.account_words.specs.Options.{Word}
-use Rattle.account_words.specs.Words.{tool_named}
-use Rattle.account_words.specs.BatchLines.{FaultyLine}
+use Rattle.account_model.specs.declared.tool.Tool.{Tool}
+use Rattle.account_model.specs.declared.tool.Tool.TheVariants.{Pwck, Grpck, Getsubids, Batch}
+use Rattle.account_model.specs.declared.word_fault.WordFault.{WordFault}
+use Rattle.account_model.specs.declared.word_fault.WordFault.TheVariants.{WordLimit, NoTool, UnknownTool, UnknownOption, MissingValue, UnexpectedValue, TooMany, NoPrefix, TooFew, Clash, Memory}
+use Rattle.account_model.specs.Options.{Word}
+use Rattle.account_model.specs.Words.{tool_named}
+use Rattle.account_model.specs.BatchLines.{FaultyLine}
 use Rattle.account_model.specs.Messages.{line_by, line_text, message}
 use Rattle.account_model.specs.Statuses.{memory_status}
 

@@ -1,16 +1,46 @@
-//! What the twelve tools of the account suite mean, and a batch of their commands. `specs/` has one
-//! file for each tool beside its manual page and one for batches (`specs/Batch`), then the answer of a
-//! command on given files (`specs/Answer`); lines and edits stand in `account_formats`, words and
-//! settings in `account_words`. `src/` has the refusals and the plan of a new user, as code and
-//! definitions share them. Each law is a function that does nothing, and whose contract is the law.
+//! What the account suite means, for code and definitions: the lines of the six tables and what edits
+//! make of them (`specs/Records`, `specs/Edits`), what a command is told (`specs/Words`,
+//! `specs/Options`), what each tool does, a file beside its manual page, and a batch of commands
+//! (`specs/Batch`), and the answer of a command on given files (`specs/Answer`). `src/` has the data
+//! that code and definitions share. Each law is a function that does nothing, and whose contract is
+//! the law.
 #![tactic(auto)]
 
+mod choice_laws;
+mod date_laws;
+mod fault;
+mod given;
 mod laws;
+mod line_laws;
 mod new_user;
+mod records;
 mod refusal;
 mod renaming_laws;
+mod settings;
+mod subid_laws;
+mod tool;
+mod word_fault;
+mod word_laws;
+mod words_of;
 
+pub use choice_laws::{ids_are_chosen, ranges_are_found};
+pub use date_laws::{days_are_counted, days_have_dates};
+pub use fault::LineFault;
+pub use given::Given;
 pub use laws::{deeds_are_changes, reports_are_whole, tools_are_written};
+pub use line_laws::{
+    faults_are_found, no_edits_no_change, other_text_stays, records_are_found, records_read_back,
+    tables_are_edited, touched_lines_are_met, untouched_lines_stay,
+};
 pub use new_user::{Allotment, Plan};
+pub use records::{
+    GREATEST_DAYS, GREATEST_ID, GroupRecord, GshadowRecord, PasswdRecord, ShadowRecord, SubidRecord,
+};
 pub use refusal::{LineProblem, Refusal};
 pub use renaming_laws::lists_are_renamed;
+pub use settings::{IdSort, Key, Kind};
+pub use subid_laws::ranges_are_cut;
+pub use tool::Tool;
+pub use word_fault::WordFault;
+pub use word_laws::words_have_one_reading;
+pub use words_of::WordsOf;

@@ -1,6 +1,6 @@
 //! A law of lists in which a user was renamed.
 ghost use Rattle.std.specs.Prelude.{◌≡◌, ◌≢◌, ℕ, true, false, List, ◌∷◌, ◌++◌};
-ghost use Rattle.account_formats.specs.Text.{is_listed};
+ghost use Rattle.account_model.specs.Text.{is_listed};
 ghost use Rattle.account_model.specs.Members.{renamed_in};
 
 /// In a list with the old name the old name is gone after the renaming, the new one stands once,

@@ -11,9 +11,9 @@ use Rattle.jiff.proofs.Family.{days_from_civil-day, days_from_civil-next_month, 
 use Rattle.jiff.proofs.SpanFacts.{signed_arith}
 use Rattle.jiff.proofs.OnLiterals.{jiff_on_literals}
 use Rattle.jiff_core.specs.Calendar.{days_from_civil}
-use Rattle.account_words.specs.Dates.{Date, days_in_month, is_date, IsCounted, next_date, day_of, date_of}
-use Rattle.account_words.proofs.DatesLaws.{AreDateParts, date_parts, all_four, date_of_is_date, day_of_date_of, date_of_day_of}
-use Rattle.account_words.proofs.CountedLaws.{next-counted, days-count}
+use Rattle.account_model.specs.Dates.{Date, days_in_month, is_date, IsCounted, next_date, day_of, date_of}
+use Rattle.account_model.proofs.DatesLaws.{AreDateParts, date_parts, all_four, date_of_is_date, day_of_date_of, date_of_day_of}
+use Rattle.account_model.proofs.CountedLaws.{next-counted, days-count}
 
 -- the day that `jiff` counts for a date
 abbrev pub civil_day : Date → ℤ

@@ -10,9 +10,9 @@ use Rattle.acct_text.specs.Pieces.{cut_at, Lacks}
 use Rattle.acct_text.specs.Numbers.{is_digits}
 use Rattle.acct_text.proofs.Cut.{cut_at-is, cut-one}
 use Rattle.acct_text.proofs.NumberLaws.{is_digits-numeral}
-use Rattle.account_formats.specs.Text.{hyphen}
-use Rattle.account_words.specs.Dates.{are_digits, written_date, day_of_written, read_date_pieces, no_day_shape}
-use Rattle.account_words.proofs.DateTextLaws.{both_true}
+use Rattle.account_model.specs.Text.{hyphen}
+use Rattle.account_model.specs.Dates.{are_digits, written_date, day_of_written, read_date_pieces, no_day_shape}
+use Rattle.account_model.proofs.DateTextLaws.{both_true}
 use Rattle.acct_dates.specs.Days.{answered}
 use Rattle.acct_dates.specs.declared.read.DateFault.{DateFault}
 use Rattle.acct_dates.specs.declared.read.DateFault.TheVariants.{Shape}

@@ -12,9 +12,9 @@ use Rattle.jiff.specs.Types.{Date as JiffDate, Span, Day}
 use Rattle.jiff.proofs.Family.{epoch_day_injective}
 use Rattle.jiff.proofs.SpanFacts.{signed_arith, date_add-days, can_add-days}
 use Rattle.acct_text.specs.Limits.{last_day}
-use Rattle.account_words.specs.Dates.{Date, days_in_month, IsCounted, date_of, two_digits, print_date, print_day}
-use Rattle.account_words.proofs.DatesLaws.{AreDateParts, date_parts, date_of_is_date}
-use Rattle.account_words.proofs.DateTextLaws.{all_below, passes_below, short_month, year_has_four_digits}
+use Rattle.account_model.specs.Dates.{Date, days_in_month, IsCounted, date_of, two_digits, print_date, print_day}
+use Rattle.account_model.proofs.DatesLaws.{AreDateParts, date_parts, date_of_is_date}
+use Rattle.account_model.proofs.DateTextLaws.{all_below, passes_below, short_month, year_has_four_digits}
 use Rattle.acct_dates.proofs.CalendarLaws.{civil_day, first-day, day-of-date, date-is}
 
 -- ---- The texts of numbers, as `jiff` writes them

@@ -13,12 +13,12 @@ use Rattle.jiff.specs.Types.{Date as JiffDate}
 use Rattle.acct_text.specs.Pieces.{cut_at}
 use Rattle.acct_text.proofs.Digits.{all_digits}
 use Rattle.acct_text.specs.declared.numbers.NumberFault.TheVariants.{Empty, NotDigit, TooLarge}
-use Rattle.account_formats.specs.Text.{hyphen}
-use Rattle.account_formats.specs.Records.{greatest_days}
+use Rattle.account_model.specs.Text.{hyphen}
+use Rattle.account_model.specs.Records.{greatest_days}
 use Rattle.acct_text.specs.Numbers.{first_other, IsNumber, is_digits, number_of, number_within, number_fault}
 use Rattle.acct_text.specs.declared.numbers.NumberFault.{NumberFault}
 use Rattle.acct_text.proofs.NumberLaws.{is_digits-numeral, is_digits-true, number-is, number_of-within, number_of-past, number_of-other}
-use Rattle.account_words.specs.Dates.{Date, is_date, IsCounted, day_of, day_of_written, read_day, read_date_pieces}
+use Rattle.account_model.specs.Dates.{Date, is_date, IsCounted, day_of, day_of_written, read_day, read_date_pieces}
 use Rattle.acct_dates.specs.declared.read.DateFault.{DateFault}
 use Rattle.acct_dates.specs.declared.read.DateFault.TheVariants.{Shape, OutOfRange}
 use Rattle.acct_dates.specs.Days.{answered}

@@ -1,6 +1,6 @@
 -- What the code answers for a text as a day (chage(1), `-d` and `-E`).
 use Rattle.std.specs.Prelude.{ℕ, Option, Some, None, Result, Ok, Err, ℤ, pos, negsuc}
-use Rattle.account_words.specs.Dates.{Date, DayFault, no_day_shape, no_such_day, day_out_of_range}
+use Rattle.account_model.specs.Dates.{Date, DayFault, no_day_shape, no_such_day, day_out_of_range}
 use Rattle.acct_dates.specs.declared.read.DateFault.{DateFault}
 use Rattle.acct_dates.specs.declared.read.DateFault.TheVariants.{Shape, NoSuchDay, OutOfRange}
 use Rattle.acct_dates.specs.declared.read.WrittenDate.{WrittenDate}

@@ -1,6 +1,6 @@
 // A day as a text: a date, and behind the last of them a number (chage(1), `-l`).
 ghost use Rattle.std.specs.Prelude.{◌≡◌, ◌<◌, IfOk, MatchOption};
-ghost use Rattle.account_words.specs.Dates.{print_day as text_of_day};
+ghost use Rattle.account_model.specs.Dates.{print_day as text_of_day};
 ghost use Rattle.acct_text.specs.Limits.{last_day};
 ghost use Rattle.jiff.specs.Words.{date_text};
 

@@ -3,11 +3,11 @@
 ghost use Rattle.std.specs.Prelude.{◌≡◌, ◌<◌, ◌≤◌, ◌^◌, if◌then◌else◌, IfOk};
 ghost use Rattle.std.specs.Str.Parse.{digits_value};
 ghost use Rattle.acct_text.specs.Pieces.{cut_at};
-ghost use Rattle.account_formats.specs.Text.{hyphen};
-ghost use Rattle.account_words.specs.Dates.{are_digits, day_of_written, read_date_pieces, read_day as day_of_text};
+ghost use Rattle.account_model.specs.Text.{hyphen};
+ghost use Rattle.account_model.specs.Dates.{are_digits, day_of_written, read_date_pieces, read_day as day_of_text};
 ghost use Rattle.acct_dates.specs.Days.{answered, date_of};
 
-use account_formats::GREATEST_DAYS;
+use account_model::GREATEST_DAYS;
 use acct_text::{NumberFault, cut_once, read_decimal};
 use jiff::civil::Date;
 use thiserror::Error;

@@ -5,12 +5,12 @@
 use Rattle.std.proofs.Common.{◌≡◌, ◌∙◌, ℕ, Bool, true, false, List, [], ◌∷◌, ◌++◌, refl, sym, ap, Option, Some, None}
 use Rattle.std.specs.Prelude.{is_some, map, if◌then◌else◌}
 use Rattle.std.specs.Option.{option_or}
-use Rattle.account_formats.specs.declared.fault.LineFault.{LineFault}
-use Rattle.account_formats.specs.declared.fault.LineFault.TheVariants.{BadNumber, EmptyName}
+use Rattle.account_model.specs.declared.fault.LineFault.{LineFault}
+use Rattle.account_model.specs.declared.fault.LineFault.TheVariants.{BadNumber, EmptyName}
 use Rattle.acct_text.specs.Bytes.{is_empty}
 use Rattle.acct_text.specs.Pieces.{fields_of}
-use Rattle.account_formats.specs.Text.{first_some}
-use Rattle.account_formats.specs.Faults.{NumberField, field_at, field_fault, fields_fault, name_fault}
+use Rattle.account_model.specs.Text.{first_some}
+use Rattle.account_model.specs.Faults.{NumberField, field_at, field_fault, fields_fault, name_fault}
 use Rattle.acct_lines.specs.Fields.{IsRead}
 use Rattle.acct_lines.proofs.Taken.{AreTakenOf}
 

@@ -9,8 +9,8 @@ use Rattle.std.proofs.lemmas.Slice.Eq.{bytes_eq-Decides, starts_is}
 use Rattle.acct_text.specs.Bytes.{colon}
 use Rattle.acct_text.specs.Pieces.{fields_of}
 use Rattle.acct_text.proofs.Cut.{cut_at-is}
-use Rattle.account_formats.specs.Faults.{field_at}
-use Rattle.account_formats.specs.Naming.{first_field}
+use Rattle.account_model.specs.Faults.{field_at}
+use Rattle.account_model.specs.Naming.{first_field}
 
 -- a text of fields begins with the first
 joined-first :

@@ -2,12 +2,12 @@
 use Rattle.std.proofs.Common.{◌≡◌, ℕ, List, [], ◌∷◌, length, refl, sym, ◌∙◌, ap, arith, Option, Some, None}
 use Rattle.std.specs.Prelude.{option_map, if◌then◌else◌}
 use Rattle.std.specs.Option.{option_or}
-use Rattle.account_formats.specs.declared.fault.LineFault.{LineFault}
-use Rattle.account_formats.specs.declared.fault.LineFault.TheVariants.{BadNumber}
-use Rattle.account_formats.specs.declared.records.GroupRecord.{GroupRecord}
+use Rattle.account_model.specs.declared.fault.LineFault.{LineFault}
+use Rattle.account_model.specs.declared.fault.LineFault.TheVariants.{BadNumber}
+use Rattle.account_model.specs.declared.records.GroupRecord.{GroupRecord}
 use Rattle.acct_text.specs.Bytes.{is_empty}
-use Rattle.account_formats.specs.Records.{read_id, read_names, group_of_fields, group_format}
-use Rattle.account_formats.specs.Faults.{field_at, name_fault}
+use Rattle.account_model.specs.Records.{read_id, read_names, group_of_fields, group_format}
+use Rattle.account_model.specs.Faults.{field_at, name_fault}
 use Rattle.acct_lines.specs.Fields.{IsRead}
 use Rattle.acct_lines.proofs.FirstFault.{named-clear, read-clear}
 use Rattle.acct_lines.proofs.Taken.{AreTakenOf}

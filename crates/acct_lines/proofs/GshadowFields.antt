@@ -3,11 +3,11 @@
 use Rattle.std.proofs.Common.{◌≡◌, ℕ, List, [], ◌∷◌, length, refl, sym, ◌∙◌, ap, arith, Option, Some, None}
 use Rattle.std.specs.Prelude.{if◌then◌else◌}
 use Rattle.std.specs.Option.{option_or}
-use Rattle.account_formats.specs.declared.fault.LineFault.{LineFault}
-use Rattle.account_formats.specs.declared.records.GshadowRecord.{GshadowRecord}
+use Rattle.account_model.specs.declared.fault.LineFault.{LineFault}
+use Rattle.account_model.specs.declared.records.GshadowRecord.{GshadowRecord}
 use Rattle.acct_text.specs.Bytes.{is_empty}
-use Rattle.account_formats.specs.Records.{read_names, gshadow_of_fields, gshadow_format}
-use Rattle.account_formats.specs.Faults.{field_at, name_fault}
+use Rattle.account_model.specs.Records.{read_names, gshadow_of_fields, gshadow_format}
+use Rattle.account_model.specs.Faults.{field_at, name_fault}
 use Rattle.acct_lines.proofs.FirstFault.{named-clear}
 use Rattle.acct_lines.proofs.Taken.{AreTakenOf}
 

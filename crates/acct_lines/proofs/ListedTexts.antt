@@ -4,8 +4,8 @@
 use Rattle.std.proofs.Common.{◌≡◌, ℕ, false, List, [], ◌∷◌, ◌++◌, refl, sym, ◌∙◌, ap, append_assoc, append-nil}
 use Rattle.std.specs.Prelude.{flat_map, fold}
 use Rattle.acct_text.specs.Bytes.{is_empty}
-use Rattle.account_formats.specs.Text.{comma, nonempty}
-use Rattle.account_formats.specs.Records.{print_names}
+use Rattle.account_model.specs.Text.{comma, nonempty}
+use Rattle.account_model.specs.Records.{print_names}
 use Rattle.acct_lines.specs.Listed.{listed_behind}
 
 -- names with a comma in front of each

@@ -3,7 +3,7 @@
 use Rattle.std.proofs.Common.{◌≡◌, ℕ, Bool, true, false, List, ◌∷◌, [], ◌++◌, refl, append_assoc, ap, sym, ◌∙◌}
 use Rattle.std.proofs.lemmas.List.{append-nil}
 use Rattle.std.specs.Prelude.{◌||◌, bytes_eq}
-use Rattle.account_formats.specs.Text.{is_listed, nonempty}
+use Rattle.account_model.specs.Text.{is_listed, nonempty}
 
 -- a piece that is pushed where it isn't empty moves from the pieces to the names
 pub pushed-piece :

@@ -1,11 +1,11 @@
 -- Claim: what was read of seven fields is the record of passwd(5) that the line is (`passwd-read`).
 use Rattle.std.proofs.Common.{◌≡◌, ℕ, List, [], ◌∷◌, length, refl, sym, ◌∙◌, ap, arith, Option, Some, None}
 use Rattle.std.specs.Option.{option_or}
-use Rattle.account_formats.specs.declared.fault.LineFault.{LineFault}
-use Rattle.account_formats.specs.declared.fault.LineFault.TheVariants.{BadNumber}
-use Rattle.account_formats.specs.declared.records.PasswdRecord.{PasswdRecord}
-use Rattle.account_formats.specs.Records.{read_id, passwd_of_fields, passwd_with, passwd_format}
-use Rattle.account_formats.specs.Faults.{field_at, name_fault}
+use Rattle.account_model.specs.declared.fault.LineFault.{LineFault}
+use Rattle.account_model.specs.declared.fault.LineFault.TheVariants.{BadNumber}
+use Rattle.account_model.specs.declared.records.PasswdRecord.{PasswdRecord}
+use Rattle.account_model.specs.Records.{read_id, passwd_of_fields, passwd_with, passwd_format}
+use Rattle.account_model.specs.Faults.{field_at, name_fault}
 use Rattle.acct_lines.specs.Fields.{IsRead}
 use Rattle.acct_lines.proofs.FirstFault.{named-clear, read-clear}
 use Rattle.acct_lines.proofs.Taken.{AreTakenOf}

@@ -3,9 +3,9 @@
 use Rattle.std.proofs.Common.{◌≡◌, ℕ, true, List, ◌∙◌, ap, Option, Result, Ok, Err, Some, None, refl, sym, subst}
 use Rattle.std.specs.Result.{result_err}
 use Rattle.std.specs.Prelude.{IsErrAnd, MatchResult, is_some, is_none}
-use Rattle.account_formats.specs.declared.fault.LineFault.{LineFault}
-use Rattle.account_formats.specs.Format.{Format}
-use Rattle.account_formats.specs.LineFormat.{IsLineFormat}
+use Rattle.account_model.specs.declared.fault.LineFault.{LineFault}
+use Rattle.account_model.specs.Format.{Format}
+use Rattle.account_model.specs.LineFormat.{IsLineFormat}
 
 -- what `?` passes on tells the first fault
 pub told-first :

@@ -1,11 +1,11 @@
 -- Claim: what was read of nine fields is the record of shadow(5) that the line is (`shadow-read`).
 use Rattle.std.proofs.Common.{◌≡◌, ℕ, List, [], ◌∷◌, length, refl, sym, ◌∙◌, ap, arith, Option, Some, None}
 use Rattle.std.specs.Option.{option_or}
-use Rattle.account_formats.specs.declared.fault.LineFault.{LineFault}
-use Rattle.account_formats.specs.declared.fault.LineFault.TheVariants.{BadNumber}
-use Rattle.account_formats.specs.declared.records.ShadowRecord.{ShadowRecord}
-use Rattle.account_formats.specs.Records.{read_days, shadow_of_fields, shadow_with, shadow_format}
-use Rattle.account_formats.specs.Faults.{field_at, name_fault}
+use Rattle.account_model.specs.declared.fault.LineFault.{LineFault}
+use Rattle.account_model.specs.declared.fault.LineFault.TheVariants.{BadNumber}
+use Rattle.account_model.specs.declared.records.ShadowRecord.{ShadowRecord}
+use Rattle.account_model.specs.Records.{read_days, shadow_of_fields, shadow_with, shadow_format}
+use Rattle.account_model.specs.Faults.{field_at, name_fault}
 use Rattle.acct_lines.specs.Fields.{IsRead}
 use Rattle.acct_lines.proofs.FirstFault.{named-clear, read-clear}
 use Rattle.acct_lines.proofs.Taken.{AreTakenOf}

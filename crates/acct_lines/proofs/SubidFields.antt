@@ -1,11 +1,11 @@
 -- Claim: what was read of three fields is the record of subuid(5) that the line is (`subid-read`).
 use Rattle.std.proofs.Common.{◌≡◌, ℕ, List, [], ◌∷◌, length, refl, sym, ◌∙◌, ap, arith, Option, Some, None, true, false}
 use Rattle.std.specs.Option.{option_or}
-use Rattle.account_formats.specs.declared.fault.LineFault.{LineFault}
-use Rattle.account_formats.specs.declared.fault.LineFault.TheVariants.{BadNumber, BadRange}
+use Rattle.account_model.specs.declared.fault.LineFault.{LineFault}
+use Rattle.account_model.specs.declared.fault.LineFault.TheVariants.{BadNumber, BadRange}
 use Rattle.acct_text.specs.Pieces.{fields_of}
-use Rattle.account_formats.specs.Records.{read_id, read_count, is_bad_range, subid_of_fields, subid_with, subid_format}
-use Rattle.account_formats.specs.Faults.{field_at, name_fault, range_fault}
+use Rattle.account_model.specs.Records.{read_id, read_count, is_bad_range, subid_of_fields, subid_with, subid_format}
+use Rattle.account_model.specs.Faults.{field_at, name_fault, range_fault}
 use Rattle.acct_lines.specs.Fields.{IsRead}
 use Rattle.acct_lines.proofs.FirstFault.{named-clear, read-clear}
 use Rattle.acct_lines.proofs.Taken.{AreTakenOf}

@@ -5,9 +5,9 @@
 use Rattle.std.proofs.Common.{◌≡◌, ℕ, List, [], ◌∷◌, ◌++◌, length, Option, Some, None, refl, sym, subst, ◌∙◌, arith}
 use Rattle.std.specs.Prelude.{MatchOption, map}
 use Rattle.std.proofs.lemmas.Bool.{eq-eqb, ne_eqb}
-use Rattle.account_formats.specs.declared.fault.LineFault.{LineFault}
-use Rattle.account_formats.specs.Faults.{NumberField, field_fault, fields_fault, name_fault}
-use Rattle.account_formats.specs.Text.{first_some}
+use Rattle.account_model.specs.declared.fault.LineFault.{LineFault}
+use Rattle.account_model.specs.Faults.{NumberField, field_fault, fields_fault, name_fault}
+use Rattle.account_model.specs.Text.{first_some}
 use Rattle.acct_text.specs.Bytes.{colon}
 use Rattle.acct_text.specs.Pieces.{fields_of}
 use Rattle.acct_lines.specs.declared.fields.Fields.{Fields}

@@ -1,8 +1,8 @@
 -- The fields of a line as they are taken and read: so many as the table has, and no fault in them.
 use Rattle.std.specs.Prelude.{◌≡◌, ◌≢◌, ℕ, List, [], ◌∷◌, length, Option, None, Some, is_some, if◌then◌else◌}
 use Rattle.std.specs.Option.{option_or}
-use Rattle.account_formats.specs.declared.fault.LineFault.{LineFault}
-use Rattle.account_formats.specs.declared.fault.LineFault.TheVariants.{FieldCount}
+use Rattle.account_model.specs.declared.fault.LineFault.{LineFault}
+use Rattle.account_model.specs.declared.fault.LineFault.TheVariants.{FieldCount}
 use Rattle.acct_text.specs.Pieces.{fields_of}
 use Rattle.acct_lines.specs.declared.fields.Fields.{Fields}
 use Rattle.acct_lines.specs.declared.fields.Fields.TheVariants.{Left, Taken, Missing}

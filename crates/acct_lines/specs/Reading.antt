@@ -1,6 +1,6 @@
 -- What a reading of a line answers: what was read, the fault of the line, or want of memory.
 use Rattle.std.specs.Prelude.{Result, Ok, Err, ⊤}
-use Rattle.account_formats.specs.declared.fault.LineFault.{LineFault}
+use Rattle.account_model.specs.declared.fault.LineFault.{LineFault}
 use Rattle.acct_lines.specs.declared.record.ReadFault.{ReadFault}
 use Rattle.acct_lines.specs.declared.record.ReadFault.TheVariants.{Line, Memory}
 

@@ -1,12 +1,12 @@
 -- The record that a line shows which is read where it stands: its texts are those of the line, and
 -- its lists are the names between commas (passwd(5), shadow(5), group(5), gshadow(5), subuid(5),
 -- subgid(5)).
-use Rattle.account_formats.specs.declared.records.PasswdRecord.{PasswdRecord}
-use Rattle.account_formats.specs.declared.records.ShadowRecord.{ShadowRecord}
-use Rattle.account_formats.specs.declared.records.GroupRecord.{GroupRecord}
-use Rattle.account_formats.specs.declared.records.GshadowRecord.{GshadowRecord}
-use Rattle.account_formats.specs.declared.records.SubidRecord.{SubidRecord}
-use Rattle.account_formats.specs.Records.{read_names}
+use Rattle.account_model.specs.declared.records.PasswdRecord.{PasswdRecord}
+use Rattle.account_model.specs.declared.records.ShadowRecord.{ShadowRecord}
+use Rattle.account_model.specs.declared.records.GroupRecord.{GroupRecord}
+use Rattle.account_model.specs.declared.records.GshadowRecord.{GshadowRecord}
+use Rattle.account_model.specs.declared.records.SubidRecord.{SubidRecord}
+use Rattle.account_model.specs.Records.{read_names}
 use Rattle.acct_lines.specs.declared.passwd.PasswdLine.{PasswdLine}
 use Rattle.acct_lines.specs.declared.shadow.ShadowLine.{ShadowLine}
 use Rattle.acct_lines.specs.declared.group.GroupLine.{GroupLine}

@@ -2,15 +2,15 @@
 ghost use Rattle.std.specs.Prelude.{◌≡◌, ◌++◌, [], ◌∷◌, Some, IfOk, MatchOption, OnOk, bytes_eq, length};
 ghost use Rattle.std.specs.Option.{option_or};
 ghost use Rattle.std.specs.Result.{result_err};
-ghost use Rattle.account_formats.specs.Faults.{name_fault};
-ghost use Rattle.account_formats.specs.Records.{read_count, read_days, read_id, read_names};
-ghost use Rattle.account_formats.specs.Text.{is_listed, nonempty};
+ghost use Rattle.account_model.specs.Faults.{name_fault};
+ghost use Rattle.account_model.specs.Records.{read_count, read_days, read_id, read_names};
+ghost use Rattle.account_model.specs.Text.{is_listed, nonempty};
 ghost use Rattle.acct_text.specs.Numbers.{number_within};
 ghost use Rattle.acct_text.specs.Pieces.{fields_of};
 ghost use Rattle.acct_lines.specs.Fields.{IsOtherCount, IsRead, IsTaken, fields_left};
-ghost use Rattle.account_formats.specs.Naming.{first_field as first_of};
+ghost use Rattle.account_model.specs.Naming.{first_field as first_of};
 
-use account_formats::{GREATEST_DAYS, GREATEST_ID, LineFault};
+use account_model::{GREATEST_DAYS, GREATEST_ID, LineFault};
 use acct_text::{Names, cut_once, read_decimal};
 use memchr::memchr_iter;
 use std::alloc::{AllocError, Global};
@@ -77,7 +77,7 @@ pub(crate) struct Reading {
 }
 
 impl Reading {
-    ghost use Rattle.account_formats.specs.declared.fault.LineFault.TheVariants.{BadNumber};
+    ghost use Rattle.account_model.specs.declared.fault.LineFault.TheVariants.{BadNumber};
 
     /// The UID, the GID or the first subordinate ID that the field at a place is.
     pub(crate) fn id(&mut self, place: usize, field: &[u8]) -> u32

@@ -1,8 +1,8 @@
 // The records of group (group(5)).
 ghost use Rattle.std.specs.Prelude.{◌≡◌, [], ◌∷◌, Some, IfOk, MatchResult, decimal};
 ghost use Rattle.acct_text.specs.Pieces.{line_of};
-ghost use Rattle.account_formats.specs.Faults.{group_fault};
-ghost use Rattle.account_formats.specs.Records.{group_format};
+ghost use Rattle.account_model.specs.Faults.{group_fault};
+ghost use Rattle.account_model.specs.Records.{group_format};
 
 use crate::fields::Fields;
 use crate::parts::push_field;
@@ -67,10 +67,10 @@ impl<'a> GroupLine<'a> {
 }
 
 impl TableRecord for GroupRecord {
-    ghost use Rattle.account_formats.specs.Records.{group_format};
-    ghost use Rattle.account_formats.specs.Faults.{group_fault};
-    ghost use Rattle.account_formats.proofs.FormatLaws.{group-is_format};
-    ghost use Rattle.account_formats.proofs.NamingLaws.{group-names_first};
+    ghost use Rattle.account_model.specs.Records.{group_format};
+    ghost use Rattle.account_model.specs.Faults.{group_fault};
+    ghost use Rattle.account_model.proofs.FormatLaws.{group-is_format};
+    ghost use Rattle.account_model.proofs.NamingLaws.{group-names_first};
 
     ghost format = { group_format };
 

@@ -1,8 +1,8 @@
 // The records of gshadow (gshadow(5)).
 ghost use Rattle.std.specs.Prelude.{◌≡◌, [], ◌∷◌, Some, IfOk, MatchResult};
 ghost use Rattle.acct_text.specs.Pieces.{line_of};
-ghost use Rattle.account_formats.specs.Faults.{gshadow_fault};
-ghost use Rattle.account_formats.specs.Records.{gshadow_format};
+ghost use Rattle.account_model.specs.Faults.{gshadow_fault};
+ghost use Rattle.account_model.specs.Records.{gshadow_format};
 
 use crate::fields::Fields;
 use crate::parts::push_field;
@@ -72,10 +72,10 @@ impl<'a> GshadowLine<'a> {
 }
 
 impl TableRecord for GshadowRecord {
-    ghost use Rattle.account_formats.specs.Records.{gshadow_format};
-    ghost use Rattle.account_formats.specs.Faults.{gshadow_fault};
-    ghost use Rattle.account_formats.proofs.FormatLaws.{gshadow-is_format};
-    ghost use Rattle.account_formats.proofs.NamingLaws.{gshadow-names_first};
+    ghost use Rattle.account_model.specs.Records.{gshadow_format};
+    ghost use Rattle.account_model.specs.Faults.{gshadow_fault};
+    ghost use Rattle.account_model.proofs.FormatLaws.{gshadow-is_format};
+    ghost use Rattle.account_model.proofs.NamingLaws.{gshadow-names_first};
 
     ghost format = { gshadow_format };
 

@@ -21,7 +21,7 @@ mod shadow;
 mod subid;
 mod walks;
 
-pub use account_formats::{
+pub use account_model::{
     GroupRecord, GshadowRecord, LineFault, PasswdRecord, ShadowRecord, SubidRecord,
 };
 pub use days_value::DaysValue;

@@ -1,6 +1,6 @@
 // The text of a list of names, with a comma between each two (group(5), gshadow(5)).
 ghost use Rattle.std.specs.Prelude.{◌≡◌, IfOk, OnOk};
-ghost use Rattle.account_formats.specs.Records.{print_names, read_names};
+ghost use Rattle.account_model.specs.Records.{print_names, read_names};
 ghost use Rattle.acct_lines.specs.Listed.{listed_behind};
 
 use acct_text::{Bytes, cut_once};

@@ -4,8 +4,8 @@ ghost use Rattle.std.specs.Char.{is_digit as is_decimal};
 ghost use Rattle.std.specs.List.{list_all};
 ghost use Rattle.acct_text.specs.Bytes.{is_empty};
 ghost use Rattle.acct_text.specs.Numbers.{is_digits as writes_digits};
-ghost use Rattle.account_formats.specs.Names.{is_valid_name as names_validly, is_name_byte as can_stand, is_reserved_name};
-ghost use Rattle.account_formats.specs.Text.{dollar, hyphen, begins_with, without_last};
+ghost use Rattle.account_model.specs.Names.{is_valid_name as names_validly, is_name_byte as can_stand, is_reserved_name};
+ghost use Rattle.account_model.specs.Text.{dollar, hyphen, begins_with, without_last};
 
 // The most bytes of a name.
 const LONGEST: usize = 32;

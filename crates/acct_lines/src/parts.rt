@@ -2,7 +2,7 @@
 ghost use Rattle.std.specs.Prelude.{◌≡◌, ◌++◌, [], ◌∷◌, OnOk};
 ghost use Rattle.std.specs.Fmt.{decimal};
 ghost use Rattle.acct_text.specs.Bytes.{colon};
-ghost use Rattle.account_formats.specs.Records.{print_days, print_names};
+ghost use Rattle.account_model.specs.Records.{print_days, print_names};
 
 use acct_text::{Bytes, Names, Piece, join};
 use std::alloc::{AllocError, Global};

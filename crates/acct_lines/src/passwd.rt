@@ -1,7 +1,7 @@
 // The records of passwd (passwd(5)).
 ghost use Rattle.std.specs.Prelude.{◌≡◌, Some, IfOk, MatchResult};
-ghost use Rattle.account_formats.specs.Faults.{passwd_fault};
-ghost use Rattle.account_formats.specs.Records.{passwd_format};
+ghost use Rattle.account_model.specs.Faults.{passwd_fault};
+ghost use Rattle.account_model.specs.Records.{passwd_format};
 
 use crate::fields::Fields;
 use crate::walks::{copy_field, copy_fields, print_field, print_fields, read_fields};
@@ -66,10 +66,10 @@ impl<'a> PasswdLine<'a> {
 }
 
 impl TableRecord for PasswdRecord {
-    ghost use Rattle.account_formats.specs.Records.{passwd_format};
-    ghost use Rattle.account_formats.specs.Faults.{passwd_fault};
-    ghost use Rattle.account_formats.proofs.FormatLaws.{passwd-is_format};
-    ghost use Rattle.account_formats.proofs.NamingLaws.{passwd-names_first};
+    ghost use Rattle.account_model.specs.Records.{passwd_format};
+    ghost use Rattle.account_model.specs.Faults.{passwd_fault};
+    ghost use Rattle.account_model.proofs.FormatLaws.{passwd-is_format};
+    ghost use Rattle.account_model.proofs.NamingLaws.{passwd-names_first};
 
     ghost format = { passwd_format };
 

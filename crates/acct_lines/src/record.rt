@@ -2,14 +2,14 @@
 ghost use Rattle.std.specs.Prelude.{◌≡◌, ℕ, List, Option, Some, IfOk};
 ghost use Rattle.acct_text.specs.Bytes.{newline};
 ghost use Rattle.acct_text.specs.Pieces.{Lacks};
-ghost use Rattle.account_formats.specs.declared.fault.LineFault.{LineFault};
-ghost use Rattle.account_formats.specs.Format.{Format};
-ghost use Rattle.account_formats.specs.LineFormat.{IsLineFormat};
-ghost use Rattle.account_formats.specs.Written.{IsWritten};
-ghost use Rattle.account_formats.specs.Naming.{NamesFirst};
+ghost use Rattle.account_model.specs.declared.fault.LineFault.{LineFault};
+ghost use Rattle.account_model.specs.Format.{Format};
+ghost use Rattle.account_model.specs.LineFormat.{IsLineFormat};
+ghost use Rattle.account_model.specs.Written.{IsWritten};
+ghost use Rattle.account_model.specs.Naming.{NamesFirst};
 ghost use Rattle.acct_lines.specs.Reading.{MatchRead};
 
-use account_formats::LineFault;
+use account_model::LineFault;
 use acct_text::Bytes;
 use std::alloc::{AllocError, Global};
 use thiserror::Error;

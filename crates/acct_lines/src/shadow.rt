@@ -1,7 +1,7 @@
 // The records of shadow (shadow(5)).
 ghost use Rattle.std.specs.Prelude.{◌≡◌, Some, IfOk, MatchResult};
-ghost use Rattle.account_formats.specs.Faults.{shadow_fault};
-ghost use Rattle.account_formats.specs.Records.{shadow_format};
+ghost use Rattle.account_model.specs.Faults.{shadow_fault};
+ghost use Rattle.account_model.specs.Records.{shadow_format};
 
 use crate::fields::Fields;
 use crate::walks::{copy_field, copy_fields, print_field, print_fields, read_fields};
@@ -73,10 +73,10 @@ impl<'a> ShadowLine<'a> {
 }
 
 impl TableRecord for ShadowRecord {
-    ghost use Rattle.account_formats.specs.Records.{shadow_format};
-    ghost use Rattle.account_formats.specs.Faults.{shadow_fault};
-    ghost use Rattle.account_formats.proofs.FormatLaws.{shadow-is_format};
-    ghost use Rattle.account_formats.proofs.NamingLaws.{shadow-names_first};
+    ghost use Rattle.account_model.specs.Records.{shadow_format};
+    ghost use Rattle.account_model.specs.Faults.{shadow_fault};
+    ghost use Rattle.account_model.proofs.FormatLaws.{shadow-is_format};
+    ghost use Rattle.account_model.proofs.NamingLaws.{shadow-names_first};
 
     ghost format = { shadow_format };
 

@@ -1,12 +1,12 @@
 // The records of subuid and subgid (subuid(5), subgid(5)).
 ghost use Rattle.std.specs.Prelude.{◌≡◌, Some, IfOk, MatchResult};
-ghost use Rattle.account_formats.specs.Faults.{subid_fault};
-ghost use Rattle.account_formats.specs.Records.{is_bad_range, subid_format};
+ghost use Rattle.account_model.specs.Faults.{subid_fault};
+ghost use Rattle.account_model.specs.Records.{is_bad_range, subid_format};
 
 use crate::fields::Fields;
 use crate::walks::{copy_field, copy_fields, print_field, print_fields, read_fields};
 use crate::{LineFault, ReadFault, SubidRecord, TableRecord, parts};
-use account_formats::GREATEST_ID;
+use account_model::GREATEST_ID;
 use acct_text::{Bytes, Names, join_fields};
 use std::alloc::{AllocError, Global};
 
@@ -60,10 +60,10 @@ impl<'a> SubidLine<'a> {
 }
 
 impl TableRecord for SubidRecord {
-    ghost use Rattle.account_formats.specs.Records.{subid_format};
-    ghost use Rattle.account_formats.specs.Faults.{subid_fault};
-    ghost use Rattle.account_formats.proofs.FormatLaws.{subid-is_format};
-    ghost use Rattle.account_formats.proofs.NamingLaws.{subid-names_first};
+    ghost use Rattle.account_model.specs.Records.{subid_format};
+    ghost use Rattle.account_model.specs.Faults.{subid_fault};
+    ghost use Rattle.account_model.proofs.FormatLaws.{subid-is_format};
+    ghost use Rattle.account_model.proofs.NamingLaws.{subid-names_first};
 
     ghost format = { subid_format };
 

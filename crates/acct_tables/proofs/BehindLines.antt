@@ -15,9 +15,9 @@ use Rattle.acct_text.specs.Bytes.{colon, newline}
 use Rattle.acct_text.specs.Lines.{Line, lines_of, lines_of_pieces}
 use Rattle.acct_text.specs.Pieces.{cut_at, fields_of}
 use Rattle.acct_text.proofs.Cut.{cut_at-is}
-use Rattle.account_formats.specs.Faults.{field_at}
-use Rattle.account_formats.specs.Format.{Format, is_named}
-use Rattle.account_formats.specs.Naming.{NamesFirst, first_field}
+use Rattle.account_model.specs.Faults.{field_at}
+use Rattle.account_model.specs.Format.{Format, is_named}
+use Rattle.account_model.specs.Naming.{NamesFirst, first_field}
 use Rattle.acct_tables.specs.Marks.{BeginsOtherwise, IsBehindAll, IsFromMark, IsWithout}
 use Rattle.acct_tables.specs.TableLines.{text_is_named}
 use Rattle.acct_tables.proofs.MarkLemmas.{all-behind, cut-there, holds-back, newline-cut, without-before}

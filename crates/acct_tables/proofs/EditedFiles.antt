@@ -4,10 +4,10 @@ use Rattle.std.proofs.Common.{◌≡◌, ◌∙◌, ℕ, List, [], ◌∷◌, ap
 use Rattle.std.specs.Prelude.{None}
 use Rattle.acct_text.specs.Lines.{Line, file_bytes, lines_of}
 use Rattle.acct_text.proofs.LinesLaws.{lines_of-are, lines_of-only}
-use Rattle.account_formats.specs.Edits.{Edit, edited}
-use Rattle.account_formats.specs.Format.{Format}
-use Rattle.account_formats.specs.RecordEdits.{IsWrittenEdit}
-use Rattle.account_formats.proofs.EditLines.{edited-lines}
+use Rattle.account_model.specs.Edits.{Edit, edited}
+use Rattle.account_model.specs.Format.{Format}
+use Rattle.account_model.specs.RecordEdits.{IsWrittenEdit}
+use Rattle.account_model.proofs.EditLines.{edited-lines}
 use Rattle.acct_tables.specs.SeenLines.{AreOfFile}
 
 -- the lines of a text are those of a file

@@ -12,10 +12,10 @@ use Rattle.std.proofs.lemmas.Fmt.{decimal-digits_value}
 use Rattle.std.proofs.lemmas.Str.Parse.{IsNumeralModel, numerals_by_value, tells_digits}
 use Rattle.acct_text.specs.Bytes.{colon}
 use Rattle.acct_text.specs.Numbers.{IsNumber}
-use Rattle.account_formats.specs.Records.{greatest_id, group_format, passwd_format}
-use Rattle.account_formats.specs.declared.records.GroupRecord.{GroupRecord}
-use Rattle.account_formats.specs.declared.records.PasswdRecord.{PasswdRecord}
-use Rattle.account_formats.proofs.ReadsLaws.{group-is, passwd-is}
+use Rattle.account_model.specs.Records.{greatest_id, group_format, passwd_format}
+use Rattle.account_model.specs.declared.records.GroupRecord.{GroupRecord}
+use Rattle.account_model.specs.declared.records.PasswdRecord.{PasswdRecord}
+use Rattle.account_model.proofs.ReadsLaws.{group-is, passwd-is}
 use Rattle.acct_tables.specs.Marks.{Holds}
 use Rattle.acct_tables.proofs.MarkLemmas.{holds-back, holds-front}
 

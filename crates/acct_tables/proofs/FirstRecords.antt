@@ -5,7 +5,7 @@ use Rattle.std.specs.Prelude.{Option, Some, None, count_by, find}
 use Rattle.std.specs.List.{cons_option, position_from}
 use Rattle.std.proofs.lemmas.List.Sums.{sum_by-cons}
 use Rattle.acct_text.specs.Lines.{Line}
-use Rattle.account_formats.specs.Format.{Format, records_of}
+use Rattle.account_model.specs.Format.{Format, records_of}
 use Rattle.acct_tables.specs.TableLines.{record_at}
 
 -- a line without bytes, for a place that isn't there

@@ -12,7 +12,7 @@ use Rattle.acct_text.specs.Bytes.{newline}
 use Rattle.acct_text.specs.Lines.{AreEnded, Line, file_bytes, line_bytes, lines_of}
 use Rattle.acct_text.specs.Pieces.{Lacks}
 use Rattle.acct_text.proofs.LinesLaws.{lines_of-are, lines_of-only}
-use Rattle.account_formats.proofs.ListLaws.{all-append}
+use Rattle.account_model.proofs.ListLaws.{all-append}
 use Rattle.acct_tables.specs.Marks.{IsFrontWithout, IsFromMark, IsFromMarks, IsWithout, IsWithoutAll}
 use Rattle.acct_tables.proofs.MarkLemmas.{newline-cut}
 

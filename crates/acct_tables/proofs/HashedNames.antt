@@ -9,7 +9,7 @@ use Rattle.std.proofs.lemmas.Bool.{cases_Bool, eq-eqb, eqb-true, false_from_ne_t
 use Rattle.std.proofs.lemmas.List.{length-map, length-take-le, map_more}
 use Rattle.std.proofs.lemmas.Option.{slice_get-get_or, slice_get-map}
 use Rattle.std.proofs.lemmas.Slice.Eq.{bytes_eq-Decides}
-use Rattle.account_formats.specs.Format.{Format}
+use Rattle.account_model.specs.Format.{Format}
 use Rattle.acct_tables.specs.declared.name_hashes.HashedLines.{HashedLines}
 use Rattle.acct_tables.specs.declared.name_index.NamedLines.{NamedLines}
 use Rattle.acct_tables.specs.EditedLines.{text_names}

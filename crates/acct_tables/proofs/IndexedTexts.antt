@@ -12,8 +12,8 @@ use Rattle.acct_text.specs.Bytes.{newline}
 use Rattle.acct_text.specs.Lines.{lines_of, texts_of}
 use Rattle.acct_text.specs.Pieces.{Lacks}
 use Rattle.acct_text.proofs.LinesLaws.{lines_of-are}
-use Rattle.account_formats.specs.Format.{Format}
-use Rattle.account_formats.specs.Written.{IsWritten}
+use Rattle.account_model.specs.Format.{Format}
+use Rattle.account_model.specs.Written.{IsWritten}
 use Rattle.acct_tables.specs.declared.name_hashes.HashChange.{HashChange}
 use Rattle.acct_tables.specs.declared.name_hashes.NameHashes.{NameHashes}
 use Rattle.acct_tables.specs.EditedLines.{AreIndexed, lines_with, text_names}

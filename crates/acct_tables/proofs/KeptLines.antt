@@ -10,8 +10,8 @@ use Rattle.acct_text.specs.Bytes.{is_empty, newline}
 use Rattle.acct_text.specs.Lines.{AreEnded, Line, file_bytes, line_bytes, lines_of, texts_of}
 use Rattle.acct_text.specs.Pieces.{Lacks}
 use Rattle.acct_text.proofs.LinesLaws.{lines_of-are}
-use Rattle.account_formats.specs.Edits.{with_line}
-use Rattle.account_formats.specs.Format.{Format}
+use Rattle.account_model.specs.Edits.{with_line}
+use Rattle.account_model.specs.Format.{Format}
 use Rattle.acct_tables.specs.EditedLines.{lines_with, text_names}
 use Rattle.acct_tables.specs.NameIndex.{line_names}
 use Rattle.acct_tables.specs.SeenLines.{lacks_end}

@@ -12,7 +12,7 @@ use Rattle.acct_text.specs.Pieces.{Lacks, cut_at}
 use Rattle.acct_text.specs.Lines.{AreEnded, Line, file_bytes, line_bytes, lines_of, lines_of_pieces}
 use Rattle.acct_text.proofs.Cut.{cut_at-is}
 use Rattle.acct_text.proofs.LinesLaws.{lines_of-are}
-use Rattle.account_formats.specs.Edits.{as_ended, with_line}
+use Rattle.account_model.specs.Edits.{as_ended, with_line}
 use Rattle.acct_tables.specs.SeenLines.{end_for, missing_end}
 
 -- ---- The first line

@@ -4,7 +4,7 @@ use Rattle.std.proofs.Common.{◌≡◌, ℕ, ◌<◌, false, List, [], length, 
 use Rattle.std.specs.Prelude.{Some, None}
 use Rattle.std.proofs.lemmas.Option.{slice_get-get_or}
 use Rattle.acct_text.specs.Lines.{Line}
-use Rattle.account_formats.specs.Format.{Format}
+use Rattle.account_model.specs.Format.{Format}
 use Rattle.acct_tables.specs.TableLines.{record_at, text_at}
 
 -- a line without bytes, for a place that isn't there

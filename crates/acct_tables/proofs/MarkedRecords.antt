@@ -11,9 +11,9 @@ use Rattle.acct_text.specs.Bytes.{colon}
 use Rattle.acct_text.specs.Lines.{Line, lines_of}
 use Rattle.acct_text.specs.Pieces.{fields_of}
 use Rattle.acct_text.proofs.Cut.{cut_at-is}
-use Rattle.account_formats.specs.Faults.{field_at}
-use Rattle.account_formats.specs.Format.{Format, count_named, find_named, is_named, records_of}
-use Rattle.account_formats.specs.Naming.{NamesFirst, first_field}
+use Rattle.account_model.specs.Faults.{field_at}
+use Rattle.account_model.specs.Format.{Format, count_named, find_named, is_named, records_of}
+use Rattle.account_model.specs.Naming.{NamesFirst, first_field}
 use Rattle.acct_tables.specs.Marks.{Holds, IsBehindAll, IsFromMark, IsWithout}
 use Rattle.acct_tables.specs.TableLines.{text_is_named}
 use Rattle.acct_tables.proofs.BehindLines.{behind-weaker, mark-behind}

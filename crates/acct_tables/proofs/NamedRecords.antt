@@ -10,7 +10,7 @@ use Rattle.std.proofs.lemmas.List.{length-map, map-append}
 use Rattle.std.proofs.lemmas.List.Sums.{sum_by-cons}
 use Rattle.std.proofs.lemmas.Slice.Eq.{bytes_eq-Decides}
 use Rattle.acct_text.specs.Lines.{Line}
-use Rattle.account_formats.specs.Format.{Format, count_named, find_named, has_named, is_named, records_of}
+use Rattle.account_model.specs.Format.{Format, count_named, find_named, has_named, is_named, records_of}
 use Rattle.acct_tables.specs.NameIndex.{are_several, begins_before, has_name, line_name, line_names, lines_named, records_at}
 use Rattle.acct_tables.specs.TableLines.{line_is_named, record_at}
 use Rattle.acct_tables.proofs.FirstRecords.{found-at, record_of}

@@ -8,9 +8,9 @@ use Rattle.std.proofs.Math.Seq.{map-set_same}
 use Rattle.std.proofs.lemmas.List.{map-set, set-get_or}
 use Rattle.std.proofs.lemmas.Option.{slice_get-get_or}
 use Rattle.acct_text.specs.Lines.{Line}
-use Rattle.account_formats.specs.Format.{Format}
-use Rattle.account_formats.specs.RecordEdits.{TellsSame}
-use Rattle.account_formats.specs.Written.{IsWritten}
+use Rattle.account_model.specs.Format.{Format}
+use Rattle.account_model.specs.RecordEdits.{TellsSame}
+use Rattle.account_model.specs.Written.{IsWritten}
 use Rattle.acct_tables.specs.EditedLines.{lines_with, text_names}
 use Rattle.acct_tables.specs.NameHashes.{name_at}
 use Rattle.acct_tables.specs.TableLines.{changed_at, record_at, with_record}

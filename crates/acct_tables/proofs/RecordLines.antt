@@ -7,7 +7,7 @@ use Rattle.std.specs.List.{cons_option}
 use Rattle.std.proofs.lemmas.List.{drop_more}
 use Rattle.std.proofs.lemmas.List.Sums.{sum_by-cons}
 use Rattle.acct_text.specs.Lines.{Line}
-use Rattle.account_formats.specs.Format.{Format, records_of, is_named, find_named, count_named}
+use Rattle.account_model.specs.Format.{Format, records_of, is_named, find_named, count_named}
 use Rattle.acct_tables.specs.TableLines.{text_is_named}
 
 -- the lines from a place on begin with the line there

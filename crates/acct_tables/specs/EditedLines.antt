@@ -4,7 +4,7 @@ use Rattle.std.specs.Prelude.{ℕ, Bool, not, ◌&&◌, List, [], ◌∷◌, map
 use Rattle.acct_text.specs.Bytes.{is_empty, newline}
 use Rattle.acct_text.specs.Lines.{Line}
 use Rattle.acct_text.specs.Pieces.{Lacks}
-use Rattle.account_formats.specs.Format.{Format}
+use Rattle.account_model.specs.Format.{Format}
 use Rattle.acct_tables.specs.declared.name_hashes.NameHashes.{NameHashes}
 use Rattle.acct_tables.specs.NameHashes.{TellsHashes, told_hashes}
 

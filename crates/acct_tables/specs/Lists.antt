@@ -1,9 +1,9 @@
 -- Records with lists of users, which hold a name or not (group(5), gshadow(5)).
 use Rattle.std.specs.Prelude.{ℕ, Bool, false, ◌||◌, List, Some, None}
-use Rattle.account_formats.specs.declared.records.GroupRecord.{GroupRecord}
-use Rattle.account_formats.specs.declared.records.GshadowRecord.{GshadowRecord}
-use Rattle.account_formats.specs.Format.{Format}
-use Rattle.account_formats.specs.Text.{is_listed}
+use Rattle.account_model.specs.declared.records.GroupRecord.{GroupRecord}
+use Rattle.account_model.specs.declared.records.GshadowRecord.{GshadowRecord}
+use Rattle.account_model.specs.Format.{Format}
+use Rattle.account_model.specs.Text.{is_listed}
 
 -- the group has the member
 abbrev pub group_holds : List ℕ → GroupRecord → Bool

@@ -2,7 +2,7 @@
 -- group(5), gshadow(5), subuid(5), subgid(5)). Places count the lines from 0.
 use Rattle.std.specs.Prelude.{◌≡◌, ℕ, ◌*◌, ◌%◌, ◌^◌, true, false, bit_xor, List, [], ◌∷◌, Option, None, Some, bytes_eq, cond, nat_eq, option_and_then, option_map, slice_get}
 use Rattle.std.specs.HashMap.{get}
-use Rattle.account_formats.specs.Format.{Format}
+use Rattle.account_model.specs.Format.{Format}
 use Rattle.acct_tables.specs.declared.name_hashes.HashChange.{HashChange}
 use Rattle.acct_tables.specs.declared.name_hashes.HashedLines.{HashedLines}
 use Rattle.acct_tables.specs.declared.name_hashes.NameHashes.{NameHashes}

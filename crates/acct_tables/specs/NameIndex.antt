@@ -4,7 +4,7 @@ use Rattle.std.specs.Prelude.{◌≡◌, ℕ, ◌+◌, ◌≤◌, Bool, false, L
 use Rattle.std.specs.HashMap.{get_by}
 use Rattle.std.specs.List.{position_from}
 use Rattle.acct_text.specs.Lines.{Line}
-use Rattle.account_formats.specs.Format.{Format}
+use Rattle.account_model.specs.Format.{Format}
 use Rattle.acct_tables.specs.declared.name_index.NameIndex.{NameIndex}
 use Rattle.acct_tables.specs.declared.name_index.NamedLines.{NamedLines}
 

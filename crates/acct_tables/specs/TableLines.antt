@@ -4,9 +4,9 @@
 use Rattle.std.specs.Prelude.{◌≡◌, ℕ, ◌+◌, ◌==◌, Bool, false, List, [], ◌++◌, length, map, take, drop, Option, Some, None, slice_get, option_map, if◌then◌else◌}
 use Rattle.std.specs.List.{insert}
 use Rattle.acct_text.specs.Lines.{Line}
-use Rattle.account_formats.specs.Format.{Format, is_named}
-use Rattle.account_formats.specs.Edits.{printed_line, with_line}
-use Rattle.account_formats.specs.Written.{IsWritten}
+use Rattle.account_model.specs.Format.{Format, is_named}
+use Rattle.account_model.specs.Edits.{printed_line, with_line}
+use Rattle.account_model.specs.Written.{IsWritten}
 
 -- ---- What is found
 

@@ -3,9 +3,9 @@ ghost use Rattle.std.specs.Prelude.{◌≡◌, ◌<◌, Some, get_or, if◌then�
 ghost use Rattle.acct_text.specs.Bytes.{newline};
 ghost use Rattle.acct_text.specs.Lines.{Line, file_bytes, lines_of, texts_of};
 ghost use Rattle.acct_text.specs.Pieces.{Lacks};
-ghost use Rattle.account_formats.specs.Edits.{with_line};
-ghost use Rattle.account_formats.specs.Format.{count_named, find_named, records_of};
-ghost use Rattle.account_formats.specs.Written.{IsWritten};
+ghost use Rattle.account_model.specs.Edits.{with_line};
+ghost use Rattle.account_model.specs.Format.{count_named, find_named, records_of};
+ghost use Rattle.account_model.specs.Written.{IsWritten};
 ghost use Rattle.acct_tables.specs.EditedLines.{lines_with};
 ghost use Rattle.acct_tables.specs.LineTexts.{file_text};
 ghost use Rattle.acct_tables.specs.NameIndex.{line_names, lines_named};

@@ -3,7 +3,7 @@ ghost use Rattle.std.specs.Prelude.{◌≡◌, is_some, option_map, IfOk, IfSome
 ghost use Rattle.std.specs.Option.{option_copied};
 ghost use Rattle.acct_text.specs.Bytes.{newline};
 ghost use Rattle.acct_text.specs.Pieces.{Lacks};
-ghost use Rattle.account_formats.specs.Written.{IsWritten};
+ghost use Rattle.account_model.specs.Written.{IsWritten};
 ghost use Rattle.acct_tables.specs.TableLines.{text_is_named};
 
 use acct_lines::{ReadFault, TableRecord, first_field, has_first_field};

@@ -3,9 +3,9 @@ ghost use Rattle.std.specs.Prelude.{◌≡◌, ◌++◌, [], ◌∷◌, Some, tr
 ghost use Rattle.acct_text.specs.Bytes.{newline};
 ghost use Rattle.acct_text.specs.Lines.{file_bytes, line_bytes, lines_of};
 ghost use Rattle.acct_text.specs.Pieces.{Lacks};
-ghost use Rattle.account_formats.specs.Edits.{with_line};
-ghost use Rattle.account_formats.specs.Format.{count_named, find_named, has_named, records_of};
-ghost use Rattle.account_formats.specs.Written.{IsWritten};
+ghost use Rattle.account_model.specs.Edits.{with_line};
+ghost use Rattle.account_model.specs.Format.{count_named, find_named, has_named, records_of};
+ghost use Rattle.account_model.specs.Written.{IsWritten};
 ghost use Rattle.acct_tables.specs.SeenLines.{end_for, lacks_end, missing_end, seen_line};
 
 use crate::line::{is_named, read_record};

@@ -1,6 +1,6 @@
 // The records with lists of users, in which a user is renamed (group(5), gshadow(5)).
 ghost use Rattle.std.specs.Prelude.{◌≡◌, ℕ, Bool, List, OnOk};
-ghost use Rattle.account_formats.specs.Written.{IsListed, IsWritten};
+ghost use Rattle.account_model.specs.Written.{IsListed, IsWritten};
 ghost use Rattle.acct_tables.specs.Lists.{text_holds};
 
 use crate::TableRecord;

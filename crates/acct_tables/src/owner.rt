@@ -1,10 +1,10 @@
 // Whose a range of subordinate IDs is, and where it ends (subuid(5), subgid(5)).
 ghost use Rattle.std.specs.Prelude.{◌≡◌, ◌≤◌, bytes_eq};
 ghost use Rattle.std.specs.Fmt.{decimal};
-ghost use Rattle.account_formats.specs.Records.{greatest_id, last_id, subid_format};
-ghost use Rattle.account_formats.specs.declared.records.SubidRecord.{SubidRecord};
-ghost use Rattle.account_words.specs.SubidOwner.{is_owned};
-ghost use Rattle.account_formats.specs.Written.{IsWritten};
+ghost use Rattle.account_model.specs.Records.{greatest_id, last_id, subid_format};
+ghost use Rattle.account_model.specs.declared.records.SubidRecord.{SubidRecord};
+ghost use Rattle.account_model.specs.SubidOwner.{is_owned};
+ghost use Rattle.account_model.specs.Written.{IsWritten};
 
 use acct_lines::{SubidRecord, TableRecord};
 use itoa::Buffer;

@@ -4,7 +4,7 @@ use Rattle.std.proofs.Common.{◌≡◌, Bool, true, false, ℕ, List, [], refl}
 use Rattle.std.specs.Prelude.{Option, if◌then◌else◌}
 use Rattle.account_model.specs.declared.refusal.Refusal.{Refusal}
 use Rattle.account_model.specs.Action.{changes, reports}
-use Rattle.account_formats.specs.Tables.{Script}
+use Rattle.account_model.specs.Tables.{Script}
 use Rattle.table_edits.specs.Acting.{IsReportOf}
 
 -- a report of this text, where the tool reports

@@ -3,8 +3,8 @@
 use Rattle.std.proofs.Common.{◌≡◌, ◌∙◌, ◌<◌, ℕ, ◌+◌, List, [], ◌∷◌, ◌++◌, length, map, take, get_or, sym, ap, add-one}
 use Rattle.std.proofs.Math.Seq.{take-suc}
 use Rattle.std.proofs.lemmas.List.{map-append}
-use Rattle.account_formats.specs.Tables.{Script, followed_by, in_order}
-use Rattle.account_formats.proofs.ScriptLaws.{followed-assoc, followed-none, order-push}
+use Rattle.account_model.specs.Tables.{Script, followed_by, in_order}
+use Rattle.account_model.proofs.ScriptLaws.{followed-assoc, followed-none, order-push}
 
 -- three scripts, one behind the other
 pub three-also :

@@ -1,8 +1,8 @@
 -- Which fields of shadow the options of chage set (chage(1)).
 use Rattle.std.specs.Prelude.{◌≡◌}
-use Rattle.account_formats.specs.declared.records.ShadowRecord.{ShadowRecord}
+use Rattle.account_model.specs.declared.records.ShadowRecord.{ShadowRecord}
 use Rattle.account_model.specs.Chage.{with_aging}
-use Rattle.account_words.specs.Request.{Request}
+use Rattle.account_model.specs.Request.{Request}
 use Rattle.line_edits.specs.ShadowChanges.{with_shadow_fields}
 use Rattle.line_edits.specs.declared.shadow_changes.ShadowFields.{ShadowFields}
 

@@ -5,8 +5,8 @@ use Rattle.acct_text.specs.Bytes.{colon}
 use Rattle.account_model.specs.declared.refusal.Refusal.{Refusal}
 use Rattle.account_model.specs.declared.refusal.Refusal.TheVariants.{BadLine}
 use Rattle.account_model.specs.Chpasswd.{line_hash, line_name, line_problem, set_hash}
-use Rattle.account_formats.specs.Tables.{Script}
-use Rattle.account_formats.specs.Text.{has_byte}
+use Rattle.account_model.specs.Tables.{Script}
+use Rattle.account_model.specs.Text.{has_byte}
 use Rattle.aging_commands.specs.declared.hash_lines.NewHash.{NewHash}
 
 -- a user and the new hash

@@ -2,10 +2,10 @@
 ghost use Rattle.std.specs.Prelude.{◌≡◌, ◌∷◌, [], codes, is_none, IfOk, option_and_then};
 ghost use Rattle.account_model.specs.Chage.{aging_report as report_of, chage, chage_refusals, chage_script, with_aging};
 ghost use Rattle.account_model.specs.Refusals.{refuse_if};
-ghost use Rattle.account_words.specs.Request.{operand, value_of};
-ghost use Rattle.account_formats.specs.Text.{first_some};
+ghost use Rattle.account_model.specs.Request.{operand, value_of};
+ghost use Rattle.account_model.specs.Text.{first_some};
 ghost use Rattle.account_model.specs.Users.{aging_of};
-ghost use Rattle.account_words.specs.Values.{date_value, days_value};
+ghost use Rattle.account_model.specs.Values.{date_value, days_value};
 ghost use Rattle.tool_answers.specs.Refusing.{RefusesBy};
 ghost use Rattle.table_edits.specs.Acting.{ActsBy, IsReportOf};
 ghost use Rattle.table_edits.specs.SeenScript.{seen_script};

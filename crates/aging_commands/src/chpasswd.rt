@@ -2,7 +2,7 @@
 ghost use Rattle.std.specs.Prelude.{◌≡◌, ◌≤◌, length, map, IfOk, OnOk};
 ghost use Rattle.acct_text.specs.Limits.{table_limit};
 ghost use Rattle.account_model.specs.Chpasswd.{chpasswd, set_hash};
-ghost use Rattle.account_formats.specs.Tables.{in_order};
+ghost use Rattle.account_model.specs.Tables.{in_order};
 ghost use Rattle.table_edits.specs.Acting.{ActsBy};
 ghost use Rattle.table_edits.specs.Additions.{HasAlso};
 ghost use Rattle.table_edits.specs.SeenScript.{seen_script};

@@ -2,7 +2,7 @@
 ghost use Rattle.std.specs.Prelude.{◌≡◌, ◌++◌, IfOk, OnOk};
 ghost use Rattle.account_model.specs.Chage.{aging_report as report_of, shown_date as text_of_date, shown_days as text_of_days, shown_end as text_of_end, shown_expiry as text_of_expiry, shown_last_change as text_of_last_change, shown_line};
 
-use account_formats::ShadowRecord;
+use account_model::ShadowRecord;
 use acct_dates::print_day;
 use acct_text::{Bytes, push_decimal};
 use std::alloc::{AllocError, Global};

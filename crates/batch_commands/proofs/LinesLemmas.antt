@@ -5,14 +5,14 @@ use Rattle.std.proofs.Common.{◌≡◌, ◌∙◌, ◌++◌, ℕ, List, [], ◌
 use Rattle.std.specs.Prelude.{Some, None, Result, Ok, Err}
 use Rattle.std.specs.List.{cons_option}
 use Rattle.acct_text.specs.declared.files.Files.{Files}
-use Rattle.account_words.specs.declared.tool.Tool.{Tool}
-use Rattle.account_words.specs.declared.word_fault.WordFault.{WordFault}
-use Rattle.account_words.specs.declared.words_of.WordsOf.TheVariants.{Line as OfLine}
-use Rattle.account_words.specs.BatchLines.{BatchLine, LineRequest}
-use Rattle.account_words.specs.Request.{Request}
-use Rattle.account_words.specs.Settings.{Setting}
-use Rattle.account_words.specs.Words.{is_for_lines, request_as}
-use Rattle.account_words.proofs.AsksLaws.{read_is_asked}
+use Rattle.account_model.specs.declared.tool.Tool.{Tool}
+use Rattle.account_model.specs.declared.word_fault.WordFault.{WordFault}
+use Rattle.account_model.specs.declared.words_of.WordsOf.TheVariants.{Line as OfLine}
+use Rattle.account_model.specs.BatchLines.{BatchLine, LineRequest}
+use Rattle.account_model.specs.Request.{Request}
+use Rattle.account_model.specs.Settings.{Setting}
+use Rattle.account_model.specs.Words.{is_for_lines, request_as}
+use Rattle.account_model.proofs.AsksLaws.{read_is_asked}
 use Rattle.account_model.specs.declared.refusal.Refusal.{Refusal}
 use Rattle.account_model.specs.Action.{Made, outcome_of}
 use Rattle.account_model.specs.Batch.{LineRefusal, Written, batch, before_others, nothing_on, with_rest, written_by}

@@ -2,10 +2,10 @@
 -- command as its tool says.
 use Rattle.std.specs.Prelude.{◌≡◌, ℕ, List, if◌then◌else◌}
 use Rattle.acct_text.specs.declared.files.Files.{Files}
-use Rattle.account_words.specs.BatchLines.{line_requests}
-use Rattle.account_words.specs.Request.{Request}
-use Rattle.account_words.specs.Settings.{Setting}
-use Rattle.account_words.specs.Words.{is_batch}
+use Rattle.account_model.specs.BatchLines.{line_requests}
+use Rattle.account_model.specs.Request.{Request}
+use Rattle.account_model.specs.Settings.{Setting}
+use Rattle.account_model.specs.Words.{is_batch}
 use Rattle.account_model.specs.Action.{outcome_of}
 use Rattle.account_model.specs.Batch.{batch}
 use Rattle.account_model.specs.Change.{action_of}

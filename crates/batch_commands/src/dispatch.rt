@@ -6,7 +6,7 @@ ghost use Rattle.option_words.specs.Parsed.{request_in};
 ghost use Rattle.batch_commands.specs.Deciding.{CommandDecides, ToolDecides};
 
 use crate::lines::decide_lines;
-use account_words::Tool;
+use account_model::Tool;
 use acct_text::{Bytes, Files};
 use login_defs::Defs;
 use option_words::Parsed;

@@ -4,9 +4,9 @@
 use Rattle.std.proofs.Common.{◌≡◌, ◌∙◌, ℕ, List, sym, ap, subst}
 use Rattle.std.specs.Prelude.{Option, Some, IfSome, option_map}
 use Rattle.acct_text.specs.Lines.{Line, file_bytes}
-use Rattle.account_formats.specs.Edits.{Edit, edited_by}
-use Rattle.account_formats.specs.Format.{Format, records_of}
-use Rattle.account_formats.specs.Tables.{table_after, table_records}
+use Rattle.account_model.specs.Edits.{Edit, edited_by}
+use Rattle.account_model.specs.Format.{Format, records_of}
+use Rattle.account_model.specs.Tables.{table_after, table_records}
 use Rattle.acct_tables.specs.SeenLines.{AreOfFile}
 
 module _ (kept : Option (List Line)) (lines : List Line) (is : kept ≡ Some lines)

@@ -17,11 +17,11 @@ use Rattle.std.proofs.lemmas.Slice.Eq.{bytes_eq-Decides}
 use Rattle.acct_text.specs.Bytes.{colon, newline}
 use Rattle.acct_text.specs.Lines.{Line}
 use Rattle.acct_text.specs.Pieces.{Lacks}
-use Rattle.account_formats.specs.Edits.{becomes, line_becomes}
-use Rattle.account_formats.specs.Format.{Format, find_named, has_named, is_named, records_of}
-use Rattle.account_formats.specs.RecordEdits.{TellsSame}
-use Rattle.account_formats.specs.Text.{is_listed}
-use Rattle.account_formats.specs.Written.{IsNameField, IsWritten}
+use Rattle.account_model.specs.Edits.{becomes, line_becomes}
+use Rattle.account_model.specs.Format.{Format, find_named, has_named, is_named, records_of}
+use Rattle.account_model.specs.RecordEdits.{TellsSame}
+use Rattle.account_model.specs.Text.{is_listed}
+use Rattle.account_model.specs.Written.{IsNameField, IsWritten}
 use Rattle.acct_tables.specs.declared.name_index.NamedLines.{NamedLines}
 use Rattle.acct_tables.specs.NameIndex.{line_name, line_names, lines_named}
 use Rattle.acct_tables.proofs.NamedRecords.{told-has}

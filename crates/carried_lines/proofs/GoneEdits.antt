@@ -8,11 +8,11 @@ use Rattle.std.proofs.lemmas.Bool.{cases_Bool}
 use Rattle.std.proofs.lemmas.List.Elements.{filter-append}
 use Rattle.std.proofs.lemmas.Slice.Eq.{bytes_eq-Decides}
 use Rattle.acct_text.specs.Lines.{Line}
-use Rattle.account_formats.specs.Edits.{Edit, Add, AddMissing, Arrange, Become, Put, as_ended, becomes, edited, edited_by, line_becomes, put_first, with_line}
-use Rattle.account_formats.specs.Format.{Format, has_named, is_named, records_of}
-use Rattle.account_formats.specs.RecordEdits.{IsWrittenEdit, TellsSame}
-use Rattle.account_formats.specs.Text.{is_listed}
-use Rattle.account_formats.specs.Written.{IsWritten}
+use Rattle.account_model.specs.Edits.{Edit, Add, AddMissing, Arrange, Become, Put, as_ended, becomes, edited, edited_by, line_becomes, put_first, with_line}
+use Rattle.account_model.specs.Format.{Format, has_named, is_named, records_of}
+use Rattle.account_model.specs.RecordEdits.{IsWrittenEdit, TellsSame}
+use Rattle.account_model.specs.Text.{is_listed}
+use Rattle.account_model.specs.Written.{IsWritten}
 use Rattle.acct_tables.specs.NameIndex.{line_name}
 use Rattle.line_edits.specs.declared.edit.Edit.{Edit as DataEdit}
 use Rattle.line_edits.specs.Naming.{KeepsNames}

@@ -11,13 +11,13 @@ use Rattle.std.proofs.lemmas.List.Folds.{list_any-append}
 use Rattle.std.proofs.lemmas.List.Sums.{sum_by-cons}
 use Rattle.std.proofs.lemmas.Slice.Eq.{bytes_eq-Decides}
 use Rattle.acct_text.specs.Lines.{Line}
-use Rattle.account_formats.specs.declared.fault.LineFault.{LineFault}
-use Rattle.account_formats.specs.Edits.{Edit, Become, becomes, first_multiple, is_multiple, line_becomes, touches}
-use Rattle.account_formats.specs.Format.{Format, count_named, find_named, is_named, records_of}
-use Rattle.account_formats.specs.LineFormat.{IsLineFormat}
-use Rattle.account_formats.specs.RecordEdits.{IsWrittenEdit, TellsSame}
-use Rattle.account_formats.specs.Text.{is_listed}
-use Rattle.account_formats.specs.Written.{IsWritten}
+use Rattle.account_model.specs.declared.fault.LineFault.{LineFault}
+use Rattle.account_model.specs.Edits.{Edit, Become, becomes, first_multiple, is_multiple, line_becomes, touches}
+use Rattle.account_model.specs.Format.{Format, count_named, find_named, is_named, records_of}
+use Rattle.account_model.specs.LineFormat.{IsLineFormat}
+use Rattle.account_model.specs.RecordEdits.{IsWrittenEdit, TellsSame}
+use Rattle.account_model.specs.Text.{is_listed}
+use Rattle.account_model.specs.Written.{IsWritten}
 use Rattle.acct_tables.specs.NameIndex.{line_name}
 use Rattle.acct_tables.specs.SeenLines.{AreOfFile}
 use Rattle.acct_tables.proofs.EditedFiles.{edit-of_file}

@@ -7,12 +7,12 @@ use Rattle.std.specs.List.{AllByRecursion}
 use Rattle.std.proofs.Math.Bool.{or-false}
 use Rattle.std.proofs.lemmas.Bool.{cases_Bool}
 use Rattle.acct_text.specs.Lines.{Line, file_bytes}
-use Rattle.account_formats.specs.declared.fault.LineFault.{LineFault}
-use Rattle.account_formats.specs.Edits.{Add, AddMissing, Become, Put, becomes, line_becomes, put_first, with_line}
-use Rattle.account_formats.specs.Format.{Format, has_named, is_named, records_of}
-use Rattle.account_formats.specs.LineFormat.{IsLineFormat}
-use Rattle.account_formats.specs.RecordEdits.{IsWrittenEdit, TellsSame}
-use Rattle.account_formats.specs.Written.{IsWritten}
+use Rattle.account_model.specs.declared.fault.LineFault.{LineFault}
+use Rattle.account_model.specs.Edits.{Add, AddMissing, Become, Put, becomes, line_becomes, put_first, with_line}
+use Rattle.account_model.specs.Format.{Format, has_named, is_named, records_of}
+use Rattle.account_model.specs.LineFormat.{IsLineFormat}
+use Rattle.account_model.specs.RecordEdits.{IsWrittenEdit, TellsSame}
+use Rattle.account_model.specs.Written.{IsWritten}
 use Rattle.acct_tables.specs.SeenLines.{AreOfFile}
 use Rattle.acct_tables.specs.TableLines.{record_at}
 use Rattle.line_edits.specs.WrittenLines.{AreWritten, IsWrittenRead}

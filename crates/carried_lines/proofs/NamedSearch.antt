@@ -10,9 +10,9 @@ use Rattle.std.proofs.lemmas.Bool.{cases_Bool, eq-eqb, false_from_ne_true, false
 use Rattle.std.proofs.lemmas.List.{take_all}
 use Rattle.std.proofs.lemmas.List.Folds.{list_any-append}
 use Rattle.acct_text.specs.Lines.{Line}
-use Rattle.account_formats.specs.Format.{Format, is_named, records_of}
-use Rattle.account_formats.specs.Text.{is_listed}
-use Rattle.account_words.specs.Ids.{is_used}
+use Rattle.account_model.specs.Format.{Format, is_named, records_of}
+use Rattle.account_model.specs.Text.{is_listed}
+use Rattle.account_model.specs.Ids.{is_used}
 use Rattle.acct_tables.specs.TableLines.{record_at}
 use Rattle.record_keys.specs.KeyPlaces.{has_key}
 use Rattle.carried_lines.specs.Accepting.{IsKeyOf}

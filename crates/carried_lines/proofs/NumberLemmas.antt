@@ -8,8 +8,8 @@ use Rattle.std.specs.List.{AllByRecursion}
 use Rattle.std.proofs.lemmas.Bool.{cases_Bool, eqb-true}
 use Rattle.std.proofs.lemmas.List.{length-append}
 use Rattle.acct_text.specs.Lines.{Line, lines_of}
-use Rattle.account_formats.specs.Format.{Format, records_of}
-use Rattle.account_formats.specs.Records.{group_format, passwd_format}
+use Rattle.account_model.specs.Format.{Format, records_of}
+use Rattle.account_model.specs.Records.{group_format, passwd_format}
 use Rattle.acct_tables.specs.Marks.{Holds, IsFromMark, IsWithout}
 use Rattle.acct_tables.proofs.FieldMarks.{holds-gid, holds-primary, holds-uid}
 use Rattle.carried_lines.specs.Accepting.{IsNumberOf, is_accepted}

@@ -9,10 +9,10 @@ use Rattle.std.proofs.Math.ListN.{drop_of_length-le}
 use Rattle.std.proofs.lemmas.Bool.{cases_Bool, cases_eq, cases_lt, false_from_ne_true, ne_eqb}
 use Rattle.std.proofs.lemmas.List.{take_all}
 use Rattle.acct_text.specs.Lines.{Line}
-use Rattle.account_formats.specs.Edits.{Become, becomes}
-use Rattle.account_formats.specs.Format.{Format}
-use Rattle.account_formats.specs.RecordEdits.{TellsSame}
-use Rattle.account_words.specs.Ids.{is_used}
+use Rattle.account_model.specs.Edits.{Become, becomes}
+use Rattle.account_model.specs.Format.{Format}
+use Rattle.account_model.specs.RecordEdits.{TellsSame}
+use Rattle.account_model.specs.Ids.{is_used}
 use Rattle.line_edits.specs.Naming.{KeepsNames}
 use Rattle.line_edits.specs.Places.{spliced_at}
 use Rattle.line_edits.specs.Touching.{HoldsOfMultiple, HoldsOfMultipleAt, LeavesTo}

@@ -9,9 +9,9 @@ use Rattle.std.proofs.Math.Seq.{get_or-append_seam}
 use Rattle.std.proofs.lemmas.Bool.{cases_Bool, eqb-true, false_from_ne_true, or_cases}
 use Rattle.std.proofs.lemmas.List.Folds.{list_any-append}
 use Rattle.acct_text.specs.Lines.{Line}
-use Rattle.account_formats.specs.Format.{Format, records_of}
-use Rattle.account_formats.specs.Text.{is_listed}
-use Rattle.account_words.specs.Ids.{is_used}
+use Rattle.account_model.specs.Format.{Format, records_of}
+use Rattle.account_model.specs.Text.{is_listed}
+use Rattle.account_model.specs.Ids.{is_used}
 use Rattle.acct_tables.specs.TableLines.{record_at, text_at}
 use Rattle.carried_lines.specs.Accepting.{is_accepted}
 use Rattle.carried_lines.specs.Gone.{accepts_left, left_lines, left_records}

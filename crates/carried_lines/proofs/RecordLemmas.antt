@@ -5,7 +5,7 @@ use Rattle.std.specs.Prelude.{Option, Some, None, option_map, find}
 use Rattle.std.specs.List.{cons_option}
 use Rattle.std.proofs.lemmas.List.{append_assoc}
 use Rattle.acct_text.specs.Lines.{Line}
-use Rattle.account_formats.specs.Format.{Format, records_of}
+use Rattle.account_model.specs.Format.{Format, records_of}
 use Rattle.carried_lines.specs.Accepting.{is_accepted}
 
 -- a record that is accepted is the first that is found

@@ -2,7 +2,7 @@
 -- group(5)).
 use Rattle.std.specs.Prelude.{◌≡◌, ℕ, Bool, true, false, List, Option, None, Some}
 use Rattle.std.specs.Fmt.{decimal}
-use Rattle.account_formats.specs.Format.{Format}
+use Rattle.account_model.specs.Format.{Format}
 use Rattle.acct_tables.specs.Marks.{IsWithout}
 use Rattle.record_keys.specs.KeyPlaces.{has_key}
 

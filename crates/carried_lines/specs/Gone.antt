@@ -2,9 +2,9 @@
 -- other records, and other text (userdel(8), groupdel(8)).
 use Rattle.std.specs.Prelude.{◌≡◌, ℕ, Bool, false, not, ◌&&◌, List, [], filter, Option, None, Some}
 use Rattle.acct_text.specs.Lines.{Line}
-use Rattle.account_formats.specs.Edits.{Edit, Become, Add, AddMissing, Put, Arrange, edited, edited_by}
-use Rattle.account_formats.specs.Format.{Format}
-use Rattle.account_formats.specs.Text.{is_listed}
+use Rattle.account_model.specs.Edits.{Edit, Become, Add, AddMissing, Put, Arrange, edited, edited_by}
+use Rattle.account_model.specs.Format.{Format}
+use Rattle.account_model.specs.Text.{is_listed}
 use Rattle.acct_tables.specs.NameIndex.{line_name}
 use Rattle.acct_tables.specs.SeenLines.{AreOfFile}
 use Rattle.line_edits.specs.Naming.{Removes}

@@ -2,10 +2,10 @@
 -- (passwd(5), shadow(5), group(5), gshadow(5)). Places count the lines from 0.
 use Rattle.std.specs.Prelude.{◌≡◌, ℕ, ◌<◌, ◌≤◌, AllPairs, Bool, true, false, List, [], ◌∷◌, Option, Some}
 use Rattle.acct_text.specs.Lines.{Line}
-use Rattle.account_formats.specs.Edits.{Edit, edited}
-use Rattle.account_formats.specs.Format.{Format}
-use Rattle.account_formats.specs.Text.{is_listed}
-use Rattle.account_words.specs.Ids.{is_used}
+use Rattle.account_model.specs.Edits.{Edit, edited}
+use Rattle.account_model.specs.Format.{Format}
+use Rattle.account_model.specs.Text.{is_listed}
+use Rattle.account_model.specs.Ids.{is_used}
 use Rattle.acct_tables.specs.TableLines.{record_at}
 use Rattle.line_edits.specs.Naming.{KeepsNames}
 use Rattle.record_keys.specs.KeyPlaces.{MayBeAt, Widens, has_key}

@@ -2,10 +2,10 @@
 -- (passwd(5), shadow(5), group(5), gshadow(5)).
 use Rattle.std.specs.Prelude.{ℕ, List, Option}
 use Rattle.std.specs.List.{AllByRecursion}
-use Rattle.account_formats.specs.Edits.{first_multiple}
-use Rattle.account_formats.specs.Format.{Format}
-use Rattle.account_formats.specs.RecordEdits.{IsWrittenEdit}
-use Rattle.account_formats.specs.Tables.{table_after}
+use Rattle.account_model.specs.Edits.{first_multiple}
+use Rattle.account_model.specs.Format.{Format}
+use Rattle.account_model.specs.RecordEdits.{IsWrittenEdit}
+use Rattle.account_model.specs.Tables.{table_after}
 use Rattle.line_edits.specs.SeenEdits.{seen_edits}
 use Rattle.line_edits.specs.declared.edit.Edit.{Edit}
 

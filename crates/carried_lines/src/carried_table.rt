@@ -1,8 +1,8 @@
 // A table that is carried from command to command: the lines of its file, which edits change where
 // they stand, with the names of the records that are gone (passwd(5), shadow(5), group(5), gshadow(5)).
 ghost use Rattle.std.specs.Prelude.{◌≡◌, None, filter, find, is_some, nat_le, IfOk, IfSome, OnOk};
-ghost use Rattle.account_formats.specs.Format.{count_named, find_named, has_named, is_named};
-ghost use Rattle.account_formats.specs.Tables.{table_records};
+ghost use Rattle.account_model.specs.Format.{count_named, find_named, has_named, is_named};
+ghost use Rattle.account_model.specs.Tables.{table_records};
 ghost use Rattle.carried_lines.specs.Accepting.{IsKeyOf};
 ghost use Rattle.carried_lines.specs.TableEdits.{AreWritten, multiple_by, table_by};
 

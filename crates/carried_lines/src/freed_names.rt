@@ -1,9 +1,9 @@
 // Names of gone records that come again: so that an edit may bring one, the line that still stands gets
 // another name in its place, which is gone from then on (userdel(8) and then useradd(8) of one name).
 ghost use Rattle.std.specs.Prelude.{◌≡◌, true, false, IfOk, OnOk};
-ghost use Rattle.account_formats.specs.Format.{has_named, records_of};
-ghost use Rattle.account_formats.specs.Text.{is_listed};
-ghost use Rattle.account_formats.specs.Written.{IsNameField};
+ghost use Rattle.account_model.specs.Format.{has_named, records_of};
+ghost use Rattle.account_model.specs.Text.{is_listed};
+ghost use Rattle.account_model.specs.Written.{IsNameField};
 ghost use Rattle.acct_tables.specs.SeenLines.{AreOfFile};
 ghost use Rattle.carried_lines.specs.Gone.{LeavesSame};
 

@@ -2,7 +2,7 @@
 // these lines. Where such a name came again, its line stands by a hidden one (`freed_names`).
 ghost use Rattle.std.specs.Prelude.{◌≡◌, true, ◌&&◌, not, [], ◌∷◌, List, ℕ, bytes_eq, IfOk, OnOk, option_map};
 ghost use Rattle.acct_text.specs.Lines.{file_bytes, lines_of};
-ghost use Rattle.account_formats.specs.Text.{is_listed};
+ghost use Rattle.account_model.specs.Text.{is_listed};
 ghost use Rattle.acct_tables.specs.SeenLines.{AreOfFile};
 ghost use Rattle.carried_lines.specs.Gone.{is_gone, left_lines};
 

@@ -1,11 +1,11 @@
 // The index of the keys of lines: how it is gathered, and how it follows an edit (passwd(5), shadow(5),
 // group(5), gshadow(5)). What an edit may bring is noted before the lines change.
 ghost use Rattle.std.specs.Prelude.{◌≡◌, ◌≤◌, ℕ, ◌∷◌, [], false, length, true, IfOk, IfSome};
-ghost use Rattle.account_formats.specs.Edits.{edited};
-ghost use Rattle.account_formats.specs.Edits as model;
-ghost use Rattle.account_formats.specs.Format.{has_named, records_of};
-ghost use Rattle.account_formats.specs.RecordEdits.{IsWrittenEdit};
-ghost use Rattle.account_words.specs.Ids.{is_used};
+ghost use Rattle.account_model.specs.Edits.{edited};
+ghost use Rattle.account_model.specs.Edits as model;
+ghost use Rattle.account_model.specs.Format.{has_named, records_of};
+ghost use Rattle.account_model.specs.RecordEdits.{IsWrittenEdit};
+ghost use Rattle.account_model.specs.Ids.{is_used};
 ghost use Rattle.acct_tables.specs.SeenLines.{AreOfFile};
 ghost use Rattle.line_edits.specs.Naming.{names_in};
 ghost use Rattle.line_edits.specs.SeenEdits.{seen_edit};

@@ -3,11 +3,11 @@
 // gshadow(5)).
 ghost use Rattle.std.specs.Prelude.{◌≡◌, true, false, filter, find, length, nat_le, IfOk, IfSome, OnOk};
 ghost use Rattle.acct_text.specs.Lines.{file_bytes, lines_of};
-ghost use Rattle.account_formats.specs.Edits.{edited_by};
-ghost use Rattle.account_formats.specs.Edits as model;
-ghost use Rattle.account_formats.specs.Format.{count_named, find_named, has_named, is_named, records_of};
-ghost use Rattle.account_formats.specs.RecordEdits.{IsWrittenEdit};
-ghost use Rattle.account_formats.specs.Text.{is_listed};
+ghost use Rattle.account_model.specs.Edits.{edited_by};
+ghost use Rattle.account_model.specs.Edits as model;
+ghost use Rattle.account_model.specs.Format.{count_named, find_named, has_named, is_named, records_of};
+ghost use Rattle.account_model.specs.RecordEdits.{IsWrittenEdit};
+ghost use Rattle.account_model.specs.Text.{is_listed};
 ghost use Rattle.acct_tables.specs.SeenLines.{AreOfFile};
 ghost use Rattle.line_edits.specs.SeenEdits.{seen_edit, seen_edits};
 ghost use Rattle.carried_lines.specs.Accepting.{IsKeyOf};

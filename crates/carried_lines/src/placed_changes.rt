@@ -1,10 +1,10 @@
 // A change of records at known places, and whether it leaves those of names with several
 // (passwd(5), shadow(5), group(5), gshadow(5)).
 ghost use Rattle.std.specs.Prelude.{◌≡◌, ℕ, true, OnOk};
-ghost use Rattle.account_formats.specs.Edits.{becomes, edited};
-ghost use Rattle.account_formats.specs.Edits as model;
-ghost use Rattle.account_formats.specs.RecordEdits.{IsWrittenEdit};
-ghost use Rattle.account_words.specs.Ids.{is_used};
+ghost use Rattle.account_model.specs.Edits.{becomes, edited};
+ghost use Rattle.account_model.specs.Edits as model;
+ghost use Rattle.account_model.specs.RecordEdits.{IsWrittenEdit};
+ghost use Rattle.account_model.specs.Ids.{is_used};
 ghost use Rattle.line_edits.specs.Naming.{KeepsNames};
 ghost use Rattle.line_edits.specs.Places.{spliced_at};
 ghost use Rattle.line_edits.specs.SeenEdits.{seen_edit};

@@ -2,7 +2,7 @@
 // records may stand (passwd(5), group(5), subuid(5), subgid(5)).
 ghost use Rattle.std.specs.Prelude.{◌≡◌, ◌++◌, [], filter, find, IfOk, OnOk};
 ghost use Rattle.std.specs.List.{cons_option};
-ghost use Rattle.account_formats.specs.Format.{is_named, records_of};
+ghost use Rattle.account_model.specs.Format.{is_named, records_of};
 ghost use Rattle.acct_tables.specs.TableLines.{record_at};
 ghost use Rattle.carried_lines.specs.Accepting.{is_accepted};
 ghost use Rattle.carried_lines.specs.Gone.{accepts_left, left_lines};

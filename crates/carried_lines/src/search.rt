@@ -1,7 +1,7 @@
 // The lines of a table, and the first record among them that passes a test.
 ghost use Rattle.std.specs.Prelude.{◌≡◌, Bool, find, IfOk, IfSome};
 ghost use Rattle.acct_text.specs.Lines.{lines_of};
-ghost use Rattle.account_formats.specs.Tables.{table_records};
+ghost use Rattle.account_model.specs.Tables.{table_records};
 ghost use Rattle.carried_lines.specs.Accepting.{IsKeyOf, IsNumberOf, is_accepted};
 ghost use Rattle.carried_lines.specs.TablesOfLines.{lines_in};
 

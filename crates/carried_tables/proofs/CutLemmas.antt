@@ -9,18 +9,18 @@ use Rattle.std.specs.List.{AllByRecursion, cons_option}
 use Rattle.std.proofs.lemmas.Bool.{cases_Bool, false≢true}
 use Rattle.std.proofs.lemmas.Slice.Eq.{bytes_eq-Decides}
 use Rattle.acct_text.specs.Lines.{Line, lines_of}
-use Rattle.account_formats.specs.declared.records.SubidRecord.{SubidRecord}
-use Rattle.account_formats.specs.Edits.Edit.{Become, Put}
-use Rattle.account_formats.specs.Format.{records_of}
-use Rattle.account_formats.specs.RecordEdits.{IsWrittenEdit}
-use Rattle.account_formats.specs.Faults.{subid_fault}
-use Rattle.account_formats.specs.Records.{subid_format}
-use Rattle.account_formats.specs.Tables.{table_after, table_records}
-use Rattle.account_formats.specs.Written.{IsWritten}
-use Rattle.account_formats.proofs.FormatLaws.{subid-is_format}
-use Rattle.account_formats.proofs.ListLaws.{all-filter}
-use Rattle.account_words.specs.FreeRange.{meets}
-use Rattle.account_words.specs.SubidOwner.{is_owned}
+use Rattle.account_model.specs.declared.records.SubidRecord.{SubidRecord}
+use Rattle.account_model.specs.Edits.Edit.{Become, Put}
+use Rattle.account_model.specs.Format.{records_of}
+use Rattle.account_model.specs.RecordEdits.{IsWrittenEdit}
+use Rattle.account_model.specs.Faults.{subid_fault}
+use Rattle.account_model.specs.Records.{subid_format}
+use Rattle.account_model.specs.Tables.{table_after, table_records}
+use Rattle.account_model.specs.Written.{IsWritten}
+use Rattle.account_model.proofs.FormatLaws.{subid-is_format}
+use Rattle.account_model.proofs.ListLaws.{all-filter}
+use Rattle.account_model.specs.FreeRange.{meets}
+use Rattle.account_model.specs.SubidOwner.{is_owned}
 use Rattle.line_edits.specs.SeenEdits.{seen_edit, seen_edits}
 use Rattle.line_edits.specs.SubidChanges.{subid_becomes}
 use Rattle.line_edits.specs.declared.edit.Edit.{Edit}

@@ -4,10 +4,10 @@ use Rattle.std.proofs.Common.{◌≡◌, ℕ, true, false, List, [], ◌∷◌, 
 use Rattle.std.specs.Prelude.{Option, Some, None, is_some}
 use Rattle.acct_text.specs.Lines.{file_bytes, lines_of}
 use Rattle.acct_text.proofs.LinesLaws.{lines_of-are}
-use Rattle.account_formats.specs.Edits.{Edit, edited, edited_by}
-use Rattle.account_formats.specs.Format.{Format}
-use Rattle.account_formats.specs.RecordEdits.{IsWrittenEdit}
-use Rattle.account_formats.specs.Tables.{table_after}
+use Rattle.account_model.specs.Edits.{Edit, edited, edited_by}
+use Rattle.account_model.specs.Format.{Format}
+use Rattle.account_model.specs.RecordEdits.{IsWrittenEdit}
+use Rattle.account_model.specs.Tables.{table_after}
 use Rattle.acct_tables.proofs.EditedFiles.{edit-found}
 use Rattle.line_edits.specs.declared.edit.Edit.{Edit as DataEdit}
 use Rattle.line_edits.specs.SeenEdits.{seen_edit, seen_edits}

@@ -8,12 +8,12 @@ use Rattle.std.specs.Prelude.{Option, Some, None, is_some, find, flat_map, nat_l
 use Rattle.std.proofs.lemmas.Bool.{cases_Bool, cases_eq, cases_lt, eq-eqb, false≢true, le-leb, leb-true, ne_eqb}
 use Rattle.std.proofs.lemmas.List.{map-append, take_more}
 use Rattle.std.proofs.lemmas.List.Sums.{sum_by-append, sum_by-cons}
-use Rattle.account_formats.specs.Edits.{Edit}
-use Rattle.account_formats.specs.Format.{Format, count_named, find_named, is_named}
-use Rattle.account_formats.specs.RecordEdits.{IsWrittenEdit, TellsSame, records_edited}
-use Rattle.account_formats.specs.Tables.{table_after, table_records}
-use Rattle.account_formats.proofs.EditLines.{table-edited}
-use Rattle.account_words.specs.Ids.{is_used}
+use Rattle.account_model.specs.Edits.{Edit}
+use Rattle.account_model.specs.Format.{Format, count_named, find_named, is_named}
+use Rattle.account_model.specs.RecordEdits.{IsWrittenEdit, TellsSame, records_edited}
+use Rattle.account_model.specs.Tables.{table_after, table_records}
+use Rattle.account_model.proofs.EditLines.{table-edited}
+use Rattle.account_model.specs.Ids.{is_used}
 use Rattle.id_choice.specs.Runs.{LosesOne}
 use Rattle.id_choice.specs.Used.{AreThoseOf}
 use Rattle.carried_tables.specs.declared.kept_ids.KeptIds.{KeptIds}

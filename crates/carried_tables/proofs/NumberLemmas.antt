@@ -6,16 +6,16 @@ use Rattle.std.proofs.Common.{◌≡◌, ◌∙◌, ℕ, ◌+◌, Bool, true, fa
 use Rattle.std.specs.Prelude.{Option, Some, None, IfSome, count_by, filter, flat_map, is_some, not}
 use Rattle.std.proofs.lemmas.Bool.{cases_Bool}
 use Rattle.std.proofs.lemmas.List.Sums.{sum_by-append, sum_by-cons}
-use Rattle.account_formats.specs.declared.records.SubidRecord.{SubidRecord}
-use Rattle.account_formats.specs.Edits.{Edit}
-use Rattle.account_formats.specs.Edits.Edit.{Add, Become}
-use Rattle.account_formats.specs.Format.{is_named}
-use Rattle.account_formats.specs.RecordEdits.{IsWrittenEdit, records_edited}
-use Rattle.account_formats.specs.Records.{subid_format}
-use Rattle.account_formats.specs.Tables.{table_after, table_records}
-use Rattle.account_formats.proofs.EditLines.{table-edited}
-use Rattle.account_formats.proofs.SameLaws.{subid-tells}
-use Rattle.account_words.specs.FreeRange.{meets}
+use Rattle.account_model.specs.declared.records.SubidRecord.{SubidRecord}
+use Rattle.account_model.specs.Edits.{Edit}
+use Rattle.account_model.specs.Edits.Edit.{Add, Become}
+use Rattle.account_model.specs.Format.{is_named}
+use Rattle.account_model.specs.RecordEdits.{IsWrittenEdit, records_edited}
+use Rattle.account_model.specs.Records.{subid_format}
+use Rattle.account_model.specs.Tables.{table_after, table_records}
+use Rattle.account_model.proofs.EditLines.{table-edited}
+use Rattle.account_model.proofs.SameLaws.{subid-tells}
+use Rattle.account_model.specs.FreeRange.{meets}
 use Rattle.line_edits.specs.SubidChanges.{subid_becomes}
 use Rattle.line_edits.specs.declared.subid_changes.SubidChange.TheVariants.{Remove, Rename}
 use Rattle.subid_ranges.specs.Gathered.{GoesOn}

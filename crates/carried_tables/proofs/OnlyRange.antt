@@ -8,13 +8,13 @@ use Rattle.std.specs.List.{AllByRecursion, cons_option}
 use Rattle.std.proofs.lemmas.Bool.{cases_Bool, false≢true}
 use Rattle.std.proofs.lemmas.Slice.Eq.{bytes_eq-Decides}
 use Rattle.acct_text.specs.Lines.{Line, file_bytes, lines_of}
-use Rattle.account_formats.specs.declared.records.SubidRecord.{SubidRecord}
-use Rattle.account_formats.specs.Edits.{becomes, line_becomes, put_first, with_line}
-use Rattle.account_formats.specs.Edits.Edit.{Become, Put}
-use Rattle.account_formats.specs.Format.{has_named, is_named, records_of}
-use Rattle.account_formats.specs.Records.{subid_format}
-use Rattle.account_formats.specs.Tables.{table_after, table_records}
-use Rattle.account_formats.proofs.SameLaws.{subid-tells}
+use Rattle.account_model.specs.declared.records.SubidRecord.{SubidRecord}
+use Rattle.account_model.specs.Edits.{becomes, line_becomes, put_first, with_line}
+use Rattle.account_model.specs.Edits.Edit.{Become, Put}
+use Rattle.account_model.specs.Format.{has_named, is_named, records_of}
+use Rattle.account_model.specs.Records.{subid_format}
+use Rattle.account_model.specs.Tables.{table_after, table_records}
+use Rattle.account_model.proofs.SameLaws.{subid-tells}
 use Rattle.line_edits.proofs.ChangedLines.{left-line, stays}
 
 -- ---- Ranges of which a test accepts one alone, or none

@@ -8,10 +8,10 @@ use Rattle.std.proofs.Math.Bool.{or-false}
 use Rattle.std.proofs.lemmas.Bool.{cases_Bool, eq-eqb, or_parts}
 use Rattle.std.proofs.lemmas.List.Sums.{sum_by-cons}
 use Rattle.std.proofs.lemmas.Slice.Eq.{bytes_eq-Decides}
-use Rattle.account_formats.specs.declared.records.SubidRecord.{SubidRecord}
-use Rattle.account_formats.specs.Format.{count_named, find_named, is_named}
-use Rattle.account_formats.specs.Records.{subid_format}
-use Rattle.account_words.specs.SubidOwner.{is_owned}
+use Rattle.account_model.specs.declared.records.SubidRecord.{SubidRecord}
+use Rattle.account_model.specs.Format.{count_named, find_named, is_named}
+use Rattle.account_model.specs.Records.{subid_format}
+use Rattle.account_model.specs.SubidOwner.{is_owned}
 use Rattle.acct_tables.specs.NameHashes.{name_hash}
 use Rattle.carried_lines.specs.Accepting.{IsKeyOf}
 use Rattle.record_keys.specs.Keys.{subid_keys}

@@ -9,18 +9,18 @@ use Rattle.std.specs.List.{cons_option, list_any}
 use Rattle.std.proofs.lemmas.Bool.{or_parts}
 use Rattle.acct_text.specs.Lines.{Line, file_bytes, lines_of}
 use Rattle.acct_text.proofs.LinesLaws.{lines_of-are}
-use Rattle.account_formats.specs.declared.records.SubidRecord.{SubidRecord}
-use Rattle.account_formats.specs.Edits.{becomes}
-use Rattle.account_formats.specs.Edits.Edit.{Become}
-use Rattle.account_formats.specs.Format.{find_named, has_named, records_of}
-use Rattle.account_formats.specs.RecordEdits.{IsWrittenEdit}
-use Rattle.account_formats.specs.Records.{subid_format}
-use Rattle.account_formats.specs.Tables.{table_after, table_records}
-use Rattle.account_formats.specs.Text.{is_listed}
-use Rattle.account_formats.specs.Written.{IsSubid}
-use Rattle.account_formats.proofs.HeldLaws.{drop_where-written, subid-holds}
-use Rattle.account_formats.proofs.SameLaws.{subid-tells}
-use Rattle.account_words.specs.SubidOwner.{is_owned}
+use Rattle.account_model.specs.declared.records.SubidRecord.{SubidRecord}
+use Rattle.account_model.specs.Edits.{becomes}
+use Rattle.account_model.specs.Edits.Edit.{Become}
+use Rattle.account_model.specs.Format.{find_named, has_named, records_of}
+use Rattle.account_model.specs.RecordEdits.{IsWrittenEdit}
+use Rattle.account_model.specs.Records.{subid_format}
+use Rattle.account_model.specs.Tables.{table_after, table_records}
+use Rattle.account_model.specs.Text.{is_listed}
+use Rattle.account_model.specs.Written.{IsSubid}
+use Rattle.account_model.proofs.HeldLaws.{drop_where-written, subid-holds}
+use Rattle.account_model.proofs.SameLaws.{subid-tells}
+use Rattle.account_model.specs.SubidOwner.{is_owned}
 use Rattle.line_edits.specs.SubidChanges.{subid_becomes}
 use Rattle.line_edits.specs.declared.subid_changes.SubidChange.TheVariants.{Remove}
 use Rattle.line_edits.proofs.ChangedLines.{left-line}

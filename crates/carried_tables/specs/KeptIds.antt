@@ -1,10 +1,10 @@
 -- How the IDs of users and groups go on through the edits of their table (passwd(5), group(5)).
 use Rattle.std.specs.Prelude.{◌≡◌, ℕ, ◌+◌, ◌≤◌, ◌==◌, Bool, true, false, is_none, nat_le, List, [], ◌∷◌, map, count_by, Option, Some, None}
-use Rattle.account_formats.specs.Edits.{Edit}
-use Rattle.account_formats.specs.Format.{Format, is_named}
-use Rattle.account_formats.specs.RecordEdits.{records_edited}
-use Rattle.account_formats.specs.Tables.{table_records}
-use Rattle.account_words.specs.Ids.{is_used}
+use Rattle.account_model.specs.Edits.{Edit}
+use Rattle.account_model.specs.Format.{Format, is_named}
+use Rattle.account_model.specs.RecordEdits.{records_edited}
+use Rattle.account_model.specs.Tables.{table_records}
+use Rattle.account_model.specs.Ids.{is_used}
 use Rattle.line_edits.specs.declared.group_changes.GroupAct.{GroupAct}
 use Rattle.line_edits.specs.declared.group_changes.GroupAct.TheVariants.{SetGid}
 use Rattle.line_edits.specs.declared.passwd_changes.PasswdAct.{PasswdAct}

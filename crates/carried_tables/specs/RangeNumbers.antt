@@ -1,11 +1,11 @@
 -- What is known of the ranges of a file while edits change it (subuid(5), subgid(5)), and which edits
 -- it follows (useradd(8), userdel(8), usermod(8), `-l`, `-V` and `-W`).
 use Rattle.std.specs.Prelude.{◌≡◌, ℕ, Bool, false, List, [], ◌∷◌, ◌++◌, bytes_eq, decimal, filter, flat_map, map, IfSome, Option, None, Some}
-use Rattle.account_formats.specs.Edits.Edit.{Become}
-use Rattle.account_formats.specs.Records.{subid_format}
-use Rattle.account_formats.specs.Tables.{table_records}
-use Rattle.account_formats.specs.declared.records.SubidRecord.{SubidRecord}
-use Rattle.account_words.specs.SubidOwner.{is_owned}
+use Rattle.account_model.specs.Edits.Edit.{Become}
+use Rattle.account_model.specs.Records.{subid_format}
+use Rattle.account_model.specs.Tables.{table_records}
+use Rattle.account_model.specs.declared.records.SubidRecord.{SubidRecord}
+use Rattle.account_model.specs.SubidOwner.{is_owned}
 use Rattle.line_edits.specs.declared.edit.Edit.{Edit}
 use Rattle.line_edits.specs.declared.subid_changes.RangeCut.{RangeCut}
 use Rattle.line_edits.specs.declared.subid_changes.SubidChange.{SubidChange}

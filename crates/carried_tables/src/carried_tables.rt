@@ -1,7 +1,7 @@
 // The tables that commands carry from one to the next (passwd(5), shadow(5), group(5), gshadow(5),
 // subuid(5), subgid(5)).
 ghost use Rattle.std.specs.Prelude.{◌≡◌, None, IfOk, OnOk};
-ghost use Rattle.account_formats.specs.Records.{group_format, gshadow_format, passwd_format, shadow_format};
+ghost use Rattle.account_model.specs.Records.{group_format, gshadow_format, passwd_format, shadow_format};
 ghost use Rattle.line_edits.specs.GroupChanges.{group_becomes};
 ghost use Rattle.line_edits.specs.GshadowChanges.{gshadow_becomes};
 ghost use Rattle.line_edits.specs.PasswdChanges.{passwd_becomes};

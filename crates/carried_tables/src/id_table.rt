@@ -1,10 +1,10 @@
 // A carried table whose records have IDs, beside which the used IDs are kept (passwd(5), group(5)).
 ghost use Rattle.std.specs.Prelude.{◌≡◌, ◌≤◌, List, ◌∷◌, [], None, false, true, is_some, length, map, option_map, IfOk, IfSome, OnOk};
-ghost use Rattle.account_formats.specs.Edits as model;
-ghost use Rattle.account_formats.specs.Format.{find_named};
-ghost use Rattle.account_formats.specs.RecordEdits.{IsWrittenEdit};
-ghost use Rattle.account_formats.specs.Tables.{table_after, table_records};
-ghost use Rattle.account_words.specs.Ids.{is_used};
+ghost use Rattle.account_model.specs.Edits as model;
+ghost use Rattle.account_model.specs.Format.{find_named};
+ghost use Rattle.account_model.specs.RecordEdits.{IsWrittenEdit};
+ghost use Rattle.account_model.specs.Tables.{table_after, table_records};
+ghost use Rattle.account_model.specs.Ids.{is_used};
 ghost use Rattle.id_choice.specs.Used.{AreThoseOf};
 ghost use Rattle.line_edits.specs.SeenEdits.{seen_edit};
 ghost use Rattle.carried_tables.specs.KeptIds.{AreIdsOf, FollowEdit, Renumbers, table_counts};

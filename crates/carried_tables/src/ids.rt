@@ -1,7 +1,7 @@
 // The IDs that users and groups have by their records (passwd(5), group(5)).
 ghost use Rattle.std.specs.Prelude.{◌≡◌, ◌++◌, ℕ, true, [], map, option_map, IfOk, IfSome, IsSome, OnOk};
 ghost use Rattle.std.specs.List.{cons_option};
-ghost use Rattle.account_formats.specs.Tables.{table_records};
+ghost use Rattle.account_model.specs.Tables.{table_records};
 ghost use Rattle.id_choice.specs.Used.{AreThoseOf};
 ghost use Rattle.carried_tables.specs.KeptIds.{KeepsIds, Renumbers, keeps_gid, keeps_uid};
 

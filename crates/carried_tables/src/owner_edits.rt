@@ -2,9 +2,9 @@
 // usermod(8), `-V` and `-W`; subuid(5), subgid(5)).
 ghost use Rattle.std.specs.Prelude.{◌≡◌, IfOk, IfSome};
 ghost use Rattle.std.specs.List.{list_any};
-ghost use Rattle.account_formats.specs.Edits.Edit.{Become};
-ghost use Rattle.account_formats.specs.Records.{subid_format};
-ghost use Rattle.account_formats.specs.Tables.{table_records};
+ghost use Rattle.account_model.specs.Edits.Edit.{Become};
+ghost use Rattle.account_model.specs.Records.{subid_format};
+ghost use Rattle.account_model.specs.Tables.{table_records};
 ghost use Rattle.line_edits.specs.SeenEdits.{seen_edit};
 ghost use Rattle.line_edits.specs.SubidChanges.{subid_becomes};
 ghost use Rattle.carried_tables.specs.RangeNumbers.{IsOnlyOf, is_numbered};

@@ -1,10 +1,10 @@
 // A file of subordinate IDs as a command asks it (useradd(8), subuid(5), subgid(5)).
 ghost use Rattle.std.specs.Prelude.{◌≡◌, ◌<◌, is_some, IfOk};
 ghost use Rattle.std.specs.List.{list_any};
-ghost use Rattle.account_formats.specs.Records.{subid_format};
-ghost use Rattle.account_formats.specs.Tables.{table_records};
-ghost use Rattle.account_words.specs.FreeRange.{free_range};
-ghost use Rattle.account_words.specs.SubidOwner.{is_owned};
+ghost use Rattle.account_model.specs.Records.{subid_format};
+ghost use Rattle.account_model.specs.Tables.{table_records};
+ghost use Rattle.account_model.specs.FreeRange.{free_range};
+ghost use Rattle.account_model.specs.SubidOwner.{is_owned};
 
 use crate::RangeTable;
 use crate::range_table::{copy_of, gap_in};

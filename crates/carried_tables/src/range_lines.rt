@@ -2,12 +2,12 @@
 // edits do with both (useradd(8), userdel(8), usermod(8), `-l`; subuid(5), subgid(5)).
 ghost use Rattle.std.specs.Prelude.{◌≡◌, ◌<◌, ◌∷◌, [], None, Option, true, is_some, length, IfOk, IfSome, OnOk};
 ghost use Rattle.std.specs.List.{list_any};
-ghost use Rattle.account_formats.specs.Edits.Edit.{Become, Put};
-ghost use Rattle.account_formats.specs.Records.{subid_format};
-ghost use Rattle.account_formats.specs.Tables.{table_after, table_records};
-ghost use Rattle.account_formats.specs.Written.{IsWritten};
-ghost use Rattle.account_words.specs.FreeRange.{free_range};
-ghost use Rattle.account_words.specs.SubidOwner.{is_owned};
+ghost use Rattle.account_model.specs.Edits.Edit.{Become, Put};
+ghost use Rattle.account_model.specs.Records.{subid_format};
+ghost use Rattle.account_model.specs.Tables.{table_after, table_records};
+ghost use Rattle.account_model.specs.Written.{IsWritten};
+ghost use Rattle.account_model.specs.FreeRange.{free_range};
+ghost use Rattle.account_model.specs.SubidOwner.{is_owned};
 ghost use Rattle.carried_lines.specs.TableEdits.{AreWritten, table_by};
 ghost use Rattle.line_edits.specs.SubidChanges.{subid_becomes};
 ghost use Rattle.carried_tables.specs.RangeNumbers.{AreNumbersIn, FollowsGain, IsCutBy, IsOnlyOf};

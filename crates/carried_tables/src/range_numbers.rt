@@ -2,12 +2,12 @@
 // where they don't (useradd(8), userdel(8), usermod(8), `-l`; subuid(5), subgid(5)).
 ghost use Rattle.std.specs.Prelude.{◌≡◌, ◌∷◌, [], None, true, filter, is_some, IfOk, IfSome};
 ghost use Rattle.std.specs.List.{cons_option};
-ghost use Rattle.account_formats.specs.Edits.Edit.{Become};
-ghost use Rattle.account_formats.specs.Format.{is_named};
-ghost use Rattle.account_formats.specs.RecordEdits.{IsWrittenEdit};
-ghost use Rattle.account_formats.specs.Records.{subid_format};
-ghost use Rattle.account_formats.specs.Tables.{table_after, table_records};
-ghost use Rattle.account_formats.specs.Written.{IsWritten};
+ghost use Rattle.account_model.specs.Edits.Edit.{Become};
+ghost use Rattle.account_model.specs.Format.{is_named};
+ghost use Rattle.account_model.specs.RecordEdits.{IsWrittenEdit};
+ghost use Rattle.account_model.specs.Records.{subid_format};
+ghost use Rattle.account_model.specs.Tables.{table_after, table_records};
+ghost use Rattle.account_model.specs.Written.{IsWritten};
 ghost use Rattle.line_edits.specs.SeenEdits.{seen_edit};
 ghost use Rattle.line_edits.specs.SubidChanges.{subid_becomes};
 ghost use Rattle.carried_tables.specs.RangeNumbers.{AreNumbersIn, FollowsGain, FollowsLoss, KeepsNumbers};

@@ -2,10 +2,10 @@
 // the first edit on its lines (useradd(8), userdel(8), usermod(8), `-l`; subuid(5), subgid(5)).
 ghost use Rattle.std.specs.Prelude.{◌≡◌, ◌<◌, None, Some, is_some, IfOk, OnOk};
 ghost use Rattle.std.specs.List.{list_any};
-ghost use Rattle.account_formats.specs.Records.{subid_format};
-ghost use Rattle.account_formats.specs.Tables.{table_records};
-ghost use Rattle.account_words.specs.FreeRange.{free_range};
-ghost use Rattle.account_words.specs.SubidOwner.{is_owned};
+ghost use Rattle.account_model.specs.Records.{subid_format};
+ghost use Rattle.account_model.specs.Tables.{table_records};
+ghost use Rattle.account_model.specs.FreeRange.{free_range};
+ghost use Rattle.account_model.specs.SubidOwner.{is_owned};
 ghost use Rattle.carried_lines.specs.TableEdits.{AreWritten, table_by};
 ghost use Rattle.line_edits.specs.SubidChanges.{subid_becomes};
 ghost use Rattle.carried_tables.specs.Standing.{file_in};

@@ -6,7 +6,7 @@ use Rattle.std.proofs.Common.{◌≡◌, ◌∙◌, ◌++◌, ℕ, true, List, [
 use Rattle.std.specs.Prelude.{Option, Some, None, Ok}
 use Rattle.acct_text.specs.declared.files.Files.{Files}
 use Rattle.account_model.specs.declared.refusal.Refusal.{Refusal}
-use Rattle.account_words.specs.declared.tool.Tool.{Tool}
+use Rattle.account_model.specs.declared.tool.Tool.{Tool}
 use Rattle.acct_text.specs.declared.new_tables.NewTable.{NewTable}
 use Rattle.acct_text.specs.ChangedTables.{changed_among, changed_bytes, changed_tables, with_new_table}
 use Rattle.acct_text.specs.Contents.{Contents, same_content}
@@ -14,18 +14,18 @@ use Rattle.acct_text.specs.Files.{table_of}
 use Rattle.acct_text.specs.declared.Tab.{Tab}
 use Rattle.acct_text.specs.declared.Tab.TheVariants.{Passwd, Shadow, Group, Gshadow}
 use Rattle.account_model.specs.Action.{made_by, outcome_of, reports, multiple_entries}
-use Rattle.account_formats.specs.Edits.{Arrange, first_multiple}
-use Rattle.account_formats.specs.Format.{Format}
+use Rattle.account_model.specs.Edits.{Arrange, first_multiple}
+use Rattle.account_model.specs.Format.{Format}
 use Rattle.account_model.specs.Grpck.{grpck_sort, sorted_groups}
 use Rattle.account_model.specs.Pwck.{pwck_sort, sorted_users}
-use Rattle.account_formats.specs.Records.{passwd_format, shadow_format, group_format, gshadow_format}
-use Rattle.account_formats.specs.Tables.{Script, no_edits, files_after, table_after, table_records, passwd_records, shadow_records, group_records, gshadow_records}
-use Rattle.account_formats.specs.Text.{first_some}
+use Rattle.account_model.specs.Records.{passwd_format, shadow_format, group_format, gshadow_format}
+use Rattle.account_model.specs.Tables.{Script, no_edits, files_after, table_after, table_records, passwd_records, shadow_records, group_records, gshadow_records}
+use Rattle.account_model.specs.Text.{first_some}
 use Rattle.tool_answers.specs.Decisions.{decision_by, decision_of, made_output}
 use Rattle.tool_answers.specs.declared.decision.Decision.{Decision}
 use Rattle.tool_answers.specs.declared.decision.Decision.TheVariants.{Same}
-use Rattle.account_formats.proofs.NoEdits.{files-stay}
-use Rattle.account_formats.proofs.SameLaws.{bytes-self}
+use Rattle.account_model.proofs.NoEdits.{files-stay}
+use Rattle.account_model.proofs.SameLaws.{bytes-self}
 use Rattle.acct_text.proofs.ChangedTablesLemmas.{changed_among-cons, with_new_table-append}
 use Rattle.tool_answers.proofs.ListedTables.{added}
 use Rattle.check_reports.specs.Decided.{DecidesBy}

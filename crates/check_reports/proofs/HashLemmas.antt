@@ -6,13 +6,13 @@ use Rattle.std.specs.Prelude.{Option, Some, None, Result, Ok, Err, is_none, is_s
 use Rattle.std.specs.Result.{MatchResult, result_ok}
 use Rattle.acct_text.specs.Lines.{Line}
 use Rattle.acct_text.specs.declared.files.Files.{Files}
-use Rattle.account_formats.specs.declared.fault.LineFault.{LineFault}
-use Rattle.account_formats.specs.declared.records.ShadowRecord.{ShadowRecord}
-use Rattle.account_formats.specs.Faults.{shadow_fault}
-use Rattle.account_formats.specs.Naming.{first_field}
-use Rattle.account_formats.specs.Records.{shadow_format}
-use Rattle.account_formats.proofs.FormatLaws.{shadow-is_format}
-use Rattle.account_formats.proofs.NamingLaws.{shadow-names_first}
+use Rattle.account_model.specs.declared.fault.LineFault.{LineFault}
+use Rattle.account_model.specs.declared.records.ShadowRecord.{ShadowRecord}
+use Rattle.account_model.specs.Faults.{shadow_fault}
+use Rattle.account_model.specs.Naming.{first_field}
+use Rattle.account_model.specs.Records.{shadow_format}
+use Rattle.account_model.proofs.FormatLaws.{shadow-is_format}
+use Rattle.account_model.proofs.NamingLaws.{shadow-names_first}
 use Rattle.account_model.specs.Problems.{ChangeInFuture, NoPasswdEntry, Problem, problem_if}
 use Rattle.account_model.specs.Pwck.{is_after, shadow_problems}
 use Rattle.account_model.specs.Users.{has_user}

@@ -3,8 +3,8 @@
 use Rattle.std.proofs.Common.{◌≡◌, ◌∙◌, ℕ, List, [], ◌∷◌, ◌++◌, refl, sym, ap, append-nil, append_assoc}
 use Rattle.std.specs.Prelude.{None, slice_get}
 use Rattle.acct_text.specs.Lines.{Line, file_bytes, line_bytes}
-use Rattle.account_formats.specs.Edits.{Keyed, in_places}
-use Rattle.account_formats.specs.Format.{Format}
+use Rattle.account_model.specs.Edits.{Keyed, in_places}
+use Rattle.account_model.specs.Format.{Format}
 
 -- without texts all lines stay
 none-placed :

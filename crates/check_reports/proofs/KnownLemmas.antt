@@ -6,10 +6,10 @@ use Rattle.std.proofs.Common.{◌≡◌, ◌∙◌, ◌==◌, ℕ, Bool, true, f
 use Rattle.std.specs.Prelude.{◌||◌, Some, is_some, if◌then◌else◌}
 use Rattle.std.proofs.lemmas.List.{length-map, map-append}
 use Rattle.acct_text.specs.Lines.{Line}
-use Rattle.account_formats.specs.declared.records.GroupRecord.{GroupRecord}
-use Rattle.account_formats.specs.Format.{Format, has_named, records_of}
-use Rattle.account_formats.specs.Tables.{table_records}
-use Rattle.account_words.specs.Ids.{is_used}
+use Rattle.account_model.specs.declared.records.GroupRecord.{GroupRecord}
+use Rattle.account_model.specs.Format.{Format, has_named, records_of}
+use Rattle.account_model.specs.Tables.{table_records}
+use Rattle.account_model.specs.Ids.{is_used}
 use Rattle.acct_tables.specs.NameIndex.{IsLineNoted, Tells, Told, begins_before, line_name, line_names, told}
 use Rattle.acct_tables.proofs.NameIndexLemmas.{told-line}
 use Rattle.acct_tables.proofs.NamedRecords.{told-before, told-has}

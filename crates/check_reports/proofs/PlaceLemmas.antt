@@ -6,7 +6,7 @@ use Rattle.std.specs.Prelude.{Option, Some, None, cond, count_by, not, option_ma
 use Rattle.std.specs.List.{position_from, position_or_len}
 use Rattle.std.proofs.lemmas.List.{length-map, map-append}
 use Rattle.acct_text.specs.Lines.{Line, lines_of}
-use Rattle.account_formats.specs.Format.{Format, is_named, records_of}
+use Rattle.account_model.specs.Format.{Format, is_named, records_of}
 use Rattle.acct_tables.specs.NameIndex.{IsNoted, Tells, TellsAtMost, has_name, records_at, told}
 use Rattle.acct_tables.proofs.LinesCounted.{lines-counted}
 use Rattle.acct_tables.proofs.NameIndexLemmas.{told-record, told-within}

@@ -6,16 +6,16 @@ use Rattle.std.proofs.lemmas.Bool.{cases_Bool, eq-eqb, ne_eqb}
 use Rattle.acct_text.specs.Bytes.{is_empty}
 use Rattle.std.proofs.lemmas.List.{drop_more, length-map}
 use Rattle.acct_text.specs.declared.files.Files.{Files}
-use Rattle.account_formats.specs.declared.records.SubidRecord.{SubidRecord}
+use Rattle.account_model.specs.declared.records.SubidRecord.{SubidRecord}
 use Rattle.account_model.specs.declared.refusal.Refusal.TheVariants.{NoRanges}
-use Rattle.account_words.specs.declared.tool.Tool.{Tool}
+use Rattle.account_model.specs.declared.tool.Tool.{Tool}
 use Rattle.account_model.specs.Action.{outcome_of}
 use Rattle.account_model.specs.Getsubids.{getsubids, listed_records, range_line, range_lines_from, ranges_of}
-use Rattle.account_formats.specs.Records.{subid_format}
-use Rattle.account_words.specs.Request.{Request, has_option, operand}
-use Rattle.account_words.specs.SubidOwner.{is_owned}
-use Rattle.account_formats.specs.Tables.{table_records}
-use Rattle.account_formats.specs.Text.{first_some}
+use Rattle.account_model.specs.Records.{subid_format}
+use Rattle.account_model.specs.Request.{Request, has_option, operand}
+use Rattle.account_model.specs.SubidOwner.{is_owned}
+use Rattle.account_model.specs.Tables.{table_records}
+use Rattle.account_model.specs.Text.{first_some}
 use Rattle.account_model.specs.Users.{uid_of}
 use Rattle.tool_answers.specs.Decisions.{refusal_output}
 use Rattle.tool_answers.specs.declared.decision.Decision.{Decision}

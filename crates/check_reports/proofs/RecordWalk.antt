@@ -5,7 +5,7 @@ use Rattle.std.specs.Prelude.{Option, Some, None, option_to_list}
 use Rattle.std.specs.List.{cons_option}
 use Rattle.std.proofs.lemmas.List.Elements.{filter_map-append}
 use Rattle.acct_text.specs.Lines.{Line}
-use Rattle.account_formats.specs.Format.{Format, records_of}
+use Rattle.account_model.specs.Format.{Format, records_of}
 
 -- the lines that are taken, in front of those that are left
 pub record HaveTaken (all left : List Line) : Type 0 where

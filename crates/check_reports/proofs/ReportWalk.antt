@@ -12,7 +12,7 @@ use Rattle.std.proofs.lemmas.List.Elements.{filter-append}
 use Rattle.acct_text.specs.declared.Tab.{Tab}
 use Rattle.acct_text.specs.Bytes.{is_empty}
 use Rattle.acct_text.specs.Lines.{Line}
-use Rattle.account_formats.specs.Format.{Format, has_named, records_of}
+use Rattle.account_model.specs.Format.{Format, has_named, records_of}
 use Rattle.account_model.specs.Problems.{DuplicateName, InvalidEntry, Located, Problem, RecordProblems, at_line, duplicate_name, is_nis, is_notice, problem_if, problem_line, problem_lines, problems_behind, problems_of_line, table_problems}
 use Rattle.acct_tables.specs.declared.name_index.NameIndex.{NameIndex}
 use Rattle.acct_tables.specs.NameIndex.{IsLineNoted, Tells, TellsAtMost, begins_before, line_name, line_names, told}

@@ -5,7 +5,7 @@ use Rattle.std.proofs.Common.{◌≡◌, ◌∙◌, ℕ, ◌<◌, ◌≤◌, ◌
 use Rattle.std.specs.Prelude.{⊤, cond, filter, nat_le, nat_lt, if◌then◌else◌}
 use Rattle.std.specs.List.{AllByRecursion}
 use Rattle.std.proofs.lemmas.Bool.{cases_Bool, eq-eqb, eqb-true, leb-false, leb-true, ltb-false, ltb-true, ne_eqb}
-use Rattle.account_formats.specs.Edits.{Keyed, insert_by_key, sorted_by_key}
+use Rattle.account_model.specs.Edits.{Keyed, insert_by_key, sorted_by_key}
 
 -- whether a record has this key
 abbrev pub has_key : ℕ → Keyed → Bool

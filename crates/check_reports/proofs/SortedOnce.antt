@@ -6,7 +6,7 @@ use Rattle.std.specs.List.{AllByRecursion}
 use Rattle.std.specs.List.Sorted.{IsNonDecreasingBy, IsStableByKey, ties}
 use Rattle.std.specs.Ordering.{is_lt, nat_cmp}
 use Rattle.std.proofs.lemmas.Bool.{cases_Bool, eq-eqb, ltb-false, ltb-true, ne_eqb}
-use Rattle.account_formats.specs.Edits as model
+use Rattle.account_model.specs.Edits as model
 use Rattle.check_reports.specs.declared.sorting.Keyed.{Keyed}
 use Rattle.check_reports.specs.Sorted.{seen_keyed}
 use Rattle.check_reports.proofs.SortLemmas.{Rises, has_key, one-order, sorting-keeps, sorting-rises}

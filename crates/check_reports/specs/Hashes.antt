@@ -1,6 +1,6 @@
 -- What pwck looks at in a line of shadow (shadow(5), pwck(8)).
 use Rattle.std.specs.Prelude.{ℕ, List, Option, option_map}
-use Rattle.account_formats.specs.Records.{shadow_format}
+use Rattle.account_model.specs.Records.{shadow_format}
 use Rattle.check_reports.specs.declared.hashes.Hash.{Hash}
 
 -- the name of its record, and the day of the last change

@@ -1,8 +1,8 @@
 -- What getsubids lists (getsubids(1), subuid(5), subgid(5)).
 use Rattle.std.specs.Prelude.{ℕ, List, codes, Option, if◌then◌else◌}
 use Rattle.acct_text.specs.declared.files.Files.{Files}
-use Rattle.account_formats.specs.declared.records.SubidRecord.{SubidRecord}
-use Rattle.account_words.specs.Request.{Request, has_option}
+use Rattle.account_model.specs.declared.records.SubidRecord.{SubidRecord}
+use Rattle.account_model.specs.Request.{Request, has_option}
 
 -- the file that is listed: subgid with `-g`, and else subuid
 abbrev pub listed_file : Request → Files → Option (List ℕ)

@@ -7,10 +7,10 @@ use Rattle.acct_text.specs.declared.Tab.{Tab}
 use Rattle.acct_text.specs.declared.files.Files.{Files}
 use Rattle.acct_text.specs.ChangedTables.{changed_among, changed_tables}
 use Rattle.acct_text.specs.Files.{table_of}
-use Rattle.account_formats.specs.Format.{Format, is_named}
-use Rattle.account_formats.specs.Edits as model
-use Rattle.account_formats.specs.Edits.{Arrange}
-use Rattle.account_formats.specs.Tables.{Script, files_after, table_after, table_records}
+use Rattle.account_model.specs.Format.{Format, is_named}
+use Rattle.account_model.specs.Edits as model
+use Rattle.account_model.specs.Edits.{Arrange}
+use Rattle.account_model.specs.Tables.{Script, files_after, table_after, table_records}
 use Rattle.account_model.specs.Action.{multiple_entries}
 use Rattle.acct_tables.specs.NameIndex.{Tells, told}
 use Rattle.check_reports.specs.declared.sorting.ByPlace.{ByPlace}

@@ -5,10 +5,10 @@ ghost use Rattle.acct_text.specs.declared.files.Files.{Files};
 ghost use Rattle.acct_text.specs.ChangedTables.{changed_bytes, changed_tables, with_new_table};
 ghost use Rattle.acct_text.specs.Files.{table_of};
 ghost use Rattle.account_model.specs.declared.refusal.Refusal.{Refusal};
-ghost use Rattle.account_words.specs.declared.tool.Tool.{Tool};
+ghost use Rattle.account_model.specs.declared.tool.Tool.{Tool};
 ghost use Rattle.account_model.specs.Action.{changes, multiple_entries, reports};
-ghost use Rattle.account_formats.specs.Tables.{Script, files_after};
-ghost use Rattle.account_formats.specs.Text.{first_some};
+ghost use Rattle.account_model.specs.Tables.{Script, files_after};
+ghost use Rattle.account_model.specs.Text.{first_some};
 ghost use Rattle.check_reports.specs.Decided.{DecidesBy};
 ghost use Rattle.check_reports.specs.Sorted.{Sorts};
 

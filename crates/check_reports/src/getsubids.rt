@@ -1,17 +1,16 @@
 // getsubids NAME (getsubids(1)): lists the subordinate ranges of a user.
 ghost use Rattle.std.specs.Prelude.{◌≡◌, ◌++◌, filter, map, IfOk, OnOk};
 ghost use Rattle.account_model.specs.Getsubids.{getsubids, range_line, range_lines_from};
-ghost use Rattle.account_formats.specs.Records.{subid_format};
-ghost use Rattle.account_words.specs.SubidOwner.{is_owned};
-ghost use Rattle.account_formats.specs.Tables.{table_records};
+ghost use Rattle.account_model.specs.Records.{subid_format};
+ghost use Rattle.account_model.specs.SubidOwner.{is_owned};
+ghost use Rattle.account_model.specs.Tables.{table_records};
 ghost use Rattle.account_model.specs.Users.{uid_of};
 ghost use Rattle.subid_ranges.specs.Owned.{first_and_count};
 ghost use Rattle.check_reports.specs.Decided.{DecidesBy};
 ghost use Rattle.check_reports.specs.Listed.{listed_file, range_for};
 
 use crate::decision::told;
-use account_formats::PasswdRecord;
-use account_model::Refusal;
+use account_model::{PasswdRecord, Refusal};
 use acct_tables::find_record;
 use acct_text::Piece::{Number, Text};
 use acct_text::{Bytes, Files};

@@ -1,7 +1,7 @@
 // grpck (grpck(8)): reports the problems of group and gshadow (`-r`), or sorts them (`-s`).
 ghost use Rattle.std.specs.Prelude.{◌≡◌, ◌++◌, [], ◌∷◌, IfOk, OnOk};
-ghost use Rattle.account_formats.specs.Records.{passwd_format, read_names};
-ghost use Rattle.account_formats.specs.Text.{nonempty};
+ghost use Rattle.account_model.specs.Records.{passwd_format, read_names};
+ghost use Rattle.account_model.specs.Text.{nonempty};
 ghost use Rattle.account_model.specs.Grpck.{grpck, grpck_report};
 ghost use Rattle.check_reports.specs.Decided.{DecidesBy};
 ghost use Rattle.check_reports.specs.Known.{IsWhole};
@@ -13,7 +13,7 @@ use crate::problem::{Listing, Problem};
 use crate::problems::Problems;
 use crate::report::{Checks, NameRead, Report};
 use crate::sorting::ById;
-use account_formats::{GroupRecord, GshadowRecord, PasswdRecord};
+use account_model::{GroupRecord, GshadowRecord, PasswdRecord};
 use acct_lines::{GroupLine, GshadowLine, is_valid_name};
 use acct_text::{Files, Tab, cut_once};
 use command_values::Asked;

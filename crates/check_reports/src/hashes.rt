@@ -1,8 +1,8 @@
 // The lines of shadow as pwck looks at them. Those that are kept are read once (shadow(5), pwck(8),
 // `-r`).
 ghost use Rattle.std.specs.Prelude.{◌≡◌, [], Some, option_map, IfOk, IfSome, MatchResult};
-ghost use Rattle.account_formats.specs.Faults.{shadow_fault};
-ghost use Rattle.account_formats.specs.Records.{shadow_format};
+ghost use Rattle.account_model.specs.Faults.{shadow_fault};
+ghost use Rattle.account_model.specs.Records.{shadow_format};
 ghost use Rattle.acct_tables.specs.NameIndex.{Tells, line_names, told};
 ghost use Rattle.carried_lines.specs.TablesOfLines.{lines_in};
 ghost use Rattle.check_reports.specs.Hashes.{hash_in, seen_hash};

@@ -1,9 +1,9 @@
 // What checks look up in the tables, found without a search of them (pwck(8), grpck(8), `-r`).
 ghost use Rattle.std.specs.Prelude.{◌≡◌, ◌+◌, ◌^◌, ◌<◌, [], false, map, IfOk, OnOk};
 ghost use Rattle.std.specs.Option.{option_copied};
-ghost use Rattle.account_formats.specs.Format.{has_named};
-ghost use Rattle.account_formats.specs.Records.{group_format, gshadow_format, passwd_format, shadow_format};
-ghost use Rattle.account_formats.specs.Tables.{table_records};
+ghost use Rattle.account_model.specs.Format.{has_named};
+ghost use Rattle.account_model.specs.Records.{group_format, gshadow_format, passwd_format, shadow_format};
+ghost use Rattle.account_model.specs.Tables.{table_records};
 ghost use Rattle.acct_tables.specs.NameIndex.{Tells, TellsAtMost, line_names, told};
 ghost use Rattle.id_choice.specs.Used.{AreThoseOf};
 ghost use Rattle.carried_lines.specs.TablesOfLines.{lines_in};

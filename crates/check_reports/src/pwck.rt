@@ -10,7 +10,7 @@ use crate::problem::Problem;
 use crate::problems::Problems;
 use crate::report::{Checks, NameRead, Report};
 use crate::sorting::ById;
-use account_formats::{GroupRecord, PasswdRecord, ShadowRecord};
+use account_model::{GroupRecord, PasswdRecord, ShadowRecord};
 use acct_lines::{PasswdLine, is_valid_name};
 use acct_tables::NameIndex;
 use acct_text::{Files, Tab};

@@ -2,7 +2,7 @@
 ghost use Rattle.std.specs.Prelude.{◌≡◌, ◌+◌, ◌^◌, ◌<◌, ◌++◌, ◌∷◌, [], List, Some, true, option_map, IfOk, OnOk};
 ghost use Rattle.std.specs.Option.{option_copied};
 ghost use Rattle.acct_text.specs.declared.files.Files.{Files};
-ghost use Rattle.account_words.specs.declared.tool.Tool.{Tool};
+ghost use Rattle.account_model.specs.declared.tool.Tool.{Tool};
 ghost use Rattle.account_model.specs.Action.{reports};
 ghost use Rattle.account_model.specs.Problems.{RecordProblems, at_line, duplicate_name, is_nis, problem_line, problems_of_line, table_problems};
 ghost use Rattle.acct_lines.specs.Reading.{MatchRead};

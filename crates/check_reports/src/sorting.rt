@@ -1,13 +1,13 @@
 // The records of a table in another order (pwck(8), grpck(8), `-s`).
 ghost use Rattle.std.specs.Prelude.{◌≡◌, ◌+◌, ◌^◌, ◌<◌, ◌≤◌, drop, length, ◌++◌, ◌∷◌, [], List, ℕ, map, true, option_map, option_to_list, IfOk, OnOk};
 ghost use Rattle.acct_text.specs.Lines.{Line, file_bytes, line_bytes, lines_of};
-ghost use Rattle.account_formats.specs.Edits.{Arrange, edited, in_places, keyed_text, keyed_texts, sorted_by_key};
-ghost use Rattle.account_formats.specs.Tables.{table_after, table_records};
+ghost use Rattle.account_model.specs.Edits.{Arrange, edited, in_places, keyed_text, keyed_texts, sorted_by_key};
+ghost use Rattle.account_model.specs.Tables.{table_after, table_records};
 ghost use Rattle.acct_tables.specs.SeenLines.{seen_line};
 ghost use Rattle.check_reports.specs.Sorted.{IsOrderOf, kept_place, place_in, seen_keyed};
 ghost use Rattle.std.specs.Option.{option_copied};
 
-use account_formats::{GroupRecord, PasswdRecord};
+use account_model::{GroupRecord, PasswdRecord};
 use acct_lines::{GroupLine, PasswdLine, TableRecord};
 use acct_tables::{FileLine, Lines, NameIndex, is_record, name_of};
 use acct_text::Bytes;

@@ -2,9 +2,9 @@
 -- Way: by what is read; a day that is read fits shadow(5).
 use Rattle.std.proofs.Common.{◌≡◌, ℕ, List, refl, ap, ℤ, arith}
 use Rattle.std.specs.Prelude.{Option, Some, None, Result, Ok, Err}
-use Rattle.account_words.specs.Dates.{DayFault, read_day}
-use Rattle.account_words.specs.Values.{date_value}
-use Rattle.account_formats.specs.Written.{IsDaysNumber}
+use Rattle.account_model.specs.Dates.{DayFault, read_day}
+use Rattle.account_model.specs.Values.{date_value}
+use Rattle.account_model.specs.Written.{IsDaysNumber}
 use Rattle.account_model.proofs.AgingToolScripts.{date-held}
 use Rattle.acct_dates.specs.Days.{answered}
 use Rattle.command_values.specs.FieldNumbers.{IsFieldNumber}

@@ -7,7 +7,7 @@ use Rattle.std.proofs.lemmas.Bool.{cases_Bool}
 use Rattle.std.proofs.lemmas.List.{append-nil, take_more}
 use Rattle.std.proofs.lemmas.List.Elements.{filter-append}
 use Rattle.std.proofs.lemmas.Slice.Eq.{bytes_eq-Decides}
-use Rattle.account_formats.specs.Text.{is_listed, distinct}
+use Rattle.account_model.specs.Text.{is_listed, distinct}
 
 -- the names without this one
 abbrev others : List ℕ → List (List ℕ) → List (List ℕ)

@@ -7,8 +7,8 @@ use Rattle.std.specs.Option.{option_or}
 use Rattle.std.specs.List.{list_any, cons_option}
 use Rattle.std.proofs.lemmas.Bool.{cases_Bool}
 use Rattle.std.proofs.lemmas.List.{drop_more}
-use Rattle.account_words.specs.declared.given.Given.{Given}
-use Rattle.account_formats.specs.Text.{last_of}
+use Rattle.account_model.specs.declared.given.Given.{Given}
+use Rattle.account_model.specs.Text.{last_of}
 use Rattle.option_words.proofs.ReadingLemmas.{last_of-cons_option}
 use Rattle.command_values.specs.Forms.{form_refusal, test_of}
 use Rattle.command_values.specs.Options.{value_at}

@@ -9,8 +9,8 @@ use Rattle.acct_text.specs.Numbers.{is_digits}
 use Rattle.acct_text.specs.Pieces.{cut_at}
 use Rattle.acct_text.proofs.Cut.{cut_at-is}
 use Rattle.acct_text.proofs.NumberLaws.{number-is}
-use Rattle.account_formats.specs.Records.{greatest_id, read_id}
-use Rattle.account_formats.specs.Text.{hyphen}
+use Rattle.account_model.specs.Records.{greatest_id, read_id}
+use Rattle.account_model.specs.Text.{hyphen}
 use Rattle.account_model.specs.UsermodRanges.{range_of_ids, range_of_pieces, range_value}
 use Rattle.acct_dates.proofs.DatePieces.{cut-digits}
 

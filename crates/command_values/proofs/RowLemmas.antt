@@ -7,14 +7,14 @@ use Rattle.std.proofs.Common.{◌≡◌, ℕ, Bool, true, false, ◌==◌, List,
 use Rattle.std.specs.Prelude.{Option, Some, None, find, is_some}
 use Rattle.std.specs.List.{AllByRecursion}
 use Rattle.std.proofs.lemmas.Bool.{cases_Bool, eqb-true}
-use Rattle.account_words.specs.declared.given.Given.{Given}
-use Rattle.account_words.specs.declared.tool.Tool.{Tool}
-use Rattle.account_words.specs.declared.tool.Tool.TheVariants.{Useradd, Usermod, Userdel, Groupadd, Groupmod, Groupdel, Gpasswd, Chage, Chpasswd, Pwck, Grpck, Getsubids, Batch}
-use Rattle.account_words.specs.Options.{Word, OptionForm, prefix_letter, option_forms, own_options, operands_of}
-use Rattle.account_words.specs.Request.{Request, has_option, value_of, last_value, operand as operand_of}
-use Rattle.account_words.specs.Spelling.{form_of_letter, HasLetter, HasName, Spelled, nothing, end_of_options, operand, letter_flag, letter_bundle, letter_with_value, letter_then_value, name_flag, name_with_value, name_then_value}
-use Rattle.account_formats.specs.Text.{last_of}
-use Rattle.account_words.specs.Words.{Asks, without_prefix}
+use Rattle.account_model.specs.declared.given.Given.{Given}
+use Rattle.account_model.specs.declared.tool.Tool.{Tool}
+use Rattle.account_model.specs.declared.tool.Tool.TheVariants.{Useradd, Usermod, Userdel, Groupadd, Groupmod, Groupdel, Gpasswd, Chage, Chpasswd, Pwck, Grpck, Getsubids, Batch}
+use Rattle.account_model.specs.Options.{Word, OptionForm, prefix_letter, option_forms, own_options, operands_of}
+use Rattle.account_model.specs.Request.{Request, has_option, value_of, last_value, operand as operand_of}
+use Rattle.account_model.specs.Spelling.{form_of_letter, HasLetter, HasName, Spelled, nothing, end_of_options, operand, letter_flag, letter_bundle, letter_with_value, letter_then_value, name_flag, name_with_value, name_then_value}
+use Rattle.account_model.specs.Text.{last_of}
+use Rattle.account_model.specs.Words.{Asks, without_prefix}
 use Rattle.command_values.specs.Options.{IsOfTable, KeepsRow}
 use Rattle.command_values.proofs.OptionLemmas.{values_in}
 

@@ -11,9 +11,9 @@ use Rattle.std.proofs.lemmas.Bool.{cases_Bool}
 use Rattle.std.proofs.lemmas.Slice.Eq.{bytes_eq-Decides}
 use Rattle.acct_text.specs.Pieces.{cut_at}
 use Rattle.acct_text.proofs.CutOnce.{cut-before, cut-behind, cut-has, uncut-has}
-use Rattle.account_words.specs.declared.settings.Key.{Key}
-use Rattle.account_formats.specs.Text.{equals_sign}
-use Rattle.account_words.specs.Settings.{Setting, find_key, user_groups_key, allows, allowed_value, is_allowed, is_setting_word, word_setting}
+use Rattle.account_model.specs.declared.settings.Key.{Key}
+use Rattle.account_model.specs.Text.{equals_sign}
+use Rattle.account_model.specs.Settings.{Setting, find_key, user_groups_key, allows, allowed_value, is_allowed, is_setting_word, word_setting}
 use Rattle.login_defs.specs.declared.defs.KeyFault.TheVariants.{UnknownKey}
 use Rattle.login_defs.specs.Faults.{value_fault, setting_fault}
 

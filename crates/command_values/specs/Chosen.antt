@@ -1,9 +1,9 @@
 -- The settings of a command, and the ID that it chooses by them (login.defs(5); useradd(8), `-K`).
 use Rattle.std.specs.Prelude.{◌≡◌, ℕ, List, Option}
-use Rattle.account_words.specs.declared.settings.Kind.{Kind}
-use Rattle.account_words.specs.declared.settings.IdSort.{IdSort}
-use Rattle.account_words.specs.Settings.{Setting, range}
-use Rattle.account_words.specs.Ids.{chosen_id}
+use Rattle.account_model.specs.declared.settings.Kind.{Kind}
+use Rattle.account_model.specs.declared.settings.IdSort.{IdSort}
+use Rattle.account_model.specs.Settings.{Setting, range}
+use Rattle.account_model.specs.Ids.{chosen_id}
 use Rattle.login_defs.specs.declared.defs.Defs.{Defs}
 use Rattle.login_defs.specs.Held.{HasSettings}
 use Rattle.id_choice.specs.Used.{AreThoseOf}

@@ -2,11 +2,11 @@
 -- each tool, "OPTIONS" and "SYNOPSIS").
 use Rattle.std.specs.Prelude.{◌≡◌, ℕ, ◌==◌, List, length, Option, None, is_some, if◌then◌else◌}
 use Rattle.std.specs.List.{AllByRecursion}
-use Rattle.account_words.specs.declared.given.Given.{Given}
-use Rattle.account_words.specs.Options.{OptionForm, own_options, operands_of}
-use Rattle.account_words.specs.Spelling.{HasLetter}
-use Rattle.account_words.specs.Words.{broken_rule}
-use Rattle.account_words.specs.Request.{Request}
+use Rattle.account_model.specs.declared.given.Given.{Given}
+use Rattle.account_model.specs.Options.{OptionForm, own_options, operands_of}
+use Rattle.account_model.specs.Spelling.{HasLetter}
+use Rattle.account_model.specs.Words.{broken_rule}
+use Rattle.account_model.specs.Request.{Request}
 
 -- the value of an option, where it has the letter and one was given
 abbrev pub value_at : ℕ → Given → Option (List ℕ)

@@ -1,14 +1,14 @@
 // What a command asks for: the words of its options and its operand (the manual page of each tool).
 ghost use Rattle.std.specs.Prelude.{◌≡◌, ◌∷◌, [], IfOk};
 ghost use Rattle.std.specs.Option.{option_copied};
-ghost use Rattle.account_words.specs.Request.{Request, has_option, value_of, values_of, operand};
-ghost use Rattle.account_words.specs.Values.{given_id, text_value};
+ghost use Rattle.account_model.specs.Request.{Request, has_option, value_of, values_of, operand};
+ghost use Rattle.account_model.specs.Values.{given_id, text_value};
 ghost use Rattle.account_model.specs.NewAccount.{kind_of};
 ghost use Rattle.option_words.specs.Parsed.{request_in};
 ghost use Rattle.command_values.specs.Options.{value_at};
 
 use crate::read_id;
-use account_words::{Given, Kind, Tool};
+use account_model::{Given, Kind, Tool};
 use acct_text::{Bytes, Names};
 use option_words::Parsed;
 use std::alloc::{AllocError, Global};
@@ -17,14 +17,14 @@ use std::marker::Model;
 /// What a command asks for, looked up in its words as they were read: a tool, its options and its
 /// operands.
 ///
-/// An option is named by the byte of its letter. Contracts see the request of `account_words`.
+/// An option is named by the byte of its letter. Contracts see the request of `account_model`.
 #[derive(Drop)]
 pub struct Asked<'a> {
     parsed: &'a Parsed,
 }
 
 impl<'a> Model for Asked<'a> {
-    ghost use Rattle.account_words.specs.Request.{Request};
+    ghost use Rattle.account_model.specs.Request.{Request};
     ghost use Rattle.option_words.specs.Parsed.{request_in};
 
     ghost Value = { Request };

@@ -1,11 +1,11 @@
 // Numbers of days and dates, as the values of options write them (useradd(8), usermod(8), chage(1)).
 ghost use Rattle.std.specs.Prelude.{◌≡◌, ℕ, Option, option_map};
-ghost use Rattle.account_words.specs.Values.{days_value, date_value, expiration_value};
+ghost use Rattle.account_model.specs.Values.{days_value, date_value, expiration_value};
 ghost use Rattle.acct_lines.specs.DaysValues.{days_held};
 ghost use Rattle.command_values.specs.FieldNumbers.{IsFieldNumber};
 
 use crate::form::number_within;
-use account_formats::GREATEST_DAYS;
+use account_model::GREATEST_DAYS;
 use acct_dates::read_day;
 use acct_lines::DaysValue;
 

@@ -2,13 +2,13 @@
 ghost use Rattle.std.specs.Prelude.{◌≡◌, not, ◌&&◌, ◌||◌, is_some};
 ghost use Rattle.acct_text.specs.Numbers.{number_within};
 ghost use Rattle.acct_text.specs.Bytes.{newline, colon, is_empty};
-ghost use Rattle.account_formats.specs.Records.{read_id as id_of_text};
-ghost use Rattle.account_formats.specs.Text.{has_byte, slash, begins_with};
-ghost use Rattle.account_words.specs.Values.{is_field as stands_in_field, is_folder as is_folder_text, is_shell as is_shell_text};
+ghost use Rattle.account_model.specs.Records.{read_id as id_of_text};
+ghost use Rattle.account_model.specs.Text.{has_byte, slash, begins_with};
+ghost use Rattle.account_model.specs.Values.{is_field as stands_in_field, is_folder as is_folder_text, is_shell as is_shell_text};
 ghost use Rattle.command_values.specs.Forms.{test_of};
 
 use crate::{read_date, read_days, read_expiration, read_range};
-use account_formats::GREATEST_ID;
+use account_model::GREATEST_ID;
 use acct_lines::is_valid_name;
 use acct_text::read_decimal;
 

@@ -1,6 +1,6 @@
 // IDs from a first to a last one (usermod(8), `-v`, `-V`, `-w` and `-W`).
 ghost use Rattle.std.specs.Prelude.{◌≤◌};
-ghost use Rattle.account_formats.specs.Records.{greatest_id};
+ghost use Rattle.account_model.specs.Records.{greatest_id};
 
 /// IDs from a first to a last one, which isn't below the first.
 #[derive(Clone, Copy, Drop)]

@@ -1,7 +1,7 @@
 // Lists of names (gpasswd(1), `-M` and `-A`; useradd(8), `-G`).
 ghost use Rattle.std.specs.Prelude.{◌≡◌, IfOk};
-ghost use Rattle.account_formats.specs.Text.{distinct as without_repeats};
-ghost use Rattle.account_words.specs.Values.{list_value as names_of_list};
+ghost use Rattle.account_model.specs.Text.{distinct as without_repeats};
+ghost use Rattle.account_model.specs.Values.{list_value as names_of_list};
 
 use acct_lines::cut_names;
 use acct_text::{Bytes, Names};

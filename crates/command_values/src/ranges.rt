@@ -1,13 +1,13 @@
 // Ranges of IDs in the values of options (usermod(8), `-v`, `-V`, `-w` and `-W`).
 ghost use Rattle.std.specs.Prelude.{◌≡◌, ◌≤◌, ◌∷◌, [], map, option_map, option_and_then, IfOk, IfSome};
-ghost use Rattle.account_formats.specs.Records.{greatest_id};
+ghost use Rattle.account_model.specs.Records.{greatest_id};
 ghost use Rattle.account_model.specs.UsermodRanges.{range_of_ids, range_value, ranges_given};
 ghost use Rattle.command_values.specs.Options.{value_at};
 ghost use Rattle.command_values.specs.Ranges.{ids_named};
 
 use crate::asked::value_at;
 use crate::{Asked, IdRange, read_id};
-use account_words::Given;
+use account_model::Given;
 use acct_text::cut_once;
 use std::alloc::{AllocError, Global};
 

@@ -1,7 +1,7 @@
 // That a command's request is one of its tool (the manual page of each tool).
 ghost use Rattle.std.specs.Prelude.{ℕ, List};
-ghost use Rattle.account_words.specs.Request.{Request};
-ghost use Rattle.account_words.specs.Words.{Asks};
+ghost use Rattle.account_model.specs.Request.{Request};
+ghost use Rattle.account_model.specs.Words.{Asks};
 ghost use Rattle.command_values.specs.Options.{KeepsRow};
 
 /// What words ask for keeps the row of its tool: it has only options that the tool takes, each with

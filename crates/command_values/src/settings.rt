@@ -2,7 +2,7 @@
 // groupadd(8)).
 ghost use Rattle.std.specs.Prelude.{◌≡◌, not, IfOk, OnOk};
 ghost use Rattle.std.specs.Bool.{OnTrue};
-ghost use Rattle.account_words.specs.Settings.{is_setting_word, word_setting};
+ghost use Rattle.account_model.specs.Settings.{is_setting_word, word_setting};
 ghost use Rattle.account_model.specs.NewAccount.{settings_for};
 ghost use Rattle.account_model.specs.Refusals.{refuse_if, bad_key};
 ghost use Rattle.tool_answers.specs.Refusing.{RefusesBy};
@@ -11,8 +11,7 @@ ghost use Rattle.login_defs.specs.Held.{Adds};
 
 use crate::asked::value_at;
 use crate::{Asked, ToolFault};
-use account_model::Refusal;
-use account_words::{IdSort, Kind};
+use account_model::{IdSort, Kind, Refusal};
 use acct_text::{Bytes, cut_once};
 use id_choice::UsedIds;
 use login_defs::Defs;

@@ -1,10 +1,10 @@
 // The groups that words name (useradd(8), usermod(8), `-g` and `-G`).
 ghost use Rattle.std.specs.Prelude.{◌≡◌, is_some, option_map, IfOk};
 ghost use Rattle.account_model.specs.GivenGroups.{find_group as named_by_word, given_group, group_words as words_of_groups};
-ghost use Rattle.account_formats.specs.Tables.{group_records};
+ghost use Rattle.account_model.specs.Tables.{group_records};
 ghost use Rattle.account_model.specs.Users.{group_named as group_of_name};
 
-use account_formats::GroupRecord;
+use account_model::GroupRecord;
 use acct_lines::is_digits;
 use acct_text::{Bytes, Names};
 use command_values::{Asked, list_value, read_id};

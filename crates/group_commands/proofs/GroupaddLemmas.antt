@@ -7,10 +7,10 @@ use Rattle.acct_text.specs.declared.files.Files.{Files}
 use Rattle.account_model.specs.Action.{Action, changes}
 use Rattle.account_model.specs.Groupadd.{groupadd_checks, groupadd_conflicts, groupadd_script, new_gid}
 use Rattle.account_model.specs.NewAccount.{add_group, new_hash}
-use Rattle.account_words.specs.Request.{Request}
-use Rattle.account_words.specs.Settings.{Setting}
-use Rattle.account_formats.specs.Tables.{no_edits}
-use Rattle.account_formats.specs.Text.{first_some}
+use Rattle.account_model.specs.Request.{Request}
+use Rattle.account_model.specs.Settings.{Setting}
+use Rattle.account_model.specs.Tables.{no_edits}
+use Rattle.account_model.specs.Text.{first_some}
 use Rattle.tool_answers.specs.declared.tool_fault.ToolFault.{ToolFault}
 use Rattle.tool_answers.specs.declared.tool_fault.ToolFault.TheVariants.{Refused, Memory}
 use Rattle.tool_answers.specs.Refusing.{IsFaultOf}

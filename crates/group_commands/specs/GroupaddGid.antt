@@ -3,9 +3,9 @@ use Rattle.std.specs.Prelude.{◌≡◌, ℕ, List, Some, Result, IfOk}
 use Rattle.acct_text.specs.declared.files.Files.{Files}
 use Rattle.account_model.specs.Groupadd.{groupadd_conflicts, new_gid}
 use Rattle.account_model.specs.NewAccount.{settings_for}
-use Rattle.account_words.specs.Request.{Request, operand}
-use Rattle.account_words.specs.Settings.{Setting}
-use Rattle.account_formats.specs.Text.{first_some}
+use Rattle.account_model.specs.Request.{Request, operand}
+use Rattle.account_model.specs.Settings.{Setting}
+use Rattle.account_model.specs.Text.{first_some}
 use Rattle.tool_answers.specs.declared.tool_fault.ToolFault.{ToolFault}
 use Rattle.login_defs.specs.declared.defs.Defs.{Defs}
 use Rattle.login_defs.specs.Held.{HasSettings}

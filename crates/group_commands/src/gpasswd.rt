@@ -2,9 +2,9 @@
 ghost use Rattle.std.specs.Prelude.{◌≡◌, ◌∷◌, [], codes, IfOk};
 ghost use Rattle.account_model.specs.Gpasswd.{gpasswd, gpasswd_refusals, gshadow_members_of, is_member, members_of, not_member};
 ghost use Rattle.account_model.specs.Refusals.{bad_list_name, missing_user, missing_users, refuse_value};
-ghost use Rattle.account_words.specs.Request.{operand};
-ghost use Rattle.account_formats.specs.Text.{first_some, is_listed as stands_in};
-ghost use Rattle.account_words.specs.Values.{list_value as names_of_list};
+ghost use Rattle.account_model.specs.Request.{operand};
+ghost use Rattle.account_model.specs.Text.{first_some, is_listed as stands_in};
+ghost use Rattle.account_model.specs.Values.{list_value as names_of_list};
 ghost use Rattle.tool_answers.specs.Refusing.{RefusesBy};
 ghost use Rattle.table_edits.specs.Acting.{ActsBy};
 ghost use Rattle.table_lookups.specs.Stopping.{StopsBy};

@@ -2,7 +2,7 @@
 ghost use Rattle.std.specs.Prelude.{◌==◌, Some, find, option_map};
 ghost use Rattle.account_model.specs.declared.refusal.Refusal.TheVariants.{PrimaryGroup};
 ghost use Rattle.account_model.specs.Groupdel.{groupdel, still_primary};
-ghost use Rattle.account_formats.specs.Tables.{passwd_records};
+ghost use Rattle.account_model.specs.Tables.{passwd_records};
 ghost use Rattle.table_edits.specs.Acting.{ActsBy};
 ghost use Rattle.table_lookups.specs.Stopping.{StopsBy};
 

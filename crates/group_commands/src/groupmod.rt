@@ -10,8 +10,7 @@ ghost use Rattle.table_edits.specs.Acting.{ActsBy};
 ghost use Rattle.table_edits.specs.Additions.{HasAlso};
 ghost use Rattle.table_lookups.specs.Stopping.{StopsBy};
 
-use account_formats::GroupRecord;
-use account_model::Refusal;
+use account_model::{GroupRecord, Refusal};
 use acct_text::Bytes;
 use command_values::{Asked, Form, ToolFault};
 use hash_edits::set_group_hash;

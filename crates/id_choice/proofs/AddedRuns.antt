@@ -7,7 +7,7 @@ use Rattle.std.specs.BTreeMap.{BTreeMap, Updates, get, is_at}
 use Rattle.std.specs.Ordering.{nat_cmp}
 use Rattle.std.proofs.lemmas.Bool.{cases_lt, cases_order, le-ltb, lt-ltb, ne_eqb, or_cases, or_left, or_right, le-leb, leb-true, and_parts, and_from}
 use Rattle.std.proofs.lemmas.Option.{none-some, same_Some}
-use Rattle.account_words.specs.Ids.{in_range, is_used}
+use Rattle.account_model.specs.Ids.{in_range, is_used}
 use Rattle.id_choice.specs.RunMaps.{AreApart, BeginsAt, EndsAt, IsWithout, LiesIn, numbers_of}
 use Rattle.id_choice.specs.Runs.{AddsAll}
 use Rattle.id_choice.proofs.RunLemmas.{lies-used, used-lies}

@@ -5,10 +5,10 @@
 use Rattle.std.proofs.Common.{◌≡◌, ℕ, ◌+◌, ◌-◌, ◌<◌, ◌≤◌, true, false, List, sym, ◌∙◌, subst, arith, inl, inr, lt_irrefl}
 use Rattle.std.specs.Prelude.{Option, Some, None, min, max}
 use Rattle.std.proofs.lemmas.Bool.{cases_lt, false≢true}
-use Rattle.account_words.specs.declared.settings.Kind.{Kind}
-use Rattle.account_words.specs.declared.settings.Kind.TheVariants.{Regular, System}
-use Rattle.account_words.specs.Ids.{FreeIn, IsChosenId, IsGreatest, IsLeast, RegularChoice, LeastFree, NoneFree, SystemChoice, BeforeLeast, GreatestFree, NoneLeft, UsedIn, is_used}
-use Rattle.account_words.proofs.Sets.{contains-in, in-contains, in-used, used-in}
+use Rattle.account_model.specs.declared.settings.Kind.{Kind}
+use Rattle.account_model.specs.declared.settings.Kind.TheVariants.{Regular, System}
+use Rattle.account_model.specs.Ids.{FreeIn, IsChosenId, IsGreatest, IsLeast, RegularChoice, LeastFree, NoneFree, SystemChoice, BeforeLeast, GreatestFree, NoneLeft, UsedIn, is_used}
+use Rattle.account_model.proofs.Sets.{contains-in, in-contains, in-used, used-in}
 use Rattle.id_choice.specs.declared.runs.Run.{Run}
 use Rattle.id_choice.specs.Used.{FindsGreatest, FindsLeast}
 use Rattle.id_choice.specs.Runs.{HasNothingFrom, HasNothingUpTo, IsFirstFrom, IsLastUpTo}

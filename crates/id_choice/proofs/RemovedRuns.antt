@@ -7,7 +7,7 @@ use Rattle.std.specs.BTreeMap.{BTreeMap, get}
 use Rattle.std.specs.Ordering.{nat_cmp}
 use Rattle.std.proofs.lemmas.Bool.{and_from, and_parts, and_right, cases_eq, cases_lt, cases_order, eq-eqb, eqb-true, false≢true, leb-true, lt-leb, not-true}
 use Rattle.std.proofs.lemmas.Option.{none-some, same_Some}
-use Rattle.account_words.specs.Ids.{in_range, is_used}
+use Rattle.account_model.specs.Ids.{in_range, is_used}
 use Rattle.id_choice.specs.declared.runs.Run.{Run}
 use Rattle.id_choice.specs.RunMaps.{AreApart, AreApartUpTo, EndsBefore, HasRun, HasUpTo, IsWithout, KeepsBehind, LiesIn, numbers_of}
 use Rattle.id_choice.specs.Runs.{LosesAll, LosesOne}

@@ -13,7 +13,7 @@ use Rattle.std.proofs.lemmas.Option.{none-some, same_Some}
 use Rattle.std.proofs.lemmas.List.Folds.{list_any-append}
 use Rattle.std.proofs.lemmas.Map.Lookups.{exact_unsigned}
 use Rattle.std.proofs.lemmas.Map.Views.{btree_map_get_iff}
-use Rattle.account_words.specs.Ids.{is_used}
+use Rattle.account_model.specs.Ids.{is_used}
 use Rattle.id_choice.specs.declared.runs.Run.{Run}
 use Rattle.id_choice.specs.RunMaps.{AreApart, HasFrom, HasNoneFrom, HasNoneUpTo, HasRun, HasUpTo, LiesIn, numbers_of}
 use Rattle.id_choice.specs.Runs.{HasNothingFrom, HasNothingUpTo, IsFirstFrom, IsLastUpTo, IsWholeRun}

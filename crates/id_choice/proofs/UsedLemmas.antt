@@ -4,11 +4,11 @@
 use Rattle.std.proofs.Common.{◌≡◌, ℕ, ◌+◌, Bool, true, false, List, [], ◌∷◌, ◌++◌, refl, sym, ◌∙◌}
 use Rattle.std.specs.Prelude.{Option, Some, None, Contains, ◌||◌, ◌==◌}
 use Rattle.std.proofs.lemmas.List.Folds.{list_any-append}
-use Rattle.account_words.specs.declared.settings.Kind.{Kind}
-use Rattle.account_words.specs.declared.settings.Kind.TheVariants.{Regular, System}
-use Rattle.account_words.specs.Ids.{UsedIn, FreeIn, IsLeast, IsGreatest, RegularChoice, FirstOfUnused, AfterGreatest, LeastFree, NoneFree, SystemChoice, LastOfUnused, BeforeLeast, GreatestFree, NoneLeft, IsChosenId, chosen_id, is_used}
-use Rattle.account_words.proofs.Sets.{contains-in, in-contains, in-used, used-in}
-use Rattle.account_words.proofs.IdsLaws.{chosen_id-is, chosen-one}
+use Rattle.account_model.specs.declared.settings.Kind.{Kind}
+use Rattle.account_model.specs.declared.settings.Kind.TheVariants.{Regular, System}
+use Rattle.account_model.specs.Ids.{UsedIn, FreeIn, IsLeast, IsGreatest, RegularChoice, FirstOfUnused, AfterGreatest, LeastFree, NoneFree, SystemChoice, LastOfUnused, BeforeLeast, GreatestFree, NoneLeft, IsChosenId, chosen_id, is_used}
+use Rattle.account_model.proofs.Sets.{contains-in, in-contains, in-used, used-in}
+use Rattle.account_model.proofs.IdsLaws.{chosen_id-is, chosen-one}
 use Rattle.id_choice.specs.Used.{AreThoseOf, id_for}
 
 -- the tests of two parts in either order

@@ -2,7 +2,7 @@
 -- can be.
 use Rattle.std.specs.Prelude.{◌≡◌, ℕ, ◌+◌, ◌<◌, ◌≤◌, Bool, true, false, not, ◌&&◌, ◌||◌, ◌==◌, List}
 use Rattle.std.specs.List.{list_any}
-use Rattle.account_words.specs.Ids.{in_range, is_used}
+use Rattle.account_model.specs.Ids.{in_range, is_used}
 use Rattle.id_choice.specs.declared.runs.Run.{Run}
 
 -- the new numbers are the old ones and those from the first to the last

@@ -1,8 +1,8 @@
 -- What the contracts of `UsedIds` say: a set of IDs is told by its members, and by no order
 -- (useradd(8), groupadd(8)).
 use Rattle.std.specs.Prelude.{◌≡◌, ℕ, List, Option, Some, None, if◌then◌else◌}
-use Rattle.account_words.specs.declared.settings.Kind.{Kind}
-use Rattle.account_words.specs.Ids.{IsGreatest, IsLeast, is_used, chosen_id}
+use Rattle.account_model.specs.declared.settings.Kind.{Kind}
+use Rattle.account_model.specs.Ids.{IsGreatest, IsLeast, is_used, chosen_id}
 
 -- the used IDs are exactly those of the list, in any order and any number of times
 abbrev pub AreThoseOf : List ℕ → List ℕ → Type 0

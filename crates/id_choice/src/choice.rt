@@ -1,11 +1,11 @@
 // The choice of an ID from a range: the next to those that are used, or one between them
 // (useradd(8), groupadd(8), login.defs(5)).
 ghost use Rattle.std.specs.Prelude.{◌≤◌};
-ghost use Rattle.account_words.specs.Ids.{FreeIn, IsChosenId, RegularChoice, SystemChoice, UsedIn};
+ghost use Rattle.account_model.specs.Ids.{FreeIn, IsChosenId, RegularChoice, SystemChoice, UsedIn};
 ghost use Rattle.id_choice.specs.Used.{FindsGreatest, FindsLeast};
 
 use crate::Runs;
-use account_words::Kind;
+use account_model::Kind;
 
 /// The choice from a range that may be empty, among the IDs that aren't used.
 pub(crate) fn chosen_id(used: &Runs, range: Option<(u32, u32)>, kind: Kind) -> Option<u32>

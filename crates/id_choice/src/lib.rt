@@ -10,6 +10,6 @@ mod choice;
 mod runs;
 mod used;
 
-pub use account_words::Kind;
+pub use account_model::Kind;
 pub use runs::{Run, Runs};
 pub use used::UsedIds;

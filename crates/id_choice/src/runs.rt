@@ -3,7 +3,7 @@
 ghost use Rattle.std.specs.Prelude.{◌≡◌, ◌≤◌, [], All, IfOk, IsSome, MatchOption, OnOk, OnErr};
 ghost use Rattle.std.specs.BTreeMap.{IsOrdered, IsUnchanged, Updates, get};
 ghost use Rattle.std.specs.Ordering.{nat_cmp};
-ghost use Rattle.account_words.specs.Ids.{is_used};
+ghost use Rattle.account_model.specs.Ids.{is_used};
 ghost use Rattle.id_choice.specs.RunMaps.{AreApart, AreApartUpTo, BeginsAt, EndsAt, EndsBefore, HasBehind, HasFrom, HasNoneBehind, HasNoneFrom, HasNoneUpTo, HasRun, HasUpTo, IsWithout, KeepsBehind, last_before};
 
 use std::alloc::{AllocError, Global};

@@ -1,13 +1,13 @@
 // The IDs that users or groups have, and the choice of one that isn't among them (useradd(8),
 // groupadd(8)). Contracts see them as a set: they name members, and no order.
 ghost use Rattle.std.specs.Prelude.{◌≡◌, List, ℕ, [], ◌∷◌, IfOk, OnOk, OnErr};
-ghost use Rattle.account_words.specs.Ids.{is_used};
+ghost use Rattle.account_model.specs.Ids.{is_used};
 ghost use Rattle.id_choice.specs.Runs.{LosesOne};
 ghost use Rattle.id_choice.specs.Used.{AreThoseOf, Gives, id_for};
 
 use crate::Runs;
 use crate::choice::chosen_id;
-use account_words::Kind;
+use account_model::Kind;
 use std::alloc::{AllocError, Global};
 use std::marker::Model;
 

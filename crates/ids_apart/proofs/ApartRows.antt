@@ -4,11 +4,11 @@ use Rattle.std.specs.Prelude.{◌≡◌, ℕ, List, [], ◌∷◌, map, codes, r
 use Rattle.std.specs.Fmt.{digits}
 use Rattle.std.specs.Str.{byte}
 use Rattle.acct_text.specs.declared.files.Files.{Files}
-use Rattle.account_words.specs.declared.given.Given.{Given}
-use Rattle.account_words.specs.declared.tool.Tool.TheVariants.{Useradd}
-use Rattle.account_words.specs.Request.{Request}
-use Rattle.account_formats.specs.Tables.{group_records, subuid_records}
-use Rattle.account_words.specs.Ids.{used_uids}
+use Rattle.account_model.specs.declared.given.Given.{Given}
+use Rattle.account_model.specs.declared.tool.Tool.TheVariants.{Useradd}
+use Rattle.account_model.specs.Request.{Request}
+use Rattle.account_model.specs.Tables.{group_records, subuid_records}
+use Rattle.account_model.specs.Ids.{used_uids}
 use Rattle.account_model.specs.Answer.{deed}
 
 -- four tables without lines

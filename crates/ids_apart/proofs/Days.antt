@@ -5,15 +5,15 @@ use Rattle.std.proofs.Common.{◌≡◌, ℕ, Bool, true, false, List, [], ◌�
 use Rattle.std.specs.Prelude.{Option, Some, None, codes, map, if◌then◌else◌}
 use Rattle.acct_text.specs.declared.files.Files.{Files}
 use Rattle.acct_text.specs.Lines.{Line, lines_of}
-use Rattle.account_words.specs.declared.tool.Tool.{Tool}
-use Rattle.account_words.specs.declared.tool.Tool.TheVariants.{Useradd, Usermod, Userdel, Groupadd, Groupmod, Groupdel, Gpasswd, Chage, Chpasswd, Pwck, Grpck, Getsubids, Batch}
-use Rattle.account_formats.specs.Text.{first_some}
-use Rattle.account_words.specs.Request.{Request, has_option}
-use Rattle.account_words.specs.Settings.{Setting}
-use Rattle.account_formats.specs.Tables.{Script, in_order, followed_by}
+use Rattle.account_model.specs.declared.tool.Tool.{Tool}
+use Rattle.account_model.specs.declared.tool.Tool.TheVariants.{Useradd, Usermod, Userdel, Groupadd, Groupmod, Groupdel, Gpasswd, Chage, Chpasswd, Pwck, Grpck, Getsubids, Batch}
+use Rattle.account_model.specs.Text.{first_some}
+use Rattle.account_model.specs.Request.{Request, has_option}
+use Rattle.account_model.specs.Settings.{Setting}
+use Rattle.account_model.specs.Tables.{Script, in_order, followed_by}
 use Rattle.account_model.specs.Action.{changes}
 use Rattle.account_model.specs.Change.{action_by, action_of}
-use Rattle.account_formats.specs.WrittenScript.{IsWrittenScript}
+use Rattle.account_model.specs.WrittenScript.{IsWrittenScript}
 use Rattle.account_model.specs.NewAccount.{settings_for}
 use Rattle.account_model.specs.Useradd.{new_uid, primary_gid, new_shadow, plan_of, useradd_script}
 use Rattle.account_model.specs.Chpasswd.{line_script}

@@ -5,20 +5,20 @@ use Rattle.std.proofs.Common.{◌≡◌, ℕ, true, List, [], ap, inl, inr, refl
 use Rattle.std.specs.Prelude.{⊤, Option, Some, unwrap_or, Ok}
 use Rattle.std.specs.List.{AllByRecursion}
 use Rattle.acct_text.specs.declared.files.Files.{Files}
-use Rattle.account_formats.specs.Records.{passwd_format, group_format, subid_format}
-use Rattle.account_formats.specs.Tables.{Script, files_after, passwd_records, group_records, subuid_records, subgid_records}
-use Rattle.account_words.specs.BatchLines.{line_requests}
-use Rattle.account_words.specs.Settings.{Setting, settings_of}
-use Rattle.account_words.specs.Request.{Request}
-use Rattle.account_words.specs.Words.{is_batch}
+use Rattle.account_model.specs.Records.{passwd_format, group_format, subid_format}
+use Rattle.account_model.specs.Tables.{Script, files_after, passwd_records, group_records, subuid_records, subgid_records}
+use Rattle.account_model.specs.BatchLines.{line_requests}
+use Rattle.account_model.specs.Settings.{Setting, settings_of}
+use Rattle.account_model.specs.Request.{Request}
+use Rattle.account_model.specs.Words.{is_batch}
 use Rattle.account_model.specs.Action.{Made, outcome_of}
 use Rattle.account_model.specs.Change.{action_of}
 use Rattle.account_model.specs.Answer.{deed}
 use Rattle.account_model.proofs.BatchLaws.{IsMade, any-line, batch-keeps, outcome-made}
 use Rattle.account_model.proofs.DeedLaws.{deed-makes}
-use Rattle.account_formats.specs.WrittenScript.{IsWrittenScript}
-use Rattle.account_formats.proofs.SameLaws.{passwd-tells, group-tells, subid-tells}
-use Rattle.account_formats.proofs.EditLines.{table-edited}
+use Rattle.account_model.specs.WrittenScript.{IsWrittenScript}
+use Rattle.account_model.proofs.SameLaws.{passwd-tells, group-tells, subid-tells}
+use Rattle.account_model.proofs.EditLines.{table-edited}
 use Rattle.ids_apart.specs.Apart.{AreApart, UidsAreDistinct, GidsAreDistinct, SubuidsAreApart, SubgidsAreApart}
 use Rattle.ids_apart.specs.Laws.{IsKept, SharesNoId, DeedsKeepIdsApart}
 use Rattle.ids_apart.proofs.Pairs.{pairs-each, each-pairs}

@@ -4,17 +4,17 @@ use Rattle.std.proofs.Common.{◌≡◌, ℕ, Bool, true, false, not, ◌&&◌, 
 use Rattle.std.specs.Prelude.{Option, Some, None, codes, is_some, option_and_then, if◌then◌else◌}
 use Rattle.acct_text.specs.declared.files.Files.{Files}
 use Rattle.acct_text.proofs.NumberLaws.{some-inj}
-use Rattle.account_words.specs.declared.settings.IdSort.TheVariants.{Gid}
+use Rattle.account_model.specs.declared.settings.IdSort.TheVariants.{Gid}
 use Rattle.account_model.specs.declared.refusal.Refusal.TheVariants.{GidInUse}
-use Rattle.account_formats.specs.Text.{first_some}
-use Rattle.account_formats.specs.Edits.Edit.{Add}
-use Rattle.account_formats.specs.Records.{passwd_format, group_format, subid_format}
-use Rattle.account_formats.specs.Tables.{Script, no_edits, group_records}
-use Rattle.account_words.specs.Settings.{Setting, range}
-use Rattle.account_words.specs.Ids.{used_gids, is_used}
+use Rattle.account_model.specs.Text.{first_some}
+use Rattle.account_model.specs.Edits.Edit.{Add}
+use Rattle.account_model.specs.Records.{passwd_format, group_format, subid_format}
+use Rattle.account_model.specs.Tables.{Script, no_edits, group_records}
+use Rattle.account_model.specs.Settings.{Setting, range}
+use Rattle.account_model.specs.Ids.{used_gids, is_used}
 use Rattle.account_model.specs.Hashes.{elsewhere}
-use Rattle.account_words.specs.Values.{given_gid}
-use Rattle.account_words.specs.Request.{Request, has_option, operand}
+use Rattle.account_model.specs.Values.{given_gid}
+use Rattle.account_model.specs.Request.{Request, has_option, operand}
 use Rattle.account_model.specs.Refusals.{refuse_if}
 use Rattle.account_model.specs.Action.{changes}
 use Rattle.account_model.specs.NewAccount.{kind_of, settings_for, new_hash, new_group, add_group}

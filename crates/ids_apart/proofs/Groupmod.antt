@@ -6,23 +6,23 @@ use Rattle.std.specs.List.{AllByRecursion}
 use Rattle.std.proofs.lemmas.Bool.{and_cases, eqb-true, not-false}
 use Rattle.acct_text.specs.declared.files.Files.{Files}
 use Rattle.acct_text.specs.declared.Tab.TheVariants.{Passwd, Shadow, Group}
-use Rattle.account_formats.specs.declared.records.GroupRecord.{GroupRecord}
+use Rattle.account_model.specs.declared.records.GroupRecord.{GroupRecord}
 use Rattle.account_model.specs.declared.refusal.Refusal.{Refusal}
 use Rattle.account_model.specs.declared.refusal.Refusal.TheVariants.{GidInUse, Multiple}
-use Rattle.account_formats.specs.Text.{first_some}
-use Rattle.account_formats.specs.Format.{is_named}
-use Rattle.account_formats.specs.Edits.{Edit, first_multiple}
-use Rattle.account_formats.specs.Records.{passwd_format, shadow_format, group_format, subid_format}
-use Rattle.account_formats.specs.Tables.{Script, no_edits, followed_by, passwd_records, shadow_records, group_records}
-use Rattle.account_words.specs.Ids.{used_gids, is_used}
+use Rattle.account_model.specs.Text.{first_some}
+use Rattle.account_model.specs.Format.{is_named}
+use Rattle.account_model.specs.Edits.{Edit, first_multiple}
+use Rattle.account_model.specs.Records.{passwd_format, shadow_format, group_format, subid_format}
+use Rattle.account_model.specs.Tables.{Script, no_edits, followed_by, passwd_records, shadow_records, group_records}
+use Rattle.account_model.specs.Ids.{used_gids, is_used}
 use Rattle.account_model.specs.Hashes.{set_group_hash}
 use Rattle.account_model.specs.Users.{group_named}
-use Rattle.account_words.specs.Values.{given_gid}
-use Rattle.account_words.specs.Request.{Request, has_option, value_of, operand}
+use Rattle.account_model.specs.Values.{given_gid}
+use Rattle.account_model.specs.Request.{Request, has_option, value_of, operand}
 use Rattle.account_model.specs.Action.{with_option, multiple_in, multiple_entries}
 use Rattle.account_model.specs.Groupmod.{taken_gid, groupmod_refusals, set_gid, rename_group, groupmod_script, groupmod}
-use Rattle.account_formats.proofs.SameLaws.{group-tells}
-use Rattle.account_formats.proofs.ListLaws.{all-append}
+use Rattle.account_model.proofs.SameLaws.{group-tells}
+use Rattle.account_model.proofs.ListLaws.{all-append}
 use Rattle.ids_apart.specs.Apart.{AreApart}
 use Rattle.ids_apart.proofs.PairEdits.{KeepsPairs, StayApart, edits-keep}
 use Rattle.ids_apart.proofs.Keys.{OwnKeys, KeepsKeys, where-keys, where-keep, all-keys-keep}

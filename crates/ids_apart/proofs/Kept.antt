@@ -4,15 +4,15 @@ use Rattle.std.proofs.Common.{◌≡◌, ℕ, List, [], sym, subst}
 use Rattle.std.specs.Prelude.{⊤, Option, Some, None, fold}
 use Rattle.std.specs.List.{AllByRecursion}
 use Rattle.acct_text.specs.declared.files.Files.{Files}
-use Rattle.account_formats.specs.declared.records.PasswdRecord.{PasswdRecord}
-use Rattle.account_formats.specs.declared.records.GroupRecord.{GroupRecord}
-use Rattle.account_formats.specs.Format.{Format}
-use Rattle.account_formats.specs.Edits.{Edit}
-use Rattle.account_formats.specs.Records.{passwd_format, group_format, subid_format}
-use Rattle.account_formats.specs.RecordEdits.{records_edited, IsWrittenEdit}
-use Rattle.account_formats.specs.Tables.{Script, no_edits, followed_by, table_records, table_after}
-use Rattle.account_formats.specs.Laws.{EditsAreOfRecords}
-use Rattle.account_formats.proofs.ListLaws.{all-append}
+use Rattle.account_model.specs.declared.records.PasswdRecord.{PasswdRecord}
+use Rattle.account_model.specs.declared.records.GroupRecord.{GroupRecord}
+use Rattle.account_model.specs.Format.{Format}
+use Rattle.account_model.specs.Edits.{Edit}
+use Rattle.account_model.specs.Records.{passwd_format, group_format, subid_format}
+use Rattle.account_model.specs.RecordEdits.{records_edited, IsWrittenEdit}
+use Rattle.account_model.specs.Tables.{Script, no_edits, followed_by, table_records, table_after}
+use Rattle.account_model.specs.LineLaws.{EditsAreOfRecords}
+use Rattle.account_model.proofs.ListLaws.{all-append}
 use Rattle.ids_apart.specs.Apart.{AreApart}
 use Rattle.ids_apart.proofs.Pairs.{EachTwo}
 use Rattle.ids_apart.proofs.PairEdits.{KeepsPairs, StayApart, edits-keep}

@@ -6,9 +6,9 @@ use Rattle.std.specs.Prelude.{fold, flat_map, if◌then◌else◌}
 use Rattle.std.specs.List.{AllByRecursion}
 use Rattle.std.proofs.lemmas.Bool.{or_parts, not-false}
 use Rattle.std.proofs.lemmas.List.{map-id}
-use Rattle.account_formats.specs.Format.{Format}
-use Rattle.account_formats.specs.Edits.{Edit, each, each_where, touches}
-use Rattle.account_formats.specs.RecordEdits.{records_edited, TellsSame}
+use Rattle.account_model.specs.Format.{Format}
+use Rattle.account_model.specs.Edits.{Edit, each, each_where, touches}
+use Rattle.account_model.specs.RecordEdits.{records_edited, TellsSame}
 use Rattle.ids_apart.proofs.PairEdits.{KeepsPairs, each-keeps}
 
 -- two records have different keys

@@ -9,9 +9,9 @@ use Rattle.std.proofs.lemmas.Bool.{and_cases, leb-false, true≢false}
 use Rattle.std.proofs.lemmas.List.Sums.{sum_by-cons, fold-append}
 use Rattle.std.proofs.lemmas.Slice.Eq.{bytes_eq-Decides}
 use Rattle.acct_text.proofs.NumberLaws.{some-inj}
-use Rattle.account_formats.specs.Format.{Format, is_named, count_named}
-use Rattle.account_formats.specs.Edits.{Edit, each_where, touches, is_multiple, first_multiple}
-use Rattle.account_formats.specs.RecordEdits.{records_edited, TellsSame}
+use Rattle.account_model.specs.Format.{Format, is_named, count_named}
+use Rattle.account_model.specs.Edits.{Edit, each_where, touches, is_multiple, first_multiple}
+use Rattle.account_model.specs.RecordEdits.{records_edited, TellsSame}
 use Rattle.ids_apart.proofs.Pairs.{EachTwo, all-then, all-both, each-map, each-then}
 use Rattle.ids_apart.proofs.PairEdits.{KeepsPairs, StayApart, edits-keep}
 use Rattle.ids_apart.proofs.Refusals.{map-none}

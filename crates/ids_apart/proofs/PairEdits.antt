@@ -3,10 +3,10 @@
 use Rattle.std.proofs.Common.{Bool, true, false, ℕ, List, [], ◌∷◌}
 use Rattle.std.specs.Prelude.{fold, if◌then◌else◌}
 use Rattle.std.specs.List.{AllByRecursion}
-use Rattle.account_formats.specs.Format.{Format}
-use Rattle.account_formats.specs.Edits.{Edit, each, drop_where}
-use Rattle.account_formats.specs.Edits.Edit.{Arrange}
-use Rattle.account_formats.specs.RecordEdits.{records_edited}
+use Rattle.account_model.specs.Format.{Format}
+use Rattle.account_model.specs.Edits.{Edit, each, drop_where}
+use Rattle.account_model.specs.Edits.Edit.{Arrange}
+use Rattle.account_model.specs.RecordEdits.{records_edited}
 use Rattle.ids_apart.proofs.Pairs.{EachTwo, each-flat_map, each-sorted}
 
 -- whatever the records are, what holds of each two holds after the edit

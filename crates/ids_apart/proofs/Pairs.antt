@@ -4,8 +4,8 @@
 use Rattle.std.proofs.Common.{ℕ, zero, suc, ◌<◌, Bool, true, false, List, [], ◌∷◌, ◌++◌, length, map, arith, lt_irrefl}
 use Rattle.std.specs.Prelude.{⊤, AllPairs, flat_map, nat_le, slice_index_or, if◌then◌else◌}
 use Rattle.std.specs.List.{AllByRecursion}
-use Rattle.account_formats.specs.RecordEdits.{insert_record, sorted_records}
-use Rattle.account_formats.proofs.ListLaws.{all-append}
+use Rattle.account_model.specs.RecordEdits.{insert_record, sorted_records}
+use Rattle.account_model.proofs.ListLaws.{all-append}
 
 -- R holds of each record and each later one
 abbrev pub EachTwo : {X : Type 0} → (X → X → Type 0) → List X → Type 0

@@ -4,19 +4,19 @@ use Rattle.std.proofs.Common.{◌≡◌, ℕ, Bool, true, false, List, [], ◌�
 use Rattle.std.specs.Prelude.{Option, Some, None, is_some, if◌then◌else◌}
 use Rattle.std.specs.List.{AllByRecursion}
 use Rattle.acct_text.specs.declared.files.Files.{Files}
-use Rattle.account_formats.specs.declared.records.PasswdRecord.{PasswdRecord}
-use Rattle.account_formats.specs.declared.records.GroupRecord.{GroupRecord}
-use Rattle.account_formats.specs.declared.records.SubidRecord.{SubidRecord}
-use Rattle.account_formats.specs.Format.{is_named}
-use Rattle.account_formats.specs.Edits.{Edit}
-use Rattle.account_formats.specs.Records.{passwd_format, group_format, subid_format}
-use Rattle.account_formats.specs.Tables.{Script, no_edits, followed_by, in_order}
+use Rattle.account_model.specs.declared.records.PasswdRecord.{PasswdRecord}
+use Rattle.account_model.specs.declared.records.GroupRecord.{GroupRecord}
+use Rattle.account_model.specs.declared.records.SubidRecord.{SubidRecord}
+use Rattle.account_model.specs.Format.{is_named}
+use Rattle.account_model.specs.Edits.{Edit}
+use Rattle.account_model.specs.Records.{passwd_format, group_format, subid_format}
+use Rattle.account_model.specs.Tables.{Script, no_edits, followed_by, in_order}
 use Rattle.account_model.specs.Members.{with_name, without_name, each_members, add_to_group, remove_from_group}
 use Rattle.account_model.specs.Hashes.{elsewhere, lacks_shadow, make_shadow, demand_shadow, each_password, each_user_hash, lacks_gshadow, make_gshadow, demand_gshadow, set_password, write_group_hash, write_administrators, set_group_hash, set_administrators}
 use Rattle.account_model.specs.Users.{find_user, group_named}
-use Rattle.account_words.specs.Request.{Request, has_option, value_of}
+use Rattle.account_model.specs.Request.{Request, has_option, value_of}
 use Rattle.account_model.specs.Action.{with_option, with_flag}
-use Rattle.account_formats.proofs.ListLaws.{all-append}
+use Rattle.account_model.proofs.ListLaws.{all-append}
 use Rattle.ids_apart.specs.Apart.{AreApart}
 use Rattle.ids_apart.proofs.PairEdits.{KeepsPairs}
 use Rattle.ids_apart.proofs.Keys.{KeepsKeys, where-keys, all-keys-keep}

@@ -5,18 +5,18 @@ use Rattle.std.specs.Prelude.{Option, Some, None, codes, map, if◌then◌else�
 use Rattle.std.specs.List.{AllByRecursion}
 use Rattle.acct_text.specs.declared.files.Files.{Files}
 use Rattle.acct_text.specs.Lines.{Line, lines_of}
-use Rattle.account_formats.specs.declared.records.GroupRecord.{GroupRecord}
-use Rattle.account_formats.specs.Format.{is_named}
-use Rattle.account_formats.specs.Edits.{each_where}
-use Rattle.account_formats.specs.Records.{passwd_format, shadow_format, group_format, subid_format}
-use Rattle.account_words.specs.Settings.{Setting}
-use Rattle.account_formats.specs.Tables.{Script, no_edits, followed_by}
-use Rattle.account_words.specs.Values.{list_value}
+use Rattle.account_model.specs.declared.records.GroupRecord.{GroupRecord}
+use Rattle.account_model.specs.Format.{is_named}
+use Rattle.account_model.specs.Edits.{each_where}
+use Rattle.account_model.specs.Records.{passwd_format, shadow_format, group_format, subid_format}
+use Rattle.account_model.specs.Settings.{Setting}
+use Rattle.account_model.specs.Tables.{Script, no_edits, followed_by}
+use Rattle.account_model.specs.Values.{list_value}
 use Rattle.account_model.specs.Hashes.{locked, demand_shadow, each_user_hash, set_group_hash, set_administrators}
 use Rattle.account_model.specs.Members.{each_members, add_to_group, remove_from_group}
-use Rattle.account_words.specs.Request.{Request, has_option, operand}
+use Rattle.account_model.specs.Request.{Request, has_option, operand}
 use Rattle.account_model.specs.Action.{changes, reports, with_option, with_flag}
-use Rattle.account_words.specs.SubidOwner.{is_owned}
+use Rattle.account_model.specs.SubidOwner.{is_owned}
 use Rattle.account_model.specs.Users.{aging_of}
 use Rattle.account_model.specs.Chage.{with_aging, chage_refusals, chage_script, aging_report, chage}
 use Rattle.account_model.specs.Chpasswd.{line_name, line_hash, set_last_change, line_script, chpasswd}

@@ -2,7 +2,7 @@
 use Rattle.std.proofs.Common.{◌≡◌, List, [], ◌∷◌, ◌++◌, refl}
 use Rattle.std.specs.Prelude.{Option, Some, None, option_map}
 use Rattle.std.specs.List.{AllByRecursion}
-use Rattle.account_formats.specs.Text.{first_some}
+use Rattle.account_model.specs.Text.{first_some}
 use Rattle.account_model.proofs.DeedLaws.{first-none}
 
 -- each is none

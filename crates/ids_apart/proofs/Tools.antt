@@ -3,15 +3,15 @@
 use Rattle.std.proofs.Common.{◌≡◌, ℕ, false, List}
 use Rattle.std.specs.Prelude.{None, codes}
 use Rattle.acct_text.specs.declared.files.Files.{Files}
-use Rattle.account_words.specs.declared.tool.Tool.{Tool}
-use Rattle.account_words.specs.declared.tool.Tool.TheVariants.{Useradd, Usermod, Userdel, Groupadd, Groupmod, Groupdel, Gpasswd, Chage, Chpasswd, Pwck, Grpck, Getsubids, Batch}
-use Rattle.account_formats.specs.Text.{first_some}
-use Rattle.account_words.specs.Request.{Request, has_option}
-use Rattle.account_words.specs.Settings.{Setting}
-use Rattle.account_formats.specs.Tables.{no_edits}
+use Rattle.account_model.specs.declared.tool.Tool.{Tool}
+use Rattle.account_model.specs.declared.tool.Tool.TheVariants.{Useradd, Usermod, Userdel, Groupadd, Groupmod, Groupdel, Gpasswd, Chage, Chpasswd, Pwck, Grpck, Getsubids, Batch}
+use Rattle.account_model.specs.Text.{first_some}
+use Rattle.account_model.specs.Request.{Request, has_option}
+use Rattle.account_model.specs.Settings.{Setting}
+use Rattle.account_model.specs.Tables.{no_edits}
 use Rattle.account_model.specs.Action.{multiple_entries}
 use Rattle.account_model.specs.Change.{action_by}
-use Rattle.account_formats.specs.WrittenScript.{IsWrittenScript}
+use Rattle.account_model.specs.WrittenScript.{IsWrittenScript}
 use Rattle.ids_apart.proofs.Kept.{KeepsRanges, KeepsOwnIds, gentle-ranges, gentle-ids, none-gentle}
 use Rattle.ids_apart.proofs.QuietTools.{userdel-gentle, groupdel-gentle, gpasswd-gentle, chage-gentle, chpasswd-gentle, pwck-gentle, grpck-gentle}
 use Rattle.ids_apart.proofs.Days.{without_hashes}

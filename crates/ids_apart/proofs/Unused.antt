@@ -4,12 +4,12 @@ use Rattle.std.proofs.Common.{◌≡◌, ◌≢◌, ℕ, Bool, true, false, List
 use Rattle.std.specs.Prelude.{Option, Some, None, ◌==◌}
 use Rattle.std.specs.List.{AllByRecursion, list_any}
 use Rattle.std.proofs.lemmas.Bool.{or_parts, eqb-false}
-use Rattle.account_words.specs.declared.settings.Kind.{Kind}
+use Rattle.account_model.specs.declared.settings.Kind.{Kind}
 use Rattle.account_model.specs.declared.refusal.Refusal.{Refusal}
 use Rattle.account_model.specs.Refusals.{refuse_if}
-use Rattle.account_words.specs.Ids.{is_used, chosen_id}
-use Rattle.account_words.proofs.FreeIds.{not-used}
-use Rattle.account_words.proofs.IdsLaws.{chosen-free}
+use Rattle.account_model.specs.Ids.{is_used, chosen_id}
+use Rattle.account_model.proofs.FreeIds.{not-used}
+use Rattle.account_model.proofs.IdsLaws.{chosen-free}
 use Rattle.ids_apart.proofs.Pairs.{EachTwo, each-push}
 use Rattle.ids_apart.proofs.Keys.{OwnKeys}
 

@@ -7,30 +7,30 @@ use Rattle.std.specs.List.{AllByRecursion, list_any}
 use Rattle.std.proofs.lemmas.Bool.{and_parts}
 use Rattle.acct_text.specs.declared.files.Files.{Files}
 use Rattle.acct_text.proofs.NumberLaws.{some-inj}
-use Rattle.account_words.specs.declared.settings.IdSort.TheVariants.{Uid, Gid}
+use Rattle.account_model.specs.declared.settings.IdSort.TheVariants.{Uid, Gid}
 use Rattle.account_model.specs.declared.new_user.Allotment.TheVariants.{Unwanted, Full, Range}
 use Rattle.account_model.specs.declared.new_user.Plan.{Plan}
-use Rattle.account_formats.specs.declared.records.GroupRecord.{GroupRecord}
+use Rattle.account_model.specs.declared.records.GroupRecord.{GroupRecord}
 use Rattle.account_model.specs.declared.refusal.Refusal.TheVariants.{UidInUse}
-use Rattle.account_formats.specs.Text.{first_some}
-use Rattle.account_formats.specs.Edits.Edit.{Add}
-use Rattle.account_formats.specs.Records.{passwd_format, group_format, subid_format}
-use Rattle.account_formats.specs.Tables.{Script, no_edits, passwd_records, group_records}
-use Rattle.account_words.specs.Settings.{Setting, range}
-use Rattle.account_words.specs.Ids.{used_uids, used_gids, is_used}
-use Rattle.account_words.specs.FreeRange.{Meeting, IsFreeRange}
+use Rattle.account_model.specs.Text.{first_some}
+use Rattle.account_model.specs.Edits.Edit.{Add}
+use Rattle.account_model.specs.Records.{passwd_format, group_format, subid_format}
+use Rattle.account_model.specs.Tables.{Script, no_edits, passwd_records, group_records}
+use Rattle.account_model.specs.Settings.{Setting, range}
+use Rattle.account_model.specs.Ids.{used_uids, used_gids, is_used}
+use Rattle.account_model.specs.FreeRange.{Meeting, IsFreeRange}
 use Rattle.account_model.specs.GivenGroups.{given_groups}
 use Rattle.account_model.specs.Hashes.{elsewhere, locked}
 use Rattle.account_model.specs.Members.{add_to_group}
-use Rattle.account_words.specs.Values.{given_uid}
-use Rattle.account_words.specs.Request.{Request, has_option, operand}
+use Rattle.account_model.specs.Values.{given_uid}
+use Rattle.account_model.specs.Request.{Request, has_option, operand}
 use Rattle.account_model.specs.Refusals.{refuse_if}
 use Rattle.account_model.specs.NewAccount.{kind_of, settings_for, free_uid, free_gid, new_group, add_group}
 use Rattle.account_model.specs.NewRanges.{Subordinate, subordinate_uids, subordinate_gids, may_have_ranges, is_allotted, free_start, new_range, allotment, allotted}
-use Rattle.account_words.specs.SubidOwner.{is_owned}
+use Rattle.account_model.specs.SubidOwner.{is_owned}
 use Rattle.account_model.specs.Useradd.{makes_group, new_uid, gid_beside, own_gid, primary_gid, used_uid, useradd_checks, useradd_conflicts, new_user, new_shadow, plan_of, add_own_group, join_groups, useradd_script, useradd_under, useradd}
-use Rattle.account_words.proofs.FreeRangeLaws.{free_range-is}
-use Rattle.account_formats.proofs.ListLaws.{all-append}
+use Rattle.account_model.proofs.FreeRangeLaws.{free_range-is}
+use Rattle.account_model.proofs.ListLaws.{all-append}
 use Rattle.ids_apart.specs.Apart.{AreApart}
 use Rattle.ids_apart.proofs.Pairs.{all-then, each-push}
 use Rattle.ids_apart.proofs.PairEdits.{KeepsPairs, StayApart, edits-keep}

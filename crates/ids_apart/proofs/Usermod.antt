@@ -7,27 +7,27 @@ use Rattle.std.specs.List.{AllByRecursion}
 use Rattle.std.proofs.lemmas.Bool.{eqb-true}
 use Rattle.acct_text.specs.declared.files.Files.{Files}
 use Rattle.acct_text.specs.declared.Tab.TheVariants.{Passwd, Subuid, Subgid}
-use Rattle.account_formats.specs.declared.records.PasswdRecord.{PasswdRecord}
+use Rattle.account_model.specs.declared.records.PasswdRecord.{PasswdRecord}
 use Rattle.account_model.specs.declared.refusal.Refusal.TheVariants.{UidInUse, Multiple}
-use Rattle.account_formats.specs.Text.{first_some}
-use Rattle.account_formats.specs.Format.{is_named}
-use Rattle.account_formats.specs.Edits.{each_where, first_multiple}
-use Rattle.account_formats.specs.Records.{passwd_format, group_format, subid_format}
-use Rattle.account_formats.specs.RecordEdits.{IsWrittenEdit}
-use Rattle.account_formats.specs.Tables.{no_edits, passwd_records}
-use Rattle.account_words.specs.Ids.{used_uids, is_used}
+use Rattle.account_model.specs.Text.{first_some}
+use Rattle.account_model.specs.Format.{is_named}
+use Rattle.account_model.specs.Edits.{each_where, first_multiple}
+use Rattle.account_model.specs.Records.{passwd_format, group_format, subid_format}
+use Rattle.account_model.specs.RecordEdits.{IsWrittenEdit}
+use Rattle.account_model.specs.Tables.{no_edits, passwd_records}
+use Rattle.account_model.specs.Ids.{used_uids, is_used}
 use Rattle.account_model.specs.Hashes.{demand_shadow, each_user_hash}
 use Rattle.account_model.specs.Users.{find_user}
-use Rattle.account_words.specs.Values.{given_uid}
-use Rattle.account_words.specs.Request.{Request, has_option, values_of, operand}
+use Rattle.account_model.specs.Values.{given_uid}
+use Rattle.account_model.specs.Request.{Request, has_option, values_of, operand}
 use Rattle.account_model.specs.Refusals.{refuse_if}
 use Rattle.account_model.specs.Action.{multiple_in, multiple_entries}
 use Rattle.account_model.specs.UsermodHash.{sets_hash, sets_aging, hash_after, hash_script}
 use Rattle.account_model.specs.UsermodRanges.{range_edits}
 use Rattle.account_model.specs.Usermod.{changed_user, changed_group, range_owner, subuid_change, subgid_change, is_own_uid, is_uid_taken, usermod_checks, usermod_conflicts, usermod_script, usermod}
-use Rattle.account_formats.proofs.SameLaws.{passwd-tells}
+use Rattle.account_model.proofs.SameLaws.{passwd-tells}
 use Rattle.account_model.proofs.UsermodRangeScripts.{values-ordered}
-use Rattle.account_formats.proofs.ListLaws.{all-append}
+use Rattle.account_model.proofs.ListLaws.{all-append}
 use Rattle.ids_apart.specs.Apart.{AreApart}
 use Rattle.ids_apart.proofs.PairEdits.{KeepsPairs, StayApart, edits-keep}
 use Rattle.ids_apart.proofs.Keys.{OwnKeys, each-keep, where-keep, all-keys-keep}

@@ -8,21 +8,21 @@ use Rattle.std.proofs.lemmas.List.Sums.{fold-append}
 use Rattle.acct_text.specs.declared.Tab.{Tab}
 use Rattle.acct_text.specs.Lines.{Line, lines_of, file_bytes}
 use Rattle.acct_text.proofs.LinesLaws.{lines_of-only}
-use Rattle.account_formats.specs.declared.records.SubidRecord.{SubidRecord}
+use Rattle.account_model.specs.declared.records.SubidRecord.{SubidRecord}
 use Rattle.account_model.specs.declared.refusal.Refusal.{Refusal}
 use Rattle.account_model.specs.declared.refusal.Refusal.TheVariants.{Meets}
-use Rattle.account_formats.specs.Format.{records_of, is_named}
-use Rattle.account_formats.specs.Edits.{Edit, with_line, edited_by}
-use Rattle.account_formats.specs.Records.{subid_format, last_id}
-use Rattle.account_formats.specs.RecordEdits.{records_edited, IsWrittenEdit}
-use Rattle.account_words.specs.FreeRange.{Meeting, meets}
-use Rattle.account_words.specs.SubidOwner.{is_owned, left_below, left_above, left_without}
+use Rattle.account_model.specs.Format.{records_of, is_named}
+use Rattle.account_model.specs.Edits.{Edit, with_line, edited_by}
+use Rattle.account_model.specs.Records.{subid_format, last_id}
+use Rattle.account_model.specs.RecordEdits.{records_edited, IsWrittenEdit}
+use Rattle.account_model.specs.FreeRange.{Meeting, meets}
+use Rattle.account_model.specs.SubidOwner.{is_owned, left_below, left_above, left_without}
 use Rattle.account_model.specs.UsermodRanges.{IdRange, RangeOwner, RangeChange, rename_owner, cut_range, add_range, edits_before_adding, range_edits, line_meets, first_meeting, meeting_in}
-use Rattle.account_words.proofs.FreeRangeLaws.{apart-is}
-use Rattle.account_formats.proofs.SameLaws.{subid-tells}
-use Rattle.account_formats.proofs.EditLines.{edited-lines, table-edited}
+use Rattle.account_model.proofs.FreeRangeLaws.{apart-is}
+use Rattle.account_model.proofs.SameLaws.{subid-tells}
+use Rattle.account_model.proofs.EditLines.{edited-lines, table-edited}
 use Rattle.account_model.proofs.UsermodRangeScripts.{IsOrdered}
-use Rattle.account_formats.proofs.ListLaws.{all-append}
+use Rattle.account_model.proofs.ListLaws.{all-append}
 use Rattle.ids_apart.specs.Apart.{AreApart}
 use Rattle.ids_apart.proofs.Pairs.{EachTwo, all-then, each-push, each-flat_map}
 use Rattle.ids_apart.proofs.PairEdits.{KeepsPairs, StayApart, edits-keep, each-keeps}

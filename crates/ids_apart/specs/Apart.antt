@@ -2,10 +2,10 @@
 -- subordinate IDs have a number in common (subuid(5), subgid(5)).
 use Rattle.std.specs.Prelude.{◌≢◌, AllPairs}
 use Rattle.acct_text.specs.declared.files.Files.{Files}
-use Rattle.account_formats.specs.declared.records.SubidRecord.{SubidRecord}
-use Rattle.account_formats.specs.Records.{last_id}
-use Rattle.account_formats.specs.Tables.{passwd_records, group_records, subuid_records, subgid_records}
-use Rattle.account_words.specs.FreeRange.{Meeting}
+use Rattle.account_model.specs.declared.records.SubidRecord.{SubidRecord}
+use Rattle.account_model.specs.Records.{last_id}
+use Rattle.account_model.specs.Tables.{passwd_records, group_records, subuid_records, subgid_records}
+use Rattle.account_model.specs.FreeRange.{Meeting}
 
 -- each two users have different UIDs
 abbrev pub UidsAreDistinct : Files → Type 0

@@ -2,9 +2,9 @@
 use Rattle.std.specs.Prelude.{◌≡◌, ℕ, List, true, false, Option, Some, codes, ⊤}
 use Rattle.std.specs.List.{AllByRecursion}
 use Rattle.acct_text.specs.declared.files.Files.{Files}
-use Rattle.account_words.specs.BatchLines.{line_requests}
-use Rattle.account_words.specs.Request.{Request, has_option}
-use Rattle.account_words.specs.Words.{is_batch}
+use Rattle.account_model.specs.BatchLines.{line_requests}
+use Rattle.account_model.specs.Request.{Request, has_option}
+use Rattle.account_model.specs.Words.{is_batch}
 use Rattle.account_model.specs.Answer.{deed}
 use Rattle.ids_apart.specs.Apart.{UidsAreDistinct, GidsAreDistinct, SubuidsAreApart, SubgidsAreApart}
 

@@ -8,10 +8,10 @@ use Rattle.std.proofs.lemmas.Bool.{cases_Bool, false_from_ne_true}
 use Rattle.std.proofs.lemmas.List.{drop_more}
 use Rattle.std.proofs.lemmas.Slice.Eq.{bytes_eq-Decides}
 use Rattle.acct_text.specs.Lines.{Line, file_bytes, line_bytes}
-use Rattle.account_formats.specs.Format.{Format}
-use Rattle.account_formats.specs.Edits.{becomes, line_becomes}
-use Rattle.account_formats.specs.RecordEdits.{TellsSame}
-use Rattle.account_formats.specs.Written.{IsWritten}
+use Rattle.account_model.specs.Format.{Format}
+use Rattle.account_model.specs.Edits.{becomes, line_becomes}
+use Rattle.account_model.specs.RecordEdits.{TellsSame}
+use Rattle.account_model.specs.Written.{IsWritten}
 use Rattle.acct_tables.specs.TableLines.{record_at, changed_at, with_record, text_at}
 use Rattle.acct_tables.proofs.LinesHere.{blank_line, line_here, read-here, record-here}
 use Rattle.line_edits.specs.Naming.{Leaves}

@@ -10,11 +10,11 @@ use Rattle.std.proofs.lemmas.Bool.{ne_eqb}
 use Rattle.std.proofs.lemmas.List.{drop_more, map-append, take_more}
 use Rattle.acct_text.specs.Lines.{Line, file_bytes, lines_of}
 use Rattle.acct_text.proofs.LinesLaws.{lines_of-only}
-use Rattle.account_formats.specs.Edits.{edited, edited_by, touches}
-use Rattle.account_formats.specs.Edits as model
-use Rattle.account_formats.specs.Format.{Format}
-use Rattle.account_formats.specs.RecordEdits.{IsWrittenEdit}
-use Rattle.account_formats.proofs.EditLines.{edited-lines}
+use Rattle.account_model.specs.Edits.{edited, edited_by, touches}
+use Rattle.account_model.specs.Edits as model
+use Rattle.account_model.specs.Format.{Format}
+use Rattle.account_model.specs.RecordEdits.{IsWrittenEdit}
+use Rattle.account_model.proofs.EditLines.{edited-lines}
 use Rattle.acct_tables.specs.SeenLines.{AreOfFile}
 use Rattle.acct_tables.proofs.EditedFiles.{edit-found}
 use Rattle.line_edits.specs.declared.edit.Edit.{Edit}

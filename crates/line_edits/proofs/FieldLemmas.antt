@@ -9,13 +9,13 @@ use Rattle.acct_text.specs.Bytes.{colon}
 use Rattle.acct_text.specs.Pieces.{fields_of}
 use Rattle.acct_text.proofs.Cut.{cut_at-only}
 use Rattle.acct_text.proofs.NumberLaws.{number-found}
-use Rattle.account_formats.specs.declared.records.PasswdRecord.{PasswdRecord}
-use Rattle.account_formats.specs.declared.records.GroupRecord.{GroupRecord}
-use Rattle.account_formats.specs.declared.records.GshadowRecord.{GshadowRecord}
-use Rattle.account_formats.specs.Faults.{field_at}
-use Rattle.account_formats.specs.Records.{greatest_id, gshadow_format, group_format, passwd_format, read_id, read_names}
-use Rattle.account_formats.proofs.FieldReads.{names-found}
-use Rattle.account_formats.proofs.ReadsLaws.{group-is, gshadow-is, passwd-is}
+use Rattle.account_model.specs.declared.records.PasswdRecord.{PasswdRecord}
+use Rattle.account_model.specs.declared.records.GroupRecord.{GroupRecord}
+use Rattle.account_model.specs.declared.records.GshadowRecord.{GshadowRecord}
+use Rattle.account_model.specs.Faults.{field_at}
+use Rattle.account_model.specs.Records.{greatest_id, gshadow_format, group_format, passwd_format, read_id, read_names}
+use Rattle.account_model.proofs.FieldReads.{names-found}
+use Rattle.account_model.proofs.ReadsLaws.{group-is, gshadow-is, passwd-is}
 use Rattle.line_edits.specs.LineFields.{AreBehindFirst}
 
 -- the field at a place, counted from 0

@@ -2,8 +2,8 @@
 -- then (`longer-listed`). Way: one more name goes behind the others, in the text as in the list.
 use Rattle.std.proofs.Common.{◌≡◌, ℕ, List, ap, sym, ◌∙◌}
 use Rattle.acct_text.specs.Pieces.{cut_at}
-use Rattle.account_formats.specs.Records.{print_names, read_names}
-use Rattle.account_formats.specs.Text.{comma}
+use Rattle.account_model.specs.Records.{print_names, read_names}
+use Rattle.account_model.specs.Text.{comma}
 use Rattle.acct_lines.specs.Listed.{listed_behind}
 use Rattle.acct_lines.proofs.ListedTexts.{listed-more}
 use Rattle.line_edits.specs.declared.memberships.Membership.{Membership}

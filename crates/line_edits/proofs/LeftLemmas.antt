@@ -5,13 +5,13 @@
 -- of its line.
 use Rattle.std.proofs.Common.{◌≡◌, ℕ, true, false, Bool, List, [], ◌∷◌, refl, sym, ◌∙◌, ap}
 use Rattle.std.specs.Prelude.{◌||◌, not, bytes_eq, Some, if◌then◌else◌}
-use Rattle.account_formats.specs.Format.{Format, is_named}
-use Rattle.account_formats.specs.declared.records.GroupRecord.{GroupRecord}
-use Rattle.account_formats.specs.declared.records.GshadowRecord.{GshadowRecord}
+use Rattle.account_model.specs.Format.{Format, is_named}
+use Rattle.account_model.specs.declared.records.GroupRecord.{GroupRecord}
+use Rattle.account_model.specs.declared.records.GshadowRecord.{GshadowRecord}
 use Rattle.account_model.specs.Members.{renamed_in, without_name}
-use Rattle.account_formats.specs.Text.{is_listed}
+use Rattle.account_model.specs.Text.{is_listed}
 use Rattle.account_model.proofs.RenamingLaws.{flipped, unlisted_stays}
-use Rattle.account_formats.specs.Naming.{NamesFirst, first_field}
+use Rattle.account_model.specs.Naming.{NamesFirst, first_field}
 use Rattle.line_edits.specs.Memberships.{group_by, gshadow_by, joins, members_by, members_with}
 use Rattle.line_edits.specs.declared.memberships.Membership.{Membership}
 use Rattle.line_edits.specs.declared.memberships.UserGroups.{UserGroups}

@@ -12,16 +12,16 @@ use Rattle.std.specs.Vec.{vec_items}
 use Rattle.std.proofs.lemmas.Bool.{cases_Bool, eqb-true}
 use Rattle.std.proofs.lemmas.Slice.Eq.{bytes_eq-Decides}
 use Rattle.acct_text.specs.Bytes.{colon}
-use Rattle.account_formats.specs.Format.{Format, is_named}
-use Rattle.account_formats.specs.Naming.{NamesFirst}
-use Rattle.account_formats.specs.Reads.{AreNames}
-use Rattle.account_formats.specs.Records.{group_format, gshadow_format, passwd_format}
-use Rattle.account_formats.specs.Text.{comma, is_listed, nonempty}
-use Rattle.account_formats.specs.declared.records.GroupRecord.{GroupRecord}
-use Rattle.account_formats.specs.declared.records.GshadowRecord.{GshadowRecord}
-use Rattle.account_formats.specs.declared.records.PasswdRecord.{PasswdRecord}
-use Rattle.account_formats.proofs.NamingLaws.{group-names_first, gshadow-names_first}
-use Rattle.account_formats.proofs.ReadsLaws.{group-is, gshadow-is}
+use Rattle.account_model.specs.Format.{Format, is_named}
+use Rattle.account_model.specs.Naming.{NamesFirst}
+use Rattle.account_model.specs.Reads.{AreNames}
+use Rattle.account_model.specs.Records.{group_format, gshadow_format, passwd_format}
+use Rattle.account_model.specs.Text.{comma, is_listed, nonempty}
+use Rattle.account_model.specs.declared.records.GroupRecord.{GroupRecord}
+use Rattle.account_model.specs.declared.records.GshadowRecord.{GshadowRecord}
+use Rattle.account_model.specs.declared.records.PasswdRecord.{PasswdRecord}
+use Rattle.account_model.proofs.NamingLaws.{group-names_first, gshadow-names_first}
+use Rattle.account_model.proofs.ReadsLaws.{group-is, gshadow-is}
 use Rattle.account_model.specs.Members.{without_name}
 use Rattle.acct_tables.specs.Marks.{Holds, IsWithout, IsWithoutAll, marks_in}
 use Rattle.acct_tables.specs.declared.marks.Marks.{Marks}

@@ -9,10 +9,10 @@ use Rattle.std.specs.List.{AllByRecursion, position_from}
 use Rattle.std.proofs.lemmas.List.{drop_more}
 use Rattle.std.proofs.lemmas.List.Sums.{sum_by-cons}
 use Rattle.acct_text.specs.Lines.{Line}
-use Rattle.account_formats.specs.Edits.{becomes, line_becomes}
-use Rattle.account_formats.specs.Format.{Format, is_named}
-use Rattle.account_formats.specs.RecordEdits.{TellsSame}
-use Rattle.account_formats.specs.Written.{IsWritten}
+use Rattle.account_model.specs.Edits.{becomes, line_becomes}
+use Rattle.account_model.specs.Format.{Format, is_named}
+use Rattle.account_model.specs.RecordEdits.{TellsSame}
+use Rattle.account_model.specs.Written.{IsWritten}
 use Rattle.acct_tables.specs.declared.name_index.NamedLines.{NamedLines}
 use Rattle.acct_tables.specs.NameIndex.{has_name, line_name, line_names, lines_named, records_at}
 use Rattle.acct_tables.specs.TableLines.{text_is_named, text_at}

@@ -9,12 +9,12 @@ use Rattle.std.proofs.lemmas.List.{take_all}
 use Rattle.std.proofs.lemmas.List.Folds.{list_any_more}
 use Rattle.std.proofs.lemmas.Option.{slice_get-get_or}
 use Rattle.std.proofs.lemmas.Slice.Eq.{bytes_eq-Decides}
-use Rattle.account_formats.specs.Edits.{becoming_touches, touches}
-use Rattle.account_formats.specs.Edits as model
-use Rattle.account_formats.specs.Edits.Edit.{Become, Add, AddMissing, Put, Arrange}
-use Rattle.account_formats.specs.Format.{Format, is_named}
-use Rattle.account_formats.specs.RecordEdits.{TellsSame}
-use Rattle.account_formats.specs.Text.{is_listed}
+use Rattle.account_model.specs.Edits.{becoming_touches, touches}
+use Rattle.account_model.specs.Edits as model
+use Rattle.account_model.specs.Edits.Edit.{Become, Add, AddMissing, Put, Arrange}
+use Rattle.account_model.specs.Format.{Format, is_named}
+use Rattle.account_model.specs.RecordEdits.{TellsSame}
+use Rattle.account_model.specs.Text.{is_listed}
 use Rattle.line_edits.specs.declared.edit.Edit.{Edit}
 use Rattle.line_edits.specs.declared.edits_by_name.EditsByName.{EditsByName}
 use Rattle.line_edits.specs.EditsByName.{IsTold, LacksName, TellTouched, places_of, touched_at, touches_if}

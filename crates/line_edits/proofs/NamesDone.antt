@@ -9,12 +9,12 @@ use Rattle.std.proofs.lemmas.Grind.{flat_map-append}
 use Rattle.std.proofs.lemmas.List.Folds.{list_any-append}
 use Rattle.std.proofs.lemmas.Slice.Eq.{bytes_eq-Decides}
 use Rattle.acct_text.specs.Lines.{Line}
-use Rattle.account_formats.specs.Edits.{becomes, line_becomes}
-use Rattle.account_formats.specs.Edits.Edit.{Become}
-use Rattle.account_formats.specs.Format.{Format}
-use Rattle.account_formats.specs.RecordEdits.{IsWrittenEdit, TellsSame}
-use Rattle.account_formats.specs.Text.{is_listed}
-use Rattle.account_formats.specs.Written.{IsWritten}
+use Rattle.account_model.specs.Edits.{becomes, line_becomes}
+use Rattle.account_model.specs.Edits.Edit.{Become}
+use Rattle.account_model.specs.Format.{Format}
+use Rattle.account_model.specs.RecordEdits.{IsWrittenEdit, TellsSame}
+use Rattle.account_model.specs.Text.{is_listed}
+use Rattle.account_model.specs.Written.{IsWritten}
 use Rattle.acct_tables.specs.NameIndex.{has_name, line_name}
 use Rattle.line_edits.specs.Naming.{KeepsNames, TouchesOnly, on_named}
 use Rattle.line_edits.specs.WrittenLines.{AreWritten, IsWrittenRead}

@@ -10,10 +10,10 @@ use Rattle.std.proofs.lemmas.Grind.{flat_map-append}
 use Rattle.std.proofs.lemmas.List.{length-append}
 use Rattle.acct_text.specs.Lines.{Line, file_bytes, line_bytes, lines_of}
 use Rattle.acct_text.proofs.LinesLaws.{lines_of-are}
-use Rattle.account_formats.specs.Edits.{becomes, becoming_touches, line_becomes, touches}
-use Rattle.account_formats.specs.Edits.Edit.{Become}
-use Rattle.account_formats.specs.Format.{Format}
-use Rattle.account_formats.specs.RecordEdits.{TellsSame}
+use Rattle.account_model.specs.Edits.{becomes, becoming_touches, line_becomes, touches}
+use Rattle.account_model.specs.Edits.Edit.{Become}
+use Rattle.account_model.specs.Format.{Format}
+use Rattle.account_model.specs.RecordEdits.{TellsSame}
 use Rattle.acct_tables.specs.Marks.{IsFromMarks, IsWithoutAll}
 use Rattle.acct_tables.proofs.FrontLines.{front-taken}
 use Rattle.line_edits.specs.Naming.{AreMarksOf, Leaves}

@@ -7,9 +7,9 @@ use Rattle.std.specs.Prelude.{Option, Some, None, is_some, option_map, if◌then
 use Rattle.std.specs.List.{position_from}
 use Rattle.std.proofs.lemmas.Slice.Eq.{bytes_eq-Decides}
 use Rattle.acct_text.specs.Lines.{Line}
-use Rattle.account_formats.specs.Edits.{edited, line_becomes, put_first, with_line}
-use Rattle.account_formats.specs.Edits.Edit.{AddMissing, Put}
-use Rattle.account_formats.specs.Format.{Format, is_named}
+use Rattle.account_model.specs.Edits.{edited, line_becomes, put_first, with_line}
+use Rattle.account_model.specs.Edits.Edit.{AddMissing, Put}
+use Rattle.account_model.specs.Format.{Format, is_named}
 use Rattle.acct_tables.specs.declared.name_index.NamedLines.{NamedLines}
 use Rattle.acct_tables.specs.NameIndex.{has_name, line_name, line_names, lines_named, records_at}
 use Rattle.acct_tables.specs.TableLines.{changed_at, record_at, with_record}

@@ -5,8 +5,8 @@ use Rattle.std.proofs.Common.{◌≡◌, ◌∙◌, ℕ, true, false, List, [], 
 use Rattle.std.specs.Prelude.{Option, Some, None, if◌then◌else◌}
 use Rattle.std.proofs.lemmas.Grind.{flat_map-append}
 use Rattle.acct_text.specs.Lines.{Line, file_bytes, line_bytes}
-use Rattle.account_formats.specs.Format.{Format, is_named}
-use Rattle.account_formats.specs.Edits.{line_becomes, put_first}
+use Rattle.account_model.specs.Format.{Format, is_named}
+use Rattle.account_model.specs.Edits.{line_becomes, put_first}
 use Rattle.acct_tables.specs.TableLines.{text_is_named}
 
 module _ {R : Type 0} (format : Format R) (item : R) where

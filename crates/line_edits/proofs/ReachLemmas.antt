@@ -10,11 +10,11 @@ use Rattle.std.proofs.lemmas.Bool.{cases_Bool, ne_eqb}
 use Rattle.std.proofs.lemmas.List.{length-append}
 use Rattle.std.proofs.lemmas.Slice.Eq.{bytes_eq-Decides}
 use Rattle.acct_text.specs.Lines.{Line, lines_of}
-use Rattle.account_formats.specs.Edits.{Edit, becoming_touches, touches}
-use Rattle.account_formats.specs.Edits.Edit.{Become}
-use Rattle.account_formats.specs.Format.{Format, records_of}
-use Rattle.account_formats.specs.RecordEdits.{TellsSame}
-use Rattle.account_formats.specs.Text.{is_listed}
+use Rattle.account_model.specs.Edits.{Edit, becoming_touches, touches}
+use Rattle.account_model.specs.Edits.Edit.{Become}
+use Rattle.account_model.specs.Format.{Format, records_of}
+use Rattle.account_model.specs.RecordEdits.{TellsSame}
+use Rattle.account_model.specs.Text.{is_listed}
 use Rattle.acct_tables.specs.Marks.{IsFromMark, IsFromMarks, IsWithout, IsWithoutAll, marks_in}
 use Rattle.acct_tables.specs.declared.marks.Marks.{Marks}
 use Rattle.line_edits.specs.Naming.{AreMarksOf, Leaves}

@@ -7,11 +7,11 @@ use Rattle.std.specs.List.{AllByRecursion}
 use Rattle.acct_text.specs.Bytes.{newline}
 use Rattle.acct_text.specs.Lines.{Line}
 use Rattle.acct_text.specs.Pieces.{Lacks}
-use Rattle.account_formats.specs.Edits.{becomes}
-use Rattle.account_formats.specs.Edits.Edit.{Become}
-use Rattle.account_formats.specs.Format.{Format}
-use Rattle.account_formats.specs.RecordEdits.{IsWrittenEdit}
-use Rattle.account_formats.specs.Written.{IsWritten}
+use Rattle.account_model.specs.Edits.{becomes}
+use Rattle.account_model.specs.Edits.Edit.{Become}
+use Rattle.account_model.specs.Format.{Format}
+use Rattle.account_model.specs.RecordEdits.{IsWrittenEdit}
+use Rattle.account_model.specs.Written.{IsWritten}
 use Rattle.acct_tables.specs.TableLines.{changed_at, record_at, with_record, text_at}
 use Rattle.acct_tables.proofs.LinesHere.{read-here}
 use Rattle.line_edits.specs.declared.edit.Rewritten.{Rewritten}

@@ -12,16 +12,16 @@ use Rattle.acct_text.specs.Bytes.{newline}
 use Rattle.acct_text.specs.Lines.{Line, file_bytes}
 use Rattle.acct_text.specs.Pieces.{Lacks}
 use Rattle.acct_text.proofs.LinesLaws.{lines_of-are}
-use Rattle.account_formats.specs.declared.fault.LineFault.{LineFault}
-use Rattle.account_formats.specs.Edits.{Edit, becomes, becoming_touches, edited, first_multiple, line_becomes, touches, with_line}
-use Rattle.account_formats.specs.Edits.Edit.{Add, AddMissing, Become}
-use Rattle.account_formats.specs.Format.{Format, count_named, has_named, is_named, records_of}
-use Rattle.account_formats.specs.LineFormat.{IsLineFormat}
-use Rattle.account_formats.specs.RecordEdits.{TellsSame}
-use Rattle.account_formats.specs.Text.{is_listed}
-use Rattle.account_formats.specs.Written.{IsWritten}
-use Rattle.account_formats.proofs.EditLaws.{edit-is}
-use Rattle.account_formats.proofs.ListLaws.{all-append}
+use Rattle.account_model.specs.declared.fault.LineFault.{LineFault}
+use Rattle.account_model.specs.Edits.{Edit, becomes, becoming_touches, edited, first_multiple, line_becomes, touches, with_line}
+use Rattle.account_model.specs.Edits.Edit.{Add, AddMissing, Become}
+use Rattle.account_model.specs.Format.{Format, count_named, has_named, is_named, records_of}
+use Rattle.account_model.specs.LineFormat.{IsLineFormat}
+use Rattle.account_model.specs.RecordEdits.{TellsSame}
+use Rattle.account_model.specs.Text.{is_listed}
+use Rattle.account_model.specs.Written.{IsWritten}
+use Rattle.account_model.proofs.EditLaws.{edit-is}
+use Rattle.account_model.proofs.ListLaws.{all-append}
 use Rattle.acct_tables.specs.NameIndex.{are_several, line_name, lines_named}
 use Rattle.acct_tables.proofs.NamedRecords.{told-several}
 use Rattle.acct_tables.specs.SeenLines.{AreOfFile}

@@ -9,9 +9,9 @@ use Rattle.std.specs.List.{cons_option, list_any}
 use Rattle.std.proofs.lemmas.Bool.{cases_Bool, cases_eq}
 use Rattle.std.proofs.lemmas.Slice.Eq.{bytes_eq-Decides}
 use Rattle.acct_text.specs.Lines.{Line}
-use Rattle.account_formats.specs.Format.{Format, records_of}
-use Rattle.account_formats.specs.Edits.{Edit, first_multiple, is_multiple, touches}
-use Rattle.account_formats.specs.Text.{is_listed}
+use Rattle.account_model.specs.Format.{Format, records_of}
+use Rattle.account_model.specs.Edits.{Edit, first_multiple, is_multiple, touches}
+use Rattle.account_model.specs.Text.{is_listed}
 use Rattle.acct_tables.specs.TableLines.{record_at}
 use Rattle.line_edits.specs.Touching.{HoldsOfMultiple, HoldsOfMultipleAt, is_met, first_touched, met_in}
 use Rattle.line_edits.proofs.LeftLemmas.{neither}

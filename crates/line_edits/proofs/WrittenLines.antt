@@ -7,9 +7,9 @@ use Rattle.acct_text.specs.Bytes.{newline}
 use Rattle.acct_text.specs.Lines.{Line, lines_of}
 use Rattle.acct_text.specs.Pieces.{Lacks}
 use Rattle.acct_text.proofs.LinesLaws.{lines_of-are}
-use Rattle.account_formats.specs.declared.fault.LineFault.{LineFault}
-use Rattle.account_formats.specs.Format.{Format}
-use Rattle.account_formats.specs.LineFormat.{IsLineFormat}
+use Rattle.account_model.specs.declared.fault.LineFault.{LineFault}
+use Rattle.account_model.specs.Format.{Format}
+use Rattle.account_model.specs.LineFormat.{IsLineFormat}
 use Rattle.line_edits.specs.WrittenLines.{AreWritten, IsWrittenRead}
 
 module _ {R : Type 0} (format : Format R) (fault : List ℕ → Option LineFault)

@@ -2,8 +2,8 @@
 -- (passwd(5), shadow(5), group(5), gshadow(5)).
 use Rattle.std.specs.Prelude.{ℕ, List, Option, Some, None}
 use Rattle.acct_text.specs.Lines.{file_bytes, lines_of}
-use Rattle.account_formats.specs.Edits.{Edit, edited_by, first_multiple}
-use Rattle.account_formats.specs.Format.{Format, records_of}
+use Rattle.account_model.specs.Edits.{Edit, edited_by, first_multiple}
+use Rattle.account_model.specs.Format.{Format, records_of}
 use Rattle.line_edits.specs.declared.checked.Checked.{Checked}
 use Rattle.line_edits.specs.declared.checked.Checked.TheVariants.{Multiple, Edited}
 

@@ -4,8 +4,8 @@ use Rattle.std.specs.Prelude.{◌≡◌, ℕ, Bool, true, false, List, [], Optio
 use Rattle.std.specs.HashMap.{get_by}
 use Rattle.std.specs.List.{list_any}
 use Rattle.std.specs.Vec.{vec_items}
-use Rattle.account_formats.specs.Edits.{touches}
-use Rattle.account_formats.specs.Format.{Format}
+use Rattle.account_model.specs.Edits.{touches}
+use Rattle.account_model.specs.Format.{Format}
 use Rattle.line_edits.specs.SeenEdits.{seen_edit, seen_edits}
 use Rattle.line_edits.specs.Touching.{touches_alone}
 use Rattle.line_edits.specs.declared.edit.Edit.{Edit}

@@ -1,8 +1,8 @@
 -- What the changes of groups make of a record of group (group(5)).
 use Rattle.std.specs.Prelude.{List, [], ◌∷◌}
-use Rattle.account_formats.specs.declared.records.GroupRecord.{GroupRecord}
+use Rattle.account_model.specs.declared.records.GroupRecord.{GroupRecord}
 use Rattle.account_model.specs.Members.{with_name, without_name}
-use Rattle.account_formats.specs.Records.{group_format}
+use Rattle.account_model.specs.Records.{group_format}
 use Rattle.line_edits.specs.Memberships.{group_by}
 use Rattle.line_edits.specs.Naming.{changed_named, without_named}
 use Rattle.line_edits.specs.declared.group_changes.GroupAct.{GroupAct}

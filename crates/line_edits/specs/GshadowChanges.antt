@@ -1,8 +1,8 @@
 -- What the changes of groups make of a record of gshadow (gshadow(5)).
 use Rattle.std.specs.Prelude.{ℕ, List, [], ◌∷◌}
-use Rattle.account_formats.specs.declared.records.GshadowRecord.{GshadowRecord}
+use Rattle.account_model.specs.declared.records.GshadowRecord.{GshadowRecord}
 use Rattle.account_model.specs.Members.{with_name, without_name}
-use Rattle.account_formats.specs.Records.{gshadow_format}
+use Rattle.account_model.specs.Records.{gshadow_format}
 use Rattle.line_edits.specs.Memberships.{gshadow_by}
 use Rattle.line_edits.specs.Naming.{changed_named, without_named}
 use Rattle.line_edits.specs.declared.gshadow_changes.GshadowAct.{GshadowAct}

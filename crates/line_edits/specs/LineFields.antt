@@ -1,6 +1,6 @@
 -- The fields of a line by which a change leaves it (passwd(5), group(5), gshadow(5)).
 use Rattle.std.specs.Prelude.{◌≡◌, ℕ, ◌+◌, List}
-use Rattle.account_formats.specs.Faults.{field_at}
+use Rattle.account_model.specs.Faults.{field_at}
 
 -- the others are the fields behind the first, each one place further in front; a field that isn't
 -- there counts as an empty one

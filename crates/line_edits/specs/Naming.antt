@@ -3,8 +3,8 @@
 use Rattle.std.specs.Prelude.{◌≡◌, ℕ, Bool, true, false, List, [], ◌∷◌, map, Option, None, Some, bytes_eq, if◌then◌else◌}
 use Rattle.std.specs.List.{IsDistinct}
 use Rattle.std.specs.Vec.{vec_items}
-use Rattle.account_formats.specs.Format.{Format, is_named}
-use Rattle.account_formats.specs.Text.{is_listed}
+use Rattle.account_model.specs.Format.{Format, is_named}
+use Rattle.account_model.specs.Text.{is_listed}
 use Rattle.acct_tables.specs.Marks.{IsWithoutAll}
 use Rattle.line_edits.specs.declared.changed_names.ChangedNames.{ChangedNames}
 use Rattle.line_edits.specs.declared.changed_names.ChangedNames.TheVariants.{One, Each}

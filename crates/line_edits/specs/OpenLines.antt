@@ -1,8 +1,8 @@
 -- Lines in front of the first that a change may touch (passwd(5), shadow(5), group(5), gshadow(5)).
 use Rattle.std.specs.Prelude.{◌≡◌, ℕ, ◌≤◌, List, ◌++◌, length, flat_map}
 use Rattle.acct_text.specs.Lines.{file_bytes, lines_of}
-use Rattle.account_formats.specs.Edits.{becomes}
-use Rattle.account_formats.specs.Format.{Format}
+use Rattle.account_model.specs.Edits.{becomes}
+use Rattle.account_model.specs.Format.{Format}
 
 -- a file's text from one of its lines on, where the change leaves all lines in front
 pub record IsOpenFrom {R : Type 0} (format : Format R) (f : R → List R) (text behind : List ℕ)

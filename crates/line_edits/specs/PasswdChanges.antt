@@ -1,7 +1,7 @@
 -- What the changes of users make of a record of passwd (passwd(5)).
 use Rattle.std.specs.Prelude.{List, [], ◌∷◌, ◌==◌, unwrap_or, if◌then◌else◌}
-use Rattle.account_formats.specs.declared.records.PasswdRecord.{PasswdRecord}
-use Rattle.account_formats.specs.Records.{passwd_format}
+use Rattle.account_model.specs.declared.records.PasswdRecord.{PasswdRecord}
+use Rattle.account_model.specs.Records.{passwd_format}
 use Rattle.line_edits.specs.HashChanges.{hash_by}
 use Rattle.line_edits.specs.Naming.{changed_named, without_named}
 use Rattle.line_edits.specs.declared.passwd_changes.UserFields.{UserFields}

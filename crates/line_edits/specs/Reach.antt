@@ -3,8 +3,8 @@
 use Rattle.std.specs.Prelude.{◌≡◌, ℕ, false, List, ◌++◌, Option, Some, None, ⊤}
 use Rattle.std.specs.List.{AllByRecursion}
 use Rattle.acct_text.specs.Lines.{Line, lines_of}
-use Rattle.account_formats.specs.Edits.{Edit, touches}
-use Rattle.account_formats.specs.Format.{Format}
+use Rattle.account_model.specs.Edits.{Edit, touches}
+use Rattle.account_model.specs.Format.{Format}
 use Rattle.acct_tables.specs.Marks.{IsWithoutAll, marks_in}
 use Rattle.acct_tables.specs.declared.marks.Marks.{Marks}
 use Rattle.line_edits.specs.declared.reach.Opened.{Opened}

@@ -1,6 +1,6 @@
 -- The line of a record that becomes another one, told by its texts alone (group(5), gshadow(5)).
 use Rattle.std.specs.Prelude.{◌≡◌, ℕ, List, [], ◌∷◌, Some}
-use Rattle.account_formats.specs.Format.{Format}
+use Rattle.account_model.specs.Format.{Format}
 use Rattle.line_edits.specs.declared.edit.Rewritten.{Rewritten}
 
 -- the line is a record of which f makes one other, and these are the canonical texts of both

@@ -1,7 +1,7 @@
--- The edits of a table as account_formats has them: an edit as data stands for one of these (passwd(5), shadow(5),
+-- The edits of a table as account_model has them: an edit as data stands for one of these (passwd(5), shadow(5),
 -- group(5), gshadow(5), subuid(5), subgid(5)).
 use Rattle.std.specs.Prelude.{List, [], ◌∷◌, map}
-use Rattle.account_formats.specs.Edits as model
+use Rattle.account_model.specs.Edits as model
 use Rattle.line_edits.specs.declared.edit.Becoming.{Becoming}
 use Rattle.line_edits.specs.declared.edit.Becoming.TheVariants.{Stays, Changes, Goes, Splits}
 use Rattle.line_edits.specs.declared.edit.Edit.{Edit}

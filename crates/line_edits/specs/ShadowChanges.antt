@@ -1,7 +1,7 @@
 -- What the changes of users make of a record of shadow (shadow(5)).
 use Rattle.std.specs.Prelude.{ℕ, List, Option, None, Some, unwrap_or}
-use Rattle.account_formats.specs.declared.records.ShadowRecord.{ShadowRecord}
-use Rattle.account_formats.specs.Records.{shadow_format}
+use Rattle.account_model.specs.declared.records.ShadowRecord.{ShadowRecord}
+use Rattle.account_model.specs.Records.{shadow_format}
 use Rattle.line_edits.specs.HashChanges.{hash_by}
 use Rattle.line_edits.specs.Naming.{changed_named, without_named}
 use Rattle.line_edits.specs.declared.shadow_changes.DaysChange.{DaysChange}

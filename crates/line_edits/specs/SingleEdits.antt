@@ -2,10 +2,10 @@
 -- shadow(5), group(5), gshadow(5)).
 use Rattle.std.specs.Prelude.{◌≡◌, ℕ, List, [], ◌∷◌, None}
 use Rattle.acct_text.specs.Lines.{Line}
-use Rattle.account_formats.specs.Edits.{Edit, edited, first_multiple}
-use Rattle.account_formats.specs.Edits.Edit.{Become}
-use Rattle.account_formats.specs.Format.{Format, records_of}
-use Rattle.account_formats.specs.RecordEdits.{IsWrittenEdit}
+use Rattle.account_model.specs.Edits.{Edit, edited, first_multiple}
+use Rattle.account_model.specs.Edits.Edit.{Become}
+use Rattle.account_model.specs.Format.{Format, records_of}
+use Rattle.account_model.specs.RecordEdits.{IsWrittenEdit}
 use Rattle.acct_tables.specs.SeenLines.{AreOfFile}
 use Rattle.line_edits.specs.Naming.{KeepsNames, TouchesOnly}
 

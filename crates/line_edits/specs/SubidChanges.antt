@@ -1,9 +1,9 @@
 -- What the changes of owners make of a record of subuid or subgid (subuid(5), subgid(5)).
 use Rattle.std.specs.Prelude.{List, [], ◌∷◌, if◌then◌else◌}
-use Rattle.account_formats.specs.declared.records.SubidRecord.{SubidRecord}
-use Rattle.account_formats.specs.Format.{is_named}
-use Rattle.account_formats.specs.Records.{subid_format}
-use Rattle.account_words.specs.SubidOwner.{is_owned, left_without}
+use Rattle.account_model.specs.declared.records.SubidRecord.{SubidRecord}
+use Rattle.account_model.specs.Format.{is_named}
+use Rattle.account_model.specs.Records.{subid_format}
+use Rattle.account_model.specs.SubidOwner.{is_owned, left_without}
 use Rattle.line_edits.specs.declared.subid_changes.SubidChange.{SubidChange}
 use Rattle.line_edits.specs.declared.subid_changes.SubidChange.TheVariants.{Rename, Remove, Cut}
 

@@ -2,9 +2,9 @@
 -- group(5), gshadow(5)).
 use Rattle.std.specs.Prelude.{◌≡◌, ℕ, ◌<◌, Bool, true, false, ◌&&◌, List, [], ◌∷◌, length, Option, Some, None, nat_le, option_map, find, if◌then◌else◌}
 use Rattle.acct_text.specs.Lines.{Line}
-use Rattle.account_formats.specs.Format.{Format, count_named, records_of}
-use Rattle.account_formats.specs.Edits.{Edit, edited, touches, is_multiple}
-use Rattle.account_formats.specs.Text.{is_listed}
+use Rattle.account_model.specs.Format.{Format, count_named, records_of}
+use Rattle.account_model.specs.Edits.{Edit, edited, touches, is_multiple}
+use Rattle.account_model.specs.Text.{is_listed}
 use Rattle.acct_tables.specs.TableLines.{record_at}
 
 -- whether the edit touches a record of the old table, were it the only one

@@ -2,8 +2,8 @@
 use Rattle.std.specs.Prelude.{List, Option, None, Some, ⊤}
 use Rattle.std.specs.List.{AllByRecursion}
 use Rattle.acct_text.specs.Lines.{Line}
-use Rattle.account_formats.specs.Format.{Format}
-use Rattle.account_formats.specs.Written.{IsWritten}
+use Rattle.account_model.specs.Format.{Format}
+use Rattle.account_model.specs.Written.{IsWritten}
 
 -- what was read, if it is a record, can be written again
 abbrev pub IsWrittenRead : {R : Type 0} → Format R → Option R → Type 0

@@ -2,9 +2,9 @@
 ghost use Rattle.std.specs.Prelude.{◌≡◌, [], ◌∷◌, IfOk, IfSome};
 ghost use Rattle.std.specs.List.{AllByRecursion};
 ghost use Rattle.acct_text.specs.Lines.{file_bytes, lines_of};
-ghost use Rattle.account_formats.specs.Edits.{edited_by};
-ghost use Rattle.account_formats.specs.Edits as model;
-ghost use Rattle.account_formats.specs.RecordEdits.{IsWrittenEdit};
+ghost use Rattle.account_model.specs.Edits.{edited_by};
+ghost use Rattle.account_model.specs.Edits as model;
+ghost use Rattle.account_model.specs.RecordEdits.{IsWrittenEdit};
 ghost use Rattle.line_edits.specs.CheckedTexts.{checked_by};
 ghost use Rattle.line_edits.specs.Reach.{IsOpened};
 ghost use Rattle.line_edits.specs.SeenEdits.{seen_edits};

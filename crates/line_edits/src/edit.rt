@@ -1,6 +1,6 @@
 // The edits of a table as data, and what a record has so that edits can be made of it.
 ghost use Rattle.std.specs.Prelude.{◌≡◌, true, List, [], ◌∷◌, None, IfOk, IfSome};
-ghost use Rattle.account_formats.specs.Written.{IsWritten};
+ghost use Rattle.account_model.specs.Written.{IsWritten};
 ghost use Rattle.acct_tables.specs.Marks.{marks_in};
 ghost use Rattle.line_edits.specs.Naming.{AreMarksOf, KeepsNames, Leaves, Removes, TouchesOnly, names_in};
 ghost use Rattle.line_edits.specs.Rewriting.{IsRewritten};

@@ -2,7 +2,7 @@
 // found without a pass over all.
 ghost use Rattle.std.specs.Prelude.{◌≡◌, ◌&&◌, ◌||◌, ℕ, Bool, List, [], ◌∷◌, ◌++◌, bytes_eq, if◌then◌else◌, OnOk};
 ghost use Rattle.std.specs.List.{list_any};
-ghost use Rattle.account_formats.specs.Text.{is_listed};
+ghost use Rattle.account_model.specs.Text.{is_listed};
 ghost use Rattle.line_edits.specs.EditsByName.{places_of};
 ghost use Rattle.line_edits.specs.Naming.{names_in};
 

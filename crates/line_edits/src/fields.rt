@@ -1,8 +1,8 @@
 // Fields of records that a tool sets or leaves as they are, and those of a line by which one is left.
 ghost use Rattle.std.specs.Prelude.{◌≡◌, not, bytes_eq, OnOk, unwrap_or};
 ghost use Rattle.acct_text.specs.Pieces.{fields_of};
-ghost use Rattle.account_formats.specs.Faults.{field_at};
-ghost use Rattle.account_formats.specs.Naming.{first_field as first_of};
+ghost use Rattle.account_model.specs.Faults.{field_at};
+ghost use Rattle.account_model.specs.Naming.{first_field as first_of};
 ghost use Rattle.line_edits.specs.LineFields.{AreBehindFirst};
 ghost use Rattle.line_edits.specs.Naming.{leaves_name};
 

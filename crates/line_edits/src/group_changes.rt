@@ -1,8 +1,8 @@
 // What the tools do with records of group (group(5)).
 ghost use Rattle.std.specs.Prelude.{◌≡◌, ℕ, List, true, Some, IfOk, IfSome, OnOk};
-ghost use Rattle.account_formats.specs.Records.{group_format};
-ghost use Rattle.account_formats.specs.Text.{is_listed};
-ghost use Rattle.account_formats.specs.declared.records.GroupRecord.{GroupRecord};
+ghost use Rattle.account_model.specs.Records.{group_format};
+ghost use Rattle.account_model.specs.Text.{is_listed};
+ghost use Rattle.account_model.specs.declared.records.GroupRecord.{GroupRecord};
 ghost use Rattle.acct_tables.specs.Marks.{IsWithoutAll, marks_in};
 ghost use Rattle.line_edits.specs.GroupChanges.{group_after, group_becomes};
 ghost use Rattle.line_edits.specs.KeptNames.{keeps_group_name};

@@ -1,8 +1,8 @@
 // What the tools do with records of gshadow (gshadow(5)).
 ghost use Rattle.std.specs.Prelude.{◌≡◌, ◌||◌, ℕ, List, true, Some, IfOk, IfSome, OnOk};
-ghost use Rattle.account_formats.specs.declared.records.GshadowRecord.{GshadowRecord};
-ghost use Rattle.account_formats.specs.Records.{gshadow_format};
-ghost use Rattle.account_formats.specs.Text.{is_listed};
+ghost use Rattle.account_model.specs.declared.records.GshadowRecord.{GshadowRecord};
+ghost use Rattle.account_model.specs.Records.{gshadow_format};
+ghost use Rattle.account_model.specs.Text.{is_listed};
 ghost use Rattle.acct_tables.specs.Marks.{IsWithoutAll, marks_in};
 ghost use Rattle.line_edits.specs.GshadowChanges.{gshadow_after, gshadow_becomes, without_user};
 ghost use Rattle.line_edits.specs.KeptNames.{keeps_gshadow_name};

@@ -1,6 +1,6 @@
 // What is done with the hash of a user (usermod(8), `-p`, `-L` and `-U`).
 ghost use Rattle.std.specs.Prelude.{◌≡◌, true, IfOk};
-ghost use Rattle.account_formats.specs.Text.{begins_with, exclamation};
+ghost use Rattle.account_model.specs.Text.{begins_with, exclamation};
 ghost use Rattle.account_model.specs.UsermodHash.{locked_hash, unlocked_hash};
 ghost use Rattle.line_edits.specs.HashChanges.{hash_by};
 

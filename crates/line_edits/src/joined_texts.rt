@@ -1,7 +1,7 @@
 // A user who joins a group, told by the parts of the group's line: a long list of members isn't read
 // name by name (usermod(8), `-a -G`).
 ghost use Rattle.std.specs.Prelude.{◌∷◌, [], IfOk, IfSome};
-ghost use Rattle.account_formats.specs.Records.{group_format, gshadow_format};
+ghost use Rattle.account_model.specs.Records.{group_format, gshadow_format};
 ghost use Rattle.line_edits.specs.Memberships.{group_by, gshadow_by};
 ghost use Rattle.line_edits.specs.Rewriting.{IsRewritten};
 

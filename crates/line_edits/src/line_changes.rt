@@ -4,10 +4,10 @@ ghost use Rattle.std.specs.Prelude.{◌≡◌, ◌++◌, ◌≤◌, [], ◌∷�
 ghost use Rattle.acct_text.specs.Bytes.{newline};
 ghost use Rattle.acct_text.specs.Lines.{file_bytes, line_bytes, lines_of};
 ghost use Rattle.acct_text.specs.Pieces.{Lacks};
-ghost use Rattle.account_formats.specs.Edits.{becomes, edited, line_becomes, printed_line};
-ghost use Rattle.account_formats.specs.Edits as model;
-ghost use Rattle.account_formats.specs.RecordEdits.{IsWrittenEdit};
-ghost use Rattle.account_formats.specs.Written.{IsWritten};
+ghost use Rattle.account_model.specs.Edits.{becomes, edited, line_becomes, printed_line};
+ghost use Rattle.account_model.specs.Edits as model;
+ghost use Rattle.account_model.specs.RecordEdits.{IsWrittenEdit};
+ghost use Rattle.account_model.specs.Written.{IsWritten};
 ghost use Rattle.acct_tables.specs.SeenLines.{seen_line};
 ghost use Rattle.line_edits.specs.OpenLines.{IsOpenFrom};
 

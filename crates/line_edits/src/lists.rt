@@ -2,7 +2,7 @@
 // (group(5), gshadow(5)).
 ghost use Rattle.std.specs.Prelude.{◌≡◌, IfOk, OnOk};
 ghost use Rattle.account_model.specs.Members.{with_name, without_name};
-ghost use Rattle.account_formats.specs.Text.{is_listed};
+ghost use Rattle.account_model.specs.Text.{is_listed};
 
 use acct_text::{Bytes, Names};
 use std::alloc::{AllocError, Global};

@@ -1,8 +1,8 @@
 // What becomes of a user in the lists of all groups (usermod(8), `-G`, `-a` and `-l`).
 ghost use Rattle.std.specs.Prelude.{◌≡◌, ℕ, List, map, true, IfSome, OnOk};
 ghost use Rattle.std.specs.Vec.{vec_items};
-ghost use Rattle.account_formats.specs.Text.{is_listed};
-ghost use Rattle.account_formats.specs.Records.{read_names};
+ghost use Rattle.account_model.specs.Text.{is_listed};
+ghost use Rattle.account_model.specs.Records.{read_names};
 ghost use Rattle.line_edits.specs.Memberships.{Adds, AreMarksIn, ChangesOnlyIn, joins, members_with};
 ghost use Rattle.line_edits.specs.Naming.{names_in};
 

@@ -2,9 +2,9 @@
 // kept with an index of their names.
 ghost use Rattle.std.specs.Prelude.{◌≡◌, ◌<◌, true, false, Some, length, IfOk};
 ghost use Rattle.std.specs.List.{AllByRecursion, list_any};
-ghost use Rattle.account_formats.specs.Edits.{first_multiple, is_multiple, touches};
-ghost use Rattle.account_formats.specs.Format.{records_of};
-ghost use Rattle.account_formats.specs.RecordEdits.{IsWrittenEdit};
+ghost use Rattle.account_model.specs.Edits.{first_multiple, is_multiple, touches};
+ghost use Rattle.account_model.specs.Format.{records_of};
+ghost use Rattle.account_model.specs.RecordEdits.{IsWrittenEdit};
 ghost use Rattle.acct_tables.specs.SeenLines.{AreOfFile};
 ghost use Rattle.line_edits.specs.Naming.{names_in};
 ghost use Rattle.line_edits.specs.SeenEdits.{seen_edit, seen_edits};

@@ -2,7 +2,7 @@
 ghost use Rattle.std.specs.Prelude.{◌≡◌, ◌↔◌, ℕ, List, [], bytes_eq, map, IfOk, IsTrue};
 ghost use Rattle.std.specs.List.{IsDistinct};
 ghost use Rattle.std.specs.Vec.{vec_items};
-ghost use Rattle.account_formats.specs.Text.{is_listed};
+ghost use Rattle.account_model.specs.Text.{is_listed};
 ghost use Rattle.line_edits.specs.NameSets.{has_text};
 
 use acct_text::{Bytes, Names};
@@ -23,7 +23,7 @@ pub struct NameSet {
 impl Model for NameSet {
     ghost use Rattle.std.specs.Prelude.{◌≡◌, ℕ, List};
     ghost use Rattle.std.specs.Vec.{vec_items};
-    ghost use Rattle.account_formats.specs.Text.{is_listed};
+    ghost use Rattle.account_model.specs.Text.{is_listed};
     ghost use Rattle.line_edits.specs.NameSets.{has_text};
 
     ghost Value = { List (List ℕ) };

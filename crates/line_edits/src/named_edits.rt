@@ -1,10 +1,10 @@
 // Edits that are carried out where their records stand: of those that tell the names of the records
 // that they may touch a list takes no pass over the table for each.
 ghost use Rattle.std.specs.Prelude.{◌≡◌, [], ◌∷◌, IfOk, OnOk};
-ghost use Rattle.account_formats.specs.Edits.{edited};
-ghost use Rattle.account_formats.specs.Edits as model;
-ghost use Rattle.account_formats.specs.RecordEdits.{IsWrittenEdit};
-ghost use Rattle.account_formats.specs.Written.{IsWritten};
+ghost use Rattle.account_model.specs.Edits.{edited};
+ghost use Rattle.account_model.specs.Edits as model;
+ghost use Rattle.account_model.specs.RecordEdits.{IsWrittenEdit};
+ghost use Rattle.account_model.specs.Written.{IsWritten};
 ghost use Rattle.acct_tables.specs.SeenLines.{AreOfFile};
 ghost use Rattle.line_edits.specs.Naming.{KeepsNames, TouchesOnly, names_in, on_named};
 ghost use Rattle.line_edits.specs.SeenEdits.{seen_edit};

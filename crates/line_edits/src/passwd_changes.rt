@@ -1,13 +1,13 @@
 // What the tools do with records of passwd (passwd(5)).
 ghost use Rattle.std.specs.Prelude.{◌≡◌, ◌==◌, ℕ, true, List, Some, IfOk, OnOk};
-ghost use Rattle.account_formats.specs.Records.{passwd_format};
-ghost use Rattle.account_formats.specs.declared.records.PasswdRecord.{PasswdRecord};
+ghost use Rattle.account_model.specs.Records.{passwd_format};
+ghost use Rattle.account_model.specs.declared.records.PasswdRecord.{PasswdRecord};
 ghost use Rattle.line_edits.specs.PasswdChanges.{passwd_after, with_user_fields};
 ghost use Rattle.line_edits.specs.KeptNames.{keeps_user_name};
 
 use crate::fields::{fourth_field, has_other_name, leaves_name, set_given};
 use crate::{Becoming, ChangedNames, EditedRecord, HashChange, PrimaryGroup, Rewritten};
-use account_formats::GREATEST_ID;
+use account_model::GREATEST_ID;
 use acct_lines::{PasswdRecord, TableRecord};
 use acct_tables::Marks;
 use acct_text::{Bytes, read_decimal};

@@ -1,10 +1,10 @@
 // A change of records, and a record in place of another of its name, carried out in lines at their
 // places.
 ghost use Rattle.std.specs.Prelude.{◌≡◌, ◌<◌, [], ◌∷◌, Some, length, option_map, IfOk, OnOk};
-ghost use Rattle.account_formats.specs.Edits.{becomes, edited};
-ghost use Rattle.account_formats.specs.Edits as model;
-ghost use Rattle.account_formats.specs.RecordEdits.{IsWrittenEdit};
-ghost use Rattle.account_formats.specs.Written.{IsWritten};
+ghost use Rattle.account_model.specs.Edits.{becomes, edited};
+ghost use Rattle.account_model.specs.Edits as model;
+ghost use Rattle.account_model.specs.RecordEdits.{IsWrittenEdit};
+ghost use Rattle.account_model.specs.Written.{IsWritten};
 ghost use Rattle.acct_tables.specs.TableLines.{changed_at, record_at, with_record};
 ghost use Rattle.line_edits.specs.Naming.{KeepsNames, on_asked, on_named};
 ghost use Rattle.line_edits.specs.Places.{spliced_at, spliced_where};

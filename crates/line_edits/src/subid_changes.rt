@@ -1,9 +1,9 @@
 // What the tools do with records of subuid and subgid (subuid(5), subgid(5)).
 ghost use Rattle.std.specs.Prelude.{◌≡◌, [], IfOk};
 ghost use Rattle.std.specs.List.{cons_option};
-ghost use Rattle.account_formats.specs.Records.{subid_format};
-ghost use Rattle.account_words.specs.SubidOwner.{left_above, left_below, left_without};
-ghost use Rattle.account_formats.specs.Written.{IsWritten};
+ghost use Rattle.account_model.specs.Records.{subid_format};
+ghost use Rattle.account_model.specs.SubidOwner.{left_above, left_below, left_without};
+ghost use Rattle.account_model.specs.Written.{IsWritten};
 ghost use Rattle.line_edits.specs.SeenEdits.{records_in};
 
 use crate::fields::has_other_name;

@@ -1,10 +1,10 @@
 // Whether edits touch a record.
 ghost use Rattle.std.specs.Prelude.{◌≡◌, slice_get, IfOk, IfSome};
 ghost use Rattle.std.specs.List.{AllByRecursion};
-ghost use Rattle.account_formats.specs.Edits.{touches};
-ghost use Rattle.account_formats.specs.Edits as model;
-ghost use Rattle.account_formats.specs.RecordEdits.{IsWrittenEdit};
-ghost use Rattle.account_formats.specs.Written.{IsWritten};
+ghost use Rattle.account_model.specs.Edits.{touches};
+ghost use Rattle.account_model.specs.Edits as model;
+ghost use Rattle.account_model.specs.RecordEdits.{IsWrittenEdit};
+ghost use Rattle.account_model.specs.Written.{IsWritten};
 ghost use Rattle.line_edits.specs.EditsByName.{TellTouched, touched_at, touches_if};
 ghost use Rattle.line_edits.specs.SeenEdits.{seen_edit, seen_edits};
 ghost use Rattle.line_edits.specs.Touching.{touches_alone};

@@ -11,7 +11,7 @@ use Rattle.std.proofs.lemmas.Bool.Decides.{eqb_tells}
 use Rattle.std.proofs.lemmas.Int.Digits.{digits_value_more}
 use Rattle.acct_text.specs.Bytes.{is_empty}
 use Rattle.acct_text.proofs.NumberLaws.{empty-no}
-use Rattle.account_words.specs.Settings.{radix_number, within}
+use Rattle.account_model.specs.Settings.{radix_number, within}
 
 -- all bytes are digits where each is
 all-digits :

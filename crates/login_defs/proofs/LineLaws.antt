@@ -10,7 +10,7 @@ use Rattle.acct_text.specs.Bytes.{newline, is_empty}
 use Rattle.acct_text.specs.Lines.{lines_of, lines_of_pieces}
 use Rattle.acct_text.specs.Pieces.{cut_at}
 use Rattle.acct_text.proofs.Cut.{cut_at-is}
-use Rattle.account_words.specs.Settings.{Setting, settings_of, line_setting, is_bad_line, first_line_from}
+use Rattle.account_model.specs.Settings.{Setting, settings_of, line_setting, is_bad_line, first_line_from}
 use Rattle.login_defs.specs.declared.defs.DefsFault.{DefsFault}
 use Rattle.login_defs.specs.declared.defs.DefsFault.TheVariants as file
 use Rattle.login_defs.specs.LineSetting.{text_setting, line_fault}

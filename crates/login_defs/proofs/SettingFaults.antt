@@ -4,8 +4,8 @@
 use Rattle.std.proofs.Common.{◌≡◌, ℕ, Bool, true, false, List, [], ◌∷◌, ◌++◌, refl, sym, ap, subst, Some, None}
 use Rattle.std.specs.Prelude.{Option, bytes_eq, is_some, if◌then◌else◌}
 use Rattle.std.proofs.lemmas.Slice.Eq.{bytes_eq-Decides}
-use Rattle.account_words.specs.declared.settings.Key.{Key}
-use Rattle.account_words.specs.Settings.{Setting, find_key, user_groups_key, allowed_value, allows, is_allowed}
+use Rattle.account_model.specs.declared.settings.Key.{Key}
+use Rattle.account_model.specs.Settings.{Setting, find_key, user_groups_key, allowed_value, allows, is_allowed}
 use Rattle.login_defs.specs.declared.defs.KeyFault.TheVariants.{UnknownKey, BadNumber}
 use Rattle.login_defs.specs.declared.defs.DefsFault.TheVariants as file
 use Rattle.login_defs.specs.declared.defs.KeyFault.{KeyFault}

@@ -8,10 +8,10 @@ use Rattle.std.proofs.lemmas.Bool.Decides.{eqb_tells}
 use Rattle.std.proofs.lemmas.List.{get_or-set_same, get_or-set_other}
 use Rattle.std.proofs.lemmas.Slice.Eq.{bytes_eq-Decides}
 use Rattle.acct_text.proofs.NumberLaws.{some-inj}
-use Rattle.account_words.specs.declared.settings.Key.{Key}
-use Rattle.account_words.specs.declared.settings.Key.TheVariants.{UidMin}
-use Rattle.account_formats.specs.Text.{last_of}
-use Rattle.account_words.specs.Settings.{Setting, keys, key_name, find_key, user_groups_key, allowed_value, last_setting_value, is_yes}
+use Rattle.account_model.specs.declared.settings.Key.{Key}
+use Rattle.account_model.specs.declared.settings.Key.TheVariants.{UidMin}
+use Rattle.account_model.specs.Text.{last_of}
+use Rattle.account_model.specs.Settings.{Setting, keys, key_name, find_key, user_groups_key, allowed_value, last_setting_value, is_yes}
 use Rattle.login_defs.specs.declared.defs.Defs.{Defs}
 use Rattle.login_defs.specs.declared.values.KeyValue.{KeyValue}
 use Rattle.login_defs.specs.KeyValues.{value_number}

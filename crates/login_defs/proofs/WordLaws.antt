@@ -9,8 +9,8 @@ use Rattle.std.proofs.lemmas.List.{drop_more, drop_all, take_all}
 use Rattle.std.proofs.lemmas.List.Sums.{prefix_len-le-length, fails_before_first, passes_at_first}
 use Rattle.std.proofs.lemmas.List.Splits.{slice_split-cons_yes, slice_split_first, slice_split_none}
 use Rattle.acct_text.specs.Bytes.{blank}
-use Rattle.account_formats.specs.Text.{tab, nonempty, begins_with}
-use Rattle.account_words.specs.Settings.{words_of}
+use Rattle.account_model.specs.Text.{tab, nonempty, begins_with}
+use Rattle.account_model.specs.Settings.{words_of}
 
 -- whether a byte parts words
 abbrev pub is_space : ℕ → Bool

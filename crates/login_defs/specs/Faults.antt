@@ -1,8 +1,8 @@
 -- Why a setting or a settings file is refused (login.defs(5); useradd(8), `-K`).
 use Rattle.std.specs.Prelude.{ℕ, List, Option, None, Some, is_some, option_map, bytes_eq, if◌then◌else◌}
 use Rattle.std.specs.Option.{option_map_or}
-use Rattle.account_words.specs.declared.settings.Key.{Key}
-use Rattle.account_words.specs.Settings.{find_key, user_groups_key, allowed_value, bad_line}
+use Rattle.account_model.specs.declared.settings.Key.{Key}
+use Rattle.account_model.specs.Settings.{find_key, user_groups_key, allowed_value, bad_line}
 use Rattle.login_defs.specs.declared.defs.DefsFault.{DefsFault}
 use Rattle.login_defs.specs.declared.defs.DefsFault.TheVariants as file
 use Rattle.login_defs.specs.declared.defs.KeyFault.{KeyFault}

@@ -1,7 +1,7 @@
 -- Which settings `Defs` holds: of each key what the last setting of the key gave (login.defs(5)).
 use Rattle.std.specs.Prelude.{◌≡◌, ℕ, List, [], ◌∷◌, ◌++◌, length, Option, None, Some, option_map, slice_index_or, ℤ, pos, negsuc}
-use Rattle.account_words.specs.declared.settings.Key.{Key}
-use Rattle.account_words.specs.Settings.{Setting, keys, given_value, user_groups}
+use Rattle.account_model.specs.declared.settings.Key.{Key}
+use Rattle.account_model.specs.Settings.{Setting, keys, given_value, user_groups}
 use Rattle.login_defs.specs.declared.defs.Defs.{Defs}
 use Rattle.login_defs.specs.KeyValues.{value_number}
 use Rattle.login_defs.specs.Places.{key_place}

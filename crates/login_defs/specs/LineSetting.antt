@@ -1,7 +1,7 @@
 -- What a line of the settings file adds, and when it is refused (login.defs(5)).
 use Rattle.std.specs.Prelude.{ℕ, true, List, [], ◌++◌, Option, None, Some, if◌then◌else◌}
 use Rattle.std.specs.List.{cons_option}
-use Rattle.account_words.specs.Settings.{Setting, words_of, setting_of_words, is_bad_line}
+use Rattle.account_model.specs.Settings.{Setting, words_of, setting_of_words, is_bad_line}
 use Rattle.login_defs.specs.declared.defs.Defs.{Defs}
 use Rattle.login_defs.specs.declared.defs.DefsFault.{DefsFault}
 use Rattle.login_defs.specs.declared.defs.DefsFault.TheVariants.{BadNumber}

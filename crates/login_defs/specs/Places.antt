@@ -1,7 +1,7 @@
 -- The places of the numeric keys, as `Defs` keeps their values (login.defs(5)).
 use Rattle.std.specs.Prelude.{ℕ}
-use Rattle.account_words.specs.declared.settings.Key.{Key}
-use Rattle.account_words.specs.declared.settings.Key.TheVariants.{UidMin, GidMin, UidMax, GidMax, SysUidMin, SysGidMin, SysUidMax, SysGidMax, SubUidMin, SubGidMin, SubUidMax, SubGidMax, SubUidCount, SubGidCount, PassMinDays, PassMaxDays, PassWarnAge}
+use Rattle.account_model.specs.declared.settings.Key.{Key}
+use Rattle.account_model.specs.declared.settings.Key.TheVariants.{UidMin, GidMin, UidMax, GidMax, SysUidMin, SysGidMin, SysUidMax, SysGidMax, SubUidMin, SubGidMin, SubUidMax, SubGidMax, SubUidCount, SubGidCount, PassMinDays, PassMaxDays, PassWarnAge}
 
 -- the place of a key in the list of all keys, from 0
 abbrev pub key_place : Key → ℕ

@@ -1,7 +1,7 @@
 // What the settings give, and what a command takes from them (login.defs(5)).
 ghost use Rattle.std.specs.Prelude.{◌≡◌, ◌≤◌, List, [], length, unwrap_or, IfOk, OnOk, OnErr};
 ghost use Rattle.acct_text.specs.Limits.{table_limit};
-ghost use Rattle.account_words.specs.Settings.{Setting, settings_of, bad_line, number as number_of, range as range_of, user_groups, default_value, range_between, one_less as lessened};
+ghost use Rattle.account_model.specs.Settings.{Setting, settings_of, bad_line, number as number_of, range as range_of, user_groups, default_value, range_between, one_less as lessened};
 ghost use Rattle.login_defs.specs.Places.{key_place};
 ghost use Rattle.login_defs.specs.Held.{HasSettings, Adds, Gives, held_value, signed};
 ghost use Rattle.login_defs.specs.Faults.{setting_fault, file_fault};

@@ -1,9 +1,9 @@
 // The numeric keys of login.defs, with their names (login.defs(5)).
 ghost use Rattle.std.specs.Prelude.{◌≡◌, ◌<◌, bytes_eq};
-ghost use Rattle.account_words.specs.Settings.{keys, key_name, find_key as key_named, is_days_key as counts_days};
+ghost use Rattle.account_model.specs.Settings.{keys, key_name, find_key as key_named, is_days_key as counts_days};
 ghost use Rattle.login_defs.specs.Places.{key_place};
 
-use account_words::Key;
+use account_model::Key;
 
 /// How many keys there are.
 pub(crate) const COUNT: usize = 17;

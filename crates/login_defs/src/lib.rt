@@ -9,5 +9,5 @@ mod keys;
 mod lines;
 mod values;
 
-pub use account_words::{IdSort, Key, Kind};
+pub use account_model::{IdSort, Key, Kind};
 pub use defs::{Defs, DefsFault, KeyFault};

@@ -2,8 +2,8 @@
 ghost use Rattle.std.specs.Prelude.{◌≡◌, ◌||◌, ◌==◌, false, [], ◌∷◌, ◌≤◌, length, position, MatchOption};
 ghost use Rattle.std.specs.List.{position_or_len};
 ghost use Rattle.acct_text.specs.Bytes.{blank};
-ghost use Rattle.account_formats.specs.Text.{tab, quote, hash_mark, begins_with, without_first, without_last};
-ghost use Rattle.account_words.specs.Settings.{words_of};
+ghost use Rattle.account_model.specs.Text.{tab, quote, hash_mark, begins_with, without_first, without_last};
+ghost use Rattle.account_model.specs.Settings.{words_of};
 ghost use Rattle.login_defs.specs.LineSetting.{text_setting};
 
 use std::marker::Model;
@@ -75,7 +75,7 @@ struct Words<'a> {
 
 impl<'a> Model for Words<'a> {
     ghost use Rattle.std.specs.Prelude.{ℕ, List};
-    ghost use Rattle.account_words.specs.Settings.{words_of};
+    ghost use Rattle.account_model.specs.Settings.{words_of};
 
     ghost Value = { List (List ℕ) };
 

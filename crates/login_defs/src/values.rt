@@ -1,12 +1,11 @@
 // Numbers as login.defs writes them: decimal, octal after `0`, hexadecimal after `0x` or `0X`
 // (login.defs(5); the bases are those of strtol(3)).
 ghost use Rattle.std.specs.Prelude.{◌≡◌, ◌≤◌, ◌<◌, ◌^◌, option_map};
-ghost use Rattle.account_words.specs.Settings.{allowed_value as value_allowed, setting_number, radix_number, within};
+ghost use Rattle.account_model.specs.Settings.{allowed_value as value_allowed, setting_number, radix_number, within};
 ghost use Rattle.login_defs.specs.KeyValues.{value_number};
 
 use crate::keys::is_days_key;
-use account_formats::{GREATEST_DAYS, GREATEST_ID};
-use account_words::Key;
+use account_model::{GREATEST_DAYS, GREATEST_ID, Key};
 
 /// The value of a numeric key.
 #[derive(Clone, Copy)]

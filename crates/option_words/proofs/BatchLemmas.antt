@@ -8,15 +8,15 @@ use Rattle.acct_text.specs.Bytes.{newline}
 use Rattle.acct_text.specs.Lines.{Line, lines_of_pieces}
 use Rattle.acct_text.specs.Pieces.{cut_at}
 use Rattle.acct_text.proofs.Cut.{cut_at-is}
-use Rattle.account_formats.specs.Text.{first_some}
-use Rattle.account_words.specs.declared.word_fault.WordFault.{WordFault}
-use Rattle.account_words.specs.declared.words_of.WordsOf.TheVariants.{Line as OfLine}
-use Rattle.account_words.specs.BatchLines.{BatchLine, LineRequest, has_words, line_numbered, with_fault}
-use Rattle.account_words.specs.LineWords.{split_line}
-use Rattle.account_words.specs.Options.{Word}
-use Rattle.account_words.specs.Request.{Request}
-use Rattle.account_words.specs.Words.{AsksLine, fault_line, request_as}
-use Rattle.account_words.proofs.AsksLaws.{asked_is_read}
+use Rattle.account_model.specs.Text.{first_some}
+use Rattle.account_model.specs.declared.word_fault.WordFault.{WordFault}
+use Rattle.account_model.specs.declared.words_of.WordsOf.TheVariants.{Line as OfLine}
+use Rattle.account_model.specs.BatchLines.{BatchLine, LineRequest, has_words, line_numbered, with_fault}
+use Rattle.account_model.specs.LineWords.{split_line}
+use Rattle.account_model.specs.Options.{Word}
+use Rattle.account_model.specs.Request.{Request}
+use Rattle.account_model.specs.Words.{AsksLine, fault_line, request_as}
+use Rattle.account_model.proofs.AsksLaws.{asked_is_read}
 use Rattle.option_words.specs.Batch.{all_from, line_at, lines_from, requests_of}
 
 -- ---- The first line of a text

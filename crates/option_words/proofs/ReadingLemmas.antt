@@ -9,23 +9,23 @@ use Rattle.std.specs.List.{cons_option}
 use Rattle.std.proofs.Math.Nat.{sub-zero}
 use Rattle.std.proofs.lemmas.Bool.{cases_Bool}
 use Rattle.std.proofs.lemmas.List.{append_assoc, append-nil, length-append}
-use Rattle.account_words.specs.declared.given.Given.{Given}
-use Rattle.account_words.specs.declared.word_fault.WordFault.{WordFault}
-use Rattle.account_words.specs.declared.word_fault.WordFault.TheVariants.{UnknownOption, MissingValue, TooMany, Memory}
-use Rattle.account_words.specs.declared.tool.Tool.{Tool}
-use Rattle.account_words.specs.declared.words_of.WordsOf.{WordsOf}
-use Rattle.account_formats.specs.Text.{last_of, has_byte, equals_sign}
-use Rattle.account_words.specs.Options.{Word, OptionForm, prefix_letter, as_flag, as_value, options_for, operands_of}
-use Rattle.account_words.specs.Request.{Request, last_value}
-use Rattle.account_words.specs.Spelling.{form_of_letter, form_of_name, WordReading, complete, waits_for_value, flag_before, value_behind, letter_reading, letters_reading, name_reading, name_reading_with, name_part, value_part, long_reading, Meaning, is_an_operand, has_options, word_meaning, Arguments, with_options, with_operand, read_word, read_arguments}
-use Rattle.account_words.specs.Words.{AsksAs, without_prefix, prefix_for, request_with, request_of_arguments, request_of_tool, request_as}
+use Rattle.account_model.specs.declared.given.Given.{Given}
+use Rattle.account_model.specs.declared.word_fault.WordFault.{WordFault}
+use Rattle.account_model.specs.declared.word_fault.WordFault.TheVariants.{UnknownOption, MissingValue, TooMany, Memory}
+use Rattle.account_model.specs.declared.tool.Tool.{Tool}
+use Rattle.account_model.specs.declared.words_of.WordsOf.{WordsOf}
+use Rattle.account_model.specs.Text.{last_of, has_byte, equals_sign}
+use Rattle.account_model.specs.Options.{Word, OptionForm, prefix_letter, as_flag, as_value, options_for, operands_of}
+use Rattle.account_model.specs.Request.{Request, last_value}
+use Rattle.account_model.specs.Spelling.{form_of_letter, form_of_name, WordReading, complete, waits_for_value, flag_before, value_behind, letter_reading, letters_reading, name_reading, name_reading_with, name_part, value_part, long_reading, Meaning, is_an_operand, has_options, word_meaning, Arguments, with_options, with_operand, read_word, read_arguments}
+use Rattle.account_model.specs.Words.{AsksAs, without_prefix, prefix_for, request_with, request_of_arguments, request_of_tool, request_as}
 use Rattle.option_words.specs.declared.reading.Reading.{Reading}
 use Rattle.option_words.specs.declared.reading.Expects.{Expects}
 use Rattle.option_words.specs.declared.reading.Expects.TheVariants.{AnyWord, ValueOf, OperandsAlone}
 use Rattle.option_words.specs.Reading.{table_of, room_of, has_room, after_option, request_by, rest_by, outcome_of, options_of_word, LeadsTo, ReadsOn, Answers, AnswersReading}
 use Rattle.option_words.specs.Parsed.{request_in}
 use Rattle.option_words.specs.declared.parsed.Parsed.{Parsed}
-use Rattle.account_words.proofs.AsksLaws.{read_is_asked}
+use Rattle.account_model.proofs.AsksLaws.{read_is_asked}
 use Rattle.option_words.proofs.CutLemmas.{before_first-none}
 
 -- ---- Options and operands

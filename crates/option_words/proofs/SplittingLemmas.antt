@@ -5,10 +5,10 @@ use Rattle.std.proofs.Common.{◌≡◌, ◌==◌, true, false, ℕ, List, [], �
 use Rattle.std.specs.Prelude.{OnOk, IfOk, ◌↔◌}
 use Rattle.std.proofs.lemmas.List.{append_assoc, append-nil}
 use Rattle.acct_text.specs.Bytes.{blank}
-use Rattle.account_formats.specs.Text.{nonempty}
-use Rattle.account_words.specs.Options.{Word}
-use Rattle.account_words.specs.LineWords.{backslash, is_skipped, letter, signs_behind, words_in, split_line}
-use Rattle.account_words.proofs.LineWordsLaws.{words_in-gap, words_in-end, letters-more, no_words-skipped}
+use Rattle.account_model.specs.Text.{nonempty}
+use Rattle.account_model.specs.Options.{Word}
+use Rattle.account_model.specs.LineWords.{backslash, is_skipped, letter, signs_behind, words_in, split_line}
+use Rattle.account_model.proofs.LineWordsLaws.{words_in-gap, words_in-end, letters-more, no_words-skipped}
 use Rattle.option_words.specs.Splitting.{words_from}
 
 module _ (words : List Word) (begun : Word) where

@@ -2,8 +2,8 @@
 use Rattle.std.specs.Prelude.{ℕ, List, filter, filter_map, map}
 use Rattle.std.specs.List.{enumerate_from}
 use Rattle.acct_text.specs.Lines.{lines_of}
-use Rattle.account_words.specs.BatchLines.{BatchLine, LineRequest, asked_by, has_words, line_numbered}
-use Rattle.account_words.specs.LineWords.{split_line}
+use Rattle.account_model.specs.BatchLines.{BatchLine, LineRequest, asked_by, has_words, line_numbered}
+use Rattle.account_model.specs.LineWords.{split_line}
 
 -- the line of this number and text
 abbrev pub line_at : ℕ → List ℕ → BatchLine

@@ -2,7 +2,7 @@
 use Rattle.std.specs.Prelude.{Some, None, true, false}
 use Rattle.option_words.specs.declared.forms.OptionForm.{OptionForm as Row}
 use Rattle.option_words.specs.declared.forms.OptionForm.TheVariants.{Flag, Value, ShortFlag}
-use Rattle.account_words.specs.Options.{OptionForm}
+use Rattle.account_model.specs.Options.{OptionForm}
 
 -- the option that a row is
 abbrev pub form_of : Row → OptionForm

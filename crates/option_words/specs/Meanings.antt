@@ -2,8 +2,8 @@
 use Rattle.std.specs.Prelude.{List}
 use Rattle.option_words.specs.declared.meaning.Meaning.{Meaning as Told}
 use Rattle.option_words.specs.declared.meaning.Meaning.TheVariants.{Operand, EndOfOptions, LongName, Letters}
-use Rattle.account_words.specs.Options.{OptionForm}
-use Rattle.account_words.specs.Spelling.{Meaning, is_an_operand, ends_options, has_options, long_reading, letters_reading}
+use Rattle.account_model.specs.Options.{OptionForm}
+use Rattle.account_model.specs.Spelling.{Meaning, is_an_operand, ends_options, has_options, long_reading, letters_reading}
 
 -- what a word is by a table of options
 abbrev pub meaning_in : List OptionForm → Told → Meaning

@@ -1,5 +1,5 @@
 -- What a parsed command asks for, as the tools' definitions have it.
-use Rattle.account_words.specs.Request.{Request}
+use Rattle.account_model.specs.Request.{Request}
 use Rattle.option_words.specs.declared.parsed.Parsed.{Parsed}
 
 -- the request in a parsed command

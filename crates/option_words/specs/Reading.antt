@@ -1,13 +1,13 @@
 -- What a reading of words comes to: what was read, and what the words behind it add.
 use Rattle.std.specs.Prelude.{◌≡◌, ◌⊎◌, ℕ, suc, ◌-◌, ◌<◌, ◌==◌, if◌then◌else◌, List, [], ◌∷◌, ◌++◌, length, Some, None, Result, Ok, Err}
 use Rattle.std.specs.Option.{option_or}
-use Rattle.account_words.specs.declared.given.Given.{Given}
-use Rattle.account_words.specs.declared.word_fault.WordFault.{WordFault}
-use Rattle.account_words.specs.declared.word_fault.WordFault.TheVariants.{Memory}
-use Rattle.account_words.specs.Options.{Word, OptionForm, prefix_letter, options_for, operands_of}
-use Rattle.account_words.specs.Request.{Request, last_value}
-use Rattle.account_words.specs.Spelling.{WordReading, Arguments, has_options, read_operands, read_word, read_arguments}
-use Rattle.account_words.specs.Words.{without_prefix, prefix_for, request_with}
+use Rattle.account_model.specs.declared.given.Given.{Given}
+use Rattle.account_model.specs.declared.word_fault.WordFault.{WordFault}
+use Rattle.account_model.specs.declared.word_fault.WordFault.TheVariants.{Memory}
+use Rattle.account_model.specs.Options.{Word, OptionForm, prefix_letter, options_for, operands_of}
+use Rattle.account_model.specs.Request.{Request, last_value}
+use Rattle.account_model.specs.Spelling.{WordReading, Arguments, has_options, read_operands, read_word, read_arguments}
+use Rattle.account_model.specs.Words.{without_prefix, prefix_for, request_with}
 use Rattle.option_words.specs.declared.parsed.Parsed.{Parsed}
 use Rattle.option_words.specs.declared.reading.Reading.{Reading}
 use Rattle.option_words.specs.declared.reading.Expects.{Expects}

@@ -1,7 +1,7 @@
 -- What a row of the rule tables in src/rules says (the manual page of each tool).
 use Rattle.option_words.specs.declared.rules.Rule.{Rule as Row}
 use Rattle.option_words.specs.declared.rules.Rule.TheVariants.{NotBoth, OnlyWith, SomeOption, SomeOf, OneOf, Alone}
-use Rattle.account_words.specs.Options.{Rule, not_both, only_with, some_option, some_of, one_of, alone}
+use Rattle.account_model.specs.Options.{Rule, not_both, only_with, some_option, some_of, one_of, alone}
 
 -- the rule that a row is
 abbrev pub rule_of : Row → Rule

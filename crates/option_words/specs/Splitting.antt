@@ -1,7 +1,7 @@
 -- What a line comes to: the words that were cut, and those of the bytes that are left.
 use Rattle.std.specs.Prelude.{ℕ, Bool, List, ◌++◌, map}
-use Rattle.account_words.specs.Options.{Word}
-use Rattle.account_words.specs.LineWords.{letter, signs_behind, words_in}
+use Rattle.account_model.specs.Options.{Word}
+use Rattle.account_model.specs.LineWords.{letter, signs_behind, words_in}
 use Rattle.option_words.specs.declared.splitting.Splitting.{Splitting}
 
 -- the words before, and those in a word that has begun and in the bytes behind it, where a `\`

@@ -1,12 +1,12 @@
 // The lines of a batch, one after another: those that have words, and what they ask for.
 ghost use Rattle.std.specs.Prelude.{◌≡◌, ◌≢◌, ◌∷◌, ◌+◌, ◌<◌, ◌≤◌, ℕ, [], length, IfOk, MatchOption};
 ghost use Rattle.acct_text.specs.Limits.{table_limit};
-ghost use Rattle.account_words.specs.BatchLines.{batch_lines, first_faulty};
-ghost use Rattle.account_words.specs.Words.{fault_line};
+ghost use Rattle.account_model.specs.BatchLines.{batch_lines, first_faulty};
+ghost use Rattle.account_model.specs.Words.{fault_line};
 ghost use Rattle.option_words.specs.Batch.{all_from, line_at, requests_of};
 
 use crate::{Parsed, read_line_words, split_line};
-use account_words::WordFault;
+use account_model::WordFault;
 use acct_text::{Bytes, Sides, Word, cut_once};
 use std::alloc::{AllocError, Global};
 use std::marker::Model;
@@ -21,7 +21,7 @@ pub struct BatchLine {
 }
 
 impl Model for BatchLine {
-    ghost use Rattle.account_words.specs.BatchLines.{BatchLine as Line};
+    ghost use Rattle.account_model.specs.BatchLines.{BatchLine as Line};
 
     ghost Value = { Line };
 
@@ -40,7 +40,7 @@ pub struct FaultyLine {
 }
 
 impl Model for FaultyLine {
-    ghost use Rattle.account_words.specs.BatchLines.{FaultyLine as Faulty};
+    ghost use Rattle.account_model.specs.BatchLines.{FaultyLine as Faulty};
 
     ghost Value = { Faulty };
 
@@ -60,7 +60,7 @@ pub struct LineRequest {
 }
 
 impl Model for LineRequest {
-    ghost use Rattle.account_words.specs.BatchLines.{LineRequest as Asked};
+    ghost use Rattle.account_model.specs.BatchLines.{LineRequest as Asked};
     ghost use Rattle.option_words.specs.Parsed.{request_in};
 
     ghost Value = { Asked };
@@ -82,7 +82,7 @@ pub struct BatchLines<'a> {
 impl<'a> Model for BatchLines<'a> {
     ghost use Rattle.std.specs.Prelude.{List, length, ◌≤◌, ◌+◌};
     ghost use Rattle.acct_text.specs.Limits.{table_limit};
-    ghost use Rattle.account_words.specs.BatchLines.{BatchLine as Line};
+    ghost use Rattle.account_model.specs.BatchLines.{BatchLine as Line};
     ghost use Rattle.option_words.specs.Batch.{lines_from};
 
     ghost Value = { List Line };

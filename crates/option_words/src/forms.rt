@@ -1,11 +1,11 @@
 // The options of each tool, in the order of its manual page.
 ghost use Rattle.std.specs.Prelude.{◌≡◌, ◌==◌, map, find, option_map};
-ghost use Rattle.account_words.specs.Options.{option_forms as command_options, options_for, operands_of as number_of_operands};
-ghost use Rattle.account_words.specs.Spelling.{form_of_letter as by_letter, form_of_name as by_name, has_long_name as is_named};
+ghost use Rattle.account_model.specs.Options.{option_forms as command_options, options_for, operands_of as number_of_operands};
+ghost use Rattle.account_model.specs.Spelling.{form_of_letter as by_letter, form_of_name as by_name, has_long_name as is_named};
 ghost use Rattle.option_words.specs.Forms.{form_of};
 
 use OptionForm::{Flag, ShortFlag, Value};
-use account_words::{Tool, WordsOf};
+use account_model::{Tool, WordsOf};
 
 /// An option that a tool takes.
 #[derive(Clone, Copy)]

@@ -18,7 +18,7 @@ mod rules;
 mod splitting;
 mod words;
 
-pub use account_words::{Given, Tool, WordFault};
+pub use account_model::{Given, Tool, WordFault};
 pub use batch::{BatchLine, BatchLines, FaultyLine, LineRequest, first_faulty};
 pub use parsed::{Options, Parsed};
 pub use splitting::split_line;

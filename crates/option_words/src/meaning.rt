@@ -1,9 +1,9 @@
 // What one word of a command is.
 ghost use Rattle.std.specs.Prelude.{◌≡◌, List, Some, None, if◌then◌else◌};
 ghost use Rattle.std.specs.Option.{option_copied};
-ghost use Rattle.account_words.specs.Options.{OptionForm};
-ghost use Rattle.account_formats.specs.Text.{equals_sign, has_byte};
-ghost use Rattle.account_words.specs.Spelling.{name_part, value_part, word_meaning};
+ghost use Rattle.account_model.specs.Options.{OptionForm};
+ghost use Rattle.account_model.specs.Text.{equals_sign, has_byte};
+ghost use Rattle.account_model.specs.Spelling.{name_part, value_part, word_meaning};
 ghost use Rattle.option_words.specs.Meanings.{meaning_in};
 
 use acct_text::cut_once;

@@ -2,9 +2,9 @@
 ghost use Rattle.std.specs.Prelude.{◌≡◌, ◌==◌, ◌↔◌, [], ◌∷◌, ◌++◌, List, length, find, is_some, IsTrue, OnOk, OnErr, slice_get};
 ghost use Rattle.std.specs.Option.{option_copied};
 ghost use Rattle.std.specs.List.{list_any};
-ghost use Rattle.account_words.specs.declared.given.Given.{Given};
+ghost use Rattle.account_model.specs.declared.given.Given.{Given};
 
-use account_words::{Given, Tool};
+use account_model::{Given, Tool};
 use acct_text::{Bytes, Names};
 use std::alloc::{AllocError, Global};
 use std::marker::Model;

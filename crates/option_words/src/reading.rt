@@ -1,8 +1,8 @@
 // The words behind the tool's name, of a command or of a line of a batch, read from left to right
 // (getopt_long(3)).
 ghost use Rattle.std.specs.Prelude.{◌≡◌, ◌⊎◌, ℕ, suc, [], ◌∷◌, ◌++◌, OnOk, IfErr};
-ghost use Rattle.account_words.specs.Spelling.{letters_reading, long_reading, name_reading, name_reading_with, value_behind};
-ghost use Rattle.account_words.specs.Words.{prefix_for as prefix_by, request_of_tool, request_with};
+ghost use Rattle.account_model.specs.Spelling.{letters_reading, long_reading, name_reading, name_reading_with, value_behind};
+ghost use Rattle.account_model.specs.Words.{prefix_for as prefix_by, request_of_tool, request_with};
 ghost use Rattle.option_words.specs.Forms.{form_of};
 ghost use Rattle.option_words.specs.Reading.{Answers, AnswersReading, LeadsTo, ReadsOn, after_option, has_room, options_of_word, outcome_of, table_of};
 
@@ -10,7 +10,7 @@ use crate::forms::{OptionForm, form_of_letter, form_of_name, operands_of};
 use crate::meaning::{Meaning, cut_at_equals, meaning_of};
 use crate::rules::broken_rule;
 use crate::{Options, Parsed};
-use account_words::{Given, Tool, WordFault, WordsOf};
+use account_model::{Given, Tool, WordFault, WordsOf};
 use acct_text::{Bytes, Names, Word};
 use std::alloc::{AllocError, Global};
 

@@ -1,10 +1,10 @@
 // Which commands only show what stands, and so need no lock (docs/ARCHITECTURE.md, "Reports").
 ghost use Rattle.std.specs.Prelude.{◌≡◌};
-ghost use Rattle.account_words.specs.Request.{is_report};
+ghost use Rattle.account_model.specs.Request.{is_report};
 ghost use Rattle.option_words.specs.Parsed.{request_in};
 
 use crate::parsed::Parsed;
-use account_words::Tool;
+use account_model::Tool;
 
 impl Parsed {
     /// Whether the command only shows what stands: `pwck -r`, `grpck -r`, `getsubids` and `chage -l`.

@@ -1,11 +1,11 @@
 // The rules between the options of each tool, in the order in which they are tested.
 ghost use Rattle.std.specs.Prelude.{◌≡◌, ◌<◌, map, length, filter, position, not, IfSome};
-ghost use Rattle.account_words.specs.Options.{rules_of as all_rules, is_given as has_letter, is_alone as has_no_other, some_of, alone};
-ghost use Rattle.account_words.specs.Words.{broken_rule as first_broken};
+ghost use Rattle.account_model.specs.Options.{rules_of as all_rules, is_given as has_letter, is_alone as has_no_other, some_of, alone};
+ghost use Rattle.account_model.specs.Words.{broken_rule as first_broken};
 ghost use Rattle.option_words.specs.Rules.{rule_of};
 
 use Rule::{Alone, NotBoth, OneOf, OnlyWith, SomeOf, SomeOption};
-use account_words::{Given, Tool};
+use account_model::{Given, Tool};
 
 /// A rule between options, named by their letters.
 #[derive(Clone, Copy)]

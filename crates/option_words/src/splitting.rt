@@ -1,7 +1,7 @@
 // The words of a line of a batch, cut from left to right.
 ghost use Rattle.std.specs.Prelude.{◌≡◌, ◌↔◌, ℕ, List, [], ◌∷◌, ◌++◌, true, false, IfOk, OnOk};
-ghost use Rattle.account_formats.specs.Text.{nonempty};
-ghost use Rattle.account_words.specs.LineWords.{is_comment as has_hash, is_skipped, split_line as words_of_line};
+ghost use Rattle.account_model.specs.Text.{nonempty};
+ghost use Rattle.account_model.specs.LineWords.{is_comment as has_hash, is_skipped, split_line as words_of_line};
 ghost use Rattle.option_words.specs.Splitting.{words_from, words_with};
 
 use acct_text::{Bytes, Word};

@@ -1,11 +1,11 @@
 // The words of a command, or of a line of a batch, from their limits to the request.
 ghost use Rattle.std.specs.Prelude.{◌≡◌, ◌⊎◌, Some, IfOk, IfErr};
-ghost use Rattle.account_words.specs.Words.{Asks, AsksAs, AsksLine, fault, fault_as, fault_line, may_name, past_limit as first_past_limit, tool_for as tool_by};
+ghost use Rattle.account_model.specs.Words.{Asks, AsksAs, AsksLine, fault, fault_as, fault_line, may_name, past_limit as first_past_limit, tool_for as tool_by};
 ghost use Rattle.option_words.specs.Parsed.{request_in};
 
 use crate::Parsed;
 use crate::reading::read_arguments;
-use account_words::{Tool, WordFault, WordsOf};
+use account_model::{Tool, WordFault, WordsOf};
 use acct_text::Word;
 use std::alloc::Global;
 

@@ -9,13 +9,13 @@ use Rattle.std.proofs.lemmas.List.{map-append, take_more}
 use Rattle.std.proofs.lemmas.Grind.{flat_map-append}
 use Rattle.std.proofs.lemmas.Slice.Eq.{bytes_eq-Decides}
 use Rattle.acct_text.specs.Lines.{Line, file_bytes, line_bytes}
-use Rattle.account_formats.specs.declared.records.SubidRecord.{SubidRecord}
-use Rattle.account_formats.specs.Format.{Format}
-use Rattle.account_formats.specs.Edits.{Edit, becomes, edited, line_becomes, printed_line}
-use Rattle.account_formats.specs.Edits.Edit.{Become, Add, AddMissing, Put, Arrange}
-use Rattle.account_formats.specs.RecordEdits.{IsWrittenEdit, TellsSame, records_edited}
-use Rattle.account_formats.specs.Written.{IsWritten}
-use Rattle.account_formats.proofs.ListLaws.{all-append}
+use Rattle.account_model.specs.declared.records.SubidRecord.{SubidRecord}
+use Rattle.account_model.specs.Format.{Format}
+use Rattle.account_model.specs.Edits.{Edit, becomes, edited, line_becomes, printed_line}
+use Rattle.account_model.specs.Edits.Edit.{Become, Add, AddMissing, Put, Arrange}
+use Rattle.account_model.specs.RecordEdits.{IsWrittenEdit, TellsSame, records_edited}
+use Rattle.account_model.specs.Written.{IsWritten}
+use Rattle.account_model.proofs.ListLaws.{all-append}
 use Rattle.line_edits.proofs.ChangedLines.{record-line}
 use Rattle.range_edits.specs.RangeRemovals.{KeepsApart, MakesRecords}
 

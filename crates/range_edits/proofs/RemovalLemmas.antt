@@ -12,15 +12,15 @@ use Rattle.acct_text.specs.Bytes.{newline}
 use Rattle.acct_text.specs.Lines.{Line, file_bytes, lines_of}
 use Rattle.acct_text.specs.Pieces.{Lacks}
 use Rattle.acct_text.proofs.LinesLaws.{lines_of-only}
-use Rattle.account_formats.specs.declared.records.SubidRecord.{SubidRecord}
-use Rattle.account_formats.specs.Edits.{Edit, becomes, edited, edited_by}
-use Rattle.account_formats.specs.Edits.Edit.{Become, Add, AddMissing, Put, Arrange}
-use Rattle.account_words.specs.Ids.{in_range, is_used}
-use Rattle.account_formats.specs.Records.{last_id, subid_format}
-use Rattle.account_words.specs.SubidOwner.{is_owned, left_without}
-use Rattle.account_formats.proofs.HeldLaws.{subid-holds}
-use Rattle.account_formats.proofs.SameLaws.{subid-tells}
-use Rattle.account_words.proofs.SubidLaws.{left_whole}
+use Rattle.account_model.specs.declared.records.SubidRecord.{SubidRecord}
+use Rattle.account_model.specs.Edits.{Edit, becomes, edited, edited_by}
+use Rattle.account_model.specs.Edits.Edit.{Become, Add, AddMissing, Put, Arrange}
+use Rattle.account_model.specs.Ids.{in_range, is_used}
+use Rattle.account_model.specs.Records.{last_id, subid_format}
+use Rattle.account_model.specs.SubidOwner.{is_owned, left_without}
+use Rattle.account_model.proofs.HeldLaws.{subid-holds}
+use Rattle.account_model.proofs.SameLaws.{subid-tells}
+use Rattle.account_model.proofs.SubidLaws.{left_whole}
 use Rattle.id_choice.specs.Runs.{AddsAll}
 use Rattle.range_edits.specs.RangeRemovals.{HasNone, IsApart, KeepsApart, Removes}
 use Rattle.line_edits.proofs.ChangedLines.{left-line}

@@ -1,14 +1,14 @@
 -- Removals of IDs from the ranges of one owner, made in one pass over the lines (usermod(8), `-V` and
 -- `-W`; subuid(5), subgid(5)).
 use Rattle.std.specs.Prelude.{◌≡◌, ℕ, ◌<◌, ◌≤◌, true, false, List, [], ◌∷◌, Option, ⊤, if◌then◌else◌}
-use Rattle.account_formats.specs.declared.records.SubidRecord.{SubidRecord}
+use Rattle.account_model.specs.declared.records.SubidRecord.{SubidRecord}
 use Rattle.acct_text.specs.Lines.{Line}
-use Rattle.account_formats.specs.Edits.{Edit, printed_line}
-use Rattle.account_formats.specs.Edits.Edit.{Become}
-use Rattle.account_words.specs.Ids.{is_used}
-use Rattle.account_formats.specs.Records.{last_id, subid_format}
-use Rattle.account_formats.specs.Written.{IsWritten}
-use Rattle.account_words.specs.SubidOwner.{is_owned, left_without}
+use Rattle.account_model.specs.Edits.{Edit, printed_line}
+use Rattle.account_model.specs.Edits.Edit.{Become}
+use Rattle.account_model.specs.Ids.{is_used}
+use Rattle.account_model.specs.Records.{last_id, subid_format}
+use Rattle.account_model.specs.Written.{IsWritten}
+use Rattle.account_model.specs.SubidOwner.{is_owned, left_without}
 
 -- none of the numbers from the first to the last is there
 abbrev pub HasNone : List ℕ → ℕ → ℕ → Type 0

@@ -1,9 +1,9 @@
 // Edits of subuid and subgid that leave all ranges, as those of usermod(8) without `-l`, `-v`, `-V`,
 // `-w` and `-W` do, and as the first one is where its user keeps its name: nothing is made anew for them.
 ghost use Rattle.std.specs.Prelude.{◌≡◌, ◌∷◌, [], true};
-ghost use Rattle.account_formats.specs.Edits.Edit.{Become};
-ghost use Rattle.account_formats.specs.RecordEdits.{IsWrittenEdit};
-ghost use Rattle.account_formats.specs.Records.{subid_format};
+ghost use Rattle.account_model.specs.Edits.Edit.{Become};
+ghost use Rattle.account_model.specs.RecordEdits.{IsWrittenEdit};
+ghost use Rattle.account_model.specs.Records.{subid_format};
 ghost use Rattle.line_edits.specs.SeenEdits.{seen_edit, seen_edits};
 ghost use Rattle.line_edits.specs.SubidChanges.{subid_becomes};
 ghost use Rattle.range_edits.specs.LeftRanges.{LeaveLines, MakeSame};

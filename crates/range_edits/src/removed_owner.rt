@@ -3,11 +3,11 @@ ghost use Rattle.std.specs.Prelude.{◌≡◌, ◌++◌, true, false, IfOk, IsSo
 ghost use Rattle.acct_text.specs.Bytes.{newline};
 ghost use Rattle.acct_text.specs.Lines.{file_bytes, lines_of};
 ghost use Rattle.acct_text.specs.Pieces.{Lacks};
-ghost use Rattle.account_formats.specs.Edits.{becomes, edited};
-ghost use Rattle.account_formats.specs.Edits.Edit.{Become};
-ghost use Rattle.account_formats.specs.Records.{subid_format};
-ghost use Rattle.account_formats.specs.declared.records.SubidRecord.{SubidRecord};
-ghost use Rattle.account_words.specs.SubidOwner.{is_owned};
+ghost use Rattle.account_model.specs.Edits.{becomes, edited};
+ghost use Rattle.account_model.specs.Edits.Edit.{Become};
+ghost use Rattle.account_model.specs.Records.{subid_format};
+ghost use Rattle.account_model.specs.declared.records.SubidRecord.{SubidRecord};
+ghost use Rattle.account_model.specs.SubidOwner.{is_owned};
 ghost use Rattle.acct_tables.specs.SeenLines.{seen_line};
 ghost use Rattle.line_edits.specs.SubidChanges.{subid_becomes};
 

@@ -3,10 +3,10 @@
 -- records that pass a test, or lets these go; what is left of a range has its owner.
 use Rattle.std.proofs.Common.{◌≡◌, ◌∙◌, ℕ, Bool, true, false, List, [], ◌∷◌, ◌++◌, get_or, refl, sym, ap, subst}
 use Rattle.std.specs.Prelude.{◌==◌, if◌then◌else◌, nat_lt}
-use Rattle.account_formats.specs.Format.{is_named}
-use Rattle.account_formats.specs.Records.{group_format, gshadow_format, last_id, passwd_format, subid_format}
-use Rattle.account_formats.specs.declared.records.SubidRecord.{SubidRecord}
-use Rattle.account_words.specs.SubidOwner.{is_owned, left_without}
+use Rattle.account_model.specs.Format.{is_named}
+use Rattle.account_model.specs.Records.{group_format, gshadow_format, last_id, passwd_format, subid_format}
+use Rattle.account_model.specs.declared.records.SubidRecord.{SubidRecord}
+use Rattle.account_model.specs.SubidOwner.{is_owned, left_without}
 use Rattle.line_edits.specs.GroupChanges.{group_after, group_becomes}
 use Rattle.line_edits.specs.GshadowChanges.{gshadow_after, gshadow_becomes}
 use Rattle.line_edits.specs.PasswdChanges.{passwd_after, passwd_becomes}

@@ -10,8 +10,8 @@ use Rattle.std.proofs.lemmas.List.{get_or-reverse, length-reverse}
 use Rattle.std.proofs.lemmas.List.Kept.{AllPairs-from_increasing, Contains-dedup_nat, Contains-from_dedup}
 use Rattle.std.proofs.lemmas.List.Sorted.{IsPermutation-reverse, list_any-IsPermutation}
 use Rattle.std.proofs.lemmas.Map.Keys.{IsStrictlyIncreasing-dedup}
-use Rattle.account_words.specs.Ids.{is_used}
-use Rattle.account_words.proofs.Sets.{contains-in, in-contains, in-used, used-in}
+use Rattle.account_model.specs.Ids.{is_used}
+use Rattle.account_model.proofs.Sets.{contains-in, in-contains, in-used, used-in}
 use Rattle.record_keys.specs.KeyPlaces.{ArePlacesOf}
 
 -- a list that ascends descends when it is turned round

@@ -4,8 +4,8 @@
 use Rattle.std.proofs.Common.{subst, ◌≡◌, ◌∙◌, ℕ, false, List, [], ◌∷◌, sym, ap}
 use Rattle.std.specs.Prelude.{◌==◌, IfSome, Option, Some, None}
 use Rattle.std.proofs.lemmas.List.Folds.{list_any-append}
-use Rattle.account_formats.specs.declared.records.GshadowRecord.{GshadowRecord}
-use Rattle.account_formats.specs.Text.{is_listed}
+use Rattle.account_model.specs.declared.records.GshadowRecord.{GshadowRecord}
+use Rattle.account_model.specs.Text.{is_listed}
 use Rattle.account_model.specs.Members.{without_name}
 use Rattle.acct_tables.specs.NameHashes.{name_hash}
 use Rattle.line_edits.specs.GroupChanges.{group_becomes}

@@ -8,7 +8,7 @@ use Rattle.std.specs.List.{list_any}
 use Rattle.std.proofs.lemmas.Bool.{eq-eqb, or_cases}
 use Rattle.std.proofs.lemmas.List.Folds.{list_any-append}
 use Rattle.std.proofs.lemmas.Slice.Eq.{bytes_eq-Decides}
-use Rattle.account_formats.specs.Text.{is_listed}
+use Rattle.account_model.specs.Text.{is_listed}
 use Rattle.account_model.specs.Members.{in_place_of, name_once, renamed_in, with_name, without_name}
 use Rattle.acct_tables.specs.NameHashes.{name_hash}
 use Rattle.line_edits.proofs.LeftLemmas.{neither}

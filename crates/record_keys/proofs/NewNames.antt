@@ -3,10 +3,10 @@
 -- records of the name, and a record that can be written stays so with a name that can.
 use Rattle.std.proofs.Common.{◌≡◌, ℕ, Bool, true, false, List, [], ◌∷◌, refl, ap, sym, subst}
 use Rattle.std.specs.Prelude.{None, Some, map, if◌then◌else◌}
-use Rattle.account_formats.specs.Format.{Format, is_named}
-use Rattle.account_formats.specs.Records.{group_format, gshadow_format, passwd_format, shadow_format, subid_format}
-use Rattle.account_formats.specs.Written.{Holds, IsGroup, IsGshadow, IsNameField, IsPasswd, IsShadow, IsSubid}
-use Rattle.account_formats.proofs.HeldLaws.{each_where-written, group-holds, gshadow-holds, passwd-holds, shadow-holds, subid-holds}
+use Rattle.account_model.specs.Format.{Format, is_named}
+use Rattle.account_model.specs.Records.{group_format, gshadow_format, passwd_format, shadow_format, subid_format}
+use Rattle.account_model.specs.Written.{Holds, IsGroup, IsGshadow, IsNameField, IsPasswd, IsShadow, IsSubid}
+use Rattle.account_model.proofs.HeldLaws.{each_where-written, group-holds, gshadow-holds, passwd-holds, shadow-holds, subid-holds}
 use Rattle.line_edits.specs.GroupChanges.{group_after, group_becomes}
 use Rattle.line_edits.specs.GshadowChanges.{gshadow_after, gshadow_becomes}
 use Rattle.line_edits.specs.Naming.{changed_named}

@@ -5,7 +5,7 @@ use Rattle.std.specs.Prelude.{◌==◌, Option}
 use Rattle.std.proofs.lemmas.Bool.{or_cases}
 use Rattle.std.proofs.lemmas.List.Folds.{list_any-append}
 use Rattle.std.proofs.lemmas.List.{map-append}
-use Rattle.account_formats.specs.Text.{nonempty}
+use Rattle.account_model.specs.Text.{nonempty}
 use Rattle.acct_lines.proofs.NamesCut.{pushed-piece}
 use Rattle.acct_tables.specs.NameHashes.{name_hash}
 use Rattle.record_keys.specs.Keys.{name_keys}

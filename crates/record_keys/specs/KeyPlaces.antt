@@ -3,7 +3,7 @@
 -- where records may have it; none where any place may.
 use Rattle.std.specs.Prelude.{◌≡◌, ℕ, ◌+◌, ◌%◌, ◌<◌, ◌≤◌, ◌==◌, AllPairs, Bool, true, false, List, [], ◌∷◌, get_or, length, IfSome, Option, None, Some, ⊤, if◌then◌else◌}
 use Rattle.std.specs.List.{list_any}
-use Rattle.account_words.specs.Ids.{is_used}
+use Rattle.account_model.specs.Ids.{is_used}
 use Rattle.record_keys.specs.declared.key_places.Spot.{Spot}
 use Rattle.record_keys.specs.declared.key_places.Spot.TheVariants.{At, Anywhere}
 use Rattle.record_keys.specs.declared.place_lists.Link.{Link}

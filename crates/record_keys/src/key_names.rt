@@ -1,8 +1,8 @@
 // Names as keys: the members and administrators of groups, and the owners of ranges, by the hashes of
 // their names (group(5), gshadow(5), subuid(5), subgid(5)).
 ghost use Rattle.std.specs.Prelude.{◌≡◌, ◌∷◌, []};
-ghost use Rattle.account_formats.specs.Records.{read_names};
-ghost use Rattle.account_formats.specs.Text.{nonempty};
+ghost use Rattle.account_model.specs.Records.{read_names};
+ghost use Rattle.account_model.specs.Text.{nonempty};
 ghost use Rattle.record_keys.specs.KeyPlaces.{Notes, told_places};
 ghost use Rattle.record_keys.specs.Keys.{name_keys};
 

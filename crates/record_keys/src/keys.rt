@@ -2,7 +2,7 @@
 // those of ranges of subordinate IDs their owners (subuid(5), subgid(5)), and records of shadow
 // (shadow(5)) have none.
 ghost use Rattle.std.specs.Prelude.{◌≡◌, ℕ, List, Some, true, IfOk, IfSome};
-ghost use Rattle.account_formats.specs.Written.{IsNameField};
+ghost use Rattle.account_model.specs.Written.{IsNameField};
 ghost use Rattle.record_keys.specs.KeyPlaces.{Notes, told_places};
 ghost use Rattle.record_keys.specs.Keys.{BringsOnly, IsRenaming, KeepsPlaces, Needs, Renames, gid_given, keys_in};
 ghost use Rattle.record_keys.specs.declared.key_places.Spot.TheVariants.{At};

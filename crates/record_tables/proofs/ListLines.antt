@@ -5,9 +5,9 @@ use Rattle.std.proofs.Common.{◌≡◌, ℕ, ◌+◌, ◌<◌, Bool, true, fals
 use Rattle.std.specs.Prelude.{◌&&◌, Option, Some, None, flat_map, is_some, nat_le, option_map, if◌then◌else◌}
 use Rattle.std.proofs.lemmas.List.{drop_more}
 use Rattle.acct_text.specs.Lines.{Line}
-use Rattle.account_formats.specs.Edits.{becomes, is_multiple, line_becomes}
-use Rattle.account_formats.specs.Format.{Format, count_named}
-use Rattle.account_formats.specs.Text.{first_some}
+use Rattle.account_model.specs.Edits.{becomes, is_multiple, line_becomes}
+use Rattle.account_model.specs.Format.{Format, count_named}
+use Rattle.account_model.specs.Text.{first_some}
 use Rattle.record_tables.specs.declared.fault.TableFault.{TableFault}
 use Rattle.record_tables.specs.declared.fault.TableFault.TheVariants.{Multiple}
 use Rattle.record_tables.specs.Lists.{changed_line, holder_refusal}

@@ -6,7 +6,7 @@ use Rattle.std.specs.Prelude.{Option, Some, None, is_some, if◌then◌else◌}
 use Rattle.std.specs.List.{cons_option}
 use Rattle.std.proofs.lemmas.List.{drop_all, drop_more}
 use Rattle.acct_text.specs.Lines.{Line}
-use Rattle.account_formats.specs.Format.{Format, records_of}
+use Rattle.account_model.specs.Format.{Format, records_of}
 use Rattle.acct_tables.specs.TableLines.{text_at}
 use Rattle.record_tables.specs.Order.{with_texts}
 use Rattle.acct_tables.proofs.RecordLines.{lines-from, records-from}

@@ -9,9 +9,9 @@ use Rattle.std.proofs.lemmas.List.{drop_more, length-map, map-append, take-appen
 use Rattle.std.proofs.lemmas.List.Sums.{sum_by-append, sum_by-cons}
 use Rattle.std.proofs.lemmas.Option.{slice_get-get_or, slice_get-map, slice_get_within}
 use Rattle.acct_text.specs.Lines.{Line}
-use Rattle.account_formats.specs.Edits.{Become, becomes, drop_where, each_where, edited, line_becomes}
-use Rattle.account_formats.specs.Format.{Format, is_named}
-use Rattle.account_formats.specs.RecordEdits.{TellsSame}
+use Rattle.account_model.specs.Edits.{Become, becomes, drop_where, each_where, edited, line_becomes}
+use Rattle.account_model.specs.Format.{Format, is_named}
+use Rattle.account_model.specs.RecordEdits.{TellsSame}
 use Rattle.acct_tables.specs.NameIndex.{has_name, line_name, line_names, lines_named, records_at}
 use Rattle.acct_tables.specs.TableLines.{changed_at, with_record}
 use Rattle.acct_tables.proofs.HashedNames.{position-passes}

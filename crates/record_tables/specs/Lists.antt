@@ -2,9 +2,9 @@
 -- lines, and which it refuses (usermod(8), `-l`).
 use Rattle.std.specs.Prelude.{Bool, ◌&&◌, List, map, Option, Some, None, if◌then◌else◌}
 use Rattle.acct_text.specs.Lines.{Line}
-use Rattle.account_formats.specs.Edits.{is_multiple}
-use Rattle.account_formats.specs.Format.{Format, count_named, records_of}
-use Rattle.account_formats.specs.Text.{first_some}
+use Rattle.account_model.specs.Edits.{is_multiple}
+use Rattle.account_model.specs.Format.{Format, count_named, records_of}
+use Rattle.account_model.specs.Text.{first_some}
 use Rattle.acct_tables.specs.TableLines.{with_record}
 use Rattle.record_tables.specs.declared.fault.TableFault.{TableFault}
 use Rattle.record_tables.specs.declared.fault.TableFault.TheVariants.{Multiple}

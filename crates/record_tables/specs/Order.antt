@@ -1,7 +1,7 @@
 -- The texts of records in another order, in the places of records (pwck(8), grpck(8), `-s`).
 use Rattle.std.specs.Prelude.{ℕ, List, [], ◌∷◌, map, is_some, if◌then◌else◌}
 use Rattle.acct_text.specs.Lines.{Line}
-use Rattle.account_formats.specs.Format.{Format}
+use Rattle.account_model.specs.Format.{Format}
 use Rattle.acct_tables.specs.TableLines.{text_at}
 
 -- the texts, one after another, in the places of records; each line keeps its end

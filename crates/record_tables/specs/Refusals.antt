@@ -2,7 +2,7 @@
 -- memory comes only where there is none.
 use Rattle.std.specs.Prelude.{◌≡◌, ℕ, zero, suc, ◌&&◌, not, List, Option, Some, None, Result, Ok, Err, bytes_eq, if◌then◌else◌}
 use Rattle.acct_text.specs.Lines.{Line}
-use Rattle.account_formats.specs.Format.{Format, records_of, has_named, count_named}
+use Rattle.account_model.specs.Format.{Format, records_of, has_named, count_named}
 use Rattle.record_tables.specs.declared.fault.TableFault.{TableFault}
 use Rattle.record_tables.specs.declared.fault.TableFault.TheVariants.{Absent, Multiple, Present, Memory}
 

@@ -5,8 +5,8 @@ ghost use Rattle.std.specs.List.{insert, remove};
 ghost use Rattle.acct_text.specs.Bytes.{newline};
 ghost use Rattle.acct_text.specs.Lines.{Line, texts_of};
 ghost use Rattle.acct_text.specs.Pieces.{Lacks};
-ghost use Rattle.account_formats.specs.Edits.{printed_line};
-ghost use Rattle.account_formats.specs.Written.{IsWritten};
+ghost use Rattle.account_model.specs.Edits.{printed_line};
+ghost use Rattle.account_model.specs.Written.{IsWritten};
 ghost use Rattle.acct_tables.specs.TableLines.{changed_at, with_record};
 
 use acct_lines::TableRecord;

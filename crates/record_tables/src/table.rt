@@ -2,8 +2,8 @@
 // `by_place`, `lists` and `order`.
 ghost use Rattle.std.specs.Prelude.{◌≡◌, length, IfOk, IfSome};
 ghost use Rattle.acct_text.specs.Lines.{lines_of, file_bytes};
-ghost use Rattle.account_formats.specs.Format.{records_of, find_named, count_named};
-ghost use Rattle.account_formats.specs.Written.{IsWritten};
+ghost use Rattle.account_model.specs.Format.{records_of, find_named, count_named};
+ghost use Rattle.account_model.specs.Written.{IsWritten};
 ghost use Rattle.acct_tables.specs.TableLines.{record_at};
 
 use acct_lines::TableRecord;

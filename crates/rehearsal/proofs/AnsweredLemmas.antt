@@ -12,13 +12,13 @@ use Rattle.acct_outside.specs.Folder.{Folder}
 use Rattle.acct_outside.specs.Logged.{folder_after}
 use Rattle.acct_outside.specs.Moment.{Past}
 use Rattle.acct_outside.specs.Streams.{WhereBytesTold}
-use Rattle.account_words.specs.declared.tool.Tool.{Tool}
-use Rattle.account_words.specs.declared.word_fault.WordFault.{WordFault}
+use Rattle.account_model.specs.declared.tool.Tool.{Tool}
+use Rattle.account_model.specs.declared.word_fault.WordFault.{WordFault}
 use Rattle.account_model.specs.Answer.{Answer, AnswerCause, Unusable, Refused, RefusedLine, Same, Changed, TableTooLarge, SettingsTooLarge, TableAbsent, BadSettingAt, answer, new_files}
-use Rattle.account_words.specs.Options.{Word}
-use Rattle.account_words.specs.Request.{Request, is_report}
-use Rattle.account_words.specs.Words.{Asks}
-use Rattle.account_words.proofs.AsksLaws.{asks_iff_read}
+use Rattle.account_model.specs.Options.{Word}
+use Rattle.account_model.specs.Request.{Request, is_report}
+use Rattle.account_model.specs.Words.{Asks}
+use Rattle.account_model.proofs.AsksLaws.{asks_iff_read}
 use Rattle.suite_answers.specs.declared.cause.Outcome.{Outcome}
 use Rattle.suite_session.specs.Answers.{cause_of_answer}
 use Rattle.suite_session.specs.Deeds.{is_change}

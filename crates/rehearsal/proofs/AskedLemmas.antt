@@ -10,7 +10,7 @@ use Rattle.std.specs.Result.{result_ok}
 use Rattle.acct_text.specs.declared.numbers.NumberFault.{NumberFault}
 use Rattle.acct_text.specs.Numbers.{number_within}
 use Rattle.acct_text.proofs.NumberLaws.{number-found, number-is, some-inj}
-use Rattle.account_words.specs.Options.{Word}
+use Rattle.account_model.specs.Options.{Word}
 use Rattle.rehearsal.specs.declared.asked.Rehearsal.{Rehearsal}
 use Rattle.rehearsal.specs.Asked.{AsksFor, IsWithinBounds, greatest_seed, most_commands}
 use Rattle.rehearsal.specs.Endings.{AsksForNone}

@@ -5,11 +5,11 @@ use Rattle.std.proofs.Common.{◌≡◌, ◌∙◌, refl, sym, ap, List, ℕ, ze
 use Rattle.std.specs.Prelude.{if◌then◌else◌, unwrap_or}
 use Rattle.acct_text.specs.declared.Tab.TheVariants.{Passwd, Shadow, Group, Gshadow, Subuid, Subgid}
 use Rattle.acct_text.specs.declared.files.Files.{Files}
-use Rattle.account_words.specs.declared.word_fault.WordFault.{WordFault}
+use Rattle.account_model.specs.declared.word_fault.WordFault.{WordFault}
 use Rattle.account_model.specs.Answer.{answer, deed}
-use Rattle.account_words.specs.Options.{Word}
-use Rattle.account_words.specs.Request.{Request}
-use Rattle.account_words.specs.Words.{request_of}
+use Rattle.account_model.specs.Options.{Word}
+use Rattle.account_model.specs.Request.{Request}
+use Rattle.account_model.specs.Words.{request_of}
 use Rattle.account_model.proofs.DeedLaws.{deed-is}
 use Rattle.acct_outside.specs.Moment.{Past}
 use Rattle.suite_session.specs.Deeds.{is_change}

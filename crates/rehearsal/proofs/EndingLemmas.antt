@@ -9,7 +9,7 @@ use Rattle.acct_outside.specs.declared.streams.SinkFault.{SinkFault}
 use Rattle.acct_outside.specs.declared.streams.SinkFault.TheVariants.{Failed, Memory}
 use Rattle.acct_outside.specs.Faults.{CountsFailure}
 use Rattle.acct_outside.specs.Streams.{Puts, SinkMoment, WhereBytesTold}
-use Rattle.account_words.specs.Options.{Word}
+use Rattle.account_model.specs.Options.{Word}
 use Rattle.suite_answers.specs.Fronts.{HoldsFront}
 use Rattle.suite_course.specs.Streams.{streams}
 use Rattle.rehearsal.specs.declared.asked.Rehearsal.{Rehearsal}

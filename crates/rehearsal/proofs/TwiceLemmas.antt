@@ -13,11 +13,11 @@ use Rattle.acct_outside.specs.History.{History, after}
 use Rattle.acct_outside.specs.Store.{folder_with}
 use Rattle.acct_outside.specs.Moment.{Past}
 use Rattle.account_model.specs.declared.refusal.Refusal.TheVariants.{GidInUse}
-use Rattle.account_words.specs.declared.word_fault.WordFault.{WordFault}
-use Rattle.account_words.specs.Request.{Request}
-use Rattle.account_words.specs.Words.{Asks, fault, request_of}
+use Rattle.account_model.specs.declared.word_fault.WordFault.{WordFault}
+use Rattle.account_model.specs.Request.{Request}
+use Rattle.account_model.specs.Words.{Asks, fault, request_of}
 use Rattle.account_model.specs.Answer.{Answer, Changed, Refused, answer, new_files}
-use Rattle.account_words.proofs.AsksLaws.{asks_iff_read, request_or_fault}
+use Rattle.account_model.proofs.AsksLaws.{asks_iff_read, request_or_fault}
 use Rattle.suite_rules.specs.Deeds.{SuiteDeeds}
 use Rattle.suite_rules.specs.Lawful.{Lawful, starts}
 use Rattle.suite_answers.specs.declared.cause.Cause.TheVariants.{Changed as IsChanged}

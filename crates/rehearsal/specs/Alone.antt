@@ -6,7 +6,7 @@ use Rattle.acct_outside.specs.declared.Name.TheVariants.{Intent}
 use Rattle.acct_outside.specs.Folder.{settings_file}
 use Rattle.acct_outside.specs.History.{after}
 use Rattle.acct_outside.specs.Moment.{Past}
-use Rattle.account_words.specs.Request.{Request, is_report}
+use Rattle.account_model.specs.Request.{Request, is_report}
 use Rattle.account_model.specs.Answer.{answer, deed}
 use Rattle.suite_rules.specs.Deeds.{SuiteDeeds}
 use Rattle.suite_rules.specs.Lawful.{Lawful}

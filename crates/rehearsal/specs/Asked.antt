@@ -2,7 +2,7 @@
 use Rattle.std.specs.Prelude.{◌≡◌, ℕ, ◌≤◌, List, [], ◌∷◌, codes}
 use Rattle.acct_text.specs.Bytes.{Bytes}
 use Rattle.acct_text.specs.Numbers.{IsNumber}
-use Rattle.account_words.specs.Options.{Word}
+use Rattle.account_model.specs.Options.{Word}
 use Rattle.rehearsal.specs.declared.asked.Rehearsal.{Rehearsal}
 
 -- the greatest seed

@@ -2,10 +2,10 @@
 -- the number N = SEED + b in its names.
 use Rattle.std.specs.Prelude.{ℕ, ◌+◌, ◌-◌, ◌/◌, ◌%◌, ◌==◌, Bool, if◌then◌else◌, List, [], ◌∷◌, ◌++◌, codes, decimal}
 use Rattle.acct_text.specs.Bytes.{Bytes}
-use Rattle.account_words.specs.declared.tool.Tool.{Tool}
-use Rattle.account_words.specs.declared.tool.Tool.TheVariants.{Useradd, Usermod, Userdel, Groupadd, Groupmod, Chage}
-use Rattle.account_words.specs.Words.{tool_name}
-use Rattle.account_words.specs.Options.{Word}
+use Rattle.account_model.specs.declared.tool.Tool.{Tool}
+use Rattle.account_model.specs.declared.tool.Tool.TheVariants.{Useradd, Usermod, Userdel, Groupadd, Groupmod, Chage}
+use Rattle.account_model.specs.Words.{tool_name}
+use Rattle.account_model.specs.Options.{Word}
 use Rattle.rehearsal.specs.declared.commands.Command.{Command}
 use Rattle.rehearsal.specs.declared.commands.Command.TheVariants.{AddUser, AddGroup, JoinGroup, LimitAge, RenameGroup, RemoveUser}
 

@@ -2,11 +2,11 @@
 -- tables that the one before left, with no input, on one day and without login.defs.
 use Rattle.std.specs.Prelude.{ℕ, zero, suc, ◌+◌, if◌then◌else◌, List, [], Some, None, unwrap_or, Result, Ok, Err}
 use Rattle.acct_text.specs.declared.files.Files.{Files}
-use Rattle.account_words.specs.declared.word_fault.WordFault.{WordFault}
+use Rattle.account_model.specs.declared.word_fault.WordFault.{WordFault}
 use Rattle.account_model.specs.Answer.{AnswerCause, answer, new_files}
-use Rattle.account_words.specs.Options.{Word}
-use Rattle.account_words.specs.Request.{Request}
-use Rattle.account_words.specs.Words.{request_of}
+use Rattle.account_model.specs.Options.{Word}
+use Rattle.account_model.specs.Request.{Request}
+use Rattle.account_model.specs.Words.{request_of}
 use Rattle.suite_session.specs.Deeds.{is_change}
 use Rattle.rehearsal.specs.declared.course.Reached.{Reached}
 use Rattle.rehearsal.specs.Commands.{command_at, words_of}

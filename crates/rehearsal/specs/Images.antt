@@ -9,7 +9,7 @@ use Rattle.acct_outside.specs.declared.Name.{Name}
 use Rattle.acct_outside.specs.declared.Name.TheVariants.{Table, Intent}
 use Rattle.acct_outside.specs.Logged.{folder_after}
 use Rattle.acct_outside.specs.Moment.{Past}
-use Rattle.account_words.specs.Options.{Word}
+use Rattle.account_model.specs.Options.{Word}
 use Rattle.rehearsal.specs.Alone.{files_at}
 use Rattle.rehearsal.specs.Course.{after_words}
 

@@ -8,7 +8,7 @@ use Rattle.acct_outside.specs.declared.Name.{Name}
 use Rattle.acct_outside.specs.declared.Name.TheVariants.{Table}
 use Rattle.acct_outside.specs.Moment.{Past}
 use Rattle.account_model.specs.declared.refusal.Refusal.TheVariants.{GidInUse}
-use Rattle.account_words.specs.Options.{Word}
+use Rattle.account_model.specs.Options.{Word}
 use Rattle.suite_answers.specs.declared.cause.Cause.TheVariants.{Refused}
 use Rattle.suite_answers.specs.declared.cause.Outcome.{Outcome}
 use Rattle.rehearsal.specs.Alone.{HasFiles}

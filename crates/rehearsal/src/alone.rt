@@ -1,6 +1,6 @@
 // A command that is alone in its folder: one step of the account model.
-ghost use Rattle.account_words.specs.Request.{Request};
-ghost use Rattle.account_words.specs.Words.{Asks};
+ghost use Rattle.account_model.specs.Request.{Request};
+ghost use Rattle.account_model.specs.Words.{Asks};
 ghost use Rattle.acct_outside.specs.Memory.{past_of};
 ghost use Rattle.suite_session.specs.Stands.{IsDecided};
 ghost use Rattle.suite_course.specs.Supplies.{supplies};

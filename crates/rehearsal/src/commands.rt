@@ -3,7 +3,7 @@ ghost use Rattle.std.specs.Prelude.{◌≡◌, ◌≤◌, ◌<◌, [], ◌∷◌
 ghost use Rattle.rehearsal.specs.Asked.{greatest_seed, most_commands};
 ghost use Rattle.rehearsal.specs.Commands.{command_at, numbered, own_words, tool_of, words_of};
 
-use account_words::Tool;
+use account_model::Tool;
 use acct_text::{Bytes, Word, push_decimal};
 use std::alloc::{AllocError, Global};
 

@@ -3,7 +3,7 @@
 // What is told is the summary, how the mode is called, or that there is no memory. A stream that fails
 // has the last word.
 ghost use Rattle.std.specs.Prelude.{◌≡◌, List};
-ghost use Rattle.account_words.specs.Options.{Word as Spoken};
+ghost use Rattle.account_model.specs.Options.{Word as Spoken};
 ghost use Rattle.acct_outside.specs.Faults.{CountsFailure};
 ghost use Rattle.acct_outside.specs.Streams.{Puts, WhereBytesTold};
 ghost use Rattle.suite_course.specs.Streams.{streams};

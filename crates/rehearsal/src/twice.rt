@@ -1,7 +1,7 @@
 // Two commands in a row in one folder in memory: the second finds what the first has made.
 ghost use Rattle.std.specs.Prelude.{◌≡◌, IfOk};
-ghost use Rattle.account_words.specs.Request.{Request};
-ghost use Rattle.account_words.specs.Words.{Asks};
+ghost use Rattle.account_model.specs.Request.{Request};
+ghost use Rattle.account_model.specs.Words.{Asks};
 ghost use Rattle.acct_outside.specs.Memory.{past_of};
 ghost use Rattle.suite_session.specs.Stands.{IsDecided};
 ghost use Rattle.rehearsal.specs.Alone.{IsLawful, IsSomeStep};

@@ -5,15 +5,15 @@ use Rattle.std.specs.Prelude.{Option, nat_lt, if◌then◌else◌}
 use Rattle.std.specs.List.{AllByRecursion}
 use Rattle.std.proofs.lemmas.Bool.{ltb-true}
 use Rattle.acct_text.specs.Lines.{file_bytes, lines_of}
-use Rattle.account_formats.specs.declared.records.SubidRecord.{SubidRecord}
-use Rattle.account_formats.specs.Edits.{Add}
-use Rattle.account_formats.specs.RecordEdits.{IsWrittenEdit}
-use Rattle.account_formats.specs.Records.{greatest_id, last_id, subid_format}
-use Rattle.account_words.specs.SubidOwner.{is_owned, left_above, left_below, left_without}
+use Rattle.account_model.specs.declared.records.SubidRecord.{SubidRecord}
+use Rattle.account_model.specs.Edits.{Add}
+use Rattle.account_model.specs.RecordEdits.{IsWrittenEdit}
+use Rattle.account_model.specs.Records.{greatest_id, last_id, subid_format}
+use Rattle.account_model.specs.SubidOwner.{is_owned, left_above, left_below, left_without}
 use Rattle.account_model.specs.UsermodRanges.{cut_range}
-use Rattle.account_formats.specs.Written.{IsSubid, IsWritten}
-use Rattle.account_formats.proofs.HeldLaws.{subid-holds}
-use Rattle.account_words.proofs.SubidLaws.{all_append}
+use Rattle.account_model.specs.Written.{IsSubid, IsWritten}
+use Rattle.account_model.proofs.HeldLaws.{subid-holds}
+use Rattle.account_model.proofs.SubidLaws.{all_append}
 use Rattle.acct_tables.proofs.EditedFiles.{edit-found}
 use Rattle.subid_ranges.specs.RangeLines.{ids_from, new_range, owner_of, with_range, without_range}
 

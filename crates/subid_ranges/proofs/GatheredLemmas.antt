@@ -6,8 +6,8 @@ use Rattle.std.specs.Prelude.{Option, None, Some}
 use Rattle.std.specs.List.{cons_option}
 use Rattle.std.proofs.lemmas.List.{append_assoc}
 use Rattle.acct_text.specs.Lines.{Line}
-use Rattle.account_formats.specs.declared.records.SubidRecord.{SubidRecord}
-use Rattle.account_formats.specs.Records.{subid_format}
+use Rattle.account_model.specs.declared.records.SubidRecord.{SubidRecord}
+use Rattle.account_model.specs.Records.{subid_format}
 use Rattle.subid_ranges.specs.Gathered.{GoesOn}
 use Rattle.subid_ranges.specs.RangeLines.{ranges_of}
 

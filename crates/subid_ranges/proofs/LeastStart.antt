@@ -8,13 +8,13 @@ use Rattle.std.specs.Prelude.{Option, Some, None, nat_le}
 use Rattle.std.specs.List.{AllByRecursion, cons_option, list_any}
 use Rattle.std.proofs.lemmas.Bool.{and_from, and_parts, false_from_ne_true, false≢true, le-leb, leb-true, or_from, or_parts}
 use Rattle.acct_text.specs.Lines.{Line}
-use Rattle.account_formats.specs.declared.records.SubidRecord.{SubidRecord}
-use Rattle.account_words.specs.FreeRange.{FitsAt, IsFreeRange, Meeting, free_range, meets}
-use Rattle.account_words.specs.Ids.{IsLeast}
-use Rattle.account_formats.specs.Records.{greatest_id, last_id, subid_format}
-use Rattle.account_formats.specs.Written.{IsNameField, IsSubid}
-use Rattle.account_words.proofs.FreeRangeLaws.{apart-is, free_range-is, free_range-one}
-use Rattle.account_formats.proofs.ReadsLaws.{subid-is}
+use Rattle.account_model.specs.declared.records.SubidRecord.{SubidRecord}
+use Rattle.account_model.specs.FreeRange.{FitsAt, IsFreeRange, Meeting, free_range, meets}
+use Rattle.account_model.specs.Ids.{IsLeast}
+use Rattle.account_model.specs.Records.{greatest_id, last_id, subid_format}
+use Rattle.account_model.specs.Written.{IsNameField, IsSubid}
+use Rattle.account_model.proofs.FreeRangeLaws.{apart-is, free_range-is, free_range-one}
+use Rattle.account_model.proofs.ReadsLaws.{subid-is}
 use Rattle.id_choice.specs.Used.{FindsLeast}
 use Rattle.subid_ranges.specs.declared.taken.Taken.{Taken}
 use Rattle.subid_ranges.specs.Numbers.{is_ranged}

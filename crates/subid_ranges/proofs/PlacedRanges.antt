@@ -8,12 +8,12 @@ use Rattle.std.specs.List.{AllByRecursion, cons_option, list_any, position_from}
 use Rattle.std.specs.Option.{MatchOption}
 use Rattle.std.proofs.lemmas.Bool.{cases_Bool, le-leb, true≢false}
 use Rattle.acct_text.specs.Lines.{Line}
-use Rattle.account_formats.specs.declared.records.SubidRecord.{SubidRecord}
-use Rattle.account_words.specs.FreeRange.{Meeting, meets}
-use Rattle.account_formats.specs.Naming.{first_field}
-use Rattle.account_formats.specs.Records.{last_id, subid_format}
-use Rattle.account_formats.proofs.NamingLaws.{subid-names_first}
-use Rattle.account_words.specs.SubidOwner.{is_owned}
+use Rattle.account_model.specs.declared.records.SubidRecord.{SubidRecord}
+use Rattle.account_model.specs.FreeRange.{Meeting, meets}
+use Rattle.account_model.specs.Naming.{first_field}
+use Rattle.account_model.specs.Records.{last_id, subid_format}
+use Rattle.account_model.proofs.NamingLaws.{subid-names_first}
+use Rattle.account_model.specs.SubidOwner.{is_owned}
 use Rattle.account_model.specs.UsermodRanges.{line_meets}
 use Rattle.subid_ranges.specs.Owned.{first_and_count, owned_one, owned_ranges}
 use Rattle.subid_ranges.specs.RangeLines.{ids_from, meeting_line, meets_at, ranges_of}

@@ -9,11 +9,11 @@ use Rattle.std.proofs.lemmas.Bool.{and_from, and_parts, cases_Bool, false_from_n
 use Rattle.std.proofs.lemmas.List.{take-append-drop, take_more}
 use Rattle.std.proofs.lemmas.List.Folds.{list_any-append}
 use Rattle.std.proofs.lemmas.List.Sums.{sum_by-append, sum_by-cons, sum_by_push}
-use Rattle.account_formats.specs.Records.{last_id, subid_format}
-use Rattle.account_formats.specs.Written.{IsWritten}
-use Rattle.account_formats.specs.declared.records.SubidRecord.{SubidRecord}
-use Rattle.account_words.specs.FreeRange.{meets}
-use Rattle.account_words.specs.Ids.{in_range}
+use Rattle.account_model.specs.Records.{last_id, subid_format}
+use Rattle.account_model.specs.Written.{IsWritten}
+use Rattle.account_model.specs.declared.records.SubidRecord.{SubidRecord}
+use Rattle.account_model.specs.FreeRange.{meets}
+use Rattle.account_model.specs.Ids.{in_range}
 use Rattle.subid_ranges.specs.Numbers.{is_ranged}
 use Rattle.subid_ranges.specs.Owned.{first_and_count}
 use Rattle.subid_ranges.specs.RangeNumbers.{AreApart, AreNumbersOf, LosesRange, LosesRanges}

@@ -5,7 +5,7 @@ use Rattle.std.proofs.Common.{◌≡◌, ℕ, ◌≤◌, true, false, List, refl
 use Rattle.std.specs.Prelude.{Option, Some, None, MatchOption, nat_le}
 use Rattle.std.proofs.lemmas.Bool.{and_from, and_left, and_right, cases_lt, le-leb, lt-leb, or_from, or_left, or_right}
 use Rattle.std.proofs.lemmas.Option.{MatchOption-at_some}
-use Rattle.account_words.specs.Ids.{is_used}
+use Rattle.account_model.specs.Ids.{is_used}
 use Rattle.id_choice.specs.declared.runs.Run.{Run}
 use Rattle.id_choice.specs.Runs.{HasNothingUpTo, IsLastUpTo}
 use Rattle.subid_ranges.specs.declared.taken.Taken.{Taken}

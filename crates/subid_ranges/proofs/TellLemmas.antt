@@ -9,14 +9,14 @@ use Rattle.std.proofs.lemmas.List.Elements.{All-append, All-cons}
 use Rattle.std.proofs.lemmas.List.Folds.{list_any-append}
 use Rattle.acct_text.specs.Lines.{file_bytes, lines_of}
 use Rattle.acct_text.proofs.LinesLaws.{lines_of-are}
-use Rattle.account_formats.specs.declared.records.SubidRecord.{SubidRecord}
-use Rattle.account_formats.specs.Edits.{Add, with_line}
-use Rattle.account_words.specs.FreeRange.{meets}
-use Rattle.account_words.specs.Ids.{in_range, is_used}
-use Rattle.account_formats.specs.Records.{last_id, subid_format}
-use Rattle.account_formats.specs.Written.{IsSubid, IsWritten}
-use Rattle.account_formats.proofs.EditLaws.{edit-is}
-use Rattle.account_formats.proofs.SameLaws.{subid-tells}
+use Rattle.account_model.specs.declared.records.SubidRecord.{SubidRecord}
+use Rattle.account_model.specs.Edits.{Add, with_line}
+use Rattle.account_model.specs.FreeRange.{meets}
+use Rattle.account_model.specs.Ids.{in_range, is_used}
+use Rattle.account_model.specs.Records.{last_id, subid_format}
+use Rattle.account_model.specs.Written.{IsSubid, IsWritten}
+use Rattle.account_model.proofs.EditLaws.{edit-is}
+use Rattle.account_model.proofs.SameLaws.{subid-tells}
 use Rattle.acct_tables.proofs.EditedFiles.{edit-found}
 use Rattle.id_choice.specs.Runs.{AreThoseOfRuns, is_run}
 use Rattle.id_choice.specs.declared.runs.Run.{Run}

@@ -1,6 +1,6 @@
 -- How what is known of ranges goes on through the lines of a file (subuid(5), subgid(5)).
 use Rattle.std.specs.Prelude.{List, ◌++◌}
-use Rattle.account_formats.specs.declared.records.SubidRecord.{SubidRecord}
+use Rattle.account_model.specs.declared.records.SubidRecord.{SubidRecord}
 
 -- whatever ranges the old value is that of, the new one is that of these and then of more
 abbrev pub GoesOn :

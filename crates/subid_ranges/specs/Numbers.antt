@@ -1,9 +1,9 @@
 -- The numbers of ranges and of runs, and those that they have in common (subuid(5), subgid(5)).
 use Rattle.std.specs.Prelude.{◌≡◌, ℕ, ◌<◌, ◌≤◌, Bool, false, List, Option, Some, None}
 use Rattle.std.specs.List.{list_any}
-use Rattle.account_formats.specs.declared.records.SubidRecord.{SubidRecord}
-use Rattle.account_words.specs.FreeRange.{meets}
-use Rattle.account_words.specs.Ids.{in_range}
+use Rattle.account_model.specs.declared.records.SubidRecord.{SubidRecord}
+use Rattle.account_model.specs.FreeRange.{meets}
+use Rattle.account_model.specs.Ids.{in_range}
 use Rattle.id_choice.specs.declared.runs.Run.{Run}
 
 -- whether the number is one of the run, where there is a run

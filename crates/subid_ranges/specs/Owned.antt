@@ -1,10 +1,10 @@
 -- The ranges of one owner, as a caller sees them (getsubids(1)).
 use Rattle.std.specs.Prelude.{ℕ, List, map, filter, Option, Some, None, if◌then◌else◌}
 use Rattle.acct_text.specs.Lines.{Line}
-use Rattle.account_formats.specs.declared.records.SubidRecord.{SubidRecord}
-use Rattle.account_formats.specs.Format.{records_of}
-use Rattle.account_formats.specs.Records.{subid_format}
-use Rattle.account_words.specs.SubidOwner.{is_owned}
+use Rattle.account_model.specs.declared.records.SubidRecord.{SubidRecord}
+use Rattle.account_model.specs.Format.{records_of}
+use Rattle.account_model.specs.Records.{subid_format}
+use Rattle.account_model.specs.SubidOwner.{is_owned}
 
 -- the first ID and the count
 abbrev pub first_and_count : SubidRecord → ℕ × ℕ

@@ -3,11 +3,11 @@
 use Rattle.std.specs.Prelude.{ℕ, Bool, false, ◌&&◌, not, List, nat_le, Option, Some, None}
 use Rattle.std.specs.List.{position_from}
 use Rattle.acct_text.specs.Lines.{Line}
-use Rattle.account_formats.specs.declared.records.SubidRecord.{SubidRecord}
-use Rattle.account_formats.specs.Edits.{edited, Add}
-use Rattle.account_formats.specs.Format.{records_of}
-use Rattle.account_words.specs.FreeRange.{meets}
-use Rattle.account_formats.specs.Records.{greatest_id, subid_format}
+use Rattle.account_model.specs.declared.records.SubidRecord.{SubidRecord}
+use Rattle.account_model.specs.Edits.{edited, Add}
+use Rattle.account_model.specs.Format.{records_of}
+use Rattle.account_model.specs.FreeRange.{meets}
+use Rattle.account_model.specs.Records.{greatest_id, subid_format}
 use Rattle.account_model.specs.UsermodRanges.{IdRange, RangeOwner, cut_range, line_meets}
 
 -- the ranges of the lines, in their order

@@ -2,8 +2,8 @@
 -- subgid(5)).
 use Rattle.std.specs.Prelude.{ℕ, ◌≤◌, ◌↔◌, IsTrue, List, ◌∷◌, ◌++◌}
 use Rattle.std.specs.List.{count_by}
-use Rattle.account_formats.specs.declared.records.SubidRecord.{SubidRecord}
-use Rattle.account_words.specs.FreeRange.{meets}
+use Rattle.account_model.specs.declared.records.SubidRecord.{SubidRecord}
+use Rattle.account_model.specs.FreeRange.{meets}
 use Rattle.subid_ranges.specs.Taken.{TakesThoseOf}
 use Rattle.subid_ranges.specs.declared.range_numbers.RangeNumbers.{RangeNumbers}
 

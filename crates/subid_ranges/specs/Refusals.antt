@@ -2,7 +2,7 @@
 -- memory comes only where there is none (useradd(8), usermod(8)).
 use Rattle.std.specs.Prelude.{◌≡◌, ℕ, List, Option, Some, None, Result, Ok, Err, is_none, option_map, if◌then◌else◌}
 use Rattle.acct_text.specs.Lines.{Line}
-use Rattle.account_words.specs.FreeRange.{free_range}
+use Rattle.account_model.specs.FreeRange.{free_range}
 use Rattle.subid_ranges.specs.declared.fault.RangeFault.{RangeFault}
 use Rattle.subid_ranges.specs.declared.fault.RangeFault.TheVariants.{NoGap, Overlap, BadRange, Memory}
 use Rattle.subid_ranges.specs.RangeLines.{is_bad, meeting_line, ranges_of}

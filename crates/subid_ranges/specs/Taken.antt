@@ -1,7 +1,7 @@
 -- Which numbers are taken, and the gaps between them (useradd(8), subuid(5), subgid(5)).
 use Rattle.std.specs.Prelude.{◌≡◌, ℕ, ◌+◌, ◌-◌, ◌≤◌, All, Bool, true, false, ◌||◌, List}
-use Rattle.account_formats.specs.declared.records.SubidRecord.{SubidRecord}
-use Rattle.account_words.specs.Ids.{is_used}
+use Rattle.account_model.specs.declared.records.SubidRecord.{SubidRecord}
+use Rattle.account_model.specs.Ids.{is_used}
 use Rattle.id_choice.specs.Runs.{is_run}
 use Rattle.id_choice.specs.declared.runs.Run.{Run}
 use Rattle.subid_ranges.specs.declared.taken.Taken.{Taken}

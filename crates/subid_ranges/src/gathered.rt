@@ -5,8 +5,8 @@ ghost use Rattle.acct_lines.specs.Shown.{subid_shown};
 ghost use Rattle.acct_text.specs.Bytes.{newline};
 ghost use Rattle.acct_text.specs.Lines.{lines_of};
 ghost use Rattle.acct_text.specs.Pieces.{Lacks};
-ghost use Rattle.account_formats.specs.Records.{greatest_id, last_id, subid_format};
-ghost use Rattle.account_formats.specs.declared.records.SubidRecord.{SubidRecord};
+ghost use Rattle.account_model.specs.Records.{greatest_id, last_id, subid_format};
+ghost use Rattle.account_model.specs.declared.records.SubidRecord.{SubidRecord};
 ghost use Rattle.subid_ranges.specs.Gathered.{GoesOn};
 ghost use Rattle.subid_ranges.specs.RangeLines.{ranges_of};
 

@@ -2,8 +2,8 @@
 ghost use Rattle.std.specs.Prelude.{◌≡◌};
 ghost use Rattle.acct_text.specs.Lines.{lines_of};
 ghost use Rattle.std.specs.List.{list_any};
-ghost use Rattle.account_formats.specs.Records.{subid_format};
-ghost use Rattle.account_words.specs.SubidOwner.{is_owned};
+ghost use Rattle.account_model.specs.Records.{subid_format};
+ghost use Rattle.account_model.specs.SubidOwner.{is_owned};
 ghost use Rattle.subid_ranges.specs.Owned.{owned_one, owned_ranges};
 ghost use Rattle.subid_ranges.specs.RangeLines.{ranges_of};
 

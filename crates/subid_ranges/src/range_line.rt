@@ -1,6 +1,6 @@
 // A range where its line stands in the file's bytes (subuid(5), subgid(5)).
 ghost use Rattle.std.specs.Prelude.{◌≡◌, ◌<◌, ◌≤◌, option_map};
-ghost use Rattle.account_formats.specs.Records.{greatest_id, last_id, subid_format};
+ghost use Rattle.account_model.specs.Records.{greatest_id, last_id, subid_format};
 ghost use Rattle.acct_lines.specs.Shown.{subid_shown};
 
 use acct_lines::SubidLine;

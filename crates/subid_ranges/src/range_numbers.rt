@@ -3,10 +3,10 @@
 ghost use Rattle.std.specs.Prelude.{◌≡◌, ◌<◌, ◌≤◌, ◌↔◌, ◌∷◌, ◌++◌, [], false, true, IfOk, IsTrue, List, MatchOption, OnOk};
 ghost use Rattle.std.specs.List.{AllByRecursion};
 ghost use Rattle.acct_text.specs.Lines.{Line, lines_of};
-ghost use Rattle.account_formats.specs.Records.{greatest_id, last_id, subid_format};
-ghost use Rattle.account_formats.specs.Written.{IsWritten};
-ghost use Rattle.account_formats.specs.declared.records.SubidRecord.{SubidRecord};
-ghost use Rattle.account_words.specs.FreeRange.{free_range};
+ghost use Rattle.account_model.specs.Records.{greatest_id, last_id, subid_format};
+ghost use Rattle.account_model.specs.Written.{IsWritten};
+ghost use Rattle.account_model.specs.declared.records.SubidRecord.{SubidRecord};
+ghost use Rattle.account_model.specs.FreeRange.{free_range};
 ghost use Rattle.subid_ranges.specs.Gathered.{GoesOn};
 ghost use Rattle.subid_ranges.specs.RangeLines.{ranges_of};
 

@@ -3,8 +3,8 @@
 ghost use Rattle.std.specs.Prelude.{◌≡◌, ℕ, ◌+◌, ◌-◌, ◌<◌, ◌≤◌, ◌&&◌, ◌||◌, not, [], None, IfOk, MatchOption, OnOk};
 ghost use Rattle.std.specs.Option.{ForSome};
 ghost use Rattle.acct_text.specs.Lines.{lines_of};
-ghost use Rattle.account_words.specs.FreeRange.{free_range};
-ghost use Rattle.account_words.specs.Ids.{in_range};
+ghost use Rattle.account_model.specs.FreeRange.{free_range};
+ghost use Rattle.account_model.specs.Ids.{in_range};
 ghost use Rattle.subid_ranges.specs.Numbers.{MeetsRun, MissesRun};
 ghost use Rattle.subid_ranges.specs.RangeLines.{ranges_of};
 

@@ -8,22 +8,22 @@ use Rattle.std.proofs.lemmas.Slice.Eq.{bytes_eq-Decides}
 use Rattle.acct_text.specs.Bytes.{Bytes}
 use Rattle.acct_text.specs.Contents.{same_content}
 use Rattle.acct_text.specs.declared.files.Files.{Files}
-use Rattle.account_words.specs.declared.tool.Tool.{Tool}
-use Rattle.account_words.specs.declared.tool.Tool.TheVariants.{Useradd, Usermod, Userdel, Groupadd, Groupmod, Groupdel, Gpasswd, Chage, Chpasswd, Pwck, Grpck, Getsubids, Batch}
+use Rattle.account_model.specs.declared.tool.Tool.{Tool}
+use Rattle.account_model.specs.declared.tool.Tool.TheVariants.{Useradd, Usermod, Userdel, Groupadd, Groupmod, Groupdel, Gpasswd, Chage, Chpasswd, Pwck, Grpck, Getsubids, Batch}
 use Rattle.account_model.specs.declared.refusal.Refusal.{Refusal}
-use Rattle.account_formats.specs.Text.{first_some}
-use Rattle.account_words.specs.Settings.{Setting, settings_of}
-use Rattle.account_words.specs.BatchLines.{LineRequest, line_requests}
-use Rattle.account_words.specs.Request.{Request, has_option}
-use Rattle.account_words.specs.Words.{is_batch}
-use Rattle.account_formats.specs.Tables.{Script, no_edits, files_after}
+use Rattle.account_model.specs.Text.{first_some}
+use Rattle.account_model.specs.Settings.{Setting, settings_of}
+use Rattle.account_model.specs.BatchLines.{LineRequest, line_requests}
+use Rattle.account_model.specs.Request.{Request, has_option}
+use Rattle.account_model.specs.Words.{is_batch}
+use Rattle.account_model.specs.Tables.{Script, no_edits, files_after}
 use Rattle.account_model.specs.Action.{Action, Made, changes, made_by, outcome_of, multiple_entries}
 use Rattle.account_model.specs.Batch.{LineRefusal, Written, batch, before_others, with_rest, written_by}
 use Rattle.account_model.specs.Pwck.{pwck_sort, pwck_report}
 use Rattle.account_model.specs.Grpck.{grpck_sort, grpck_report}
 use Rattle.account_model.specs.Change.{action_by, action_of}
 use Rattle.account_model.specs.Answer.{Answer, FileProblem, Same, Changed, new_problem, files_problem, files_eq, answer_lines, answer_outcome, answer_under, succeeding, unusable}
-use Rattle.account_formats.proofs.NoEdits.{files-stay}
+use Rattle.account_model.proofs.NoEdits.{files-stay}
 use Rattle.suite_answers.specs.Changes.{ChangesSucceed}
 
 -- ---- What a tool does

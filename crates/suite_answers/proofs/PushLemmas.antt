@@ -3,7 +3,7 @@ use Rattle.std.proofs.Common.{◌≡◌, ℕ, List, [], ◌∷◌, ◌++◌, sym
 use Rattle.std.specs.Prelude.{codes, Option, Result, Ok, Err, IsErrAnd}
 use Rattle.acct_text.specs.Bytes.{newline}
 use Rattle.acct_outside.specs.declared.CommitStage.{CommitStage}
-use Rattle.account_words.specs.declared.tool.Tool.{Tool}
+use Rattle.account_model.specs.declared.tool.Tool.{Tool}
 use Rattle.account_model.specs.Messages.{speaker}
 use Rattle.suite_answers.specs.Reasons.{memory_message, stage_text}
 

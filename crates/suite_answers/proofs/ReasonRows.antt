@@ -6,8 +6,8 @@ use Rattle.std.specs.Fmt.{digits}
 use Rattle.acct_text.specs.Bytes.{newline}
 use Rattle.acct_outside.specs.declared.Name.TheVariants.{Intent}
 use Rattle.acct_outside.specs.declared.CommitStage.TheVariants.{Before, Unsure, Committed}
-use Rattle.account_words.specs.declared.word_fault.WordFault.TheVariants.{UnknownOption}
-use Rattle.account_words.specs.declared.tool.Tool.TheVariants.{Useradd, Groupadd, Groupdel, Pwck, Getsubids}
+use Rattle.account_model.specs.declared.word_fault.WordFault.TheVariants.{UnknownOption}
+use Rattle.account_model.specs.declared.tool.Tool.TheVariants.{Useradd, Groupadd, Groupdel, Pwck, Getsubids}
 use Rattle.suite_answers.specs.declared.cause.Which.TheVariants.{File}
 use Rattle.suite_answers.specs.declared.cause.Cause.TheVariants.{BatchSyntax, Held, Gone, Raced, Outrun, LockDamaged, Exhausted, IntentDamaged, TooLarge, DiskFault, Memory}
 use Rattle.suite_answers.specs.Answers.{message_of, told_line}

@@ -1,13 +1,13 @@
 -- What a command answers beside the decisions of its tool: the outcome, no output, and one line on
 -- the error stream.
 use Rattle.std.specs.Prelude.{ℕ, List, []}
-use Rattle.account_words.specs.declared.tool.Tool.{Tool}
-use Rattle.account_words.specs.declared.tool.Tool.TheVariants.{Batch}
-use Rattle.account_words.specs.declared.word_fault.WordFault.{WordFault}
-use Rattle.account_words.specs.declared.word_fault.WordFault.TheVariants.{Memory as NoMemory}
+use Rattle.account_model.specs.declared.tool.Tool.{Tool}
+use Rattle.account_model.specs.declared.tool.Tool.TheVariants.{Batch}
+use Rattle.account_model.specs.declared.word_fault.WordFault.{WordFault}
+use Rattle.account_model.specs.declared.word_fault.WordFault.TheVariants.{Memory as NoMemory}
 use Rattle.account_model.specs.Messages.{message}
-use Rattle.account_words.specs.BatchLines.{FaultyLine}
-use Rattle.account_words.specs.Options.{Word}
+use Rattle.account_model.specs.BatchLines.{FaultyLine}
+use Rattle.account_model.specs.Options.{Word}
 use Rattle.account_model.specs.WordMessages.{faulty_tool, line_fault_message, syntax_status, word_fault_status, word_fault_message}
 use Rattle.acct_outside.specs.declared.CommitStage.TheVariants.{Before}
 use Rattle.suite_answers.specs.declared.answer.Answer.{Answer}

@@ -4,7 +4,7 @@ use Rattle.std.specs.Prelude.{ℕ, List, [], ◌++◌, codes, decimal, Option}
 use Rattle.acct_outside.specs.declared.Name.TheVariants.{Table, Defs}
 use Rattle.acct_outside.specs.declared.CommitStage.{CommitStage}
 use Rattle.acct_outside.specs.declared.CommitStage.TheVariants.{Before, Unsure, Committed}
-use Rattle.account_words.specs.declared.tool.Tool.{Tool}
+use Rattle.account_model.specs.declared.tool.Tool.{Tool}
 use Rattle.account_model.specs.Answer.{TableTooLarge, SettingsTooLarge, TableAbsent, BadSettingAt, file_problem_text}
 use Rattle.account_model.specs.Messages.{line_by}
 use Rattle.account_model.specs.Statuses.{clock_fault_status, file_status, input_fault_status, lock_status, memory_status, output_fault_status, update_status}

@@ -4,7 +4,7 @@ ghost use Rattle.account_model.specs.WordMessages.{faulty_tool};
 ghost use Rattle.suite_answers.specs.Answers.{says, told, told_line, told_words};
 
 use crate::{Cause, Outcome, message};
-use account_words::{Tool, WordFault};
+use account_model::{Tool, WordFault};
 use acct_outside::CommitStage;
 use acct_text::{Bytes, Word};
 use std::alloc::{AllocError, Global};

@@ -2,8 +2,7 @@
 ghost use Rattle.std.specs.Prelude.{◌≡◌};
 ghost use Rattle.suite_answers.specs.Reasons.{stage_of, status_of};
 
-use account_model::Refusal;
-use account_words::{Tool, WordFault};
+use account_model::{Refusal, Tool, WordFault};
 use acct_outside::{CommitStage, Name, Token};
 use acct_text::Tab;
 use tool_answers::{MEMORY_STATUS, file_status, lock_status, update_status};

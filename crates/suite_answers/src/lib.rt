@@ -10,8 +10,7 @@ mod memory;
 mod message;
 mod reason;
 
-pub use account_model::{LineProblem, Refusal};
-pub use account_words::{Tool, WordFault};
+pub use account_model::{LineProblem, Refusal, Tool, WordFault};
 pub use acct_outside::{CommitStage, Name, Token};
 pub use answer::Answer;
 pub use cause::{Cause, OUTPUT_FAULT_STATUS, Outcome, Which};

@@ -5,7 +5,7 @@ ghost use Rattle.suite_answers.specs.Reasons.{memory_message};
 ghost use Rattle.suite_answers.specs.Fronts.{PutsFront};
 
 use crate::reason::stage_text;
-use account_words::Tool;
+use account_model::Tool;
 use acct_outside::{CommitStage, Sink, SinkFault};
 use tool_answers::speaker;
 

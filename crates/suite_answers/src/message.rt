@@ -6,7 +6,7 @@ ghost use Rattle.suite_answers.specs.Reasons.{reason_text};
 
 use crate::Cause;
 use crate::reason::reason_text;
-use account_words::Tool;
+use account_model::Tool;
 use acct_text::Bytes;
 use std::alloc::{AllocError, Global};
 use tool_answers::push_line;

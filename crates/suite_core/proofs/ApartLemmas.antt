@@ -10,11 +10,11 @@ use Rattle.acct_text.specs.declared.files.Files.{Files}
 use Rattle.acct_outside.specs.Calls.{Command}
 use Rattle.acct_outside.specs.Folder.{settings_file}
 use Rattle.acct_outside.specs.History.{after}
-use Rattle.account_words.specs.declared.word_fault.WordFault.{WordFault}
+use Rattle.account_model.specs.declared.word_fault.WordFault.{WordFault}
 use Rattle.account_model.specs.Answer.{deed}
-use Rattle.account_words.specs.Request.{Request}
-use Rattle.account_words.specs.Words.{Asks, request_of}
-use Rattle.account_words.proofs.AsksLaws.{asks_iff_read}
+use Rattle.account_model.specs.Request.{Request}
+use Rattle.account_model.specs.Words.{Asks, request_of}
+use Rattle.account_model.proofs.AsksLaws.{asks_iff_read}
 use Rattle.suite_rules.specs.Deeds.{SuiteDeeds}
 use Rattle.suite_rules.specs.Laws.{LawfulSettles}
 use Rattle.suite_rules.specs.Settled.{settled}

@@ -17,16 +17,16 @@ use Rattle.acct_text.specs.Files.{table_of}
 use Rattle.acct_text.specs.Limits.{table_limit}
 use Rattle.acct_text.specs.Tables.{all_tables}
 use Rattle.account_model.specs.declared.refusal.Refusal.{Refusal}
-use Rattle.account_words.specs.declared.tool.Tool.{Tool}
-use Rattle.account_formats.specs.Text.{first_some}
+use Rattle.account_model.specs.declared.tool.Tool.{Tool}
+use Rattle.account_model.specs.Text.{first_some}
 use Rattle.account_model.specs.Action.{Action, Made, outcome_of}
 use Rattle.account_model.specs.Batch.{LineRefusal, Written, batch, written_by}
 use Rattle.account_model.proofs.BatchLaws.{outcome-made}
 use Rattle.account_model.proofs.DeedLaws.{batch-stands, deed-is, files-stand}
 use Rattle.account_model.specs.Change.{action_of}
-use Rattle.account_words.specs.BatchLines.{line_requests}
-use Rattle.account_words.specs.Settings.{Setting, bad_line, settings_of}
-use Rattle.account_words.specs.Words.{is_batch}
+use Rattle.account_model.specs.BatchLines.{line_requests}
+use Rattle.account_model.specs.Settings.{Setting, bad_line, settings_of}
+use Rattle.account_model.specs.Words.{is_batch}
 use Rattle.account_model.specs.Answer.{FileProblem, TableTooLarge, BadSettingAt, Same, Changed, Answer as ToolAnswer, answer_lines, answer_outcome, answer_under, answer_written, refused, refused_line, succeeding, unusable, passes_limit, must_stand, table_problem, settings_problem, files_problem, new_table_problem, files_eq, cause_of, new_files}
 use Rattle.std.specs.Prelude.{IfOk}
 use Rattle.std.specs.Result.{result_err}

@@ -1,13 +1,13 @@
 -- Claims: the first word of a request names its tool (`named-asked`); words that ask for something
 -- have no fault (`no-fault`) and one request (`one-request`).
 use Rattle.std.proofs.Common.{◌≡◌, refl, sym, ap, ◌∙◌, ◌∷◌, List, Some, None}
-use Rattle.account_words.specs.declared.tool.Tool.{Tool}
-use Rattle.account_words.specs.declared.tool.Tool.TheVariants.{Useradd, Usermod, Userdel, Groupadd, Groupmod, Groupdel, Gpasswd, Chage, Chpasswd, Pwck, Grpck, Getsubids, Batch}
-use Rattle.account_words.specs.declared.word_fault.WordFault.{WordFault}
-use Rattle.account_words.specs.Words.{tool_name, Asks, fault}
-use Rattle.account_words.specs.Options.{Word}
-use Rattle.account_words.specs.Request.{Request}
-use Rattle.account_words.proofs.AsksLaws.{one_request, asks_no_fault}
+use Rattle.account_model.specs.declared.tool.Tool.{Tool}
+use Rattle.account_model.specs.declared.tool.Tool.TheVariants.{Useradd, Usermod, Userdel, Groupadd, Groupmod, Groupdel, Gpasswd, Chage, Chpasswd, Pwck, Grpck, Getsubids, Batch}
+use Rattle.account_model.specs.declared.word_fault.WordFault.{WordFault}
+use Rattle.account_model.specs.Words.{tool_name, Asks, fault}
+use Rattle.account_model.specs.Options.{Word}
+use Rattle.account_model.specs.Request.{Request}
+use Rattle.account_model.proofs.AsksLaws.{one_request, asks_no_fault}
 use Rattle.suite_course.specs.Top.{named_tool}
 
 -- the name of a tool names it

@@ -5,8 +5,8 @@ use Rattle.std.specs.List.{AllByRecursion}
 use Rattle.acct_text.specs.declared.files.Files.{Files}
 use Rattle.acct_outside.specs.Folder.{Folder}
 use Rattle.acct_outside.specs.History.{History, after}
-use Rattle.account_words.specs.Request.{Request}
-use Rattle.account_words.specs.Words.{Asks}
+use Rattle.account_model.specs.Request.{Request}
+use Rattle.account_model.specs.Words.{Asks}
 use Rattle.suite_rules.specs.Deeds.{SuiteDeeds}
 use Rattle.suite_rules.specs.Lawful.{Lawful}
 use Rattle.suite_rules.specs.Settled.{settled}

@@ -5,7 +5,7 @@ ghost use Rattle.std.specs.Result.{result_err};
 ghost use Rattle.std.specs.Option.{option_copied};
 ghost use Rattle.acct_text.specs.Limits.{table_limit};
 ghost use Rattle.account_model.specs.Answer.{passes_limit};
-ghost use Rattle.account_words.specs.Settings.{settings_of};
+ghost use Rattle.account_model.specs.Settings.{settings_of};
 ghost use Rattle.login_defs.specs.Faults.{file_fault};
 ghost use Rattle.login_defs.specs.Held.{HasSettings, IsHeld};
 ghost use Rattle.suite_session.specs.Answers.{given_for};

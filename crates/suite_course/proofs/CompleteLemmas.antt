@@ -25,9 +25,9 @@ use Rattle.acct_outside.specs.Calls.{answers, done}
 use Rattle.acct_outside.specs.History.{Event, History, after, own_events}
 use Rattle.acct_outside.specs.Others.{Admission}
 use Rattle.acct_outside.specs.Contract.{WhereTold}
-use Rattle.account_words.specs.declared.tool.Tool.{Tool}
-use Rattle.account_words.specs.BatchLines.{FaultyLine, first_faulty}
-use Rattle.account_words.specs.Words.{is_batch}
+use Rattle.account_model.specs.declared.tool.Tool.{Tool}
+use Rattle.account_model.specs.BatchLines.{FaultyLine, first_faulty}
+use Rattle.account_model.specs.Words.{is_batch}
 use Rattle.suite_rules.specs.Deeds.{SuiteDeeds}
 use Rattle.suite_rules.specs.Standing.{standing}
 use Rattle.suite_rules.specs.Lawful.{Lawful}

@@ -12,7 +12,7 @@ use Rattle.acct_outside.specs.Tokens.{Token}
 use Rattle.acct_outside.specs.History.{History, is_of, own_events}
 use Rattle.acct_outside.specs.Others.{Admission, ByOthers, none_came, one_came}
 use Rattle.acct_outside.specs.Contract.{TellsBegin, WhereTold}
-use Rattle.account_words.specs.declared.tool.Tool.{Tool}
+use Rattle.account_model.specs.declared.tool.Tool.{Tool}
 use Rattle.suite_rules.specs.Deeds.{SuiteDeeds}
 use Rattle.suite_rules.specs.Lawful.{Lawful}
 use Rattle.suite_rules.specs.Steps.{LawfulOthers}

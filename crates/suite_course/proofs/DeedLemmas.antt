@@ -8,11 +8,11 @@ use Rattle.acct_text.specs.declared.files.Files.{Files}
 use Rattle.acct_text.specs.Contents.{Contents, IsChange}
 use Rattle.acct_text.specs.Files.{table_of}
 use Rattle.acct_outside.specs.Calls.{Command}
-use Rattle.account_words.specs.declared.word_fault.WordFault.{WordFault}
-use Rattle.account_words.specs.Request.{Request}
+use Rattle.account_model.specs.declared.word_fault.WordFault.{WordFault}
+use Rattle.account_model.specs.Request.{Request}
 use Rattle.account_model.specs.Answer.{deed}
 use Rattle.account_model.specs.Laws.{DeedsAreChanges}
-use Rattle.account_words.specs.Words.{request_of}
+use Rattle.account_model.specs.Words.{request_of}
 use Rattle.suite_rules.specs.Deeds.{SuiteDeeds}
 use Rattle.suite_session.specs.Deeds.{files_of, tools_deed, tools_answer_same, AreOfTools}
 

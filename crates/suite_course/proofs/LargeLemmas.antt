@@ -21,7 +21,7 @@ use Rattle.acct_outside.specs.Calls.{reads, done, found_too_large, found_within}
 use Rattle.acct_outside.specs.History.{Event, History, after}
 use Rattle.acct_outside.specs.Life.{Life, running, life, MayCall}
 use Rattle.acct_outside.specs.declared.CommitStage.TheVariants.{Before}
-use Rattle.account_words.specs.Request.{is_report}
+use Rattle.account_model.specs.Request.{is_report}
 use Rattle.intent_file.specs.Intent.{listed_in}
 use Rattle.suite_rules.specs.Deeds.{SuiteDeeds}
 use Rattle.suite_rules.specs.OwnLock.{kept_number}

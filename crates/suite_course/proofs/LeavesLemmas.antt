@@ -9,7 +9,7 @@ use Rattle.acct_outside.specs.Tokens.{Token}
 use Rattle.acct_outside.specs.Folder.{Folder}
 use Rattle.acct_outside.specs.History.{History}
 use Rattle.acct_outside.specs.Moment.{Past}
-use Rattle.account_words.specs.Request.{is_report}
+use Rattle.account_model.specs.Request.{is_report}
 use Rattle.suite_rules.specs.Deeds.{SuiteDeeds}
 use Rattle.suite_rules.specs.OwnLock.{kept_number}
 use Rattle.suite_rules.specs.Standing.{standing}

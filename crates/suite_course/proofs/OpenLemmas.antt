@@ -22,7 +22,7 @@ use Rattle.acct_outside.specs.Folder.{Folder, IsFolder, greatest, has_number, to
 use Rattle.acct_outside.specs.Calls.{Call, Answer, Found, lists, reads, asks, creates, removes, done, found_absent, found_bytes, found_too_large, found_within}
 use Rattle.acct_outside.specs.History.{Event, History, after, is_of, own_events}
 use Rattle.acct_outside.specs.declared.CommitStage.TheVariants.{Before}
-use Rattle.account_words.specs.Request.{is_report}
+use Rattle.account_model.specs.Request.{is_report}
 use Rattle.intent_file.specs.Parts.{FirstFault}
 use Rattle.intent_file.proofs.FirstFaultIsOne.{first_fault_is_one_holds}
 use Rattle.suite_rules.specs.Deeds.{SuiteDeeds}

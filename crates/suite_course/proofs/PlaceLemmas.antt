@@ -18,7 +18,7 @@ use Rattle.acct_outside.specs.Folder.{Folder, greatest, settings_file, top}
 use Rattle.acct_outside.specs.Calls.{Command, lists, done}
 use Rattle.acct_outside.specs.History.{Event, History, after}
 use Rattle.acct_outside.specs.declared.CommitStage.TheVariants.{Before, Committed}
-use Rattle.account_words.specs.Request.{is_report}
+use Rattle.account_model.specs.Request.{is_report}
 use Rattle.suite_rules.specs.Deeds.{SuiteDeeds}
 use Rattle.suite_rules.specs.OwnLock.{kept_number, made_number}
 use Rattle.suite_rules.specs.Knowledge.{Seen}

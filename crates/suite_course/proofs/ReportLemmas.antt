@@ -20,7 +20,7 @@ use Rattle.acct_outside.specs.Tokens.{Token}
 use Rattle.acct_outside.specs.Folder.{Folder, greatest, settings_file, top}
 use Rattle.acct_outside.specs.Calls.{Call, Answer as CallAnswer, CallResult, Found, lists, reads, asks, creates, removes, done, found_absent, found_bytes, found_too_large, found_within}
 use Rattle.acct_outside.specs.History.{Event, History, after, is_of, own_events}
-use Rattle.account_words.specs.Request.{is_report}
+use Rattle.account_model.specs.Request.{is_report}
 use Rattle.suite_rules.specs.Deeds.{SuiteDeeds}
 use Rattle.suite_rules.specs.OwnLock.{OwnLock, lock_uncalled, kept_number}
 use Rattle.suite_rules.specs.Knowledge.{is_watched}

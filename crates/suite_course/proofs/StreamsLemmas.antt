@@ -2,8 +2,8 @@
 -- Way: it begins with the name of who speaks.
 use Rattle.std.proofs.Common.{◌≡◌, [], Option, Some, None}
 use Rattle.acct_outside.specs.declared.CommitStage.{CommitStage}
-use Rattle.account_words.specs.declared.tool.Tool.{Tool}
-use Rattle.account_words.specs.declared.tool.Tool.TheVariants.{Useradd, Usermod, Userdel, Groupadd, Groupmod, Groupdel, Gpasswd, Chage, Chpasswd, Pwck, Grpck, Getsubids, Batch}
+use Rattle.account_model.specs.declared.tool.Tool.{Tool}
+use Rattle.account_model.specs.declared.tool.Tool.TheVariants.{Useradd, Usermod, Userdel, Groupadd, Groupmod, Groupdel, Gpasswd, Chage, Chpasswd, Pwck, Grpck, Getsubids, Batch}
 use Rattle.suite_answers.specs.Reasons.{memory_message}
 
 -- the claim

@@ -8,9 +8,9 @@ use Rattle.acct_text.specs.Limits.{table_limit}
 use Rattle.acct_outside.specs.declared.CommitStage.TheVariants.{Before}
 use Rattle.acct_outside.specs.Faults.{NoneFailed}
 use Rattle.acct_outside.specs.Streams.{WhereBytesTold}
-use Rattle.account_words.specs.declared.tool.Tool.{Tool}
-use Rattle.account_words.specs.declared.tool.Tool.TheVariants.{Batch}
-use Rattle.account_words.specs.Words.{is_batch}
+use Rattle.account_model.specs.declared.tool.Tool.{Tool}
+use Rattle.account_model.specs.declared.tool.Tool.TheVariants.{Batch}
+use Rattle.account_model.specs.Words.{is_batch}
 use Rattle.suite_answers.specs.declared.cause.Which.TheVariants.{Input}
 use Rattle.suite_answers.specs.declared.cause.Cause.{Cause}
 use Rattle.suite_answers.specs.declared.cause.Cause.TheVariants.{TooLarge, InputFault, Memory}

@@ -14,7 +14,7 @@ use Rattle.suite_answers.specs.declared.answer.Answer.{Answer}
 use Rattle.suite_session.specs.declared.state.State.TheVariants.{Answering}
 use Rattle.suite_session.specs.declared.session.Phase.{Phase}
 use Rattle.suite_session.specs.declared.session.Phase.TheVariants.{Begun, Over, Unbegun}
-use Rattle.account_words.specs.Request.{is_report}
+use Rattle.account_model.specs.Request.{is_report}
 use Rattle.suite_session.specs.Runner.{Runner}
 use Rattle.suite_session.specs.Reports.{RunsFree}
 use Rattle.suite_session.specs.Answers.{Says}

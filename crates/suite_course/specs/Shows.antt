@@ -8,7 +8,7 @@ use Rattle.acct_outside.specs.declared.CommitStage.TheVariants.{Before, Committe
 use Rattle.acct_outside.specs.Tokens.{Token}
 use Rattle.acct_outside.specs.Folder.{Folder, settings_file}
 use Rattle.acct_outside.specs.History.{History, after}
-use Rattle.account_words.specs.Request.{is_report}
+use Rattle.account_model.specs.Request.{is_report}
 use Rattle.suite_rules.specs.Deeds.{SuiteDeeds}
 use Rattle.suite_rules.specs.OwnLock.{kept_number, lock_uncalled}
 use Rattle.suite_rules.specs.Shown.{Shown}

@@ -6,7 +6,7 @@ use Rattle.acct_outside.specs.declared.streams.SinkFault.{SinkFault}
 use Rattle.acct_outside.specs.declared.streams.SinkFault.TheVariants.{Failed}
 use Rattle.acct_outside.specs.Faults.{HasRisen}
 use Rattle.acct_outside.specs.Streams.{SinkMoment, WhereBytesTold}
-use Rattle.account_words.specs.declared.tool.Tool.{Tool}
+use Rattle.account_model.specs.declared.tool.Tool.{Tool}
 use Rattle.suite_answers.specs.declared.cause.Cause.{Cause}
 use Rattle.suite_answers.specs.declared.cause.Cause.TheVariants.{Memory}
 use Rattle.suite_answers.specs.declared.answer.Answer.{Answer}

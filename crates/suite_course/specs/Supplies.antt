@@ -9,10 +9,10 @@ use Rattle.acct_outside.specs.declared.streams.SourceFault.{SourceFault}
 use Rattle.acct_outside.specs.declared.streams.SourceFault.TheVariants.{Failed, Memory as NoMemory}
 use Rattle.acct_outside.specs.Faults.{Faults, HasRisen, LastFailed, NoneFailed}
 use Rattle.acct_outside.specs.Streams.{ClockMoment, SourceMoment, WhereBytesTold}
-use Rattle.account_words.specs.declared.tool.Tool.{Tool}
-use Rattle.account_words.specs.declared.tool.Tool.TheVariants.{Chpasswd, Batch}
-use Rattle.account_words.specs.BatchLines.{FaultyLine, first_faulty}
-use Rattle.account_words.specs.Words.{is_batch}
+use Rattle.account_model.specs.declared.tool.Tool.{Tool}
+use Rattle.account_model.specs.declared.tool.Tool.TheVariants.{Chpasswd, Batch}
+use Rattle.account_model.specs.BatchLines.{FaultyLine, first_faulty}
+use Rattle.account_model.specs.Words.{is_batch}
 use Rattle.suite_answers.specs.declared.cause.Which.TheVariants.{Input}
 use Rattle.suite_answers.specs.declared.cause.Cause.{Cause}
 use Rattle.suite_answers.specs.declared.cause.Cause.TheVariants.{TooLarge, InputFault, ClockFault, Memory}

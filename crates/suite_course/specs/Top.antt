@@ -11,9 +11,9 @@ use Rattle.acct_outside.specs.History.{History, after, own_events}
 use Rattle.acct_outside.specs.Others.{Admission}
 use Rattle.acct_outside.specs.Contract.{TellsBegin, WhereTold}
 use Rattle.acct_outside.specs.declared.FolderFault.{FolderFault}
-use Rattle.account_words.specs.declared.tool.Tool.{Tool}
-use Rattle.account_words.specs.Options.{Word}
-use Rattle.account_words.specs.Words.{tool_named}
+use Rattle.account_model.specs.declared.tool.Tool.{Tool}
+use Rattle.account_model.specs.Options.{Word}
+use Rattle.account_model.specs.Words.{tool_named}
 use Rattle.suite_rules.specs.Deeds.{SuiteDeeds}
 use Rattle.suite_rules.specs.Standing.{standing}
 use Rattle.suite_rules.specs.Lawful.{Lawful}

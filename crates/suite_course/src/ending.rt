@@ -1,6 +1,6 @@
 // How a command ends that doesn't run: the streams are served with the reason, and no session begins.
 ghost use Rattle.std.specs.Prelude.{◌≡◌, ◌⊎◌, Some, IfOk};
-ghost use Rattle.account_words.specs.declared.word_fault.WordFault.{WordFault as Fault};
+ghost use Rattle.account_model.specs.declared.word_fault.WordFault.{WordFault as Fault};
 ghost use Rattle.suite_answers.specs.declared.answer.Answer.{Answer as Given};
 ghost use Rattle.suite_answers.specs.Answers.{told_words};
 ghost use Rattle.suite_session.specs.Answers.{after_streams, memory_answer};

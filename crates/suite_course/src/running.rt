@@ -2,7 +2,7 @@
 ghost use Rattle.std.specs.Prelude.{◌≡◌, ◌⊎◌, ◌≤◌, ℕ, false, Some, IfOk};
 ghost use Rattle.acct_text.specs.Bytes.{Bytes as Text};
 ghost use Rattle.acct_outside.specs.Moment.{Narrows};
-ghost use Rattle.account_words.specs.Words.{Asks};
+ghost use Rattle.account_model.specs.Words.{Asks};
 ghost use Rattle.option_words.specs.Parsed.{request_in};
 ghost use Rattle.suite_session.specs.declared.session.Phase.TheVariants.{Waiting};
 ghost use Rattle.suite_session.specs.Runner.{LinesAsk, question};

@@ -4,10 +4,10 @@
 -- Way: the word names a tool exactly where it is the tool's name, so the words are the name with
 -- that option exactly where the tool is the one that was found.
 use Rattle.std.proofs.Common.{◌≡◌, ◌⊎◌, ◌↔◌, ◌∙◌, ap, sym, inl, inr, List, [], ◌∷◌, Option, Some, codes}
-use Rattle.account_words.specs.declared.tool.Tool.{Tool}
-use Rattle.account_words.specs.Words.{tool_name, tool_named}
-use Rattle.account_words.specs.Options.{Word}
-use Rattle.account_words.proofs.AsksLaws.{tool_of_its_name, name_of_its_tool}
+use Rattle.account_model.specs.declared.tool.Tool.{Tool}
+use Rattle.account_model.specs.Words.{tool_name, tool_named}
+use Rattle.account_model.specs.Options.{Word}
+use Rattle.account_model.proofs.AsksLaws.{tool_of_its_name, name_of_its_tool}
 use Rattle.suite_main.specs.Help.{AskAbout}
 
 module _ (words : List Word) (name : Word) (options : List Word)

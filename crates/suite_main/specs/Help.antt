@@ -1,9 +1,9 @@
 -- Which words ask for a text of main itself, before the suite reads them (docs/DECISIONS.md, "The
 -- folder").
 use Rattle.std.specs.Prelude.{◌≡◌, ◌⊎◌, List, [], ◌∷◌, codes}
-use Rattle.account_words.specs.declared.tool.Tool.{Tool}
-use Rattle.account_words.specs.Words.{tool_name}
-use Rattle.account_words.specs.Options.{Word}
+use Rattle.account_model.specs.declared.tool.Tool.{Tool}
+use Rattle.account_model.specs.Words.{tool_name}
+use Rattle.account_model.specs.Options.{Word}
 
 -- the words ask for the list of the tools
 abbrev pub AskForTools : List Word → Type 0

@@ -4,10 +4,10 @@ use Rattle.std.specs.Prelude.{ℕ, Bool, true, false, not, ◌&&◌, nat_le, Lis
 use Rattle.std.specs.List.{list_all, list_any}
 use Rattle.acct_text.specs.Bytes.{newline, blank}
 use Rattle.acct_text.specs.Pieces.{cut_at}
-use Rattle.account_formats.specs.Text.{begins_with}
-use Rattle.account_words.specs.declared.tool.Tool.{Tool}
-use Rattle.account_words.specs.Words.{tool_name, tools}
-use Rattle.account_words.specs.Options.{OptionForm, Word, option_forms}
+use Rattle.account_model.specs.Text.{begins_with}
+use Rattle.account_model.specs.declared.tool.Tool.{Tool}
+use Rattle.account_model.specs.Words.{tool_name, tools}
+use Rattle.account_model.specs.Options.{OptionForm, Word, option_forms}
 
 -- the text begins so
 abbrev pub begins_so : List ℕ → List ℕ → Bool

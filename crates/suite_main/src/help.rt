@@ -19,7 +19,7 @@ mod useradd;
 mod userdel;
 mod usermod;
 
-use account_words::Tool;
+use account_model::Tool;
 
 /// The program with its version.
 pub(crate) const VERSION: &str = "accounts 0.2.0\n";

@@ -2,7 +2,7 @@
 ghost use Rattle.std.specs.Prelude.{◌≡◌, ◌↔◌, [], ◌∷◌, Some, IsTrue, codes};
 ghost use Rattle.suite_main.specs.Help.{AskAbout, AskForTools};
 
-use account_words::Tool;
+use account_model::Tool;
 use acct_text::Word;
 use std::rt::Env;
 use std::{env, io};

@@ -15,17 +15,17 @@ use Rattle.acct_text.specs.Files.{table_of}
 use Rattle.acct_outside.specs.declared.CommitStage.TheVariants.{Before}
 use Rattle.acct_outside.specs.History.{History}
 use Rattle.acct_outside.specs.Life.{life, running}
-use Rattle.account_words.specs.declared.tool.Tool.{Tool}
-use Rattle.account_words.specs.declared.tool.Tool.TheVariants.{Batch}
+use Rattle.account_model.specs.declared.tool.Tool.{Tool}
+use Rattle.account_model.specs.declared.tool.Tool.TheVariants.{Batch}
 use Rattle.account_model.specs.declared.refusal.Refusal.{Refusal}
-use Rattle.account_words.specs.Request.{Request}
+use Rattle.account_model.specs.Request.{Request}
 use Rattle.account_model.specs.Action.{Made, outcome_of}
 use Rattle.account_model.specs.Batch.{LineRefusal, Written, batch, written_by}
 use Rattle.account_model.specs.Change.{action_of}
-use Rattle.account_words.specs.BatchLines.{line_requests}
-use Rattle.account_words.specs.Settings.{Setting, settings_of}
-use Rattle.account_words.specs.Words.{is_batch}
-use Rattle.account_formats.specs.Text.{first_some}
+use Rattle.account_model.specs.BatchLines.{line_requests}
+use Rattle.account_model.specs.Settings.{Setting, settings_of}
+use Rattle.account_model.specs.Words.{is_batch}
+use Rattle.account_model.specs.Text.{first_some}
 use Rattle.account_model.specs.Messages.{message}
 use Rattle.account_model.specs.Statuses.{file_status}
 use Rattle.account_model.specs.Answer.{FileProblem, TableTooLarge, SettingsTooLarge, TableAbsent, BadSettingAt, AnswerCause, Unusable, Refused, RefusedLine, Same, Changed, Answer as ToolAnswer, must_stand, table_problem, files_problem, file_problem_text, new_problem, files_eq, cause_of, unusable, succeeding, answer_lines, answer_outcome, answer_under, answer_written, answer}

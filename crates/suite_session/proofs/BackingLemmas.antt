@@ -21,9 +21,9 @@ use Rattle.acct_outside.specs.Moment.{Past}
 use Rattle.acct_outside.specs.Contract.{NeverAdmits}
 use Rattle.acct_outside.specs.declared.CommitStage.TheVariants.{Before}
 use Rattle.account_model.specs.Answer.{AnswerCause, deed, new_files as new_of}
-use Rattle.account_words.specs.declared.word_fault.WordFault.{WordFault}
-use Rattle.account_words.specs.Request.{Request}
-use Rattle.account_words.proofs.AsksLaws.{asks_iff_read}
+use Rattle.account_model.specs.declared.word_fault.WordFault.{WordFault}
+use Rattle.account_model.specs.Request.{Request}
+use Rattle.account_model.proofs.AsksLaws.{asks_iff_read}
 use Rattle.intent_file.specs.Intent.{NewTable}
 use Rattle.acct_text.specs.ChangedTables.{with_new_table, changed_among}
 use Rattle.suite_rules.specs.Standing.{Standing, standing}

@@ -15,8 +15,8 @@ use Rattle.acct_outside.specs.Life.{Life, MayCall}
 use Rattle.acct_outside.specs.Others.{Admission}
 use Rattle.acct_outside.specs.Contract.{NeverAdmits, WhereTold, TellsBegin, TellsEvent}
 use Rattle.acct_outside.specs.Faults.{HasRisen}
-use Rattle.account_words.specs.Options.{Word}
-use Rattle.account_words.specs.Request.{Request}
+use Rattle.account_model.specs.Options.{Word}
+use Rattle.account_model.specs.Request.{Request}
 use Rattle.suite_rules.specs.Deeds.{SuiteDeeds}
 use Rattle.suite_rules.specs.Standing.{Standing}
 use Rattle.suite_rules.specs.Rules.{free_begin}

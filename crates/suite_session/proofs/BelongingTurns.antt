@@ -8,7 +8,7 @@ use Rattle.acct_outside.specs.History.{History, own_events}
 use Rattle.acct_outside.specs.Moment.{Past, Moment, Narrows}
 use Rattle.acct_outside.specs.Others.{Admission, ByOthers, none_came, one_came}
 use Rattle.acct_outside.specs.Contract.{NeverAdmits, WhereTold}
-use Rattle.account_words.specs.declared.tool.Tool.{Tool}
+use Rattle.account_model.specs.declared.tool.Tool.{Tool}
 use Rattle.suite_answers.specs.declared.answer.Answer.{Answer}
 use Rattle.suite_session.specs.declared.state.State.{State}
 use Rattle.suite_session.specs.declared.state.State.TheVariants.{Answering}

@@ -11,8 +11,8 @@ use Rattle.acct_outside.specs.Calls.{Call, Found, appends, found_absent, found_b
 use Rattle.acct_outside.specs.Pieces.{piece_at}
 use Rattle.acct_outside.specs.Moment.{Past}
 use Rattle.acct_outside.specs.Tokens.{Token, free_text}
-use Rattle.account_words.specs.declared.tool.Tool.{Tool}
-use Rattle.account_words.specs.Request.{Request, is_report}
+use Rattle.account_model.specs.declared.tool.Tool.{Tool}
+use Rattle.account_model.specs.Request.{Request, is_report}
 use Rattle.acct_text.specs.Bytes.{Bytes}
 use Rattle.intent_file.specs.Intent.{Intended, NewTable, ReadsIntent}
 use Rattle.intent_file.proofs.Reading.{allowed_parts, at_most_six}

@@ -14,7 +14,7 @@ use Rattle.acct_text.specs.Limits.{table_limit}
 use Rattle.acct_text.specs.Tables.{all_tables}
 use Rattle.acct_outside.specs.declared.FolderFault.{FolderFault}
 use Rattle.acct_outside.specs.Calls.{Found}
-use Rattle.account_words.specs.declared.tool.Tool.{Tool}
+use Rattle.account_model.specs.declared.tool.Tool.{Tool}
 use Rattle.acct_text.specs.Bytes.{Bytes}
 use Rattle.acct_text.specs.ChangedTables.{changed_among, with_new_table}
 use Rattle.intent_file.specs.Intent.{NewTable}

@@ -23,7 +23,7 @@ use Rattle.acct_outside.specs.Moment.{Past}
 use Rattle.acct_outside.specs.Others.{ByOthers, none_came, one_came}
 use Rattle.acct_outside.specs.Tokens.{Token}
 use Rattle.acct_outside.proofs.EventLemmas.{actual-given}
-use Rattle.account_words.specs.Words.{request_of}
+use Rattle.account_model.specs.Words.{request_of}
 use Rattle.suite_rules.specs.Deeds.{SuiteDeeds}
 use Rattle.suite_rules.specs.Lawful.{KeepsRulesOrNone, Lawful, goes_on}
 use Rattle.suite_rules.specs.Rules.{Permits}

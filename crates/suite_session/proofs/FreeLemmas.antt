@@ -11,7 +11,7 @@ use Rattle.acct_outside.specs.Calls.{Answer as CallAnswer, Call, CallResult, Com
 use Rattle.acct_outside.specs.History.{Event, History, is_of, own_events}
 use Rattle.acct_outside.specs.Moment.{Past, Moment}
 use Rattle.acct_outside.specs.Others.{ByOthers}
-use Rattle.account_words.specs.Request.{is_report}
+use Rattle.account_model.specs.Request.{is_report}
 use Rattle.suite_rules.specs.Knowledge.{Knowledge}
 use Rattle.suite_rules.specs.OwnLock.{lock_uncalled, lock_made, own_step}
 use Rattle.suite_rules.specs.Standing.{Standing, standing, standing_step}

@@ -13,7 +13,7 @@ use Rattle.acct_outside.specs.declared.CommitStage.TheVariants.{Before}
 use Rattle.acct_outside.specs.declared.Name.{Name}
 use Rattle.acct_outside.specs.Calls.{Found, found_absent, found_bytes, found_too_large, reads}
 use Rattle.acct_outside.specs.History.{History}
-use Rattle.account_words.specs.declared.tool.Tool.{Tool}
+use Rattle.account_model.specs.declared.tool.Tool.{Tool}
 use Rattle.account_model.specs.Answer.{Changed as ChangedTo, new_files}
 use Rattle.account_model.proofs.DeedLaws.{deed-is}
 use Rattle.acct_text.specs.declared.files.Files.{Files}
@@ -40,7 +40,7 @@ use Rattle.suite_session.specs.declared.state.State.{State}
 use Rattle.suite_session.specs.declared.state.State.TheVariants.{BackingUp, Unlocking, Answering}
 use Rattle.suite_session.specs.declared.tools.Decided.{Decided}
 use Rattle.suite_session.specs.declared.tools.Decided.TheVariants.{Change as Changes}
-use Rattle.account_words.specs.Words.{Asks}
+use Rattle.account_model.specs.Words.{Asks}
 use Rattle.suite_session.specs.Runner.{Question, Runner}
 use Rattle.acct_outside.specs.Moment.{Past, Moment}
 use Rattle.acct_outside.specs.declared.CommitStage.{CommitStage}

@@ -15,7 +15,7 @@ use Rattle.lock_steps.specs.declared.claiming.Confirmed.{Confirmed}
 use Rattle.lock_steps.specs.declared.claiming.Confirmed.TheVariants.{Keeper, Loser}
 use Rattle.lock_steps.specs.Outcomes.{Looks, Reads, Confirms}
 use Rattle.lock_steps.specs.Stands.{HasLooked, HasReadHeld, HasJudged, HasMade, WasOvertaken, Keeps, KnowsAnything, StandsTold, StandsConfirmed}
-use Rattle.account_words.specs.Request.{Request, is_report}
+use Rattle.account_model.specs.Request.{Request, is_report}
 use Rattle.suite_session.specs.Causes.{HasListedNone}
 use Rattle.suite_session.specs.declared.state.State.TheVariants.{Claiming, Reading, Watching}
 use Rattle.suite_session.specs.Runner.{Runner}

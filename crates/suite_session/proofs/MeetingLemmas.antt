@@ -35,7 +35,7 @@ use Rattle.lock_steps.specs.declared.claiming.Confirmed.{Confirmed}
 use Rattle.lock_steps.specs.declared.claiming.Confirmed.TheVariants.{Keeper, Loser}
 use Rattle.lock_steps.specs.Outcomes.{Looks, Reads, Asks, Claims, Confirms, Withdraws, loser_of, LeadsTo as LocksLeadTo}
 use Rattle.commit_steps.specs.States.{next_name}
-use Rattle.account_words.specs.declared.tool.Tool.{Tool}
+use Rattle.account_model.specs.declared.tool.Tool.{Tool}
 use Rattle.suite_answers.specs.declared.cause.Which.TheVariants.{File}
 use Rattle.suite_answers.specs.declared.cause.Cause.{Cause}
 use Rattle.suite_answers.specs.declared.cause.Cause.TheVariants.{Held, Gone, Raced, Outrun, LockDamaged, Exhausted, IntentDamaged, TooLarge, Memory}

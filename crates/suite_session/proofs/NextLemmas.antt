@@ -12,7 +12,7 @@ use Rattle.acct_outside.specs.Life.{Life, MayCall, life, running}
 use Rattle.acct_outside.specs.Moment.{Past, Moment}
 use Rattle.acct_outside.specs.declared.CommitStage.{CommitStage}
 use Rattle.acct_outside.specs.declared.CommitStage.TheVariants.{Before, Committed}
-use Rattle.account_words.specs.Words.{request_of}
+use Rattle.account_model.specs.Words.{request_of}
 use Rattle.suite_rules.specs.Deeds.{SuiteDeeds}
 use Rattle.suite_rules.specs.Rules.{AnswerRule}
 use Rattle.suite_rules.specs.Standing.{Standing, standing}

@@ -24,7 +24,7 @@ use Rattle.commit_steps.proofs.ReadsLemmas.{starts-reading}
 use Rattle.suite_rules.specs.Knowledge.{nothing_seen}
 use Rattle.suite_rules.proofs.StepLemmas.{stands-weaker}
 use Rattle.recovery.specs.Stands.{Recovers, StandsSeen, StandsRefused}
-use Rattle.account_words.specs.declared.tool.Tool.{Tool}
+use Rattle.account_model.specs.declared.tool.Tool.{Tool}
 use Rattle.suite_answers.specs.declared.cause.Which.TheVariants.{File}
 use Rattle.suite_answers.specs.declared.cause.Cause.TheVariants.{IntentDamaged, TooLarge as IsTooLarge}
 use Rattle.suite_session.specs.declared.state.State.{State}

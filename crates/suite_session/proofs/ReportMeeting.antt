@@ -13,8 +13,8 @@ use Rattle.acct_outside.specs.Calls.{Found, found_absent, found_bytes, found_too
 use Rattle.acct_outside.specs.History.{History}
 use Rattle.acct_outside.specs.Moment.{Past}
 use Rattle.acct_outside.specs.Tokens.{Token}
-use Rattle.account_words.specs.declared.tool.Tool.{Tool}
-use Rattle.account_words.specs.Request.{is_report}
+use Rattle.account_model.specs.declared.tool.Tool.{Tool}
+use Rattle.account_model.specs.Request.{is_report}
 use Rattle.intent_file.specs.Parts.{FirstFault}
 use Rattle.intent_file.proofs.FirstFaultIsOne.{first_fault_is_one_holds}
 use Rattle.suite_rules.specs.Listing.{Listing}

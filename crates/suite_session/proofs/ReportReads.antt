@@ -22,7 +22,7 @@ use Rattle.lock_steps.specs.NextCall.{next_or}
 use Rattle.lock_steps.specs.States.{Lister}
 use Rattle.lock_steps.specs.Stands.{HasJudged}
 use Rattle.lock_steps.specs.Watching.{Gatherer, HasGathered, ReadsIntentFirst, ReadsOn, gathering_call, next_name}
-use Rattle.account_words.specs.declared.tool.Tool.{Tool}
+use Rattle.account_model.specs.declared.tool.Tool.{Tool}
 use Rattle.suite_answers.specs.declared.cause.Which.TheVariants.{File}
 use Rattle.suite_answers.specs.declared.cause.Cause.{Cause}
 use Rattle.suite_answers.specs.declared.cause.Cause.TheVariants.{IntentDamaged, TooLarge}

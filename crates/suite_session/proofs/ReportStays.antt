@@ -8,18 +8,18 @@ use Rattle.std.specs.Prelude.{codes, cond, find, is_some, if◌then◌else◌, o
 use Rattle.acct_text.specs.Bytes.{Bytes}
 use Rattle.acct_text.specs.Contents.{same_content}
 use Rattle.acct_text.specs.declared.files.Files.{Files}
-use Rattle.account_formats.specs.Tables.{Script, no_edits, files_after}
-use Rattle.account_formats.proofs.NoEdits.{files-stay}
-use Rattle.account_words.specs.declared.given.Given.{Given}
-use Rattle.account_words.specs.declared.tool.Tool.{Tool}
-use Rattle.account_words.specs.declared.tool.Tool.TheVariants.{Useradd, Usermod, Userdel, Groupadd, Groupmod, Groupdel, Gpasswd, Chage, Chpasswd, Pwck, Grpck, Getsubids, Batch}
-use Rattle.account_words.specs.BatchLines.{line_requests}
-use Rattle.account_words.specs.Options.{Word, is_given, not_both, some_of}
-use Rattle.account_words.specs.Request.{Request, has_option, is_report, reports as is_reporting}
-use Rattle.account_words.specs.Settings.{Setting, settings_of}
-use Rattle.account_words.specs.Words.{Asks, broken_rule, is_batch}
+use Rattle.account_model.specs.Tables.{Script, no_edits, files_after}
+use Rattle.account_model.proofs.NoEdits.{files-stay}
+use Rattle.account_model.specs.declared.given.Given.{Given}
+use Rattle.account_model.specs.declared.tool.Tool.{Tool}
+use Rattle.account_model.specs.declared.tool.Tool.TheVariants.{Useradd, Usermod, Userdel, Groupadd, Groupmod, Groupdel, Gpasswd, Chage, Chpasswd, Pwck, Grpck, Getsubids, Batch}
+use Rattle.account_model.specs.BatchLines.{line_requests}
+use Rattle.account_model.specs.Options.{Word, is_given, not_both, some_of}
+use Rattle.account_model.specs.Request.{Request, has_option, is_report, reports as is_reporting}
+use Rattle.account_model.specs.Settings.{Setting, settings_of}
+use Rattle.account_model.specs.Words.{Asks, broken_rule, is_batch}
 use Rattle.account_model.specs.declared.refusal.Refusal.{Refusal}
-use Rattle.account_formats.specs.Text.{first_some}
+use Rattle.account_model.specs.Text.{first_some}
 use Rattle.account_model.specs.Action.{Action, Made, made_by, multiple_entries, outcome_of, changes}
 use Rattle.account_model.specs.Batch.{batch, written_by}
 use Rattle.account_model.specs.Change.{action_by, action_of}

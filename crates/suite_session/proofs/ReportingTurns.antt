@@ -14,8 +14,8 @@ use Rattle.acct_outside.specs.Contract.{MayAnswer}
 use Rattle.acct_outside.specs.Folder.{greatest}
 use Rattle.acct_outside.specs.History.{History}
 use Rattle.acct_outside.specs.Moment.{Moment}
-use Rattle.account_words.specs.declared.tool.Tool.{Tool}
-use Rattle.account_words.specs.Request.{is_report}
+use Rattle.account_model.specs.declared.tool.Tool.{Tool}
+use Rattle.account_model.specs.Request.{is_report}
 use Rattle.account_model.specs.Answer.{AnswerCause, FileProblem, TableTooLarge, SettingsTooLarge, TableAbsent, BadSettingAt, Unusable, Refused, RefusedLine, Same, Changed}
 use Rattle.suite_rules.specs.OwnLock.{kept_number}
 use Rattle.suite_rules.specs.Standing.{Standing}

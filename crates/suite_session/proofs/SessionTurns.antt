@@ -8,7 +8,7 @@ use Rattle.acct_outside.specs.History.{own_events}
 use Rattle.acct_outside.specs.Life.{Life, runs_in, running, faulted, unbegun as not_begun, ended, MayCall}
 use Rattle.acct_outside.specs.Others.{Admission}
 use Rattle.acct_outside.specs.Contract.{NeverAdmits, MayAnswer, Tells}
-use Rattle.account_words.specs.Words.{request_of}
+use Rattle.account_model.specs.Words.{request_of}
 use Rattle.suite_rules.specs.Deeds.{SuiteDeeds}
 use Rattle.suite_rules.specs.OwnLock.{OwnLock, is_keeper, kept_number}
 use Rattle.suite_rules.specs.Knowledge.{Knowledge}

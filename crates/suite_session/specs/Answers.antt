@@ -13,7 +13,7 @@ use Rattle.suite_answers.specs.declared.answer.Answer.{Answer}
 use Rattle.suite_answers.specs.Reasons.{stage_of}
 use Rattle.suite_answers.specs.Answers.{told, says}
 use Rattle.acct_outside.specs.declared.CommitStage.{CommitStage}
-use Rattle.account_words.specs.declared.tool.Tool.{Tool}
+use Rattle.account_model.specs.declared.tool.Tool.{Tool}
 use Rattle.account_model.specs.Statuses.{memory_status, output_fault_status}
 use Rattle.suite_session.specs.Runner.{Question}
 

@@ -9,7 +9,7 @@ use Rattle.acct_text.specs.Contents.{Contents}
 use Rattle.acct_text.specs.Files.{table_of}
 use Rattle.acct_outside.specs.Calls.{Command}
 use Rattle.account_model.specs.Answer.{AnswerCause, Changed, Answer, answer, deed}
-use Rattle.account_words.specs.Words.{request_of}
+use Rattle.account_model.specs.Words.{request_of}
 use Rattle.suite_rules.specs.Deeds.{SuiteDeeds}
 
 -- the files of these contents

@@ -11,7 +11,7 @@ use Rattle.acct_outside.specs.Tokens.{Token}
 use Rattle.acct_outside.specs.History.{History}
 use Rattle.acct_outside.specs.Moment.{Past}
 use Rattle.acct_outside.specs.declared.CommitStage.TheVariants.{Before}
-use Rattle.account_words.specs.Request.{is_report}
+use Rattle.account_model.specs.Request.{is_report}
 use Rattle.suite_rules.specs.OwnLock.{kept_number}
 use Rattle.suite_rules.specs.Knowledge.{Seen, knows_none}
 use Rattle.suite_rules.specs.Standing.{Standing, standing}

@@ -3,7 +3,7 @@ use Rattle.std.specs.Prelude.{◌≡◌, false, Option}
 use Rattle.acct_text.specs.Bytes.{Bytes}
 use Rattle.acct_text.specs.declared.files.Files.{Files}
 use Rattle.acct_outside.specs.declared.CommitStage.TheVariants.{Before}
-use Rattle.account_words.specs.declared.tool.Tool.{Tool}
+use Rattle.account_model.specs.declared.tool.Tool.{Tool}
 use Rattle.account_model.specs.Answer.{Changed as ChangedTo}
 use Rattle.intent_file.specs.Intent.{ReadsIntent, intent_text}
 use Rattle.commit_steps.specs.declared.Loading.{Loading as Loaded}

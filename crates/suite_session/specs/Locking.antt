@@ -5,7 +5,7 @@ use Rattle.acct_outside.specs.declared.CommitStage.{CommitStage}
 use Rattle.acct_outside.specs.declared.CommitStage.TheVariants.{Before}
 use Rattle.acct_outside.specs.declared.FolderFault.{FolderFault}
 use Rattle.acct_outside.specs.declared.FolderFault.TheVariants.{Failed, Memory as NoMemory}
-use Rattle.account_words.specs.Request.{Request, is_report}
+use Rattle.account_model.specs.Request.{Request, is_report}
 use Rattle.lock_steps.specs.declared.LockRefusal.{LockRefusal}
 use Rattle.lock_steps.specs.declared.LockRefusal.TheVariants.{Held, Gone, Raced, Outrun, Damaged, Exhausted}
 use Rattle.lock_steps.specs.declared.LockEnd.{LockEnd}

@@ -1,6 +1,6 @@
 -- Where a session goes after it has read the intent.
 use Rattle.acct_outside.specs.declared.Name.TheVariants.{Intent}
-use Rattle.account_words.specs.declared.tool.Tool.{Tool}
+use Rattle.account_model.specs.declared.tool.Tool.{Tool}
 use Rattle.recovery.specs.declared.IntentSeen.{IntentSeen}
 use Rattle.recovery.specs.declared.IntentSeen.TheVariants.{Clean, Listed}
 use Rattle.recovery.specs.declared.RecoveryEnd.{RecoveryEnd}

@@ -12,7 +12,7 @@ use Rattle.acct_outside.specs.Names.{name_limit}
 use Rattle.acct_outside.specs.Tokens.{Token}
 use Rattle.acct_outside.specs.Calls.{Call, Found, begins, lists, reads, asks, answers, found_within}
 use Rattle.acct_outside.specs.History.{History, own_events}
-use Rattle.account_words.specs.Request.{is_report}
+use Rattle.account_model.specs.Request.{is_report}
 use Rattle.intent_file.specs.Intent.{listed_in}
 use Rattle.suite_rules.specs.OwnLock.{lock_uncalled}
 use Rattle.suite_rules.specs.Rules.{HasShown}

@@ -4,10 +4,10 @@ use Rattle.acct_text.specs.Bytes.{Bytes}
 use Rattle.acct_text.specs.Limits.{last_day, table_limit}
 use Rattle.acct_outside.specs.Tokens.{Token}
 use Rattle.acct_outside.specs.Calls.{Command}
-use Rattle.account_words.specs.declared.tool.Tool.{Tool}
-use Rattle.account_words.specs.BatchLines.{FaultyLine, first_faulty}
-use Rattle.account_words.specs.Request.{Request}
-use Rattle.account_words.specs.Words.{Asks, is_batch}
+use Rattle.account_model.specs.declared.tool.Tool.{Tool}
+use Rattle.account_model.specs.BatchLines.{FaultyLine, first_faulty}
+use Rattle.account_model.specs.Request.{Request}
+use Rattle.account_model.specs.Words.{Asks, is_batch}
 
 -- what a session is asked: its words, input and day, and the request of the words
 pub record Question : Type 0 where

@@ -4,11 +4,11 @@ use Rattle.acct_text.specs.Bytes.{Bytes}
 use Rattle.acct_outside.specs.declared.streams.SinkFault.{SinkFault}
 use Rattle.acct_outside.specs.Calls.{Command}
 use Rattle.acct_outside.specs.Tokens.{Token}
-use Rattle.account_words.specs.declared.word_fault.WordFault.TheVariants.{Memory as NoWordMemory}
-use Rattle.account_words.specs.BatchLines.{FaultyLine, first_faulty}
-use Rattle.account_words.specs.Options.{Word}
-use Rattle.account_words.specs.Request.{Request}
-use Rattle.account_words.specs.Words.{Asks, fault, is_batch}
+use Rattle.account_model.specs.declared.word_fault.WordFault.TheVariants.{Memory as NoWordMemory}
+use Rattle.account_model.specs.BatchLines.{FaultyLine, first_faulty}
+use Rattle.account_model.specs.Options.{Word}
+use Rattle.account_model.specs.Request.{Request}
+use Rattle.account_model.specs.Words.{Asks, fault, is_batch}
 use Rattle.suite_answers.specs.declared.cause.Outcome.{Outcome}
 use Rattle.suite_answers.specs.declared.answer.Answer.{Answer}
 use Rattle.suite_session.specs.declared.start_fault.StartFault.{StartFault}

@@ -15,10 +15,10 @@ use Rattle.suite_rules.specs.Steps.{StaysLawful}
 use Rattle.lock_steps.specs.Stands.{HasLooked, HasReadHeld, HasJudged, HasMade, WasOvertaken, Keeps, KnowsAnything, KnowsNone, HasStagedFree, HasFreed}
 use Rattle.lock_steps.specs.Watching.{HasGathered}
 use Rattle.recovery.specs.Stands.{Recovers, HasStagedNext}
-use Rattle.account_words.specs.declared.tool.Tool.{Tool}
+use Rattle.account_model.specs.declared.tool.Tool.{Tool}
 use Rattle.account_model.specs.Answer.{Changed as ChangedTo}
-use Rattle.account_words.specs.Words.{Asks}
-use Rattle.account_words.specs.Request.{is_report}
+use Rattle.account_model.specs.Words.{Asks}
+use Rattle.account_model.specs.Request.{is_report}
 use Rattle.commit_steps.specs.States.{Change, Walker}
 use Rattle.commit_steps.specs.Walks.{token_of}
 use Rattle.commit_steps.specs.Stands.{HasRead, BacksUp, HasStagedIntent, Installs}

@@ -6,7 +6,7 @@
 //    the tool decides on what was read; else it was outrun. Only the answer is left then.
 ghost use Rattle.std.specs.Prelude.{◌≡◌, true, None, find, length, option_map};
 ghost use Rattle.acct_text.specs.Tables.{all_tables};
-ghost use Rattle.account_words.specs.Request.{is_report};
+ghost use Rattle.account_model.specs.Request.{is_report};
 ghost use Rattle.lock_steps.specs.Watching.{gathering_left};
 ghost use Rattle.suite_session.specs.Answers.{cause_of_problem};
 ghost use Rattle.suite_session.specs.Reporting.{AnswersFiles, AnswersOn, ReportsTo, bad_table, first_problem, is_bad};

@@ -1,8 +1,8 @@
 // What a session that has begun carries from its begin to its answer.
 ghost use Rattle.std.specs.Prelude.{◌≡◌, ◌≤◌, length, IfOk};
 ghost use Rattle.acct_text.specs.Limits.{last_day, table_limit};
-ghost use Rattle.account_words.specs.Request.{is_report};
-ghost use Rattle.account_words.specs.Words.{Asks};
+ghost use Rattle.account_model.specs.Request.{is_report};
+ghost use Rattle.account_model.specs.Words.{Asks};
 ghost use Rattle.option_words.specs.Parsed.{request_in};
 ghost use Rattle.suite_session.specs.Answers.{given_for, IsTold, memory_answer};
 ghost use Rattle.suite_session.specs.Runner.{FindsFaulty, LinesAsk};

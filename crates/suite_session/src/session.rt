@@ -2,7 +2,7 @@
 ghost use Rattle.std.specs.Prelude.{◌≡◌, ◌≤◌, ◌<◌, Some, None, IfOk, IfErr, IsSome, is_none, length};
 ghost use Rattle.std.specs.Option.{option_copied};
 ghost use Rattle.acct_text.specs.Limits.{last_day, table_limit};
-ghost use Rattle.account_words.specs.Words.{Asks};
+ghost use Rattle.account_model.specs.Words.{Asks};
 ghost use Rattle.option_words.specs.Parsed.{request_in};
 ghost use Rattle.suite_session.specs.Runner.{LinesAsk};
 ghost use Rattle.suite_session.specs.Belongs.{Belongs};

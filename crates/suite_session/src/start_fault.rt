@@ -25,7 +25,7 @@ impl From<WordFault> for StartFault {
 
 impl From<AllocError> for StartFault {
     ghost use Rattle.std.specs.Prelude.{◌≡◌};
-    ghost use Rattle.account_words.specs.declared.word_fault.WordFault.TheVariants.{Memory};
+    ghost use Rattle.account_model.specs.declared.word_fault.WordFault.TheVariants.{Memory};
     ghost use Rattle.suite_session.specs.declared.start_fault.StartFault.TheVariants.{Words};
 
     ghost from_gives = { λ _ fault. fault ≡ Words Memory };

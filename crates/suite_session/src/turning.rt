@@ -1,6 +1,6 @@
 // The one turn of a session: its begin, a step, or its answer.
 ghost use Rattle.std.specs.Prelude.{◌≡◌, ◌+◌, ◌<◌, None, Ok, IfOk, IsSome};
-ghost use Rattle.account_words.specs.Words.{request_of};
+ghost use Rattle.account_model.specs.Words.{request_of};
 ghost use Rattle.suite_session.specs.Answers.{IsTold};
 ghost use Rattle.suite_session.specs.Locking.{cause_of_fault};
 ghost use Rattle.suite_session.specs.Belongs.{Belongs};
@@ -19,7 +19,7 @@ use crate::session::Phase;
 use crate::state::State;
 use crate::tools::Tools;
 use crate::unlocking::{failed, free, unlock};
-use account_words::words_have_one_reading;
+use account_model::words_have_one_reading;
 use acct_outside::{CommitStage, Folder, FolderFault, Token};
 use lock_steps::Looking;
 use std::alloc::{AllocError, Global};

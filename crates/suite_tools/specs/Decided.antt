@@ -4,10 +4,10 @@ use Rattle.std.specs.Prelude.{ℕ, Bool, true, false, List, [], Result}
 use Rattle.acct_text.specs.declared.files.Files.{Files}
 use Rattle.account_model.specs.Action.{outcome_of}
 use Rattle.account_model.specs.Change.{action_of}
-use Rattle.account_words.specs.declared.tool.Tool.{Tool}
-use Rattle.account_words.specs.declared.tool.Tool.TheVariants.{Pwck, Grpck, Getsubids}
-use Rattle.account_words.specs.Request.{Request}
-use Rattle.account_words.specs.Settings.{Setting}
+use Rattle.account_model.specs.declared.tool.Tool.{Tool}
+use Rattle.account_model.specs.declared.tool.Tool.TheVariants.{Pwck, Grpck, Getsubids}
+use Rattle.account_model.specs.Request.{Request}
+use Rattle.account_model.specs.Settings.{Setting}
 use Rattle.tool_answers.specs.Decisions.{Decides}
 use Rattle.tool_answers.specs.declared.decision.Decision.{Decision}
 use Rattle.tool_answers.specs.declared.decision.Output.{Output}

@@ -5,7 +5,7 @@ ghost use Rattle.acct_text.specs.Limits.{table_limit};
 ghost use Rattle.login_defs.specs.Held.{IsHeld};
 ghost use Rattle.suite_tools.specs.Decided.{ActsUnder, ReportsUnder, asking_with, looks_through};
 
-use account_words::Tool;
+use account_model::Tool;
 use aging_commands::chage::{chage, chage_report};
 use aging_commands::chpasswd::chpasswd;
 use command_values::Asked;

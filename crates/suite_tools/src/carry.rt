@@ -1,7 +1,7 @@
 // What a line of a batch does with tables that are carried from line to line.
 ghost use Rattle.std.specs.Prelude.{◌≡◌, ◌≤◌, true};
 ghost use Rattle.acct_text.specs.Limits.{last_day};
-ghost use Rattle.account_words.specs.Words.{is_for_lines};
+ghost use Rattle.account_model.specs.Words.{is_for_lines};
 ghost use Rattle.login_defs.specs.Held.{IsHeld};
 ghost use Rattle.option_words.specs.Parsed.{request_in};
 ghost use Rattle.suite_tools.specs.Decided.{CarriesUnder};

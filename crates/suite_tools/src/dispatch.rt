@@ -7,8 +7,7 @@ ghost use Rattle.suite_tools.specs.Decided.{DecidesUnder, asking_with, looks_thr
 
 use crate::answer::{report_of, script_of};
 use crate::{Decision, ToolRequest};
-use account_model::tools_are_written;
-use account_words::Tool;
+use account_model::{Tool, tools_are_written};
 use acct_text::Files;
 use check_reports::getsubids::getsubids;
 use check_reports::grpck::grpck;

@@ -4,7 +4,7 @@
 use Rattle.std.proofs.Common.{◌≡◌, List, [], ◌∷◌, ◌++◌, refl, sym, subst}
 use Rattle.std.specs.Prelude.{Option, Some, None, Result, Ok, Err, IsErrAnd}
 use Rattle.account_model.specs.Action.{Action}
-use Rattle.account_formats.specs.Text.{first_some}
+use Rattle.account_model.specs.Text.{first_some}
 use Rattle.tool_answers.specs.declared.tool_fault.ToolFault.{ToolFault}
 use Rattle.table_edits.specs.Acting.{ActsBy}
 use Rattle.table_edits.specs.declared.script.Script.{Script}

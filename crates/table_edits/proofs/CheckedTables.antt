@@ -11,15 +11,15 @@ use Rattle.acct_text.specs.Files.{table_of}
 use Rattle.acct_text.specs.declared.Tab.{Tab}
 use Rattle.acct_text.specs.declared.Tab.TheVariants.{Passwd, Shadow, Group, Gshadow}
 use Rattle.acct_text.specs.declared.new_tables.NewTable.{NewTable}
-use Rattle.account_formats.specs.Format.{Format}
-use Rattle.account_formats.specs.Records.{passwd_format, shadow_format, group_format, gshadow_format}
-use Rattle.account_formats.specs.Tables.{files_after, passwd_records, shadow_records, group_records, gshadow_records}
-use Rattle.account_formats.specs.Text.{first_some}
+use Rattle.account_model.specs.Format.{Format}
+use Rattle.account_model.specs.Records.{passwd_format, shadow_format, group_format, gshadow_format}
+use Rattle.account_model.specs.Tables.{files_after, passwd_records, shadow_records, group_records, gshadow_records}
+use Rattle.account_model.specs.Text.{first_some}
 use Rattle.account_model.specs.Action.{Action, made_by, multiple_entries, multiple_in, outcome_of}
 use Rattle.account_model.specs.Batch.{written_by}
 use Rattle.account_model.specs.Messages.{messages}
 use Rattle.account_model.specs.declared.refusal.Refusal.{Refusal}
-use Rattle.account_words.specs.declared.tool.Tool.{Tool}
+use Rattle.account_model.specs.declared.tool.Tool.{Tool}
 use Rattle.tool_answers.specs.Decisions.{written_output}
 use Rattle.tool_answers.specs.declared.decision.Output.{Output}
 use Rattle.line_edits.specs.declared.edit.Edit.{Edit}

@@ -5,10 +5,10 @@ use Rattle.std.specs.Prelude.{◌&&◌, find, flat_map, option_map}
 use Rattle.std.specs.List.{AllByRecursion}
 use Rattle.acct_text.specs.Lines.{Line, file_bytes, lines_of}
 use Rattle.acct_text.proofs.LinesLaws.{lines_of-are}
-use Rattle.account_formats.specs.Edits.{Edit, Become, Add, AddMissing, Put, Arrange, becomes, edited, edited_by, first_multiple, is_multiple, touches}
-use Rattle.account_formats.specs.Format.{Format}
-use Rattle.account_formats.specs.RecordEdits.{TellsSame}
-use Rattle.account_formats.specs.Tables.{table_after}
+use Rattle.account_model.specs.Edits.{Edit, Become, Add, AddMissing, Put, Arrange, becomes, edited, edited_by, first_multiple, is_multiple, touches}
+use Rattle.account_model.specs.Format.{Format}
+use Rattle.account_model.specs.RecordEdits.{TellsSame}
+use Rattle.account_model.specs.Tables.{table_after}
 use Rattle.line_edits.proofs.ChangedLines.{left-line}
 use Rattle.line_edits.proofs.ReachLemmas.{left-to}
 use Rattle.table_edits.specs.IdleEdits.{LeavesAll, LeavesRecords}

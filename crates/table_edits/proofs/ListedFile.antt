@@ -4,9 +4,9 @@ use Rattle.std.proofs.Common.{◌≡◌, ◌∙◌, ◌++◌, append-nil, ℕ, B
 use Rattle.acct_text.specs.declared.Tab.{Tab}
 use Rattle.acct_text.specs.declared.new_tables.NewTable.{NewTable}
 use Rattle.acct_text.specs.ChangedTables.{changed_bytes, with_new_table}
-use Rattle.account_formats.specs.Format.{Format}
-use Rattle.account_formats.specs.Tables.{table_after}
-use Rattle.account_formats.proofs.SameLaws.{bytes-self}
+use Rattle.account_model.specs.Format.{Format}
+use Rattle.account_model.specs.Tables.{table_after}
+use Rattle.account_model.proofs.SameLaws.{bytes-self}
 use Rattle.line_edits.specs.declared.edit.Edit.{Edit}
 use Rattle.line_edits.specs.SeenEdits.{seen_edits}
 

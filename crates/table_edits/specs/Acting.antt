@@ -1,7 +1,7 @@
 -- What a tool answers, and what it reports ("EXIT VALUES" of each page).
 use Rattle.std.specs.Prelude.{◌≡◌, ⊤, Some, None, Result, Ok, Err}
 use Rattle.account_model.specs.Action.{Action}
-use Rattle.account_formats.specs.Text.{first_some}
+use Rattle.account_model.specs.Text.{first_some}
 use Rattle.tool_answers.specs.declared.tool_fault.ToolFault.{ToolFault}
 use Rattle.tool_answers.specs.declared.tool_fault.ToolFault.TheVariants.{Refused, Memory}
 use Rattle.table_edits.specs.declared.report.Report.{Report}

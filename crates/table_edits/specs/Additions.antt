@@ -1,6 +1,6 @@
 -- Edits that come behind those of a script; no manual page has this.
 use Rattle.std.specs.Prelude.{◌≡◌}
-use Rattle.account_formats.specs.Tables as model
+use Rattle.account_model.specs.Tables as model
 use Rattle.table_edits.specs.declared.script.Script.{Script}
 use Rattle.table_edits.specs.SeenScript.{seen_script}
 

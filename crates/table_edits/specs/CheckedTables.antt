@@ -5,7 +5,7 @@ use Rattle.acct_text.specs.ChangedTables.{changed_tables}
 use Rattle.acct_text.specs.Files.{table_of}
 use Rattle.acct_text.specs.declared.files.Files.{Files}
 use Rattle.acct_text.specs.declared.new_tables.NewTable.{NewTable}
-use Rattle.account_formats.specs.Tables.{Script, files_after}
+use Rattle.account_model.specs.Tables.{Script, files_after}
 use Rattle.account_model.specs.Action.{multiple_entries}
 use Rattle.account_model.specs.declared.refusal.Refusal.{Refusal}
 use Rattle.table_edits.specs.declared.checked_tables.Changes.{Changes}

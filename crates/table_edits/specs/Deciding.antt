@@ -5,7 +5,7 @@ use Rattle.acct_text.specs.declared.files.Files.{Files}
 use Rattle.account_model.specs.declared.refusal.Refusal.{Refusal}
 use Rattle.account_model.specs.Action.{Action, Made, outcome_of}
 use Rattle.account_model.specs.Batch.{Written, written_by}
-use Rattle.account_words.specs.declared.tool.Tool.{Tool}
+use Rattle.account_model.specs.declared.tool.Tool.{Tool}
 use Rattle.tool_answers.specs.Decisions.{Decides}
 use Rattle.tool_answers.specs.declared.decision.Decision.{Decision}
 use Rattle.tool_answers.specs.declared.decision.Output.{Output}

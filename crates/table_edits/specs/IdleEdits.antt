@@ -1,7 +1,7 @@
 -- Edits that leave each record of their table as it is (usermod(8), where no option is for the table;
 -- passwd(5), shadow(5)).
 use Rattle.std.specs.Prelude.{◌≡◌, List, [], ◌∷◌, None}
-use Rattle.account_formats.specs.Edits.{Edit, Become, Add, AddMissing, Put, Arrange}
+use Rattle.account_model.specs.Edits.{Edit, Become, Add, AddMissing, Put, Arrange}
 use Rattle.line_edits.specs.declared.passwd_changes.UserFields.{UserFields}
 use Rattle.line_edits.specs.declared.shadow_changes.DaysChange.TheVariants.{Stays}
 use Rattle.line_edits.specs.declared.shadow_changes.ShadowFields.{ShadowFields}

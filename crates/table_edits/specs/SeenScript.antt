@@ -1,5 +1,5 @@
--- The edits of a command as account_formats has them: a script as data stands for one of these.
-use Rattle.account_formats.specs.Tables as model
+-- The edits of a command as account_model has them: a script as data stands for one of these.
+use Rattle.account_model.specs.Tables as model
 use Rattle.table_edits.specs.declared.script.Script.{Script}
 use Rattle.line_edits.specs.SeenEdits.{seen_edits}
 use Rattle.line_edits.specs.GroupChanges.{group_becomes}

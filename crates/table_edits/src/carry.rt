@@ -1,9 +1,9 @@
 // What a command does with carried tables, by the script of its tool, once none of the tool's refusals
 // is there.
 ghost use Rattle.std.specs.Prelude.{◌≡◌, OnOk};
-ghost use Rattle.account_formats.specs.Records.{subid_format};
-ghost use Rattle.account_formats.specs.Tables.{files_after};
-ghost use Rattle.account_formats.specs.WrittenScript.{IsWrittenScript};
+ghost use Rattle.account_model.specs.Records.{subid_format};
+ghost use Rattle.account_model.specs.Tables.{files_after};
+ghost use Rattle.account_model.specs.WrittenScript.{IsWrittenScript};
 ghost use Rattle.carried_lines.specs.TableEdits.{AreWritten, table_by};
 ghost use Rattle.line_edits.specs.SubidChanges.{subid_becomes};
 ghost use Rattle.table_edits.specs.Deciding.{CarriesAs};
@@ -12,7 +12,7 @@ ghost use Rattle.table_edits.specs.SeenScript.{seen_script};
 use crate::decide::output_of;
 use crate::multiple::multiple_carried;
 use crate::{Report, Script, SubidRecord};
-use account_words::Tool;
+use account_model::Tool;
 use carried_tables::{CarriedTables, RangeTable};
 use line_edits::{Edit, SubidChange};
 use range_edits::{edited_ranges, open_edits};

@@ -1,13 +1,13 @@
 // What a command decides by the script of its tool, once none of the tool's refusals is there.
 ghost use Rattle.std.specs.Prelude.{◌≡◌, IfOk};
 ghost use Rattle.account_model.specs.Messages.{messages};
-ghost use Rattle.account_formats.specs.WrittenScript.{IsWrittenScript};
+ghost use Rattle.account_model.specs.WrittenScript.{IsWrittenScript};
 ghost use Rattle.table_edits.specs.Deciding.{DecidesAs};
 ghost use Rattle.table_edits.specs.SeenScript.{seen_script};
 
 use crate::checked_tables::{Changes, checked_tables};
 use crate::{Report, Script};
-use account_words::Tool;
+use account_model::Tool;
 use acct_text::Files;
 use std::alloc::{AllocError, Global};
 use tool_answers::{Decision, Output, decision_by, messages, refuse};

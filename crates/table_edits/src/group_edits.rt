@@ -1,10 +1,10 @@
 // Edits that several tools make of groups, each behind those that the script has (group(5),
 // gshadow(5)).
 ghost use Rattle.std.specs.Prelude.{[], ◌∷◌, OnOk};
-ghost use Rattle.account_formats.specs.Edits.Edit.{Become};
+ghost use Rattle.account_model.specs.Edits.Edit.{Become};
 ghost use Rattle.account_model.specs.Groupdel.{remove_group as group_removal};
 ghost use Rattle.account_model.specs.Members.{add_to_group as addition_to_group};
-ghost use Rattle.account_formats.specs.Tables.{no_edits};
+ghost use Rattle.account_model.specs.Tables.{no_edits};
 ghost use Rattle.table_edits.specs.Additions.{HasAlso};
 ghost use Rattle.line_edits.specs.GroupChanges.{group_becomes};
 ghost use Rattle.line_edits.specs.GshadowChanges.{gshadow_becomes};

@@ -18,8 +18,7 @@ mod report;
 mod script;
 mod user_edits;
 
-pub use account_model::Refusal;
-pub use account_words::Tool;
+pub use account_model::{Refusal, Tool};
 pub use acct_lines::{
     GroupRecord, GshadowRecord, PasswdRecord, ShadowRecord, SubidRecord, TableRecord,
 };

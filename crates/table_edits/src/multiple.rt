@@ -2,7 +2,7 @@
 // (passwd(5), shadow(5), group(5), gshadow(5)).
 ghost use Rattle.std.specs.Prelude.{◌≡◌, IfOk};
 ghost use Rattle.account_model.specs.Action.{multiple_entries};
-ghost use Rattle.account_formats.specs.WrittenScript.{IsWrittenScript};
+ghost use Rattle.account_model.specs.WrittenScript.{IsWrittenScript};
 ghost use Rattle.table_edits.specs.SeenScript.{seen_script};
 
 use crate::Script;

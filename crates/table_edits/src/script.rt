@@ -1,6 +1,6 @@
 // The edits of a command, table by table.
 ghost use Rattle.std.specs.Prelude.{◌≡◌};
-ghost use Rattle.account_formats.specs.Tables.{no_edits};
+ghost use Rattle.account_model.specs.Tables.{no_edits};
 
 use acct_lines::{GroupRecord, GshadowRecord, PasswdRecord, ShadowRecord, SubidRecord};
 use line_edits::{Edit, GroupChange, GshadowChange, PasswdChange, ShadowChange, SubidChange};

@@ -1,8 +1,8 @@
 // Edits that several tools make of users, each behind those that the script has (passwd(5),
 // shadow(5)).
 ghost use Rattle.std.specs.Prelude.{[], ◌∷◌, OnOk};
-ghost use Rattle.account_formats.specs.Edits.Edit.{Become};
-ghost use Rattle.account_formats.specs.Tables.{no_edits};
+ghost use Rattle.account_model.specs.Edits.Edit.{Become};
+ghost use Rattle.account_model.specs.Tables.{no_edits};
 ghost use Rattle.table_edits.specs.Additions.{HasAlso};
 ghost use Rattle.line_edits.specs.PasswdChanges.{passwd_becomes};
 ghost use Rattle.line_edits.specs.ShadowChanges.{shadow_becomes};

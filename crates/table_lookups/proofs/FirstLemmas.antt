@@ -6,7 +6,7 @@ use Rattle.std.proofs.Common.{◌≡◌, ℕ, Bool, true, false, true≢false, L
 use Rattle.std.specs.Prelude.{Option, Some, None, find, is_some, option_map}
 use Rattle.std.specs.List.{cons_option}
 use Rattle.std.proofs.lemmas.Bool.{cases_Bool}
-use Rattle.account_formats.specs.Format.{Format}
+use Rattle.account_model.specs.Format.{Format}
 use Rattle.table_lookups.specs.FirstLines.{Tells, or_other}
 
 -- what is told of a record that was read

@@ -4,9 +4,9 @@
 use Rattle.std.proofs.Common.{◌≡◌, ◌∙◌, ℕ, ◌+◌, ◌≤◌, Bool, true, false, List, [], ◌∷◌, cond, refl, sym, ap, arith}
 use Rattle.std.specs.Prelude.{◌==◌, count_by, filter, find, map, not, IsSomeAnd, Option, None, Some, if◌then◌else◌}
 use Rattle.std.proofs.lemmas.List.Sums.{sum_by-cons}
-use Rattle.account_formats.specs.declared.records.PasswdRecord.{PasswdRecord}
-use Rattle.account_formats.specs.Format.{find_named, is_named}
-use Rattle.account_formats.specs.Records.{passwd_format}
+use Rattle.account_model.specs.declared.records.PasswdRecord.{PasswdRecord}
+use Rattle.account_model.specs.Format.{find_named, is_named}
+use Rattle.account_model.specs.Records.{passwd_format}
 
 -- so many users have the ID
 module _ (has_id : PasswdRecord → Bool) where

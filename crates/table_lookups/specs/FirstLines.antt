@@ -2,13 +2,13 @@
 -- shadow(5), group(5)).
 use Rattle.std.specs.Prelude.{◌≡◌, ℕ, ◌==◌, nat_eq, Bool, true, List, [], Option, None, Some, find, bytes_eq, option_map}
 use Rattle.std.specs.HashMap.{HashMap, get, get_by}
-use Rattle.account_formats.specs.declared.records.GroupRecord.{GroupRecord}
+use Rattle.account_model.specs.declared.records.GroupRecord.{GroupRecord}
 use Rattle.acct_text.specs.declared.files.Files.{Files}
-use Rattle.account_formats.specs.Format.{Format, is_named}
-use Rattle.account_formats.specs.Records.{group_format, passwd_format, shadow_format}
-use Rattle.account_formats.specs.Tables.{passwd_records, shadow_records}
-use Rattle.account_formats.specs.Text.{is_listed}
-use Rattle.account_words.specs.Ids.{is_used}
+use Rattle.account_model.specs.Format.{Format, is_named}
+use Rattle.account_model.specs.Records.{group_format, passwd_format, shadow_format}
+use Rattle.account_model.specs.Tables.{passwd_records, shadow_records}
+use Rattle.account_model.specs.Text.{is_listed}
+use Rattle.account_model.specs.Ids.{is_used}
 use Rattle.table_lookups.specs.declared.first_lines.FirstOfNames.{FirstOfNames}
 use Rattle.table_lookups.specs.declared.group_index.FirstOfGids.{FirstOfGids}
 use Rattle.table_lookups.specs.declared.user_index.UserLines.{UserLines}

@@ -1,8 +1,8 @@
 // The first record of each name in a file, found without a pass over all.
 ghost use Rattle.std.specs.Prelude.{◌≡◌, ℕ, List, true, IfOk, OnOk};
 ghost use Rattle.std.specs.List.{cons_option};
-ghost use Rattle.account_formats.specs.Format.{find_named, has_named};
-ghost use Rattle.account_formats.specs.Tables.{table_records};
+ghost use Rattle.account_model.specs.Format.{find_named, has_named};
+ghost use Rattle.account_model.specs.Tables.{table_records};
 ghost use Rattle.table_lookups.specs.FirstLines.{Tells, TellsNames, has_name, is_asked, told_names};
 
 use acct_lines::{TableRecord, first_field};

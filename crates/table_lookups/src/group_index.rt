@@ -4,13 +4,13 @@ ghost use Rattle.std.specs.Prelude.{◌≡◌, List, [], true, is_some, option_m
 ghost use Rattle.std.specs.List.{cons_option};
 ghost use Rattle.std.specs.Option.{option_copied};
 ghost use Rattle.acct_text.specs.Lines.{lines_of};
-ghost use Rattle.account_formats.specs.Format.{records_of};
+ghost use Rattle.account_model.specs.Format.{records_of};
 ghost use Rattle.account_model.specs.GivenGroups.{find_gid as first_of_gid};
-ghost use Rattle.account_formats.specs.Records.{group_format};
-ghost use Rattle.account_formats.specs.Tables.{group_records, table_records};
+ghost use Rattle.account_model.specs.Records.{group_format};
+ghost use Rattle.account_model.specs.Tables.{group_records, table_records};
 ghost use Rattle.account_model.specs.Users.{has_group};
-ghost use Rattle.account_formats.specs.declared.records.GroupRecord.{GroupRecord};
-ghost use Rattle.account_words.specs.Ids.{is_used};
+ghost use Rattle.account_model.specs.declared.records.GroupRecord.{GroupRecord};
+ghost use Rattle.account_model.specs.Ids.{is_used};
 ghost use Rattle.table_lookups.specs.FirstLines.{Tells, TellsGids, TellsNames, has_gid, told_gids};
 
 use crate::Tables;
@@ -49,8 +49,8 @@ pub struct GroupIndex<'a> {
 impl<'a> Model for GroupIndex<'a> {
     ghost use Rattle.std.specs.Prelude.{IfSome};
     ghost use Rattle.acct_text.specs.declared.files.Files.{Files};
-    ghost use Rattle.account_formats.specs.Records.{group_format};
-    ghost use Rattle.account_formats.specs.Tables.{group_records};
+    ghost use Rattle.account_model.specs.Records.{group_format};
+    ghost use Rattle.account_model.specs.Tables.{group_records};
     ghost use Rattle.table_lookups.specs.FirstLines.{TellsGids, TellsNames};
 
     ghost Value = { Files };

@@ -1,8 +1,8 @@
 // Groups that a command looks for in group(5). An absent table has none.
 ghost use Rattle.std.specs.Prelude.{◌≡◌, IfOk};
 ghost use Rattle.account_model.specs.GivenGroups.{find_gid as first_of_gid};
-ghost use Rattle.account_words.specs.Ids.{is_used, used_gids as gids_of};
-ghost use Rattle.account_formats.specs.Tables.{group_records};
+ghost use Rattle.account_model.specs.Ids.{is_used, used_gids as gids_of};
+ghost use Rattle.account_model.specs.Tables.{group_records};
 ghost use Rattle.id_choice.specs.Used.{AreThoseOf};
 
 use crate::Tables;

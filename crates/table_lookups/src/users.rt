@@ -1,9 +1,9 @@
 // Users that a command looks for in passwd(5). An absent table has none.
 ghost use Rattle.std.specs.Prelude.{◌≡◌, ◌≤◌, ◌==◌, true, None, find, IfOk, IfSome, IsSomeAnd};
-ghost use Rattle.account_words.specs.Ids.{is_used, used_uids as uids_of};
-ghost use Rattle.account_formats.specs.Records.{passwd_format};
+ghost use Rattle.account_model.specs.Ids.{is_used, used_uids as uids_of};
+ghost use Rattle.account_model.specs.Records.{passwd_format};
 ghost use Rattle.account_model.specs.Refusals.{missing_user, missing_users};
-ghost use Rattle.account_formats.specs.Tables.{passwd_records};
+ghost use Rattle.account_model.specs.Tables.{passwd_records};
 ghost use Rattle.account_model.specs.Users.{find_user, has_user, other_users};
 ghost use Rattle.carried_tables.specs.KeptIds.{table_counts};
 ghost use Rattle.id_choice.specs.Used.{AreThoseOf};

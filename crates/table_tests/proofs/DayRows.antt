@@ -1,7 +1,7 @@
--- Rows of days and dates, beside those of account_words (chage(1), `-d` and `-l`).
+-- Rows of days and dates, beside those of account_model (chage(1), `-d` and `-l`).
 use Rattle.std.specs.Prelude.{◌≡◌, Some, Ok, Err, codes, refl}
 use Rattle.std.specs.Fmt.{digits}
-use Rattle.account_words.specs.Dates.{read_day, print_day, no_day_shape, day_out_of_range}
+use Rattle.account_model.specs.Dates.{read_day, print_day, no_day_shape, day_out_of_range}
 
 number : read_day (codes "19800") ≡ Ok (Some 19800)
 number = refl

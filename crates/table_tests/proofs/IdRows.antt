@@ -1,8 +1,8 @@
--- Rows of chosen IDs, beside those of account_words: the used IDs, the range, the kind and what is
+-- Rows of chosen IDs, beside those of account_model: the used IDs, the range, the kind and what is
 -- preferred (useradd(8), groupadd(8)).
 use Rattle.std.specs.Prelude.{◌≡◌, ℕ, List, [], ◌∷◌, refl, Some, None}
-use Rattle.account_words.specs.declared.settings.Kind.TheVariants.{Regular, System}
-use Rattle.account_words.specs.Ids.{chosen_id}
+use Rattle.account_model.specs.declared.settings.Kind.TheVariants.{Regular, System}
+use Rattle.account_model.specs.Ids.{chosen_id}
 use Rattle.id_choice.specs.Used.{id_for}
 
 -- in no order, and one of them twice

@@ -1,10 +1,10 @@
--- Rows of lines, beside those of account_formats: what is no record, and how a record is printed
+-- Rows of lines, beside those of account_model: what is no record, and how a record is printed
 -- (passwd(5), shadow(5), group(5), gshadow(5), subuid(5)).
 use Rattle.std.specs.Prelude.{◌≡◌, [], ◌∷◌, ◌++◌, codes, refl, Some, None, option_map}
 use Rattle.std.specs.Fmt.{digits}
-use Rattle.account_formats.specs.declared.fault.LineFault.TheVariants.{FieldCount, BadNumber, EmptyName, BadRange}
-use Rattle.account_formats.specs.Faults.{group_fault, shadow_fault, subid_fault}
-use Rattle.account_formats.specs.Records.{passwd_format, shadow_format, group_format, gshadow_format, subid_format}
+use Rattle.account_model.specs.declared.fault.LineFault.TheVariants.{FieldCount, BadNumber, EmptyName, BadRange}
+use Rattle.account_model.specs.Faults.{group_fault, shadow_fault, subid_fault}
+use Rattle.account_model.specs.Records.{passwd_format, shadow_format, group_format, gshadow_format, subid_format}
 
 -- ---- lines that are no records, and some that are
 

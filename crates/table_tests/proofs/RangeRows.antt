@@ -1,8 +1,8 @@
--- Rows of the first of the least free range, beside those of account_words: the bounds and the count of a
+-- Rows of the first of the least free range, beside those of account_model: the bounds and the count of a
 -- new range, over files in several orders (useradd(8), subuid(5)).
 use Rattle.std.specs.Prelude.{◌≡◌, ℕ, List, Option, [], ◌∷◌, codes, refl, Some, None, map}
-use Rattle.account_formats.specs.declared.records.SubidRecord.{SubidRecord}
-use Rattle.account_words.specs.FreeRange.{free_range}
+use Rattle.account_model.specs.declared.records.SubidRecord.{SubidRecord}
+use Rattle.account_model.specs.FreeRange.{free_range}
 
 abbrev held : ℕ → ℕ → SubidRecord
 held first count = record { owner = codes "a"; first = first; count = count }

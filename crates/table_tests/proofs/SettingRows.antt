@@ -1,11 +1,11 @@
--- Rows of login.defs(5), beside those of account_words: what stands where a key isn't set, and the
+-- Rows of login.defs(5), beside those of account_model: what stands where a key isn't set, and the
 -- words of `-K`.
 use Rattle.std.specs.Prelude.{◌≡◌, [], ◌∷◌, codes, refl, Some, None, true, false}
-use Rattle.account_words.specs.declared.settings.Key.TheVariants.{SysUidMax}
-use Rattle.account_words.specs.declared.settings.Kind.TheVariants.{System}
-use Rattle.account_words.specs.declared.settings.IdSort.TheVariants.{Uid, Gid}
-use Rattle.account_words.specs.Settings.{number, range, user_groups, with_words, is_setting_word}
-use Rattle.account_words.specs.Ids.{chosen_id}
+use Rattle.account_model.specs.declared.settings.Key.TheVariants.{SysUidMax}
+use Rattle.account_model.specs.declared.settings.Kind.TheVariants.{System}
+use Rattle.account_model.specs.declared.settings.IdSort.TheVariants.{Uid, Gid}
+use Rattle.account_model.specs.Settings.{number, range, user_groups, with_words, is_setting_word}
+use Rattle.account_model.specs.Ids.{chosen_id}
 
 -- ---- without a setting
 

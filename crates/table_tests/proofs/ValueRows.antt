@@ -4,7 +4,7 @@ use Rattle.std.specs.Prelude.{◌≡◌, [], ◌∷◌, codes, refl, Some, None,
 use Rattle.account_model.specs.declared.refusal.Refusal.TheVariants.{BadName}
 use Rattle.account_model.specs.Refusals.{bad_name, bad_list_name}
 use Rattle.account_model.specs.UsermodRanges.{range_value}
-use Rattle.account_words.specs.Values.{days_value, date_value, expiration_value, list_value}
+use Rattle.account_model.specs.Values.{days_value, date_value, expiration_value, list_value}
 use Rattle.command_values.specs.declared.form.Form.TheVariants.{Field, Folder, Shell, Id, Name, Days, Date, Expiration}
 use Rattle.command_values.specs.Forms.{test_of}
 

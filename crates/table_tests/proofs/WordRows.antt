@@ -1,19 +1,19 @@
--- Rows of words and what they ask for, beside those of account_words (getopt_long(3)).
+-- Rows of words and what they ask for, beside those of account_model (getopt_long(3)).
 use Prim.Native.String.{String}
 use Rattle.std.specs.Prelude.{◌≡◌, ◌==◌, List, [], ◌∷◌, replicate, Some, None, Result, Ok, codes, refl, true, false}
 use Rattle.std.specs.List.{slice_split}
 use Rattle.std.specs.Str.{byte}
-use Rattle.account_words.specs.declared.tool.Tool.{Tool}
-use Rattle.account_words.specs.declared.tool.Tool.TheVariants.{Useradd, Usermod, Groupadd, Chage, Chpasswd, Grpck}
-use Rattle.account_words.specs.declared.word_fault.WordFault.{WordFault}
-use Rattle.account_words.specs.declared.word_fault.WordFault.TheVariants.{WordLimit, UnknownTool, UnknownOption, MissingValue, TooMany, TooFew, Clash}
-use Rattle.account_words.specs.Options.{Word}
-use Rattle.account_words.specs.declared.given.Given.{Given}
-use Rattle.account_words.specs.declared.settings.Kind.TheVariants.{System}
+use Rattle.account_model.specs.declared.tool.Tool.{Tool}
+use Rattle.account_model.specs.declared.tool.Tool.TheVariants.{Useradd, Usermod, Groupadd, Chage, Chpasswd, Grpck}
+use Rattle.account_model.specs.declared.word_fault.WordFault.{WordFault}
+use Rattle.account_model.specs.declared.word_fault.WordFault.TheVariants.{WordLimit, UnknownTool, UnknownOption, MissingValue, TooMany, TooFew, Clash}
+use Rattle.account_model.specs.Options.{Word}
+use Rattle.account_model.specs.declared.given.Given.{Given}
+use Rattle.account_model.specs.declared.settings.Kind.TheVariants.{System}
 use Rattle.account_model.specs.NewAccount.{kind_of}
-use Rattle.account_words.specs.Request.{Request, has_option, operand, value_of, values_of}
-use Rattle.account_words.specs.Values.{given_id, text_value}
-use Rattle.account_words.specs.Words.{request_of, fault}
+use Rattle.account_model.specs.Request.{Request, has_option, operand, value_of, values_of}
+use Rattle.account_model.specs.Values.{given_id, text_value}
+use Rattle.account_model.specs.Words.{request_of, fault}
 
 -- the words of a text without quotes, cut at blanks as a shell does
 abbrev words_of : String → List Word

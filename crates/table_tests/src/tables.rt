@@ -2,8 +2,8 @@
 ghost use Rattle.std.specs.Prelude.{IfOk};
 ghost use Rattle.acct_text.specs.Bytes.{newline};
 ghost use Rattle.acct_text.specs.Pieces.{Lacks};
-ghost use Rattle.account_formats.specs.Records.{group_format};
-ghost use Rattle.account_formats.specs.Written.{IsWritten};
+ghost use Rattle.account_model.specs.Records.{group_format};
+ghost use Rattle.account_model.specs.Written.{IsWritten};
 
 use acct_lines::{GroupRecord, TableRecord};
 use record_tables::Table;

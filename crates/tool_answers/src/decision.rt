@@ -3,8 +3,7 @@ ghost use Rattle.std.specs.Prelude.{◌≡◌, IfOk};
 ghost use Rattle.tool_answers.specs.Decisions.{decision_by, line_refusal_output, refusal_output};
 
 use crate::{line_refusal_message, push_line, refusal_status, refusal_text};
-use account_model::Refusal;
-use account_words::Tool;
+use account_model::{Refusal, Tool};
 use acct_text::{Bytes, NewTables};
 use std::alloc::{AllocError, Global};
 

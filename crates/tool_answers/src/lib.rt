@@ -13,8 +13,7 @@ mod status;
 mod tool_fault;
 mod word_fault;
 
-pub use account_model::{LineProblem, Refusal};
-pub use account_words::{Tool, WordFault};
+pub use account_model::{LineProblem, Refusal, Tool, WordFault};
 pub use decision::{Decision, Output, decision_by, refuse, refuse_line};
 pub use line_text::{line_fault_message, line_refusal_message};
 pub use message::{messages, push_line, speaker};

@@ -4,8 +4,7 @@ ghost use Rattle.account_model.specs.Messages.{line_refusal_text, line_text, mes
 ghost use Rattle.account_model.specs.WordMessages.{line_fault_message};
 
 use crate::{push_line, refusal_text, word_fault_text};
-use account_model::Refusal;
-use account_words::{Tool, WordFault};
+use account_model::{Refusal, Tool, WordFault};
 use acct_text::Piece::{Number, Text};
 use acct_text::{Bytes, Word};
 use std::alloc::{AllocError, Global};

@@ -2,7 +2,7 @@
 ghost use Rattle.std.specs.Prelude.{◌≡◌, ◌++◌, IfOk, OnOk};
 ghost use Rattle.account_model.specs.Messages.{line_by, messages, speaker};
 
-use account_words::Tool;
+use account_model::Tool;
 use acct_text::Piece::Text;
 use acct_text::{Bytes, Names};
 use std::alloc::{AllocError, Global};

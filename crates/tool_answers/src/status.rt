@@ -3,8 +3,7 @@
 ghost use Rattle.std.specs.Prelude.{◌≡◌};
 ghost use Rattle.account_model.specs.Statuses.{bad_value_status, file_status, lock_status, multiple_status, no_group_status, no_shadow_status, no_user_status, refusal_status, update_status};
 
-use account_model::Refusal;
-use account_words::Tool;
+use account_model::{Refusal, Tool};
 use acct_text::Tab;
 
 // The command can't be done, for no reason that has a number of its own.

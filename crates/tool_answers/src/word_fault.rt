@@ -1,10 +1,10 @@
 // What is said of the first fault of a list of words, and its status ("EXIT VALUES" of each page).
 ghost use Rattle.std.specs.Prelude.{◌≡◌, ◌++◌, codes, decimal, IfOk};
-ghost use Rattle.account_words.specs.Words.{tool_named};
+ghost use Rattle.account_model.specs.Words.{tool_named};
 ghost use Rattle.account_model.specs.WordMessages.{faulty_tool, syntax_status, word_at, word_fault_message, word_fault_status, word_fault_text};
 
 use crate::{MEMORY_STATUS, push_line};
-use account_words::{Tool, WordFault};
+use account_model::{Tool, WordFault};
 use acct_text::Piece::{Number, Text};
 use acct_text::{Bytes, Word, pair};
 use std::alloc::{AllocError, Global};

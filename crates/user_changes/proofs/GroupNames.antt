@@ -5,7 +5,7 @@ use Rattle.std.proofs.Common.{◌≡◌, ℕ, ◌+◌, ◌<◌, List, [], ◌∷
 use Rattle.std.specs.Prelude.{Option, Some, None, filter_map, option_map}
 use Rattle.std.specs.List.{cons_option}
 use Rattle.std.proofs.lemmas.List.{drop_more}
-use Rattle.account_formats.specs.declared.records.GroupRecord.{GroupRecord}
+use Rattle.account_model.specs.declared.records.GroupRecord.{GroupRecord}
 use Rattle.account_model.specs.GivenGroups.{find_group}
 
 -- the name of a group, where there is one

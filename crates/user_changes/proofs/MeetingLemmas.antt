@@ -5,12 +5,12 @@ use Rattle.std.specs.List.{AllByRecursion}
 use Rattle.std.proofs.lemmas.List.{append-nil}
 use Rattle.acct_text.specs.Lines.{file_bytes, lines_of}
 use Rattle.acct_text.proofs.LinesLaws.{lines_of-only}
-use Rattle.account_formats.specs.Edits.{Edit, edited_by}
-use Rattle.account_formats.specs.Records.{subid_format}
-use Rattle.account_formats.specs.RecordEdits.{IsWrittenEdit}
+use Rattle.account_model.specs.Edits.{Edit, edited_by}
+use Rattle.account_model.specs.Records.{subid_format}
+use Rattle.account_model.specs.RecordEdits.{IsWrittenEdit}
 use Rattle.account_model.specs.UsermodRanges.{RangeOwner, RangeChange, edits_before_adding, range_edits}
-use Rattle.account_formats.specs.Written.{IsNameField}
-use Rattle.account_formats.proofs.EditLines.{edited-lines}
+use Rattle.account_model.specs.Written.{IsNameField}
+use Rattle.account_model.proofs.EditLines.{edited-lines}
 use Rattle.account_model.proofs.UsermodRangeScripts.{range-edits-written}
 
 -- the edits before adding are those of a change that adds none

@@ -3,11 +3,11 @@
 use Rattle.std.proofs.Common.{◌≡◌, ℕ, Bool, true, false, List, [], ◌∷◌, refl}
 use Rattle.std.specs.Prelude.{codes, not, if◌then◌else◌}
 use Rattle.acct_text.specs.declared.files.Files.{Files}
-use Rattle.account_formats.specs.Edits.{each}
-use Rattle.account_formats.specs.Edits.Edit.{Become}
+use Rattle.account_model.specs.Edits.{each}
+use Rattle.account_model.specs.Edits.Edit.{Become}
 use Rattle.account_model.specs.Members.{renamed_in, with_name, without_name}
-use Rattle.account_words.specs.Request.{Request, has_option, operand}
-use Rattle.account_formats.specs.Text.{is_listed}
+use Rattle.account_model.specs.Request.{Request, has_option, operand}
+use Rattle.account_model.specs.Text.{is_listed}
 use Rattle.account_model.specs.Usermod.{changed_group, changed_gshadow, members_after, new_name}
 use Rattle.line_edits.specs.Memberships.{members_by, members_with}
 use Rattle.line_edits.specs.declared.memberships.Membership.{Membership}

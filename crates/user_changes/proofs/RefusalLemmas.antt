@@ -7,16 +7,16 @@ use Rattle.std.specs.Prelude.{None, Err, codes}
 use Rattle.std.proofs.lemmas.Bool.{cases_Bool}
 use Rattle.acct_text.specs.Bytes.{is_empty}
 use Rattle.acct_text.specs.declared.files.Files.{Files}
-use Rattle.account_formats.specs.Names.{is_valid_name}
+use Rattle.account_model.specs.Names.{is_valid_name}
 use Rattle.account_model.specs.Refusals.{bad_value, missing_user}
-use Rattle.account_words.specs.Request.{Request, operand}
-use Rattle.account_formats.specs.Text.{comma, first_some, has_byte}
+use Rattle.account_model.specs.Request.{Request, operand}
+use Rattle.account_model.specs.Text.{comma, first_some, has_byte}
 use Rattle.account_model.specs.GivenGroups.{given_groups}
 use Rattle.account_model.specs.Usermod.{new_name, unlistable_name, usermod, usermod_checks, usermod_conflicts, usermod_script}
-use Rattle.account_words.specs.Values.{is_field, is_folder, is_shell, is_days_value, is_expiration_value}
-use Rattle.account_formats.specs.Written.{IsNameField}
+use Rattle.account_model.specs.Values.{is_field, is_folder, is_shell, is_days_value, is_expiration_value}
+use Rattle.account_model.specs.Written.{IsNameField}
 use Rattle.account_model.proofs.DeedLaws.{first-none}
-use Rattle.account_words.proofs.FieldFacts.{valid-name}
+use Rattle.account_model.proofs.FieldFacts.{valid-name}
 use Rattle.account_model.proofs.RefusalFacts.{text-kept, user-named}
 use Rattle.tool_answers.specs.Refusing.{IsFaultOf}
 use Rattle.tool_answers.specs.declared.tool_fault.ToolFault.{ToolFault}

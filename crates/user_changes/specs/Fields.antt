@@ -1,12 +1,12 @@
 -- The fields of passwd and shadow that usermod sets (usermod(8), `-c`, `-d`, `-e`, `-f`, `-g`, `-l`,
 -- `-p`, `-s` and `-u`).
 use Rattle.std.specs.Prelude.{◌≡◌, ℕ, Some, option_map, codes, if◌then◌else◌}
-use Rattle.account_formats.specs.declared.records.ShadowRecord.{ShadowRecord}
+use Rattle.account_model.specs.declared.records.ShadowRecord.{ShadowRecord}
 use Rattle.acct_text.specs.declared.files.Files.{Files}
 use Rattle.account_model.specs.GivenGroups.{given_group}
-use Rattle.account_words.specs.Request.{Request, has_option, value_of}
+use Rattle.account_model.specs.Request.{Request, has_option, value_of}
 use Rattle.account_model.specs.Usermod.{changed_shadow, new_name}
-use Rattle.account_words.specs.Values.{given_uid}
+use Rattle.account_model.specs.Values.{given_uid}
 use Rattle.line_edits.specs.ShadowChanges.{with_shadow_fields}
 use Rattle.line_edits.specs.declared.passwd_changes.UserFields.{UserFields}
 use Rattle.line_edits.specs.declared.shadow_changes.DaysChange.{DaysChange}

@@ -1,12 +1,12 @@
 -- The groups that a user joins and leaves, and the name in them (usermod(8), `-G`, `-a` and `-l`).
 use Rattle.std.specs.Prelude.{ℕ, List, map, not, codes, if◌then◌else◌}
 use Rattle.acct_text.specs.declared.files.Files.{Files}
-use Rattle.account_formats.specs.Edits.{Edit}
-use Rattle.account_formats.specs.Edits.Edit.{Become}
-use Rattle.account_formats.specs.declared.records.GroupRecord.{GroupRecord}
-use Rattle.account_formats.specs.declared.records.GshadowRecord.{GshadowRecord}
+use Rattle.account_model.specs.Edits.{Edit}
+use Rattle.account_model.specs.Edits.Edit.{Become}
+use Rattle.account_model.specs.declared.records.GroupRecord.{GroupRecord}
+use Rattle.account_model.specs.declared.records.GshadowRecord.{GshadowRecord}
 use Rattle.account_model.specs.GivenGroups.{given_groups}
-use Rattle.account_words.specs.Request.{Request, has_option, operand}
+use Rattle.account_model.specs.Request.{Request, has_option, operand}
 use Rattle.account_model.specs.Usermod.{new_name}
 use Rattle.line_edits.specs.GroupChanges.{group_becomes}
 use Rattle.line_edits.specs.GshadowChanges.{gshadow_becomes}

@@ -5,12 +5,12 @@ use Rattle.acct_text.specs.declared.Tab.{Tab}
 use Rattle.acct_text.specs.declared.Tab.TheVariants.{Subuid, Subgid}
 use Rattle.acct_text.specs.Lines.{Line}
 use Rattle.account_model.specs.declared.refusal.Refusal.{Refusal}
-use Rattle.account_formats.specs.Edits.{edited_by}
-use Rattle.account_formats.specs.Records.{read_id, subid_format}
-use Rattle.account_words.specs.declared.settings.IdSort.{IdSort}
-use Rattle.account_words.specs.declared.settings.IdSort.TheVariants.{Uid, Gid}
-use Rattle.account_words.specs.Request.{Request, operand}
-use Rattle.account_words.specs.Values.{field_value}
+use Rattle.account_model.specs.Edits.{edited_by}
+use Rattle.account_model.specs.Records.{read_id, subid_format}
+use Rattle.account_model.specs.declared.settings.IdSort.{IdSort}
+use Rattle.account_model.specs.declared.settings.IdSort.TheVariants.{Uid, Gid}
+use Rattle.account_model.specs.Request.{Request, operand}
+use Rattle.account_model.specs.Values.{field_value}
 use Rattle.account_model.specs.Usermod.{new_name, subgid_change, subuid_change}
 use Rattle.account_model.specs.UsermodRanges.{RangeOwner, RangeChange, edits_before_adding, first_meeting}
 use Rattle.command_values.specs.Ranges.{ids_named}

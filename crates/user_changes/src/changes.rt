@@ -1,11 +1,11 @@
 // usermod LOGIN (usermod(8)): changes a user.
 ghost use Rattle.std.specs.Prelude.{◌≡◌, ◌∷◌, [], Some, IfOk, codes};
 ghost use Rattle.account_model.specs.Refusals.{bad_values};
-ghost use Rattle.account_formats.specs.Text.{first_some};
+ghost use Rattle.account_model.specs.Text.{first_some};
 ghost use Rattle.account_model.specs.Usermod.{new_name, usermod, usermod_checks, usermod_script};
 ghost use Rattle.account_model.specs.UsermodRanges.{is_range};
 ghost use Rattle.account_model.specs.Users.{uid_of};
-ghost use Rattle.account_words.specs.Request.{operand};
+ghost use Rattle.account_model.specs.Request.{operand};
 ghost use Rattle.tool_answers.specs.Refusing.{RefusesBy};
 ghost use Rattle.table_edits.specs.Acting.{ActsBy};
 ghost use Rattle.table_edits.specs.SeenScript.{seen_script};

@@ -1,9 +1,9 @@
 // What usermod(8) refuses by the tables: what is missing, and what is taken.
 ghost use Rattle.std.specs.Prelude.{◌≡◌, None, Some, IfOk, codes};
-ghost use Rattle.account_formats.specs.Names.{is_valid_name};
+ghost use Rattle.account_model.specs.Names.{is_valid_name};
 ghost use Rattle.account_model.specs.Refusals.{bad_value, missing_user};
-ghost use Rattle.account_formats.specs.Text.{first_some};
-ghost use Rattle.account_words.specs.Request.{operand};
+ghost use Rattle.account_model.specs.Text.{first_some};
+ghost use Rattle.account_model.specs.Request.{operand};
 ghost use Rattle.account_model.specs.Users.{uid_of};
 ghost use Rattle.account_model.specs.Usermod.{empty_hash, is_uid_taken, no_shadow, taken_name, taken_uid, unlistable_name, usermod_conflicts};
 ghost use Rattle.tool_answers.specs.Refusing.{RefusesBy};
@@ -13,8 +13,7 @@ use crate::changes::new_name;
 use crate::hash::{hash_of, sets_aging};
 use crate::meetings::check_meetings;
 use crate::memberships::group_names;
-use account_model::Refusal;
-use account_words::IdSort;
+use account_model::{IdSort, Refusal};
 use acct_text::Bytes;
 use command_values::{Asked, ToolFault, check_list_name, has_byte};
 use given_groups::{check_given_group, check_given_groups};

@@ -1,13 +1,13 @@
 // The fields of passwd and shadow (usermod(8), `-c`, `-d`, `-e`, `-f`, `-g`, `-l`, `-p`, `-s` and
 // `-u`).
 ghost use Rattle.std.specs.Prelude.{◌≡◌, [], ◌∷◌, codes, IfOk, OnOk, option_and_then};
-ghost use Rattle.account_formats.specs.Edits.{each_where};
-ghost use Rattle.account_formats.specs.Format.{is_named};
-ghost use Rattle.account_formats.specs.Records.{passwd_format, shadow_format};
-ghost use Rattle.account_words.specs.Request.{operand, value_of};
-ghost use Rattle.account_formats.specs.Tables.{no_edits};
+ghost use Rattle.account_model.specs.Edits.{each_where};
+ghost use Rattle.account_model.specs.Format.{is_named};
+ghost use Rattle.account_model.specs.Records.{passwd_format, shadow_format};
+ghost use Rattle.account_model.specs.Request.{operand, value_of};
+ghost use Rattle.account_model.specs.Tables.{no_edits};
 ghost use Rattle.account_model.specs.Usermod.{changed_shadow, changed_user};
-ghost use Rattle.account_words.specs.Values.{days_value, expiration_value};
+ghost use Rattle.account_model.specs.Values.{days_value, expiration_value};
 ghost use Rattle.line_edits.specs.ShadowChanges.{given_days};
 ghost use Rattle.table_edits.specs.Additions.{HasAlso};
 ghost use Rattle.user_changes.specs.Fields.{day_of_change, user_fields, SetsShadow};

@@ -1,8 +1,8 @@
 // The hash of a user (usermod(8), `-p`, `-L` and `-U`).
 ghost use Rattle.std.specs.Prelude.{◌≡◌, ◌||◌, IfOk, OnOk, if◌then◌else◌};
 ghost use Rattle.account_model.specs.Hashes.{demand_shadow, each_user_hash};
-ghost use Rattle.account_words.specs.Request.{operand};
-ghost use Rattle.account_formats.specs.Tables.{no_edits};
+ghost use Rattle.account_model.specs.Request.{operand};
+ghost use Rattle.account_model.specs.Tables.{no_edits};
 ghost use Rattle.account_model.specs.UsermodHash.{hash_after, hash_script, relocked_hash, sets_aging, sets_hash};
 ghost use Rattle.account_model.specs.Users.{hash_of, passwd_field};
 ghost use Rattle.table_edits.specs.Additions.{HasAlso};

@@ -4,20 +4,19 @@ ghost use Rattle.std.specs.Prelude.{◌≡◌, ◌+◌, ◌-◌, Some, IfOk, OnO
 ghost use Rattle.acct_text.specs.Lines.{lines_of};
 ghost use Rattle.acct_text.specs.Files.{table_of};
 ghost use Rattle.account_model.specs.declared.refusal.Refusal.TheVariants.{Meets};
-ghost use Rattle.account_formats.specs.Edits.{edited_by};
-ghost use Rattle.account_formats.specs.Records.{subid_format};
+ghost use Rattle.account_model.specs.Edits.{edited_by};
+ghost use Rattle.account_model.specs.Records.{subid_format};
 ghost use Rattle.account_model.specs.Usermod.{new_name, range_owner};
 ghost use Rattle.account_model.specs.UsermodRanges.{edits_before_adding, meeting_in};
 ghost use Rattle.account_model.specs.Users.{uid_of};
-ghost use Rattle.account_words.specs.Request.{operand};
-ghost use Rattle.account_formats.specs.Written.{IsNameField};
+ghost use Rattle.account_model.specs.Request.{operand};
+ghost use Rattle.account_model.specs.Written.{IsNameField};
 ghost use Rattle.subid_ranges.specs.RangeLines.{meeting_line, with_range};
 ghost use Rattle.table_lookups.specs.Stopping.{StopsBy};
 ghost use Rattle.user_changes.specs.Ranges.{change_of, first_meeting_in, owner_of, range_change, range_table};
 
 use crate::ranges::{UserRanges, user_ranges};
-use account_model::Refusal;
-use account_words::IdSort;
+use account_model::{IdSort, Refusal};
 use acct_text::{Bytes, Tab};
 use command_values::{Asked, IdRange, ToolFault};
 use range_edits::edited_ranges;

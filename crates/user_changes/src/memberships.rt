@@ -1,7 +1,7 @@
 // The groups that a user joins and leaves, and the name in them (usermod(8), `-G`, `-a` and `-l`).
 ghost use Rattle.std.specs.Prelude.{◌≡◌, [], ◌∷◌, IfOk, OnOk};
-ghost use Rattle.account_formats.specs.Edits.{each};
-ghost use Rattle.account_formats.specs.Tables.{no_edits};
+ghost use Rattle.account_model.specs.Edits.{each};
+ghost use Rattle.account_model.specs.Tables.{no_edits};
 ghost use Rattle.account_model.specs.Usermod.{changed_group, changed_gshadow};
 ghost use Rattle.table_edits.specs.Additions.{HasAlso};
 ghost use Rattle.user_changes.specs.Memberships.{group_edit, group_names, gshadow_edit, membership, user_groups};

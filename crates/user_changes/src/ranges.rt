@@ -1,8 +1,8 @@
 // The subordinate IDs that a user loses and gets (usermod(8), `-v`, `-V`, `-w` and `-W`; subuid(5),
 // subgid(5)).
 ghost use Rattle.std.specs.Prelude.{◌≡◌, ◌++◌, ◌∷◌, [], map, Some, IfOk, OnOk};
-ghost use Rattle.account_formats.specs.Edits.Edit.{Add, Become};
-ghost use Rattle.account_formats.specs.Tables.{no_edits};
+ghost use Rattle.account_model.specs.Edits.Edit.{Add, Become};
+ghost use Rattle.account_model.specs.Tables.{no_edits};
 ghost use Rattle.account_model.specs.Usermod.{subgid_change, subuid_change};
 ghost use Rattle.account_model.specs.UsermodRanges.{add_range, cut_range, edits_before_adding, range_edits, ranges_given};
 ghost use Rattle.command_values.specs.Ranges.{ids_named};
@@ -12,7 +12,7 @@ ghost use Rattle.line_edits.specs.SubidChanges.{subid_becomes};
 ghost use Rattle.user_changes.specs.Ranges.{change_of, owner_by, owner_of, range_change};
 
 use crate::changes::new_name;
-use account_words::IdSort;
+use account_model::IdSort;
 use acct_lines::SubidRecord;
 use acct_text::Bytes;
 use command_values::{Asked, IdRange};

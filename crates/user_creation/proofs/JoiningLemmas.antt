@@ -6,11 +6,11 @@ use Rattle.std.specs.Prelude.{Option, Some, None, map, filter_map}
 use Rattle.std.specs.List.{cons_option}
 use Rattle.std.proofs.lemmas.List.{drop_more}
 use Rattle.acct_text.specs.declared.files.Files.{Files}
-use Rattle.account_formats.specs.declared.records.GroupRecord.{GroupRecord}
+use Rattle.account_model.specs.declared.records.GroupRecord.{GroupRecord}
 use Rattle.account_model.specs.GivenGroups.{find_group}
 use Rattle.account_model.specs.Members.{add_to_group}
-use Rattle.account_formats.specs.Tables.{Script, no_edits, followed_by, in_order, group_records}
-use Rattle.account_formats.proofs.ScriptLaws.{followed-assoc}
+use Rattle.account_model.specs.Tables.{Script, no_edits, followed_by, in_order, group_records}
+use Rattle.account_model.proofs.ScriptLaws.{followed-assoc}
 use Rattle.table_edits.specs.Additions.{HasAlso}
 use Rattle.table_edits.specs.SeenScript.{seen_script}
 use Rattle.table_edits.specs.declared.script.Script as data_script

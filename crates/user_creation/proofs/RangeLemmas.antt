@@ -3,7 +3,7 @@
 use Rattle.std.proofs.Common.{◌≡◌, ℕ, List}
 use Rattle.std.specs.Prelude.{Option}
 use Rattle.account_model.specs.NewRanges.{allotment}
-use Rattle.account_words.specs.Request.{Request}
+use Rattle.account_model.specs.Request.{Request}
 use Rattle.user_creation.specs.Allotments.{subordinate_of}
 use Rattle.user_creation.specs.declared.ranges.Bounds.{Bounds}
 

@@ -6,13 +6,13 @@ use Rattle.std.proofs.Common.{◌≡◌, ℕ, Bool, true, false, List, sym, ap, 
 use Rattle.std.specs.Prelude.{Option, Some, None, Err, option_and_then, option_map, unwrap_or, if◌then◌else◌}
 use Rattle.acct_text.specs.declared.files.Files.{Files}
 use Rattle.account_model.specs.declared.new_user.Plan.{Plan}
-use Rattle.account_formats.specs.declared.records.ShadowRecord.{ShadowRecord}
+use Rattle.account_model.specs.declared.records.ShadowRecord.{ShadowRecord}
 use Rattle.account_model.specs.GivenGroups.{given_group}
 use Rattle.account_model.specs.NewAccount.{free_gid, kind_of}
-use Rattle.account_words.specs.Ids.{is_used, used_gids}
-use Rattle.account_words.specs.Request.{Request}
-use Rattle.account_words.specs.Settings.{Setting}
-use Rattle.account_formats.specs.Text.{first_some}
+use Rattle.account_model.specs.Ids.{is_used, used_gids}
+use Rattle.account_model.specs.Request.{Request}
+use Rattle.account_model.specs.Settings.{Setting}
+use Rattle.account_model.specs.Text.{first_some}
 use Rattle.account_model.specs.Useradd.{add_user, default_gid, gid_beside, makes_group, new_shadow, new_uid, own_gid, plan_of, primary_gid, useradd_by, useradd_checks, useradd_conflicts, useradd_script, useradd_under}
 use Rattle.tool_answers.specs.Refusing.{IsFaultOf}
 use Rattle.tool_answers.specs.declared.tool_fault.ToolFault.{ToolFault}

@@ -2,13 +2,13 @@
 -- subuid(5), subgid(5); SUB_UID_MIN, SUB_UID_MAX and SUB_UID_COUNT of login.defs(5), and the same of GIDs).
 use Rattle.std.specs.Prelude.{ℕ, Bool, ◌&&◌, not, is_some, List, Option}
 use Rattle.std.specs.List.{list_any}
-use Rattle.account_words.specs.declared.settings.Key.TheVariants.{SubUidMin, SubGidMin, SubUidMax, SubGidMax, SubUidCount, SubGidCount}
+use Rattle.account_model.specs.declared.settings.Key.TheVariants.{SubUidMin, SubGidMin, SubUidMax, SubGidMax, SubUidCount, SubGidCount}
 use Rattle.account_model.specs.NewRanges.{Subordinate, id_number, may_have_ranges}
-use Rattle.account_formats.specs.Records.{subid_format}
-use Rattle.account_words.specs.Request.{Request, operand}
-use Rattle.account_words.specs.Settings.{Setting}
-use Rattle.account_words.specs.SubidOwner.{is_owned}
-use Rattle.account_formats.specs.Tables.{table_records}
+use Rattle.account_model.specs.Records.{subid_format}
+use Rattle.account_model.specs.Request.{Request, operand}
+use Rattle.account_model.specs.Settings.{Setting}
+use Rattle.account_model.specs.SubidOwner.{is_owned}
+use Rattle.account_model.specs.Tables.{table_records}
 use Rattle.user_creation.specs.declared.ranges.Bounds.{Bounds}
 
 -- a table with this file, with the bounds and the count of a new range

@@ -3,7 +3,7 @@ use Rattle.std.specs.Prelude.{ℕ, List, map, filter_map, Some, None}
 use Rattle.acct_text.specs.declared.files.Files.{Files}
 use Rattle.account_model.specs.GivenGroups.{find_group}
 use Rattle.account_model.specs.Members.{add_to_group}
-use Rattle.account_formats.specs.Tables.{Script, no_edits, in_order, group_records}
+use Rattle.account_model.specs.Tables.{Script, no_edits, in_order, group_records}
 
 -- the user joins the group that a word names
 abbrev pub joining : Files → List ℕ → List ℕ → Script

@@ -7,8 +7,7 @@ ghost use Rattle.login_defs.specs.Held.{Gives, IsHeld};
 ghost use Rattle.user_creation.specs.Plans.{GivesGid};
 
 use crate::ranges::{allotment_of, gid_bounds, uid_bounds};
-use account_model::Plan;
-use account_words::IdSort;
+use account_model::{IdSort, Plan};
 use command_values::{Asked, free_id};
 use given_groups::given_group;
 use login_defs::Defs;

@@ -2,12 +2,11 @@
 // and SUB_UID_COUNT of login.defs(5), and the same of GIDs).
 ghost use Rattle.std.specs.Prelude.{◌≡◌, ◌≤◌, IfOk};
 ghost use Rattle.account_model.specs.NewRanges.{allotment, id_number, may_have_ranges};
-ghost use Rattle.account_formats.specs.Records.{greatest_id};
+ghost use Rattle.account_model.specs.Records.{greatest_id};
 ghost use Rattle.login_defs.specs.Held.{Gives, IsHeld};
 ghost use Rattle.user_creation.specs.Allotments.{gid_bounds_under, is_open, subordinate_of, uid_bounds_under};
 
-use account_model::Allotment;
-use account_words::Key;
+use account_model::{Allotment, Key};
 use carried_tables::RangeFile;
 use command_values::Asked;
 use login_defs::Defs;

@@ -1,12 +1,11 @@
 // The lines of a new user (useradd(8), passwd(5), shadow(5)).
 ghost use Rattle.std.specs.Prelude.{◌≡◌, None, IfOk, codes};
 ghost use Rattle.account_model.specs.Useradd.{new_aging, new_home, new_shadow, new_user};
-ghost use Rattle.account_words.specs.Values.{days_value, expiration_value, field_value};
+ghost use Rattle.account_model.specs.Values.{days_value, expiration_value, field_value};
 ghost use Rattle.login_defs.specs.Held.{Gives};
 
 use crate::plan::NewIds;
-use account_formats::{PasswdRecord, ShadowRecord};
-use account_words::Key;
+use account_model::{Key, PasswdRecord, ShadowRecord};
 use acct_text::Bytes;
 use command_values::{Asked, read_days, read_expiration};
 use login_defs::Defs;

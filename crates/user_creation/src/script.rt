@@ -1,8 +1,8 @@
 // The edits that make a user (useradd(8)).
 ghost use Rattle.std.specs.Prelude.{◌≡◌, ◌++◌, ◌∷◌, [], IfOk, OnOk};
-ghost use Rattle.account_formats.specs.Edits.Edit.{Add, Put};
+ghost use Rattle.account_model.specs.Edits.Edit.{Add, Put};
 ghost use Rattle.account_model.specs.NewRanges.{allotted};
-ghost use Rattle.account_formats.specs.Tables.{no_edits};
+ghost use Rattle.account_model.specs.Tables.{no_edits};
 ghost use Rattle.account_model.specs.Useradd.{add_own_group, add_user, join_groups as joined_groups, new_user};
 ghost use Rattle.table_edits.specs.Additions.{HasAlso};
 ghost use Rattle.line_edits.specs.SeenEdits.{seen_edits};
@@ -12,8 +12,7 @@ ghost use Rattle.user_creation.specs.Joining.{joining, joining_all};
 
 use crate::plan::NewIds;
 use crate::records::new_user;
-use account_formats::{ShadowRecord, SubidRecord};
-use account_model::{Allotment, Plan};
+use account_model::{Allotment, Plan, ShadowRecord, SubidRecord};
 use acct_text::Bytes;
 use command_values::Asked;
 use given_groups::{group_name, group_words, groups_asked};

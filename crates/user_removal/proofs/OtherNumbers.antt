@@ -4,9 +4,9 @@
 use Rattle.std.proofs.Common.{◌≡◌, ◌∙◌, ℕ, true, false, List, not, sym, ap}
 use Rattle.std.specs.Prelude.{◌||◌}
 use Rattle.std.proofs.lemmas.Bool.{and_parts, eqb-true}
-use Rattle.account_formats.specs.Format.{is_named}
-use Rattle.account_formats.specs.Records.{passwd_format}
-use Rattle.account_formats.specs.declared.records.PasswdRecord.{PasswdRecord}
+use Rattle.account_model.specs.Format.{is_named}
+use Rattle.account_model.specs.Records.{passwd_format}
+use Rattle.account_model.specs.declared.records.PasswdRecord.{PasswdRecord}
 use Rattle.acct_tables.proofs.FieldMarks.{holds-primary, holds-uid}
 use Rattle.record_keys.specs.Keys.{user_keys}
 use Rattle.carried_lines.specs.Accepting.{IsKeyOf, IsNumberOf}

@@ -6,10 +6,10 @@ use Rattle.std.specs.Prelude.{Option, Some, None, option_map, find, filter, ◌&
 use Rattle.std.proofs.lemmas.Bool.{cases_Bool}
 use Rattle.acct_text.specs.Bytes.{is_empty}
 use Rattle.acct_text.specs.declared.files.Files.{Files}
-use Rattle.account_formats.specs.declared.records.GroupRecord.{GroupRecord}
-use Rattle.account_formats.specs.declared.records.PasswdRecord.{PasswdRecord}
+use Rattle.account_model.specs.declared.records.GroupRecord.{GroupRecord}
+use Rattle.account_model.specs.declared.records.PasswdRecord.{PasswdRecord}
 use Rattle.account_model.specs.Members.{without_name}
-use Rattle.account_words.specs.Request.{Request, has_option, operand}
+use Rattle.account_model.specs.Request.{Request, has_option, operand}
 use Rattle.account_model.specs.Userdel.{reason_to_keep}
 use Rattle.account_model.specs.Userdel.Kept.{has_members, is_primary_of}
 use Rattle.account_model.specs.Users.{other_users}

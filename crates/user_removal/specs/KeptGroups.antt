@@ -2,10 +2,10 @@
 use Rattle.std.specs.Prelude.{ℕ, Bool, not, List, [], ◌∷◌, bytes_eq, Option, Some, None}
 use Rattle.std.specs.List.{list_any}
 use Rattle.acct_text.specs.declared.files.Files.{Files}
-use Rattle.account_formats.specs.declared.records.GroupRecord.{GroupRecord}
+use Rattle.account_model.specs.declared.records.GroupRecord.{GroupRecord}
 use Rattle.account_model.specs.Groupdel.{remove_group}
-use Rattle.account_words.specs.Request.{Request, operand}
-use Rattle.account_formats.specs.Tables.{Script, no_edits}
+use Rattle.account_model.specs.Request.{Request, operand}
+use Rattle.account_model.specs.Tables.{Script, no_edits}
 use Rattle.account_model.specs.Userdel.{kept_text, reason_to_keep}
 
 -- whether a list has another name

@@ -1,8 +1,8 @@
 -- Users with another name that a user shares an ID with (userdel(8)).
 use Rattle.std.specs.Prelude.{ℕ, Bool, not, ◌&&◌, ◌==◌, List}
-use Rattle.account_formats.specs.declared.records.PasswdRecord.{PasswdRecord}
-use Rattle.account_formats.specs.Format.{is_named}
-use Rattle.account_formats.specs.Records.{passwd_format}
+use Rattle.account_model.specs.declared.records.PasswdRecord.{PasswdRecord}
+use Rattle.account_model.specs.Format.{is_named}
+use Rattle.account_model.specs.Records.{passwd_format}
 use Rattle.user_removal.specs.declared.others.AccountId.{AccountId}
 use Rattle.user_removal.specs.declared.others.AccountId.TheVariants.{Uid, Gid}
 

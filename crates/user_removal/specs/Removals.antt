@@ -1,10 +1,10 @@
 -- How a user goes from the tables (userdel(8)).
 use Rattle.std.specs.Prelude.{ℕ, List, [], ◌∷◌, Option}
-use Rattle.account_formats.specs.Edits.{each, drop_where}
-use Rattle.account_formats.specs.Format.{is_named}
-use Rattle.account_formats.specs.Records.{passwd_format, shadow_format}
-use Rattle.account_words.specs.SubidOwner.{is_owned}
-use Rattle.account_formats.specs.Tables.{Script, no_edits}
+use Rattle.account_model.specs.Edits.{each, drop_where}
+use Rattle.account_model.specs.Format.{is_named}
+use Rattle.account_model.specs.Records.{passwd_format, shadow_format}
+use Rattle.account_model.specs.SubidOwner.{is_owned}
+use Rattle.account_model.specs.Tables.{Script, no_edits}
 use Rattle.account_model.specs.Userdel.{group_without, gshadow_without}
 
 -- from passwd and shadow

@@ -4,7 +4,7 @@ ghost use Rattle.account_model.specs.Users.{other_users};
 ghost use Rattle.acct_lines.specs.Shown.{passwd_shown};
 ghost use Rattle.user_removal.specs.Others.{has_id};
 
-use account_formats::PasswdRecord;
+use account_model::PasswdRecord;
 use acct_lines::PasswdLine;
 use carried_lines::RecordTest;
 use std::alloc::{AllocError, Global};

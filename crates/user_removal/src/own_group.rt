@@ -2,7 +2,7 @@
 // (userdel(8); login.defs(5), USERGROUPS_ENAB).
 ghost use Rattle.std.specs.Prelude.{◌≡◌, IfOk, OnOk, option_map};
 ghost use Rattle.std.specs.List.{list_any};
-ghost use Rattle.account_words.specs.Request.{operand};
+ghost use Rattle.account_model.specs.Request.{operand};
 ghost use Rattle.account_model.specs.Userdel.{kept_text, own_group, reason_to_keep};
 ghost use Rattle.account_model.specs.Userdel.Kept.{has_members, is_primary_of};
 ghost use Rattle.login_defs.specs.Held.{Gives};
@@ -10,7 +10,7 @@ ghost use Rattle.table_edits.specs.Additions.{HasAlso};
 ghost use Rattle.user_removal.specs.KeptGroups.{has_others, notices_of_group, removal_of_group};
 
 use crate::others::{AccountId, first_other};
-use account_formats::GroupRecord;
+use account_model::GroupRecord;
 use acct_text::{Bytes, Names};
 use command_values::Asked;
 use login_defs::Defs;

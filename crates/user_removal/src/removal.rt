@@ -1,8 +1,8 @@
 // userdel LOGIN (userdel(8)): removes a user.
 ghost use Rattle.std.specs.Prelude.{◌≡◌, ◌∷◌, [], List, Some, None, IfOk, OnOk, if◌then◌else◌};
-ghost use Rattle.account_words.specs.Request.{operand};
-ghost use Rattle.account_words.specs.Settings.{Setting};
-ghost use Rattle.account_formats.specs.Tables.{in_order};
+ghost use Rattle.account_model.specs.Request.{operand};
+ghost use Rattle.account_model.specs.Settings.{Setting};
+ghost use Rattle.account_model.specs.Tables.{in_order};
 ghost use Rattle.account_model.specs.Userdel.{is_shared, own_uid, remove_user as user_removal, userdel};
 ghost use Rattle.login_defs.specs.Held.{HasSettings};
 ghost use Rattle.table_edits.specs.Acting.{ActsBy, IsReportOf};
@@ -13,7 +13,7 @@ ghost use Rattle.user_removal.specs.Removals.{lines_removal, lists_removal, rang
 
 use crate::others::{AccountId, first_other};
 use crate::own_group::{kept_notices, own_group, remove_own_group};
-use account_formats::GroupRecord;
+use account_model::GroupRecord;
 use acct_text::Bytes;
 use command_values::{Asked, ToolFault};
 use line_edits::{

@@ -4,8 +4,8 @@ ghost use Rattle.account_model.specs.Action.{with_option, with_flag};
 ghost use Rattle.account_model.specs.Gpasswd.{gpasswd_script};
 ghost use Rattle.account_model.specs.Hashes.{set_administrators, set_group_hash, locked};
 ghost use Rattle.account_model.specs.Members.{add_to_group, each_members, remove_from_group};
-ghost use Rattle.account_words.specs.Request.{operand};
-ghost use Rattle.account_words.specs.Values.{list_value as names_of_list};
+ghost use Rattle.account_model.specs.Request.{operand};
+ghost use Rattle.account_model.specs.Values.{list_value as names_of_list};
 ghost use Rattle.table_edits.specs.SeenScript.{seen_script};
 ghost use Rattle.table_edits.specs.Additions.{HasAlso};
 

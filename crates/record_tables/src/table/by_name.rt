@@ -1,9 +1,9 @@
 // The edits of the record of a name, and that of a new name. Each is refused where the records of
 // the name aren't as it needs them.
 ghost use Rattle.std.specs.Prelude.{◌≡◌, Some, None, OnOk, OnErr};
-ghost use Rattle.account_formats.specs.Edits.{drop_where, each_where, edited, with_line};
-ghost use Rattle.account_formats.specs.Format.{has_named, is_named, records_of};
-ghost use Rattle.account_formats.specs.Written.{IsWritten};
+ghost use Rattle.account_model.specs.Edits.{drop_where, each_where, edited, with_line};
+ghost use Rattle.account_model.specs.Format.{has_named, is_named, records_of};
+ghost use Rattle.account_model.specs.Written.{IsWritten};
 ghost use Rattle.acct_tables.specs.NameIndex.{line_names, lines_named};
 ghost use Rattle.record_tables.specs.Refusals.{AnswersRefusal, present_refusal, replace_refusal, single_refusal};
 

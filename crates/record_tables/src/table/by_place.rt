@@ -1,7 +1,7 @@
 // The edits of the line at a place.
 ghost use Rattle.std.specs.Prelude.{◌≡◌, ◌<◌, ◌≤◌, length, OnOk, OnErr};
 ghost use Rattle.std.specs.List.{remove};
-ghost use Rattle.account_formats.specs.Written.{IsWritten};
+ghost use Rattle.account_model.specs.Written.{IsWritten};
 ghost use Rattle.acct_tables.specs.TableLines.{changed_at, with_record, with_record_at};
 
 use super::Table;

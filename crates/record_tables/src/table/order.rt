@@ -1,6 +1,6 @@
 // The records of a table in another order (pwck(8), grpck(8), `-s`).
 ghost use Rattle.std.specs.Prelude.{◌≡◌, ◌<◌, length, All, IfOk, OnOk, OnErr};
-ghost use Rattle.account_formats.specs.Format.{records_of};
+ghost use Rattle.account_model.specs.Format.{records_of};
 ghost use Rattle.record_tables.specs.Order.{arranged};
 
 use super::Table;

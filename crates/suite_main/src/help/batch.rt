@@ -1,6 +1,6 @@
 // What `accounts batch --help` prints. No manual page of shadow-utils has the tool.
 ghost use Rattle.std.specs.Prelude.{◌≡◌, true};
-ghost use Rattle.account_words.specs.declared.tool.Tool.TheVariants.{Batch};
+ghost use Rattle.account_model.specs.declared.tool.Tool.TheVariants.{Batch};
 ghost use Rattle.suite_main.specs.HelpTexts.{helps_with};
 
 /// The text: the use of batch, and its options and no others, in lines of at most 80 columns.

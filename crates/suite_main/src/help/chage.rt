@@ -1,6 +1,6 @@
 // What `accounts chage --help` prints (chage(1)).
 ghost use Rattle.std.specs.Prelude.{◌≡◌, true};
-ghost use Rattle.account_words.specs.declared.tool.Tool.TheVariants.{Chage};
+ghost use Rattle.account_model.specs.declared.tool.Tool.TheVariants.{Chage};
 ghost use Rattle.suite_main.specs.HelpTexts.{helps_with};
 
 /// The text: the use of chage, and its options and no others, in lines of at most 80 columns.

@@ -1,6 +1,6 @@
 // What `accounts getsubids --help` prints (getsubids(1)).
 ghost use Rattle.std.specs.Prelude.{◌≡◌, true};
-ghost use Rattle.account_words.specs.declared.tool.Tool.TheVariants.{Getsubids};
+ghost use Rattle.account_model.specs.declared.tool.Tool.TheVariants.{Getsubids};
 ghost use Rattle.suite_main.specs.HelpTexts.{helps_with};
 
 /// The text: the use of getsubids, and its options and no others, in lines of at most 80 columns.

@@ -1,6 +1,6 @@
 // What `accounts groupadd --help` prints (groupadd(8)).
 ghost use Rattle.std.specs.Prelude.{◌≡◌, true};
-ghost use Rattle.account_words.specs.declared.tool.Tool.TheVariants.{Groupadd};
+ghost use Rattle.account_model.specs.declared.tool.Tool.TheVariants.{Groupadd};
 ghost use Rattle.suite_main.specs.HelpTexts.{helps_with};
 
 /// The text: the use of groupadd, and its options and no others, in lines of at most 80 columns.

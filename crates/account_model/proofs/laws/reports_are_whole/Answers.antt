@@ -1,4 +1,4 @@
-use Rattle.account_formats.specs.Records.{passwd_format, shadow_format, group_format, gshadow_format}
+use Rattle.account_model.specs.Records.{passwd_format, shadow_format, group_format, gshadow_format}
 use Rattle.account_model.specs.Pwck.{user_problems, shadow_problems}
 use Rattle.account_model.specs.Grpck.{group_problems, gshadow_problems}
 use Rattle.account_model.proofs.ReportLaws.{table-report}

@@ -3,7 +3,7 @@ use Rattle.std.proofs.lemmas.Int.{to_z_pos}
 use Rattle.jiff.specs.Types.{Day}
 use Rattle.jiff.specs.Words.{date_text, IsOnly}
 use Rattle.acct_text.specs.Limits.{last_day}
-use Rattle.account_words.specs.Dates.{print_day}
+use Rattle.account_model.specs.Dates.{print_day}
 use Rattle.acct_dates.proofs.DateTexts.{added-text}
 use Rattle.acct_dates.proofs.print.date_of.Goals as goal
 

@@ -1,6 +1,6 @@
 use Rattle.std.proofs.Common.{◌++◌, ap, sym, ◌∙◌}
 use Rattle.acct_text.specs.Pieces.{cut_at}
-use Rattle.account_formats.specs.Text.{comma, nonempty}
+use Rattle.account_model.specs.Text.{comma, nonempty}
 use Rattle.acct_lines.proofs.NamesCut.{pushed-piece}
 use Rattle.acct_lines.proofs.fields.cut_names.Goals as goal
 

@@ -1,5 +1,5 @@
 use Rattle.std.proofs.Common.{ap, sym}
-use Rattle.account_formats.specs.Faults.{field_at}
+use Rattle.account_model.specs.Faults.{field_at}
 use Rattle.acct_lines.proofs.fields.first_field.Goals as goal
 
 pub returns-in-Some : goal.returns-in-Some

@@ -1,6 +1,6 @@
 use Rattle.std.proofs.Common.{◌∙◌, ap, sym}
 use Rattle.acct_text.specs.Pieces.{cut_at}
-use Rattle.account_formats.specs.Text.{comma, is_listed, nonempty}
+use Rattle.account_model.specs.Text.{comma, is_listed, nonempty}
 use Rattle.acct_lines.proofs.NamesCut.{listed-here, listed-behind}
 use Rattle.acct_lines.proofs.fields.lists.Goals as goal
 

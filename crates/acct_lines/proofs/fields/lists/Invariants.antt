@@ -1,7 +1,7 @@
 use Rattle.std.proofs.Common.{◌≡◌, length}
 use Rattle.acct_text.specs.Pieces.{cut_at}
-use Rattle.account_formats.specs.Text.{comma, is_listed, nonempty}
-use Rattle.account_formats.specs.Records.{read_names}
+use Rattle.account_model.specs.Text.{comma, is_listed, nonempty}
+use Rattle.account_model.specs.Records.{read_names}
 use Rattle.acct_lines.proofs.fields.lists.Given as goal
 
 -- the name is among the pieces of the rest, if among those of the text

@@ -1,7 +1,7 @@
 use Rattle.std.proofs.Common.{◌∙◌, ap}
 use Rattle.std.specs.Prelude.{fold}
 use Rattle.acct_text.specs.Pieces.{cut_at}
-use Rattle.account_formats.specs.Text.{comma}
+use Rattle.account_model.specs.Text.{comma}
 use Rattle.acct_lines.specs.Listed.{listed_behind}
 use Rattle.acct_lines.proofs.ListedTexts.{listed-all}
 use Rattle.acct_lines.proofs.listed.listed_text.Goals as goal

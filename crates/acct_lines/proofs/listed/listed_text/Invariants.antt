@@ -1,8 +1,8 @@
 use Rattle.std.proofs.Common.{◌≡◌, length}
 use Rattle.std.specs.Prelude.{fold}
 use Rattle.acct_text.specs.Pieces.{cut_at}
-use Rattle.account_formats.specs.Text.{comma}
-use Rattle.account_formats.specs.Records.{print_names, read_names}
+use Rattle.account_model.specs.Text.{comma}
+use Rattle.account_model.specs.Records.{print_names, read_names}
 use Rattle.acct_lines.specs.Listed.{listed_behind}
 use Rattle.acct_lines.proofs.listed.listed_text.Given as goal
 

@@ -1,7 +1,7 @@
 use Rattle.std.proofs.Common.{sym, ◌∙◌, ap}
 use Rattle.std.proofs.lemmas.Bool.{eq-eqb, ne_eqb}
-use Rattle.account_formats.specs.Text.{dollar, without_last}
-use Rattle.account_formats.proofs.TextLaws.{without_last-same, without_last-other}
+use Rattle.account_model.specs.Text.{dollar, without_last}
+use Rattle.account_model.proofs.TextLaws.{without_last-same, without_last-other}
 use Rattle.acct_lines.proofs.names.without_dollar.Goals as goal
 
 pub returns-then-last-eq36 : goal.returns-then-last-eq36

@@ -1,6 +1,6 @@
 use Rattle.std.proofs.Common.{◌≡◌, ◌∙◌, ap, arith, sym, zero-add}
 use Rattle.std.proofs.lemmas.Grind.{common_steps}
-use Rattle.account_formats.specs.Format.{count_named, records_of}
+use Rattle.account_model.specs.Format.{count_named, records_of}
 use Rattle.acct_tables.specs.SeenLines.{seen_line}
 use Rattle.acct_tables.proofs.MarkedRecords.{behind-counted}
 use Rattle.acct_tables.proofs.RecordLines.{counted-next}

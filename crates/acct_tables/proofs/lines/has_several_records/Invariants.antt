@@ -1,6 +1,6 @@
 use Rattle.std.proofs.Common.{◌≡◌, ◌+◌, length, if◌then◌else◌}
 use Rattle.acct_text.specs.Lines.{lines_of}
-use Rattle.account_formats.specs.Format.{count_named, records_of}
+use Rattle.account_model.specs.Format.{count_named, records_of}
 use Rattle.acct_tables.proofs.lines.has_several_records.Given as goal
 
 -- the records of the name that the lines left have, with the one that was found, are all

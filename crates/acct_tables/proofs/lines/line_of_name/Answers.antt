@@ -1,5 +1,5 @@
 use Rattle.std.proofs.Common.{◌∙◌, length, ap, sym, arith}
-use Rattle.account_formats.specs.Format.{find_named, records_of}
+use Rattle.account_model.specs.Format.{find_named, records_of}
 use Rattle.acct_tables.proofs.BehindLines.{behind-fewer}
 use Rattle.acct_tables.proofs.MarkedRecords.{IsOther, behind-found}
 use Rattle.acct_tables.proofs.RecordLines.{met-by, named-some, passed-by}

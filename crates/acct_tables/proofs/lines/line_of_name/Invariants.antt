@@ -1,6 +1,6 @@
 use Rattle.std.proofs.Common.{◌≡◌, length}
 use Rattle.acct_text.specs.Lines.{lines_of}
-use Rattle.account_formats.specs.Format.{find_named, records_of}
+use Rattle.account_model.specs.Format.{find_named, records_of}
 use Rattle.acct_tables.proofs.lines.line_of_name.Given as goal
 
 -- what is found among the lines left is what is found among all

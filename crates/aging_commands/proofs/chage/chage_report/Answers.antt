@@ -1,7 +1,7 @@
 use Rattle.std.proofs.Common.{◌∙◌, ap}
 use Rattle.std.specs.Prelude.{codes}
 use Rattle.account_model.specs.Chage.{aging_report, chage_refusals, chage_script}
-use Rattle.account_words.specs.Request.{has_option, operand}
+use Rattle.account_model.specs.Request.{has_option, operand}
 use Rattle.account_model.specs.Users.{aging_of}
 use Rattle.aging_commands.proofs.ChageLemmas.{listed-report}
 use Rattle.aging_commands.proofs.chage.chage_report.Goals as goal

@@ -3,7 +3,7 @@ use Rattle.std.specs.Prelude.{None}
 use Rattle.acct_text.specs.declared.files.Files.{Files}
 use Rattle.acct_text.specs.Lines.{lines_of}
 use Rattle.account_model.specs.Chpasswd.{bad_line_from, line_script}
-use Rattle.account_formats.specs.Tables.{in_order}
+use Rattle.account_model.specs.Tables.{in_order}
 use Rattle.aging_commands.proofs.HashLineLemmas.{scripts-read}
 use Rattle.aging_commands.proofs.chpasswd.chpasswd.Goals as goal
 

@@ -1,8 +1,8 @@
 -- A line is written before the others, or refuses them; behind the last the batch is what is written.
 use Rattle.std.proofs.Common.{◌≡◌, ◌∙◌, Err, List, Option, true, ap, refl, subst, sym}
 use Rattle.std.proofs.lemmas.Result.{IfOk-weaker}
-use Rattle.account_words.specs.BatchLines.{LineRequest, line_requests}
-use Rattle.account_words.specs.Words.{is_for_lines}
+use Rattle.account_model.specs.BatchLines.{LineRequest, line_requests}
+use Rattle.account_model.specs.Words.{is_for_lines}
 use Rattle.account_model.specs.declared.refusal.Refusal.{Refusal}
 use Rattle.account_model.specs.Batch.{batch}
 use Rattle.account_model.proofs.DeedLaws.{batch-stands}

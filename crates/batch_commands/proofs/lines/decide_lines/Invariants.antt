@@ -1,6 +1,6 @@
 use Rattle.std.proofs.Common.{◌≡◌, List, length}
-use Rattle.account_words.specs.BatchLines.{line_requests}
-use Rattle.account_words.specs.Settings.{Setting}
+use Rattle.account_model.specs.BatchLines.{line_requests}
+use Rattle.account_model.specs.Settings.{Setting}
 use Rattle.account_model.specs.Batch.{batch}
 use Rattle.login_defs.specs.Held.{HasSettings}
 use Rattle.option_words.specs.Batch.{requests_of}

@@ -1,5 +1,5 @@
 use Rattle.std.proofs.Common.{◌∙◌, ◌++◌, ap₂, sym, subst, arith}
-use Rattle.account_formats.specs.Written.{IsNameField}
+use Rattle.account_model.specs.Written.{IsNameField}
 use Rattle.carried_lines.proofs.FreedNames.{hidden-field}
 use Rattle.carried_lines.proofs.freed_names.hidden_name.Goals as goal
 

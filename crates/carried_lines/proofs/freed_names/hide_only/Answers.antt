@@ -1,5 +1,5 @@
 use Rattle.std.proofs.Common.{◌∙◌, ap, sym}
-use Rattle.account_formats.specs.Format.{has_named, records_of}
+use Rattle.account_model.specs.Format.{has_named, records_of}
 use Rattle.carried_lines.proofs.FreedNames.{none-told}
 use Rattle.carried_lines.proofs.freed_names.hide_only.Goals as goal
 

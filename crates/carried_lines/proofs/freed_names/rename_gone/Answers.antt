@@ -2,8 +2,8 @@ use Rattle.std.proofs.Common.{◌≡◌, ◌∙◌, ap, sym, subst, rules}
 use Rattle.std.specs.Prelude.{◌||◌, bytes_eq}
 use Rattle.std.proofs.lemmas.Result.{on_ok_weaker}
 use Rattle.acct_text.specs.Lines.{file_bytes}
-use Rattle.account_formats.specs.Edits.{edited}
-use Rattle.account_formats.specs.Edits as model
+use Rattle.account_model.specs.Edits.{edited}
+use Rattle.account_model.specs.Edits as model
 use Rattle.acct_tables.specs.SeenLines.{AreOfFile}
 use Rattle.acct_tables.proofs.EditedFiles.{edit-of_file}
 use Rattle.line_edits.specs.declared.edit.Edit.TheVariants.{Become}

@@ -2,7 +2,7 @@ use Rattle.std.proofs.Common.{◌≡◌, ◌∙◌, ◌+◌, true, inl, inr, get
 use Rattle.std.specs.Prelude.{◌==◌}
 use Rattle.std.proofs.lemmas.Bool.{eqb-true}
 use Rattle.std.proofs.lemmas.List.{take_all}
-use Rattle.account_words.specs.Ids.{is_used}
+use Rattle.account_model.specs.Ids.{is_used}
 use Rattle.record_keys.specs.KeyPlaces.{IsIn, told_places}
 use Rattle.record_keys.specs.declared.key_places.Spot.TheVariants.{At}
 use Rattle.carried_lines.proofs.KeyPlaceLemmas.{noted-at, notes-both, notes-fewer, notes-none, passes-next}

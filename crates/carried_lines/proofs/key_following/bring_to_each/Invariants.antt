@@ -1,5 +1,5 @@
 use Rattle.std.proofs.Common.{◌≡◌, true, take}
-use Rattle.account_words.specs.Ids.{is_used}
+use Rattle.account_model.specs.Ids.{is_used}
 use Rattle.record_keys.specs.KeyPlaces.{told_places}
 use Rattle.carried_lines.specs.KeyedLines.{NotesAt}
 use Rattle.carried_lines.proofs.key_following.bring_to_each.Given as goal

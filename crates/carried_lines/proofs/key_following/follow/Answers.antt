@@ -1,6 +1,6 @@
 use Rattle.std.proofs.Common.{◌≡◌, ℕ, false, [], ◌∷◌, length, sym, subst}
-use Rattle.account_formats.specs.Format.{has_named, records_of}
-use Rattle.account_formats.specs.RecordEdits.{IsWrittenEdit}
+use Rattle.account_model.specs.Format.{has_named, records_of}
+use Rattle.account_model.specs.RecordEdits.{IsWrittenEdit}
 use Rattle.line_edits.specs.SeenEdits.{seen_edit}
 use Rattle.record_keys.specs.KeyPlaces.{IsIn, told_places}
 use Rattle.carried_lines.specs.KeyedLines.{FollowsEdit, IsOfNames}

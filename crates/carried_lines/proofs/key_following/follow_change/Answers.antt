@@ -1,6 +1,6 @@
 use Rattle.std.proofs.Common.{inl, inr}
 use Rattle.std.proofs.lemmas.Bool.{cases_Bool}
-use Rattle.account_formats.specs.Text.{is_listed}
+use Rattle.account_model.specs.Text.{is_listed}
 use Rattle.line_edits.specs.Naming.{names_in}
 use Rattle.record_keys.specs.KeyPlaces.{IsIn, told_places}
 use Rattle.record_keys.specs.declared.key_places.Spot.TheVariants.{Anywhere}

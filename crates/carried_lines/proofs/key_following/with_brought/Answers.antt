@@ -1,7 +1,7 @@
 use Rattle.std.proofs.Common.{◌≡◌, true, inl, inr, subst}
 use Rattle.std.specs.Prelude.{IfSome}
 use Rattle.std.proofs.lemmas.Bool.{cases_Bool}
-use Rattle.account_words.specs.Ids.{is_used}
+use Rattle.account_model.specs.Ids.{is_used}
 use Rattle.record_keys.specs.KeyPlaces.{told_places}
 use Rattle.record_keys.specs.Keys.{TellsKeys}
 use Rattle.carried_lines.proofs.KeyFollowing.{file-follows}

@@ -1,6 +1,6 @@
 use Rattle.std.proofs.Common.{◌∙◌, drop, refl, ap, sym, subst}
-use Rattle.account_formats.specs.Edits.{edited_by}
-use Rattle.account_formats.specs.RecordEdits.{IsWrittenEdit}
+use Rattle.account_model.specs.Edits.{edited_by}
+use Rattle.account_model.specs.RecordEdits.{IsWrittenEdit}
 use Rattle.line_edits.specs.SeenEdits.{seen_edits}
 use Rattle.line_edits.proofs.EditLists.{edits-from, edits-up_to}
 use Rattle.carried_lines.specs.Gone.{left_lines}

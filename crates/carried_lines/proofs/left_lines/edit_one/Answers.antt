@@ -1,7 +1,7 @@
 use Rattle.std.proofs.Common.{◌≡◌, ◌∙◌, ◌∷◌, [], ap, sym, subst}
 use Rattle.std.proofs.lemmas.Result.{on_ok_weaker}
 use Rattle.acct_text.specs.Lines.{file_bytes}
-use Rattle.account_formats.specs.Edits.{edited, edited_by}
+use Rattle.account_model.specs.Edits.{edited, edited_by}
 use Rattle.acct_tables.specs.SeenLines.{AreOfFile}
 use Rattle.acct_tables.proofs.EditedFiles.{edit-of_file}
 use Rattle.line_edits.specs.SeenEdits.{seen_edit, seen_edits}

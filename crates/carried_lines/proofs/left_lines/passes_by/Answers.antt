@@ -1,7 +1,7 @@
 use Rattle.std.proofs.Common.{◌∙◌, ap, sym, subst}
 use Rattle.std.proofs.lemmas.Bool.{not-true}
-use Rattle.account_formats.specs.RecordEdits.{IsWrittenEdit}
-use Rattle.account_formats.specs.Text.{is_listed}
+use Rattle.account_model.specs.RecordEdits.{IsWrittenEdit}
+use Rattle.account_model.specs.Text.{is_listed}
 use Rattle.line_edits.specs.SeenEdits.{seen_edit}
 use Rattle.carried_lines.specs.Gone.{PassesBy}
 use Rattle.carried_lines.proofs.GoneEdits.{add-passes, missing-passes, put-passes}

@@ -1,5 +1,5 @@
 use Rattle.std.proofs.Common.{◌≡◌, drop}
-use Rattle.account_formats.specs.Edits.{becomes}
+use Rattle.account_model.specs.Edits.{becomes}
 use Rattle.carried_lines.proofs.PlacedLemmas.{spliced_each}
 use Rattle.carried_lines.proofs.placed_changes.change_each.Given as goal
 

@@ -1,5 +1,5 @@
 use Rattle.std.proofs.Common.{◌≡◌, ℕ, true, take}
-use Rattle.account_words.specs.Ids.{is_used}
+use Rattle.account_model.specs.Ids.{is_used}
 use Rattle.line_edits.specs.SeenEdits.{seen_edit}
 use Rattle.line_edits.specs.Touching.{HoldsOfMultipleAt, LeavesTo}
 use Rattle.carried_lines.proofs.placed_changes.leaves_each.Given as goal

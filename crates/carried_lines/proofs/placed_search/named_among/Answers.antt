@@ -1,6 +1,6 @@
 use Rattle.std.proofs.Common.{subst, sym, arith}
 use Rattle.std.proofs.lemmas.List.{nil_from_length}
-use Rattle.account_formats.specs.Format.{is_named}
+use Rattle.account_model.specs.Format.{is_named}
 use Rattle.carried_lines.proofs.NamedSearch.{AreUpTo, ends-up_to, goes-up_to, starts-up_to}
 use Rattle.carried_lines.proofs.placed_search.named_among.Goals as goal
 

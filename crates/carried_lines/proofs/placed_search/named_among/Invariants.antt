@@ -1,5 +1,5 @@
 use Rattle.std.proofs.Common.{vec_len}
-use Rattle.account_formats.specs.Format.{is_named}
+use Rattle.account_model.specs.Format.{is_named}
 use Rattle.carried_lines.proofs.NamedSearch.{AreUpTo}
 use Rattle.carried_lines.proofs.placed_search.named_among.Given as goal
 

@@ -1,7 +1,7 @@
 use Rattle.std.proofs.Common.{◌≡◌, length}
 use Rattle.std.specs.Prelude.{find}
-use Rattle.account_formats.specs.Format.{records_of}
-use Rattle.account_formats.specs.Tables.{table_records}
+use Rattle.account_model.specs.Format.{records_of}
+use Rattle.account_model.specs.Tables.{table_records}
 use Rattle.carried_lines.proofs.search.first_passing.Given as goal
 
 -- what is found in the lines left is what is found in all

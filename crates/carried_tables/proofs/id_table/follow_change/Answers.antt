@@ -1,6 +1,6 @@
 use Rattle.std.proofs.Common.{sym, subst}
 use Rattle.std.proofs.lemmas.Result.{IfOk-weaker}
-use Rattle.account_formats.specs.Tables.{table_records}
+use Rattle.account_model.specs.Tables.{table_records}
 use Rattle.carried_tables.specs.KeptIds.{AreIdsOf, counts_of}
 use Rattle.carried_tables.proofs.KeptIdLemmas.{kept-all}
 use Rattle.carried_tables.proofs.id_table.follow_change.Goals as goal

@@ -1,8 +1,8 @@
 use Rattle.std.proofs.Common.{◌∙◌, sym, subst}
 use Rattle.std.proofs.lemmas.Bool.{leb-false}
 use Rattle.std.proofs.lemmas.Result.{IfOk-weaker}
-use Rattle.account_formats.specs.Format.{find_named}
-use Rattle.account_formats.specs.Tables.{table_records}
+use Rattle.account_model.specs.Format.{find_named}
+use Rattle.account_model.specs.Tables.{table_records}
 use Rattle.carried_tables.specs.KeptIds.{AreIdsOf, counts_of}
 use Rattle.carried_tables.proofs.KeptIdLemmas.{none-stays, none-told, one-swaps}
 use Rattle.carried_tables.proofs.id_table.renumber.Goals as goal

@@ -1,6 +1,6 @@
 use Rattle.std.proofs.Common.{◌∙◌, ◌++◌, length, map, ap, arith}
-use Rattle.account_formats.specs.Format.{records_of}
-use Rattle.account_formats.specs.Tables.{table_records}
+use Rattle.account_model.specs.Format.{records_of}
+use Rattle.account_model.specs.Tables.{table_records}
 use Rattle.acct_tables.specs.SeenLines.{seen_line}
 use Rattle.carried_lines.proofs.FileLemmas.{records-in}
 use Rattle.carried_lines.proofs.RecordLemmas.{ids-end, ids-found}

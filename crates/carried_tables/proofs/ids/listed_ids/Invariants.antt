@@ -1,5 +1,5 @@
 use Rattle.std.proofs.Common.{length, map}
-use Rattle.account_formats.specs.Tables.{table_records}
+use Rattle.account_model.specs.Tables.{table_records}
 use Rattle.carried_lines.proofs.RecordLemmas.{Gathers}
 use Rattle.carried_tables.proofs.ids.listed_ids.Given as goal
 

@@ -1,9 +1,9 @@
 use Rattle.std.proofs.Common.{◌∙◌, ap, sym}
 use Rattle.std.specs.Prelude.{decimal}
 use Rattle.std.specs.List.{list_any}
-use Rattle.account_formats.specs.Format.{has_named}
-use Rattle.account_formats.specs.Records.{subid_format}
-use Rattle.account_formats.specs.Tables.{table_records}
+use Rattle.account_model.specs.Format.{has_named}
+use Rattle.account_model.specs.Records.{subid_format}
+use Rattle.account_model.specs.Tables.{table_records}
 use Rattle.carried_tables.specs.RangeNumbers.{is_numbered}
 use Rattle.carried_tables.proofs.OwnedRanges.{none-numbered}
 use Rattle.carried_tables.proofs.OwnerLemmas.{owned-named}

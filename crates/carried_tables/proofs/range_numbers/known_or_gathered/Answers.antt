@@ -1,7 +1,7 @@
 use Rattle.std.proofs.Common.{◌∙◌, ap, subst}
 use Rattle.std.proofs.lemmas.Result.{IfOk-weaker}
 use Rattle.acct_text.specs.Lines.{lines_of}
-use Rattle.account_formats.specs.Records.{subid_format}
+use Rattle.account_model.specs.Records.{subid_format}
 use Rattle.subid_ranges.specs.RangeNumbers.{AreNumbersOf}
 use Rattle.carried_lines.specs.TablesOfLines.{lines_in}
 use Rattle.carried_lines.proofs.FileLemmas.{records-in}

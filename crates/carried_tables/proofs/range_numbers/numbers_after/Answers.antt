@@ -1,8 +1,8 @@
 use Rattle.std.proofs.Common.{[], ◌∷◌, sym, subst}
 use Rattle.std.specs.Prelude.{IfSome}
-use Rattle.account_formats.specs.RecordEdits.{IsWrittenEdit}
-use Rattle.account_formats.specs.Records.{subid_format}
-use Rattle.account_formats.specs.Tables.{table_after}
+use Rattle.account_model.specs.RecordEdits.{IsWrittenEdit}
+use Rattle.account_model.specs.Records.{subid_format}
+use Rattle.account_model.specs.Tables.{table_after}
 use Rattle.line_edits.specs.SeenEdits.{seen_edit}
 use Rattle.line_edits.specs.SubidChanges.{subid_becomes}
 use Rattle.carried_tables.specs.RangeNumbers.{AreNumbersIn}

@@ -1,8 +1,8 @@
 use Rattle.std.proofs.Common.{◌∙◌, [], ap, subst, sym}
 use Rattle.std.specs.List.{cons_option}
 use Rattle.std.proofs.lemmas.Bool.{leb-false}
-use Rattle.account_formats.specs.Format.{is_named}
-use Rattle.account_formats.specs.Records.{subid_format}
+use Rattle.account_model.specs.Format.{is_named}
+use Rattle.account_model.specs.Records.{subid_format}
 use Rattle.carried_lines.specs.Accepting.{IsKeyOf}
 use Rattle.record_keys.specs.Keys.{subid_keys}
 use Rattle.carried_tables.proofs.OwnedRanges.{owned-found, owner-key}

@@ -4,7 +4,7 @@ use Rattle.std.proofs.lemmas.Result.{IfOk-weaker}
 use Rattle.account_model.specs.declared.refusal.Refusal.TheVariants.{NoRanges}
 use Rattle.account_model.specs.Action.{reports}
 use Rattle.account_model.specs.Getsubids.{getsubids, range_lines_from, ranges_of}
-use Rattle.account_words.specs.Request.{operand}
+use Rattle.account_model.specs.Request.{operand}
 use Rattle.tool_answers.specs.Decisions.{refusal_output}
 use Rattle.tool_answers.specs.declared.decision.Decision.TheVariants.{Refuse}
 use Rattle.subid_ranges.specs.Owned.{first_and_count}

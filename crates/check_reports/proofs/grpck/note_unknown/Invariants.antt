@@ -1,7 +1,7 @@
 use Rattle.std.proofs.Common.{◌≡◌, ◌++◌, length}
 use Rattle.acct_text.specs.Pieces.{cut_at}
-use Rattle.account_formats.specs.Records.{read_names}
-use Rattle.account_formats.specs.Text.{comma, nonempty}
+use Rattle.account_model.specs.Records.{read_names}
+use Rattle.account_model.specs.Text.{comma, nonempty}
 use Rattle.check_reports.specs.Seen.{users_seen, unknown_problems}
 use Rattle.check_reports.proofs.grpck.note_unknown.Given as goal
 

@@ -1,7 +1,7 @@
 use Rattle.std.proofs.Common.{◌∙◌, false, ap}
 use Rattle.acct_text.specs.declared.Tab.TheVariants.{Group, Gshadow}
 use Rattle.acct_text.specs.Files.{no_files}
-use Rattle.account_formats.specs.Records.{group_format, gshadow_format}
+use Rattle.account_model.specs.Records.{group_format, gshadow_format}
 use Rattle.account_model.specs.Grpck.{group_problems, group_report, gshadow_problems, gshadow_report}
 use Rattle.account_model.specs.Problems.{table_problems}
 use Rattle.check_reports.specs.Reported.{with_problems}

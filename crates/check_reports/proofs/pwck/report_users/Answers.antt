@@ -2,10 +2,10 @@ use Rattle.std.proofs.Common.{◌∙◌, Bool, true, [], ap}
 use Rattle.std.specs.Prelude.{codes}
 use Rattle.acct_text.specs.declared.Tab.TheVariants.{Passwd, Shadow}
 use Rattle.acct_text.specs.Files.{no_files}
-use Rattle.account_formats.specs.Records.{passwd_format, shadow_format}
+use Rattle.account_model.specs.Records.{passwd_format, shadow_format}
 use Rattle.account_model.specs.Problems.{table_problems}
 use Rattle.account_model.specs.Pwck.{passwd_report, shadow_problems, shadow_report, user_problems}
-use Rattle.account_words.specs.Request.{has_option}
+use Rattle.account_model.specs.Request.{has_option}
 use Rattle.check_reports.specs.Reported.{with_problems}
 use Rattle.check_reports.proofs.ReportLemmas.{told-both}
 use Rattle.check_reports.proofs.pwck.report_users.Goals as goal

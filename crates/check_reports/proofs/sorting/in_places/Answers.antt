@@ -1,6 +1,6 @@
 use Rattle.std.proofs.Common.{◌∙◌, ◌++◌, drop, length, map, sym, ap, arith}
 use Rattle.acct_text.specs.Lines.{file_bytes}
-use Rattle.account_formats.specs.Edits.{in_places}
+use Rattle.account_model.specs.Edits.{in_places}
 use Rattle.check_reports.specs.Sorted.{seen_keyed}
 use Rattle.check_reports.proofs.KeyedLines.{placed-end}
 use Rattle.check_reports.proofs.sorting.in_places.Goals as goal

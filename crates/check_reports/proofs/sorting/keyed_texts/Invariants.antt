@@ -1,6 +1,6 @@
 use Rattle.std.proofs.Common.{◌≡◌, ◌++◌, length, map}
 use Rattle.acct_text.specs.Lines.{lines_of}
-use Rattle.account_formats.specs.Edits.{keyed_texts}
+use Rattle.account_model.specs.Edits.{keyed_texts}
 use Rattle.check_reports.specs.Sorted.{seen_keyed}
 use Rattle.check_reports.proofs.sorting.keyed_texts.Given as goal
 

@@ -1,8 +1,8 @@
 use Rattle.std.proofs.Common.{◌≡◌, ◌∙◌, [], ◌∷◌, ap}
 use Rattle.std.specs.Option.{option_copied}
 use Rattle.std.proofs.lemmas.Result.{IfOk-weaker}
-use Rattle.account_formats.specs.Edits.{Arrange}
-use Rattle.account_formats.specs.Tables.{table_after, table_records}
+use Rattle.account_model.specs.Edits.{Arrange}
+use Rattle.account_model.specs.Tables.{table_after, table_records}
 use Rattle.check_reports.specs.Sorted.{kept_place, place_in}
 use Rattle.check_reports.proofs.PlaceLemmas.{place-or-count}
 use Rattle.check_reports.proofs.sorting.sorted_like.Goals as goal

@@ -1,5 +1,5 @@
 use Rattle.std.proofs.Common.{◌≡◌, ◌∙◌, ◌++◌, ◌∷◌, [], ap}
-use Rattle.account_formats.specs.Text.{is_listed}
+use Rattle.account_model.specs.Text.{is_listed}
 use Rattle.command_values.proofs.ListLemmas.{with_more, distinct-next}
 use Rattle.command_values.proofs.lists.distinct.Goals as goal
 use Rattle.command_values.proofs.lists.distinct.Goals.{then-not-contains+in_ok-push, else-not-contains}

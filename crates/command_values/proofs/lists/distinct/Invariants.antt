@@ -1,5 +1,5 @@
 use Rattle.std.proofs.Common.{◌≡◌, take}
-use Rattle.account_formats.specs.Text.{distinct}
+use Rattle.account_model.specs.Text.{distinct}
 use Rattle.command_values.proofs.lists.distinct.Given as goal
 
 -- of the names so far the first of equal ones are kept

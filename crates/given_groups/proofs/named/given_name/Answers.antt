@@ -1,10 +1,10 @@
 use Rattle.std.proofs.Common.{◌≡◌, ◌∙◌, ℕ, Bool, true, false, List, [], ◌∷◌, refl, sym, ap}
 use Rattle.std.specs.Prelude.{Some, bytes_eq, is_some, option_map}
 use Rattle.std.proofs.lemmas.Slice.Eq.{bytes_eq-Decides}
-use Rattle.account_formats.specs.Format.{find_named}
-use Rattle.account_formats.specs.Records.{group_format}
-use Rattle.account_formats.specs.Tables.{group_records}
-use Rattle.account_formats.specs.declared.records.GroupRecord.{GroupRecord}
+use Rattle.account_model.specs.Format.{find_named}
+use Rattle.account_model.specs.Records.{group_format}
+use Rattle.account_model.specs.Tables.{group_records}
+use Rattle.account_model.specs.declared.records.GroupRecord.{GroupRecord}
 use Rattle.given_groups.proofs.named.given_name.Goals as goal
 
 module _ (name : List ℕ) where

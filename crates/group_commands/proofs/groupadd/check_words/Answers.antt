@@ -1,9 +1,9 @@
 use Rattle.std.proofs.Common.{[], ◌∷◌, subst}
 use Rattle.std.specs.Prelude.{codes}
 use Rattle.account_model.specs.Refusals.{bad_name, bad_key, bad_value}
-use Rattle.account_formats.specs.Text.{first_some}
-use Rattle.account_words.specs.Values.{is_field}
-use Rattle.account_formats.specs.Records.{is_id}
+use Rattle.account_model.specs.Text.{first_some}
+use Rattle.account_model.specs.Values.{is_field}
+use Rattle.account_model.specs.Records.{is_id}
 use Rattle.tool_answers.specs.Refusing.{IsFaultOf}
 use Rattle.tool_answers.proofs.FirstRefusal.{handed-on, refuses-first}
 use Rattle.group_commands.proofs.groupadd.check_words.Goals as goal

@@ -1,8 +1,8 @@
 use Rattle.std.proofs.Common.{sym, ap, ◌∙◌}
 use Rattle.account_model.specs.Groupadd.{is_content}
 use Rattle.account_model.specs.NewAccount.{add_group}
-use Rattle.account_words.specs.Request.{operand}
-use Rattle.account_formats.specs.Tables.{followed_by}
+use Rattle.account_model.specs.Request.{operand}
+use Rattle.account_model.specs.Tables.{followed_by}
 use Rattle.table_edits.proofs.ActingLemmas.{acts-handed}
 use Rattle.group_commands.proofs.GroupaddLemmas.{refused-by_words, refused-by_conflict, made-group}
 use Rattle.group_commands.proofs.groupadd.groupadd.Goals as goal

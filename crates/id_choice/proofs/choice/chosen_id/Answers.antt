@@ -1,6 +1,6 @@
 use Rattle.std.proofs.Common.{ℕ, sym, subst}
 use Rattle.std.specs.Prelude.{Option, None}
-use Rattle.account_words.specs.Ids.{IsChosenId}
+use Rattle.account_model.specs.Ids.{IsChosenId}
 use Rattle.id_choice.proofs.ChoiceLemmas.{empty-choice}
 use Rattle.id_choice.proofs.choice.chosen_id.Goals as goal
 

@@ -1,5 +1,5 @@
 use Rattle.std.proofs.Common.{ℕ, sym, subst}
-use Rattle.account_words.specs.Ids.{IsGreatest, UsedIn}
+use Rattle.account_model.specs.Ids.{IsGreatest, UsedIn}
 use Rattle.id_choice.proofs.ChoiceLemmas.{greatest-used-is, none-behind, none-up-to}
 use Rattle.id_choice.proofs.choice.greatest_used.Goals as goal
 

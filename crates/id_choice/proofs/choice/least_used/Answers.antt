@@ -1,5 +1,5 @@
 use Rattle.std.proofs.Common.{ℕ, sym, subst}
-use Rattle.account_words.specs.Ids.{IsLeast, UsedIn}
+use Rattle.account_model.specs.Ids.{IsLeast, UsedIn}
 use Rattle.id_choice.proofs.ChoiceLemmas.{least-used-is, none-before, none-from}
 use Rattle.id_choice.proofs.choice.least_used.Goals as goal
 

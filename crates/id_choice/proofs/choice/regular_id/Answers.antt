@@ -1,5 +1,5 @@
 use Rattle.std.proofs.Common.{arith}
-use Rattle.account_words.specs.Ids.{AfterGreatest, FirstOfUnused}
+use Rattle.account_model.specs.Ids.{AfterGreatest, FirstOfUnused}
 use Rattle.id_choice.proofs.ChoiceLemmas.{regular-free}
 use Rattle.id_choice.proofs.choice.regular_id.Goals as goal
 

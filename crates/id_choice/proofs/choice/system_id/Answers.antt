@@ -1,5 +1,5 @@
 use Rattle.id_choice.proofs.ChoiceLemmas.{system-before, system-free}
-use Rattle.account_words.specs.Ids.{LastOfUnused}
+use Rattle.account_model.specs.Ids.{LastOfUnused}
 use Rattle.id_choice.proofs.choice.system_id.Goals as goal
 
 pub returns-in-None : goal.returns-in-None

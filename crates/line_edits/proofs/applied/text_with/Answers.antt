@@ -1,6 +1,6 @@
 use Rattle.std.proofs.Common.{◌∙◌, ◌++◌, length, ap, sym, arith}
 use Rattle.acct_text.specs.Lines.{file_bytes, lines_of}
-use Rattle.account_formats.specs.Edits.{put_first}
+use Rattle.account_model.specs.Edits.{put_first}
 use Rattle.acct_tables.specs.SeenLines.{seen_line}
 use Rattle.line_edits.proofs.PutLines.{put-end, put-named, put-other}
 use Rattle.line_edits.proofs.applied.text_with.Goals as goal

@@ -1,6 +1,6 @@
 use Rattle.std.proofs.Common.{◌≡◌, ◌++◌, length}
 use Rattle.acct_text.specs.Lines.{file_bytes, lines_of}
-use Rattle.account_formats.specs.Edits.{put_first}
+use Rattle.account_model.specs.Edits.{put_first}
 use Rattle.line_edits.proofs.applied.text_with.Given as goal
 
 -- the bytes so far, with those of the lines left after the put, are those of all

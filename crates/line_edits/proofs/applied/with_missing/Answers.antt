@@ -3,8 +3,8 @@ use Rattle.std.specs.Prelude.{if◌then◌else◌}
 use Rattle.std.proofs.lemmas.Result.{IfOk-weaker}
 use Rattle.acct_text.specs.Lines.{file_bytes, lines_of}
 use Rattle.acct_text.proofs.LinesLaws.{lines_of-are}
-use Rattle.account_formats.specs.Edits.{with_line}
-use Rattle.account_formats.specs.Format.{has_named, records_of}
+use Rattle.account_model.specs.Edits.{with_line}
+use Rattle.account_model.specs.Format.{has_named, records_of}
 use Rattle.line_edits.proofs.applied.with_missing.Goals as goal
 
 pub returns-then-has_record : goal.returns-then-has_record

@@ -2,8 +2,8 @@ use Rattle.std.proofs.Common.{◌∙◌, ap, sym}
 use Rattle.std.specs.Prelude.{if◌then◌else◌}
 use Rattle.std.proofs.lemmas.Result.{IfOk-weaker}
 use Rattle.acct_text.specs.Lines.{file_bytes, lines_of}
-use Rattle.account_formats.specs.Edits.{put_first, with_line}
-use Rattle.account_formats.specs.Format.{has_named, records_of}
+use Rattle.account_model.specs.Edits.{put_first, with_line}
+use Rattle.account_model.specs.Format.{has_named, records_of}
 use Rattle.line_edits.proofs.applied.with_put.Goals as goal
 
 pub returns-then-not-has_record : goal.returns-then-not-has_record

@@ -1,6 +1,6 @@
 use Rattle.std.proofs.Common.{◌∙◌, ap, sym}
 use Rattle.acct_text.specs.Lines.{file_bytes, lines_of}
-use Rattle.account_formats.specs.Edits.{edited_by}
+use Rattle.account_model.specs.Edits.{edited_by}
 use Rattle.line_edits.specs.CheckedTexts.{checked_as, checked_by}
 use Rattle.line_edits.specs.SeenEdits.{seen_edits}
 use Rattle.line_edits.specs.declared.checked.Checked.TheVariants.{Edited}

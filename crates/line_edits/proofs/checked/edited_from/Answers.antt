@@ -2,9 +2,9 @@ use Rattle.std.proofs.Common.{◌∙◌, [], ◌∷◌, ap, sym, subst}
 use Rattle.std.specs.List.{AllByRecursion}
 use Rattle.std.proofs.lemmas.Result.{IfOk-weaker}
 use Rattle.acct_text.specs.Lines.{file_bytes, lines_of}
-use Rattle.account_formats.specs.Edits.{edited_by}
-use Rattle.account_formats.specs.Edits.Edit.{Become}
-use Rattle.account_formats.specs.RecordEdits.{IsWrittenEdit}
+use Rattle.account_model.specs.Edits.{edited_by}
+use Rattle.account_model.specs.Edits.Edit.{Become}
+use Rattle.account_model.specs.RecordEdits.{IsWrittenEdit}
 use Rattle.line_edits.specs.Reach.{IsOpened}
 use Rattle.line_edits.proofs.OpenLemmas.{open-passed}
 use Rattle.line_edits.proofs.ReachLemmas.{front-untouched}

@@ -1,7 +1,7 @@
 use Rattle.std.proofs.Common.{◌≡◌, ◌∙◌, false, ap, sym}
 use Rattle.account_model.specs.Members.{without_name}
-use Rattle.account_formats.specs.Text.{is_listed}
-use Rattle.account_formats.proofs.NamingLaws.{group-names_first}
+use Rattle.account_model.specs.Text.{is_listed}
+use Rattle.account_model.proofs.NamingLaws.{group-names_first}
 use Rattle.line_edits.specs.GroupChanges.{group_after}
 use Rattle.line_edits.specs.Memberships.{joins}
 use Rattle.line_edits.proofs.LeftLemmas.{isn't, left-group, without-unlisted}

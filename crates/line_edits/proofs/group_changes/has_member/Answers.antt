@@ -1,6 +1,6 @@
 use Rattle.std.proofs.Common.{◌∙◌, ap}
-use Rattle.account_formats.specs.Records.{read_names}
-use Rattle.account_formats.specs.Text.{is_listed}
+use Rattle.account_model.specs.Records.{read_names}
+use Rattle.account_model.specs.Text.{is_listed}
 use Rattle.line_edits.proofs.FieldLemmas.{members-fourth}
 use Rattle.line_edits.proofs.group_changes.has_member.Goals as goal
 

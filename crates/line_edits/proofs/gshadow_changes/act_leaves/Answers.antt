@@ -1,8 +1,8 @@
 use Rattle.std.proofs.Common.{◌≡◌, ◌∙◌, false, ap, sym}
 use Rattle.std.specs.Prelude.{◌||◌}
 use Rattle.account_model.specs.Members.{without_name}
-use Rattle.account_formats.specs.Text.{is_listed}
-use Rattle.account_formats.proofs.NamingLaws.{gshadow-names_first}
+use Rattle.account_model.specs.Text.{is_listed}
+use Rattle.account_model.proofs.NamingLaws.{gshadow-names_first}
 use Rattle.line_edits.specs.GshadowChanges.{gshadow_after, without_user}
 use Rattle.line_edits.specs.Memberships.{joins}
 use Rattle.line_edits.proofs.LeftLemmas.{isn't, left-gshadow, neither, without-unlisted}

@@ -1,7 +1,7 @@
 use Rattle.std.proofs.Common.{◌≡◌, ◌∙◌, ℕ, List, [], ◌∷◌, ap, sym, subst}
 use Rattle.std.specs.Prelude.{IfSome, Some}
-use Rattle.account_formats.specs.Records.{gshadow_format}
-use Rattle.account_formats.specs.declared.records.GshadowRecord.{GshadowRecord}
+use Rattle.account_model.specs.Records.{gshadow_format}
+use Rattle.account_model.specs.declared.records.GshadowRecord.{GshadowRecord}
 use Rattle.acct_tables.specs.Marks.{IsWithoutAll, marks_in}
 use Rattle.line_edits.specs.GshadowChanges.{gshadow_after}
 use Rattle.line_edits.proofs.MarkLemmas.{kept-gshadow, left-user}

@@ -1,6 +1,6 @@
 use Rattle.std.proofs.Common.{◌∙◌, ℕ, List, [], ◌∷◌, ap, refl, sym}
 use Rattle.acct_text.specs.Pieces.{line_of}
-use Rattle.account_formats.specs.Records.{print_names, read_names}
+use Rattle.account_model.specs.Records.{print_names, read_names}
 use Rattle.acct_lines.specs.Listed.{listed_behind}
 use Rattle.acct_lines.specs.Shown.{gshadow_shown}
 use Rattle.line_edits.specs.Memberships.{gshadow_by}

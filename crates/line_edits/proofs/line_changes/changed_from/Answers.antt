@@ -1,7 +1,7 @@
 use Rattle.std.proofs.Common.{◌∙◌, ◌++◌, length, ap, arith}
 use Rattle.std.specs.Prelude.{flat_map}
 use Rattle.acct_text.specs.Lines.{file_bytes, lines_of}
-use Rattle.account_formats.specs.Edits.{becomes}
+use Rattle.account_model.specs.Edits.{becomes}
 use Rattle.acct_tables.specs.SeenLines.{seen_line}
 use Rattle.acct_tables.proofs.LinesAhead.{walked, walked-all}
 use Rattle.line_edits.proofs.OpenLemmas.{front-pushed}

@@ -1,7 +1,7 @@
 use Rattle.std.proofs.Common.{◌≡◌, ◌++◌, length}
 use Rattle.std.specs.Prelude.{flat_map}
 use Rattle.acct_text.specs.Lines.{file_bytes, lines_of}
-use Rattle.account_formats.specs.Edits.{becomes}
+use Rattle.account_model.specs.Edits.{becomes}
 use Rattle.line_edits.proofs.line_changes.changed_from.Given as goal
 
 -- the bytes so far, with those of what becomes of the lines left, are those of all

@@ -1,7 +1,7 @@
 use Rattle.std.proofs.Common.{◌≡◌, ◌∙◌, [], ◌∷◌, ◌++◌, ap, sym, append-nil}
 use Rattle.std.proofs.lemmas.Result.{on_ok_weaker}
 use Rattle.acct_text.specs.Lines.{file_bytes}
-use Rattle.account_formats.specs.Edits.{line_becomes}
+use Rattle.account_model.specs.Edits.{line_becomes}
 use Rattle.acct_tables.specs.SeenLines.{seen_line}
 use Rattle.line_edits.specs.SeenEdits.{records_in}
 use Rattle.line_edits.proofs.ChangedLines.{same-line, stays-bytes}

@@ -1,7 +1,7 @@
 use Rattle.std.proofs.Common.{◌∙◌, ◌++◌, ap, sym}
 use Rattle.std.proofs.lemmas.Result.{on_ok_weaker}
 use Rattle.acct_text.specs.Lines.{file_bytes}
-use Rattle.account_formats.specs.Edits.{becomes}
+use Rattle.account_model.specs.Edits.{becomes}
 use Rattle.acct_tables.specs.SeenLines.{seen_line}
 use Rattle.line_edits.proofs.ChangedLines.{left-line, other-line, record-line, stays-bytes}
 use Rattle.line_edits.proofs.line_changes.push_changed.Goals as goal

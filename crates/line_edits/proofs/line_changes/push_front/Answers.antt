@@ -1,7 +1,7 @@
 use Rattle.std.proofs.Common.{◌∙◌, ◌++◌, ap}
 use Rattle.std.specs.Prelude.{flat_map}
 use Rattle.acct_text.specs.Lines.{file_bytes}
-use Rattle.account_formats.specs.Edits.{becomes}
+use Rattle.account_model.specs.Edits.{becomes}
 use Rattle.line_edits.proofs.OpenLemmas.{front-pushed}
 use Rattle.line_edits.proofs.line_changes.push_front.Goals as goal
 

@@ -1,7 +1,7 @@
 use Rattle.std.proofs.Common.{◌∙◌, ◌++◌, ap, sym, append_assoc, append-nil}
 use Rattle.std.proofs.lemmas.Result.{on_ok_weaker}
 use Rattle.acct_text.specs.Lines.{line_bytes}
-use Rattle.account_formats.specs.Edits.{printed_line}
+use Rattle.account_model.specs.Edits.{printed_line}
 use Rattle.line_edits.proofs.line_changes.push_two.Goals as goal
 
 pub returns : goal.returns

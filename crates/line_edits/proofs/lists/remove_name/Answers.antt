@@ -1,5 +1,5 @@
 use Rattle.std.proofs.Common.{◌∙◌, ap, sym}
-use Rattle.account_formats.specs.Text.{is_listed}
+use Rattle.account_model.specs.Text.{is_listed}
 use Rattle.line_edits.proofs.LeftLemmas.{without-unlisted}
 use Rattle.line_edits.proofs.lists.remove_name.Goals as goal
 

@@ -1,6 +1,6 @@
 use Rattle.std.proofs.Common.{◌≡◌, drop}
 use Rattle.std.specs.Prelude.{Some}
-use Rattle.account_formats.specs.Edits.{touches}
+use Rattle.account_model.specs.Edits.{touches}
 use Rattle.line_edits.specs.SeenEdits.{seen_edits}
 use Rattle.line_edits.proofs.multiple.leave.Given as goal
 

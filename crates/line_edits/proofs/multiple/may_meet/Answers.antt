@@ -1,7 +1,7 @@
 use Rattle.std.proofs.Common.{◌∙◌, ap, sym, subst}
 use Rattle.std.specs.Prelude.{nat_le}
 use Rattle.acct_text.specs.Lines.{lines_of}
-use Rattle.account_formats.specs.Format.{count_named, records_of}
+use Rattle.account_model.specs.Format.{count_named, records_of}
 use Rattle.line_edits.specs.SeenEdits.{seen_edits}
 use Rattle.line_edits.specs.EditsByName.{LacksName}
 use Rattle.line_edits.proofs.NamedTouches.{untouched}

@@ -1,6 +1,6 @@
 use Rattle.std.proofs.Common.{List, ◌∙◌, length, ap, sym, arith}
 use Rattle.acct_text.specs.Lines.{Line, lines_of}
-use Rattle.account_formats.specs.Format.{records_of}
+use Rattle.account_model.specs.Format.{records_of}
 use Rattle.acct_tables.specs.SeenLines.{seen_line}
 use Rattle.line_edits.specs.SeenEdits.{seen_edits}
 use Rattle.line_edits.specs.Touching.{first_touched}

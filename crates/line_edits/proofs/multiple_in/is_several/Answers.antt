@@ -1,6 +1,6 @@
 use Rattle.std.proofs.Common.{◌≡◌, ◌∙◌, ap}
 use Rattle.std.specs.Prelude.{Some, nat_le, option_map}
-use Rattle.account_formats.specs.Format.{count_named, records_of}
+use Rattle.account_model.specs.Format.{count_named, records_of}
 use Rattle.line_edits.proofs.multiple_in.is_several.Goals as goal
 
 pub returns-in-Some : goal.returns-in-Some

@@ -1,5 +1,5 @@
 use Rattle.std.proofs.Common.{◌≡◌, drop}
-use Rattle.account_formats.specs.Edits.{touches}
+use Rattle.account_model.specs.Edits.{touches}
 use Rattle.line_edits.specs.SeenEdits.{seen_edits}
 use Rattle.line_edits.specs.Touching.{HoldsOfMultiple}
 use Rattle.line_edits.proofs.multiple_in.touch_single.Given as goal

@@ -1,6 +1,6 @@
 use Rattle.std.proofs.Common.{◌≡◌, ℕ, List, take}
 use Rattle.std.specs.Vec.{vec_items}
-use Rattle.account_formats.specs.Text.{is_listed}
+use Rattle.account_model.specs.Text.{is_listed}
 use Rattle.line_edits.specs.NameSets.{has_text}
 use Rattle.line_edits.proofs.name_set.texts_of.Given as goal
 

@@ -2,7 +2,7 @@ use Rattle.std.proofs.Common.{◌∙◌, ◌<◌, [], ◌∷◌, length, take, g
 use Rattle.std.specs.Prelude.{flat_map}
 use Rattle.std.proofs.lemmas.List.{take_all, take_more}
 use Rattle.acct_text.specs.Lines.{file_bytes}
-use Rattle.account_formats.specs.Edits.{becomes}
+use Rattle.account_model.specs.Edits.{becomes}
 use Rattle.line_edits.specs.Naming.{names_in, on_named}
 use Rattle.line_edits.specs.WrittenLines.{AreWritten}
 use Rattle.line_edits.proofs.NameSets.{distinct-before}

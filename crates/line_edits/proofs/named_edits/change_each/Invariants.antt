@@ -1,6 +1,6 @@
 use Rattle.std.proofs.Common.{◌≡◌, take}
 use Rattle.std.specs.Prelude.{flat_map}
-use Rattle.account_formats.specs.Edits.{becomes}
+use Rattle.account_model.specs.Edits.{becomes}
 use Rattle.line_edits.specs.Naming.{names_in, on_named}
 use Rattle.line_edits.proofs.named_edits.change_each.Given as goal
 

@@ -1,7 +1,7 @@
 use Rattle.std.proofs.Common.{◌∙◌, [], ◌∷◌, ap, sym, if◌then◌else◌}
 use Rattle.std.specs.Prelude.{flat_map}
 use Rattle.std.proofs.lemmas.Result.{IfOk-weaker}
-use Rattle.account_formats.specs.Edits.{becomes}
+use Rattle.account_model.specs.Edits.{becomes}
 use Rattle.line_edits.proofs.NamedLemmas.{none-there, only-inside, only-there}
 use Rattle.line_edits.proofs.NamesDone.{names-all}
 use Rattle.line_edits.proofs.named_edits.change_of_name.Goals as goal

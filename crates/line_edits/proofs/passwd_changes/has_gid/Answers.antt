@@ -1,7 +1,7 @@
 use Rattle.std.proofs.Common.{◌≡◌, ◌==◌, ◌∙◌, Ok, ap, sym}
 use Rattle.std.specs.Option.{ok_or}
 use Rattle.acct_text.specs.Numbers.{number_fault, number_of}
-use Rattle.account_formats.specs.Records.{greatest_id, read_id}
+use Rattle.account_model.specs.Records.{greatest_id, read_id}
 use Rattle.line_edits.proofs.FieldLemmas.{gid-fourth}
 use Rattle.line_edits.proofs.passwd_changes.has_gid.Goals as goal
 

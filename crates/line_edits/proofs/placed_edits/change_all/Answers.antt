@@ -1,5 +1,5 @@
 use Rattle.std.proofs.Common.{◌-◌, ◌∙◌, ap, arith}
-use Rattle.account_formats.specs.Edits.{becomes}
+use Rattle.account_model.specs.Edits.{becomes}
 use Rattle.line_edits.specs.Naming.{on_asked}
 use Rattle.line_edits.specs.Places.{spliced_at}
 use Rattle.line_edits.proofs.Splices.{steps-down}

@@ -1,6 +1,6 @@
 use Rattle.std.proofs.Common.{◌≡◌, ◌≤◌, ◌++◌, length, take, drop}
 use Rattle.std.specs.Prelude.{flat_map}
-use Rattle.account_formats.specs.Edits.{becomes}
+use Rattle.account_model.specs.Edits.{becomes}
 use Rattle.line_edits.specs.Naming.{on_asked}
 use Rattle.line_edits.proofs.placed_edits.change_all.Given as goal
 

@@ -1,6 +1,6 @@
 use Rattle.std.proofs.Common.{◌∙◌, ap, sym}
 use Rattle.std.proofs.lemmas.Result.{on_ok_weaker}
-use Rattle.account_formats.specs.Edits.{becomes}
+use Rattle.account_model.specs.Edits.{becomes}
 use Rattle.line_edits.specs.Naming.{on_asked}
 use Rattle.line_edits.specs.Places.{spliced_at}
 use Rattle.line_edits.proofs.placed_edits.change_asked_at.Goals as goal

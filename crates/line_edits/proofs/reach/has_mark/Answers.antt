@@ -1,7 +1,7 @@
 use Rattle.std.proofs.Common.{◌∙◌, ap, sym}
 use Rattle.std.specs.Prelude.{◌||◌, map}
 use Rattle.std.specs.Vec.{vec_items}
-use Rattle.account_formats.specs.Text.{is_listed}
+use Rattle.account_model.specs.Text.{is_listed}
 use Rattle.line_edits.proofs.NameSets.{keys-listed}
 use Rattle.line_edits.proofs.reach.has_mark.Goals as goal
 

@@ -1,6 +1,6 @@
 use Rattle.std.proofs.Common.{[], ◌∷◌, ◌∙◌, ap, sym, subst}
 use Rattle.std.specs.Prelude.{◌||◌}
-use Rattle.account_formats.specs.Edits.{touches}
+use Rattle.account_model.specs.Edits.{touches}
 use Rattle.acct_tables.specs.Marks.{IsWithoutAll}
 use Rattle.line_edits.specs.Reach.{IsOutOf}
 use Rattle.line_edits.specs.SeenEdits.{seen_edit}

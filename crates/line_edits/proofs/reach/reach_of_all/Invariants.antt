@@ -1,6 +1,6 @@
 use Rattle.std.proofs.Common.{◌≡◌, ℕ, List, drop}
 use Rattle.std.specs.Prelude.{Some}
-use Rattle.account_formats.specs.Edits.{touches}
+use Rattle.account_model.specs.Edits.{touches}
 use Rattle.line_edits.specs.Reach.{IsOutOf}
 use Rattle.line_edits.specs.SeenEdits.{seen_edits}
 use Rattle.line_edits.proofs.reach.reach_of_all.Given as goal

@@ -1,7 +1,7 @@
 use Rattle.std.proofs.Common.{◌∙◌, ap, sym, subst}
 use Rattle.std.specs.List.{AllByRecursion}
-use Rattle.account_formats.specs.Edits.{edited_by}
-use Rattle.account_formats.specs.RecordEdits.{IsWrittenEdit}
+use Rattle.account_model.specs.Edits.{edited_by}
+use Rattle.account_model.specs.RecordEdits.{IsWrittenEdit}
 use Rattle.acct_tables.specs.SeenLines.{AreOfFile}
 use Rattle.acct_tables.proofs.EditedFiles.{edit-of_file}
 use Rattle.line_edits.specs.SeenEdits.{seen_edit, seen_edits}

@@ -1,5 +1,5 @@
 use Rattle.std.proofs.Common.{◌∙◌, [], ◌∷◌, ap, refl, sym, subst}
-use Rattle.account_formats.specs.Text.{is_listed}
+use Rattle.account_model.specs.Text.{is_listed}
 use Rattle.line_edits.specs.EditsByName.{places_of, touched_at}
 use Rattle.line_edits.specs.Naming.{names_in}
 use Rattle.line_edits.specs.SeenEdits.{seen_edit}

@@ -1,7 +1,7 @@
 use Rattle.std.proofs.Common.{◌≡◌, false, [], ◌∷◌, ap, sym, subst}
 use Rattle.std.specs.Prelude.{◌||◌, IfSome}
-use Rattle.account_formats.specs.Edits.{touches}
-use Rattle.account_formats.specs.Text.{is_listed}
+use Rattle.account_model.specs.Edits.{touches}
+use Rattle.account_model.specs.Text.{is_listed}
 use Rattle.line_edits.specs.Naming.{names_in}
 use Rattle.line_edits.specs.SeenEdits.{seen_edit}
 use Rattle.line_edits.specs.Touching.{LeavesOthers}

@@ -1,7 +1,7 @@
 use Rattle.std.proofs.Common.{◌≡◌, ◌∙◌, ap, sym, subst}
 use Rattle.std.specs.Prelude.{IfSome}
 use Rattle.std.proofs.lemmas.Result.{IfOk-weaker}
-use Rattle.account_formats.specs.Edits.{touches}
+use Rattle.account_model.specs.Edits.{touches}
 use Rattle.line_edits.specs.EditsByName.{TellTouched, places_of, touched_at}
 use Rattle.line_edits.specs.SeenEdits.{seen_edits}
 use Rattle.line_edits.proofs.touches.is_touched.Goals as goal

@@ -1,4 +1,4 @@
-use Rattle.account_formats.specs.RecordEdits.{IsWrittenEdit}
+use Rattle.account_model.specs.RecordEdits.{IsWrittenEdit}
 use Rattle.std.proofs.Common.{arith}
 use Rattle.line_edits.proofs.EditLists.{edit-at}
 use Rattle.line_edits.proofs.touches.is_touched_by.Goals as goal

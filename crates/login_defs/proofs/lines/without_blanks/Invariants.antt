@@ -1,5 +1,5 @@
 use Rattle.std.proofs.Common.{◌≡◌, length}
-use Rattle.account_words.specs.Settings.{words_of}
+use Rattle.account_model.specs.Settings.{words_of}
 use Rattle.login_defs.proofs.lines.without_blanks.Given as goal
 
 abbrev pub invariant-blanks : goal.invariant-blanks

@@ -1,7 +1,7 @@
 use Rattle.std.proofs.Common.{sym, ◌∙◌, ap}
 use Rattle.std.proofs.lemmas.Bool.{eq-eqb, ne_eqb}
-use Rattle.account_formats.specs.Text.{quote, without_last}
-use Rattle.account_formats.proofs.TextLaws.{without_last-same, without_last-other}
+use Rattle.account_model.specs.Text.{quote, without_last}
+use Rattle.account_model.proofs.TextLaws.{without_last-same, without_last-other}
 use Rattle.login_defs.proofs.lines.without_last_quote.Goals as goal
 
 pub returns-then-last-eq34 : goal.returns-then-last-eq34

@@ -1,6 +1,6 @@
 use Rattle.std.proofs.Common.{Some, ◌∙◌, ap, inl, inr, sym}
-use Rattle.account_words.specs.declared.words_of.WordsOf.TheVariants.{Line as OfLine}
-use Rattle.account_words.proofs.AsksLaws.{asks_as_no_fault}
+use Rattle.account_model.specs.declared.words_of.WordsOf.TheVariants.{Line as OfLine}
+use Rattle.account_model.proofs.AsksLaws.{asks_as_no_fault}
 use Rattle.option_words.proofs.batch.fault_of.Goals.{in-Ok, in-Err+in_ok-told-in-Err}
 use Rattle.option_words.proofs.batch.fault_of.Goals as goal
 

@@ -1,6 +1,6 @@
 use Rattle.std.proofs.Common.{◌≡◌, length, map}
-use Rattle.account_formats.specs.Text.{first_some}
-use Rattle.account_words.specs.BatchLines.{first_faulty, with_fault}
+use Rattle.account_model.specs.Text.{first_some}
+use Rattle.account_model.specs.BatchLines.{first_faulty, with_fault}
 use Rattle.option_words.proofs.batch.first_faulty.Given as goal
 
 -- the first faulty line is among those that are left

@@ -1,5 +1,5 @@
 use Rattle.std.proofs.Common.{◌==◌, ◌∙◌, sym, ap, find, option_map, Bool}
-use Rattle.account_words.specs.Options.{OptionForm}
+use Rattle.account_model.specs.Options.{OptionForm}
 use Rattle.option_words.specs.Forms.{form_of}
 use Rattle.option_words.proofs.TableLemmas.{find-map}
 use Rattle.option_words.proofs.forms.form_of_letter.Goals as goal

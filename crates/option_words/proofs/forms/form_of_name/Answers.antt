@@ -1,6 +1,6 @@
 use Rattle.std.proofs.Common.{◌∙◌, sym, ap, find, option_map, Bool}
-use Rattle.account_words.specs.Options.{OptionForm}
-use Rattle.account_words.specs.Spelling.{has_long_name}
+use Rattle.account_model.specs.Options.{OptionForm}
+use Rattle.account_model.specs.Spelling.{has_long_name}
 use Rattle.option_words.specs.Forms.{form_of}
 use Rattle.option_words.proofs.TableLemmas.{find-map}
 use Rattle.option_words.proofs.forms.form_of_name.Goals as goal

@@ -1,8 +1,8 @@
 use Rattle.std.proofs.Common.{ap, sym, ◌∙◌, Some, None, Bool, List, ℕ, Option}
 use Rattle.std.specs.Prelude.{if◌then◌else◌}
 use Rattle.acct_text.proofs.CutOnce.{cut-before, cut-behind, cut-has, uncut-before, uncut-has}
-use Rattle.account_formats.specs.Text.{equals_sign}
-use Rattle.account_words.specs.Spelling.{value_part}
+use Rattle.account_model.specs.Text.{equals_sign}
+use Rattle.account_model.specs.Spelling.{value_part}
 use Rattle.option_words.proofs.meaning.cut_at_equals.Goals as goal
 
 -- the value behind the first `=`, where there is one

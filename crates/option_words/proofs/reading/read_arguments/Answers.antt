@@ -2,9 +2,9 @@ use Rattle.std.proofs.Common.{◌≡◌, ◌<◌, ◌∙◌, ◌∷◌, ◌+◌,
 use Rattle.std.proofs.Math.Numerals.{add-one}
 use Rattle.std.proofs.Math.Seq.{drop-cons}
 use Rattle.std.proofs.lemmas.List.{drop_all}
-use Rattle.account_words.specs.declared.word_fault.WordFault.TheVariants.{MissingValue}
-use Rattle.account_words.specs.Options.{Word}
-use Rattle.account_words.specs.Words.{request_of_tool}
+use Rattle.account_model.specs.declared.word_fault.WordFault.TheVariants.{MissingValue}
+use Rattle.account_model.specs.Options.{Word}
+use Rattle.account_model.specs.Words.{request_of_tool}
 use Rattle.option_words.specs.Reading.{outcome_of}
 use Rattle.option_words.proofs.ReadingLemmas.{outcome_of-no_words, outcome_of-missing, outcome_of-end, answers-fault}
 use Rattle.option_words.proofs.reading.read_arguments.Goals as goal

@@ -1,5 +1,5 @@
 use Rattle.std.proofs.Common.{◌≡◌, suc, drop, Some}
-use Rattle.account_words.specs.Words.{request_of_tool}
+use Rattle.account_model.specs.Words.{request_of_tool}
 use Rattle.option_words.specs.Reading.{outcome_of}
 use Rattle.option_words.proofs.reading.read_arguments.Given as goal
 

@@ -1,5 +1,5 @@
 use Rattle.std.proofs.Common.{◌+◌, ◌∙◌, sym, ap, not, position, option_map, Bool}
-use Rattle.account_words.specs.Options.{Rule}
+use Rattle.account_model.specs.Options.{Rule}
 use Rattle.option_words.specs.Rules.{rule_of}
 use Rattle.option_words.proofs.TableLemmas.{position-map}
 use Rattle.option_words.proofs.rules.broken_rule.Goals as goal

@@ -1,8 +1,8 @@
 use Rattle.std.proofs.Common.{◌≡◌, ◌∙◌, [], Bool, List, false, ap, sym, subst}
 use Rattle.std.specs.Prelude.{if◌then◌else◌, IfOk}
 use Rattle.std.proofs.lemmas.List.{drop_all}
-use Rattle.account_words.specs.Options.{Word}
-use Rattle.account_words.specs.LineWords.{signs_behind, words_in, split_line}
+use Rattle.account_model.specs.Options.{Word}
+use Rattle.account_model.specs.LineWords.{signs_behind, words_in, split_line}
 use Rattle.option_words.specs.Splitting.{words_with}
 use Rattle.option_words.proofs.SplittingLemmas.{cut-skipped}
 use Rattle.option_words.proofs.splitting.split_line.Goals as goal

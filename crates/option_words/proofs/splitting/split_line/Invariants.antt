@@ -1,5 +1,5 @@
 use Rattle.std.proofs.Common.{◌≡◌, drop, false}
-use Rattle.account_words.specs.LineWords.{signs_behind, words_in}
+use Rattle.account_model.specs.LineWords.{signs_behind, words_in}
 use Rattle.option_words.specs.Splitting.{words_with}
 use Rattle.option_words.proofs.splitting.split_line.Given as goal
 

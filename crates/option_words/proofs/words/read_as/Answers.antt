@@ -1,5 +1,5 @@
 use Rattle.std.proofs.Common.{◌∙◌, ap, sym}
-use Rattle.account_words.specs.Words.{tool_for, request_by_limit, request_within_limits, request_of_tool}
+use Rattle.account_model.specs.Words.{tool_for, request_by_limit, request_within_limits, request_of_tool}
 use Rattle.option_words.proofs.ReadingLemmas.{request-answered}
 use Rattle.option_words.proofs.words.read_as.Goals as goal
 

@@ -1,7 +1,7 @@
 use Rattle.std.proofs.Common.{◌∙◌, sym, subst}
 use Rattle.std.specs.Prelude.{IfSome}
-use Rattle.account_formats.specs.Records.{subid_format}
-use Rattle.account_formats.specs.Written.{IsWritten}
+use Rattle.account_model.specs.Records.{subid_format}
+use Rattle.account_model.specs.Written.{IsWritten}
 use Rattle.acct_tables.specs.SeenLines.{seen_line}
 use Rattle.range_edits.proofs.CutLemmas.{line-of, same-texts}
 use Rattle.range_edits.proofs.cut_ranges.canonical_range.Goals as goal

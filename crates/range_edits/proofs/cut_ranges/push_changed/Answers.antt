@@ -1,7 +1,7 @@
 use Rattle.std.proofs.Common.{◌∙◌, ◌++◌, ap, sym, append_assoc, arith, take}
 use Rattle.std.specs.Prelude.{flat_map}
-use Rattle.account_formats.specs.Records.{subid_format}
-use Rattle.account_formats.specs.Written.{IsWritten}
+use Rattle.account_model.specs.Records.{subid_format}
+use Rattle.account_model.specs.Written.{IsWritten}
 use Rattle.line_edits.specs.SubidChanges.{subid_becomes}
 use Rattle.range_edits.proofs.CutLemmas.{flat-more, item-at}
 use Rattle.range_edits.proofs.cut_ranges.push_changed.Goals as goal

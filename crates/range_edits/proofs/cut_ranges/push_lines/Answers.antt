@@ -2,9 +2,9 @@ use Rattle.std.proofs.Common.{◌∙◌, ◌++◌, ap, sym, append_assoc, arith,
 use Rattle.std.specs.Prelude.{flat_map}
 use Rattle.std.proofs.lemmas.List.{take_all}
 use Rattle.acct_text.specs.Lines.{line_bytes}
-use Rattle.account_formats.specs.declared.records.SubidRecord.{SubidRecord}
-use Rattle.account_formats.specs.Edits.{printed_line}
-use Rattle.account_formats.specs.Records.{subid_format}
+use Rattle.account_model.specs.declared.records.SubidRecord.{SubidRecord}
+use Rattle.account_model.specs.Edits.{printed_line}
+use Rattle.account_model.specs.Records.{subid_format}
 use Rattle.range_edits.proofs.CutLemmas.{bytes-of, flat-more}
 use Rattle.range_edits.proofs.cut_ranges.push_lines.Goals as goal
 

@@ -1,9 +1,9 @@
 use Rattle.std.proofs.Common.{◌≡◌, ◌++◌, take}
 use Rattle.std.specs.Prelude.{flat_map}
 use Rattle.acct_text.specs.Lines.{line_bytes}
-use Rattle.account_formats.specs.declared.records.SubidRecord.{SubidRecord}
-use Rattle.account_formats.specs.Edits.{printed_line}
-use Rattle.account_formats.specs.Records.{subid_format}
+use Rattle.account_model.specs.declared.records.SubidRecord.{SubidRecord}
+use Rattle.account_model.specs.Edits.{printed_line}
+use Rattle.account_model.specs.Records.{subid_format}
 use Rattle.range_edits.proofs.cut_ranges.push_lines.Given as goal
 
 -- the lines of the ranges so far are added

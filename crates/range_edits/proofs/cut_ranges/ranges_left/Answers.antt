@@ -1,11 +1,11 @@
 use Rattle.std.proofs.Common.{◌≡◌, ◌∙◌, ◌+◌, [], drop, map, sym, ap, subst, arith}
 use Rattle.std.specs.List.{AllByRecursion}
 use Rattle.std.proofs.Math.ListN.{drop_of_length-le}
-use Rattle.account_formats.specs.Edits.{edited_by, printed_line}
-use Rattle.account_formats.specs.RecordEdits.{IsWrittenEdit, records_edited}
-use Rattle.account_formats.specs.Records.{subid_format}
-use Rattle.account_formats.specs.Written.{IsWritten}
-use Rattle.account_formats.proofs.SameLaws.{subid-tells}
+use Rattle.account_model.specs.Edits.{edited_by, printed_line}
+use Rattle.account_model.specs.RecordEdits.{IsWrittenEdit, records_edited}
+use Rattle.account_model.specs.Records.{subid_format}
+use Rattle.account_model.specs.Written.{IsWritten}
+use Rattle.account_model.proofs.SameLaws.{subid-tells}
 use Rattle.line_edits.specs.SeenEdits.{seen_edit, seen_edits}
 use Rattle.line_edits.specs.SubidChanges.{subid_becomes}
 use Rattle.line_edits.proofs.EditLists.{edit-at, seen-from}

@@ -1,8 +1,8 @@
 use Rattle.std.proofs.Common.{◌≡◌, ◌∷◌, [], drop, map}
 use Rattle.std.specs.List.{AllByRecursion}
-use Rattle.account_formats.specs.Edits.{edited_by, printed_line}
-use Rattle.account_formats.specs.Records.{subid_format}
-use Rattle.account_formats.specs.Written.{IsWritten}
+use Rattle.account_model.specs.Edits.{edited_by, printed_line}
+use Rattle.account_model.specs.Records.{subid_format}
+use Rattle.account_model.specs.Written.{IsWritten}
 use Rattle.line_edits.specs.SeenEdits.{seen_edits}
 use Rattle.line_edits.specs.SubidChanges.{subid_becomes}
 use Rattle.range_edits.proofs.cut_ranges.ranges_left.Given as goal

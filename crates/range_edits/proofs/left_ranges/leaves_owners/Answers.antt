@@ -1,6 +1,6 @@
 use Rattle.std.proofs.Common.{◌∙◌, [], ◌∷◌, sym, subst}
 use Rattle.std.proofs.lemmas.Slice.Eq.{bytes_eq-Decides}
-use Rattle.account_formats.specs.Edits.Edit.{Become}
+use Rattle.account_model.specs.Edits.Edit.{Become}
 use Rattle.line_edits.specs.SubidChanges.{subid_becomes}
 use Rattle.range_edits.specs.LeftRanges.{LeaveLines}
 use Rattle.range_edits.proofs.LeftLemmas.{renamed-same}

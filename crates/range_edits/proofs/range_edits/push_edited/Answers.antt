@@ -1,8 +1,8 @@
 use Rattle.std.proofs.Common.{◌∙◌, ◌++◌, sym, ap, append-nil}
 use Rattle.std.proofs.lemmas.Result.{on_ok_weaker}
 use Rattle.acct_text.specs.Lines.{file_bytes, line_bytes, lines_of}
-use Rattle.account_formats.specs.Edits.{edited_by}
-use Rattle.account_formats.specs.Records.{subid_format}
+use Rattle.account_model.specs.Edits.{edited_by}
+use Rattle.account_model.specs.Records.{subid_format}
 use Rattle.acct_tables.specs.SeenLines.{seen_line}
 use Rattle.line_edits.specs.SeenEdits.{seen_edits}
 use Rattle.line_edits.specs.SubidChanges.{subid_becomes}

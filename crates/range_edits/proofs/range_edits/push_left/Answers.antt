@@ -1,7 +1,7 @@
 use Rattle.std.proofs.Common.{◌∙◌, ◌++◌, ◌∷◌, [], ap}
 use Rattle.std.proofs.lemmas.Result.{on_ok_weaker}
-use Rattle.account_formats.specs.Edits.{edited_by}
-use Rattle.account_formats.specs.Records.{subid_format}
+use Rattle.account_model.specs.Edits.{edited_by}
+use Rattle.account_model.specs.Records.{subid_format}
 use Rattle.acct_tables.specs.SeenLines.{seen_line}
 use Rattle.line_edits.specs.SeenEdits.{seen_edits}
 use Rattle.line_edits.specs.SubidChanges.{subid_becomes}

@@ -1,7 +1,7 @@
 use Rattle.std.proofs.Common.{◌∙◌, ◌∷◌, [], length, ap, arith}
 use Rattle.acct_text.specs.Lines.{Line, file_bytes, lines_of}
-use Rattle.account_formats.specs.Edits.{edited_by}
-use Rattle.account_formats.specs.Records.{subid_format}
+use Rattle.account_model.specs.Edits.{edited_by}
+use Rattle.account_model.specs.Records.{subid_format}
 use Rattle.acct_tables.specs.SeenLines.{seen_line}
 use Rattle.acct_tables.proofs.LinesAhead.{walked, walked-all}
 use Rattle.line_edits.specs.SeenEdits.{seen_edits}

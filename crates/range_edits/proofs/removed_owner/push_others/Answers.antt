@@ -2,11 +2,11 @@ use Rattle.std.proofs.Common.{◌≡◌, ◌∙◌, ◌++◌, [], ◌∷◌, ap,
 use Rattle.std.specs.Prelude.{Option, None, Some, IsSome, List}
 use Rattle.std.proofs.lemmas.Result.{on_ok_weaker}
 use Rattle.acct_text.specs.Lines.{Line, file_bytes}
-use Rattle.account_formats.specs.declared.records.SubidRecord.{SubidRecord}
-use Rattle.account_formats.specs.Edits.{becomes, line_becomes}
-use Rattle.account_formats.specs.Records.{subid_format}
-use Rattle.account_formats.proofs.SameLaws.{subid-tells}
-use Rattle.account_words.specs.SubidOwner.{is_owned}
+use Rattle.account_model.specs.declared.records.SubidRecord.{SubidRecord}
+use Rattle.account_model.specs.Edits.{becomes, line_becomes}
+use Rattle.account_model.specs.Records.{subid_format}
+use Rattle.account_model.proofs.SameLaws.{subid-tells}
+use Rattle.account_model.specs.SubidOwner.{is_owned}
 use Rattle.acct_tables.specs.SeenLines.{seen_line}
 use Rattle.line_edits.specs.SubidChanges.{subid_becomes}
 use Rattle.line_edits.specs.declared.subid_changes.SubidChange.TheVariants.{Remove}

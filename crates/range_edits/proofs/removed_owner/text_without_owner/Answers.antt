@@ -1,6 +1,6 @@
 use Rattle.std.proofs.Common.{length, ap, arith}
-use Rattle.account_formats.specs.Edits.{becomes}
-use Rattle.account_formats.specs.Records.{subid_format}
+use Rattle.account_model.specs.Edits.{becomes}
+use Rattle.account_model.specs.Records.{subid_format}
 use Rattle.acct_tables.specs.SeenLines.{seen_line}
 use Rattle.acct_tables.proofs.LinesAhead.{walked, walked-all}
 use Rattle.line_edits.specs.SubidChanges.{subid_becomes}

@@ -1,8 +1,8 @@
 use Rattle.std.proofs.Common.{◌≡◌, ◌++◌, length}
 use Rattle.std.specs.Prelude.{flat_map}
 use Rattle.acct_text.specs.Lines.{file_bytes, lines_of}
-use Rattle.account_formats.specs.Edits.{becomes}
-use Rattle.account_formats.specs.Records.{subid_format}
+use Rattle.account_model.specs.Edits.{becomes}
+use Rattle.account_model.specs.Records.{subid_format}
 use Rattle.line_edits.specs.SubidChanges.{subid_becomes}
 use Rattle.line_edits.specs.declared.subid_changes.SubidChange.TheVariants.{Remove}
 use Rattle.range_edits.proofs.removed_owner.text_without_owner.Given as goal

@@ -1,6 +1,6 @@
 use Rattle.std.proofs.Common.{sym, subst}
 use Rattle.acct_text.specs.Pieces.{cut_at}
-use Rattle.account_formats.specs.Text.{comma, nonempty}
+use Rattle.account_model.specs.Text.{comma, nonempty}
 use Rattle.record_keys.specs.Keys.{name_keys}
 use Rattle.record_keys.specs.KeyPlaces.{Notes, told_places}
 use Rattle.record_keys.proofs.NoteLemmas.{notes-piece}

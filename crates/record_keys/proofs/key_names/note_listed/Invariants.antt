@@ -1,8 +1,8 @@
 use Rattle.std.proofs.Common.{ℕ, List, length}
 use Rattle.std.specs.Prelude.{Option}
 use Rattle.acct_text.specs.Pieces.{cut_at}
-use Rattle.account_formats.specs.Text.{comma, nonempty}
-use Rattle.account_formats.specs.Records.{read_names}
+use Rattle.account_model.specs.Text.{comma, nonempty}
+use Rattle.account_model.specs.Records.{read_names}
 use Rattle.record_keys.specs.Keys.{name_keys}
 use Rattle.record_keys.specs.KeyPlaces.{Notes, told_places}
 use Rattle.record_keys.proofs.key_names.note_listed.Given as goal

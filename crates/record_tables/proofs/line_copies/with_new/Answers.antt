@@ -7,7 +7,7 @@ use Rattle.std.proofs.lemmas.Result.{IfOk-weaker}
 use Rattle.acct_text.specs.Bytes.{newline}
 use Rattle.acct_text.specs.Lines.{texts_of}
 use Rattle.acct_text.specs.Pieces.{Lacks}
-use Rattle.account_formats.specs.Edits.{printed_line}
+use Rattle.account_model.specs.Edits.{printed_line}
 use Rattle.acct_tables.specs.EditedLines.{lines_with}
 use Rattle.record_tables.proofs.CopiedTexts.{range-around}
 use Rattle.record_tables.proofs.MadeLines.{made-inserted}

@@ -1,6 +1,6 @@
 use Rattle.std.proofs.Common.{◌≡◌, List, arith, refl, sym, subst, Option, None}
 use Rattle.std.specs.Prelude.{MatchOption}
-use Rattle.account_words.specs.Options.{Word}
+use Rattle.account_model.specs.Options.{Word}
 use Rattle.rehearsal.specs.declared.asked.Rehearsal.{Rehearsal}
 use Rattle.rehearsal.specs.Asked.{AsksFor}
 use Rattle.rehearsal.specs.Endings.{AsksForNone}

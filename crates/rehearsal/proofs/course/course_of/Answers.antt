@@ -1,5 +1,5 @@
 use Rattle.std.proofs.Common.{◌∙◌, ◌≤◌, List, ap, arith, subst, sym}
-use Rattle.account_words.specs.Options.{Word}
+use Rattle.account_model.specs.Options.{Word}
 use Rattle.rehearsal.specs.declared.course.Reached.{Reached}
 use Rattle.rehearsal.specs.Commands.{words_of}
 use Rattle.rehearsal.specs.Course.{after_words}

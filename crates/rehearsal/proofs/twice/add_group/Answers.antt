@@ -1,6 +1,6 @@
 use Rattle.std.proofs.Common.{◌∙◌, List, subst, sym}
-use Rattle.account_words.specs.Options.{Word}
-use Rattle.account_words.specs.Words.{Asks}
+use Rattle.account_model.specs.Options.{Word}
+use Rattle.account_model.specs.Words.{Asks}
 use Rattle.rehearsal.proofs.twice.add_group.Goals as goal
 
 -- the step that was supplied is a step with some input, on some day

@@ -1,7 +1,7 @@
 use Rattle.std.proofs.Common.{[], append-nil, sym, subst}
 use Rattle.std.specs.List.{cons_option}
 use Rattle.std.proofs.lemmas.Result.{on_ok_weaker}
-use Rattle.account_formats.proofs.HeldLaws.{subid-holds}
+use Rattle.account_model.proofs.HeldLaws.{subid-holds}
 use Rattle.acct_lines.specs.Shown.{subid_shown}
 use Rattle.subid_ranges.specs.Gathered.{GoesOn}
 use Rattle.subid_ranges.proofs.gathered.note_line.Goals as goal

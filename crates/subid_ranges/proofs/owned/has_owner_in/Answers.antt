@@ -1,7 +1,7 @@
 use Rattle.std.proofs.Common.{◌≡◌, ◌∙◌, ℕ, List, [], ◌∷◌, subst}
 use Rattle.std.specs.Option.{MatchOption}
 use Rattle.acct_text.specs.Lines.{lines_of}
-use Rattle.account_words.specs.SubidOwner.{is_owned}
+use Rattle.account_model.specs.SubidOwner.{is_owned}
 use Rattle.subid_ranges.specs.Owned.{first_and_count}
 use Rattle.subid_ranges.specs.RangeLines.{ranges_of}
 use Rattle.subid_ranges.proofs.PlacedRanges.{has-first}

@@ -1,5 +1,5 @@
 use Rattle.std.proofs.Common.{sym}
-use Rattle.account_formats.proofs.HeldLaws.{subid-holds}
+use Rattle.account_model.proofs.HeldLaws.{subid-holds}
 use Rattle.acct_lines.specs.Shown.{subid_shown}
 use Rattle.subid_ranges.proofs.ranges.meets_in.Goals as goal
 

@@ -1,6 +1,6 @@
 use Rattle.std.proofs.Common.{◌≡◌, ℕ, List, subst}
 use Rattle.std.proofs.lemmas.Result.{IfOk-weaker}
-use Rattle.account_words.specs.Request.{Request}
+use Rattle.account_model.specs.Request.{Request}
 use Rattle.batch_commands.specs.Deciding.{command_decision}
 use Rattle.suite_core.proofs.deciding.decide_command.Goals as goal
 

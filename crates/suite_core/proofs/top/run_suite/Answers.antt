@@ -1,9 +1,9 @@
 use Rattle.std.proofs.Common.{◌≡◌, ◌⊎◌, ◌∙◌, ℕ, inl, inr, refl, sym, ap, subst, Option, Some}
 use Rattle.acct_text.specs.Bytes.{Bytes}
-use Rattle.account_words.specs.declared.word_fault.WordFault.TheVariants.{Memory as NoMemory}
+use Rattle.account_model.specs.declared.word_fault.WordFault.TheVariants.{Memory as NoMemory}
 use Rattle.acct_outside.specs.declared.CommitStage.TheVariants.{Before}
-use Rattle.account_words.specs.declared.tool.Tool.{Tool}
-use Rattle.account_words.specs.Request.{Request}
+use Rattle.account_model.specs.declared.tool.Tool.{Tool}
+use Rattle.account_model.specs.Request.{Request}
 use Rattle.option_words.specs.Parsed.{request_in}
 use Rattle.suite_answers.specs.declared.cause.Cause.TheVariants.{Memory}
 use Rattle.suite_answers.specs.Answers.{told, told_words}

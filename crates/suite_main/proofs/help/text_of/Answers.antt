@@ -1,6 +1,6 @@
 -- The text of each tool is that of its file.
 use Rattle.std.proofs.Common.{◌≡◌, true, sym, subst}
-use Rattle.account_words.specs.declared.tool.Tool.TheVariants.{Useradd, Usermod, Groupadd, Groupmod, Gpasswd, Chage, Pwck}
+use Rattle.account_model.specs.declared.tool.Tool.TheVariants.{Useradd, Usermod, Groupadd, Groupmod, Gpasswd, Chage, Pwck}
 use Rattle.suite_main.specs.HelpTexts.{helps_with}
 use Rattle.suite_main.proofs.help.text_of.Goals as goal
 

@@ -1,5 +1,5 @@
 use Rattle.std.proofs.Common.{◌⊎◌, ◌≡◌, ◌∙◌, ap, inl, inr, [], ◌∷◌, codes}
-use Rattle.account_words.specs.Words.{tool_named}
+use Rattle.account_model.specs.Words.{tool_named}
 use Rattle.suite_main.proofs.HelpWords.{asked-named}
 use Rattle.suite_main.proofs.words.asked_about.Goals.{then-is_only-via-then-is_only, then-is_only-via-else-is_only+then-is_only-2}
 use Rattle.suite_main.proofs.words.asked_about.Goals as goal

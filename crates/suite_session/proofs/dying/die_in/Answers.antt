@@ -3,7 +3,7 @@ use Rattle.std.specs.Prelude.{OnOk}
 use Rattle.acct_outside.specs.Events.{call_of, effect_in}
 use Rattle.acct_outside.specs.Logged.{with_event}
 use Rattle.acct_outside.specs.Memory.{Runs, past_of}
-use Rattle.account_words.specs.Words.{request_of}
+use Rattle.account_model.specs.Words.{request_of}
 use Rattle.suite_session.specs.Runner.{Runner}
 use Rattle.suite_session.proofs.DyingLemmas.{death_of, dies-then, lawful-then, may-die, others-then, runs-there}
 use Rattle.suite_session.proofs.dying.die_in.Goals as goal

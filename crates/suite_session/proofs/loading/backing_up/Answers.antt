@@ -1,5 +1,5 @@
 use Rattle.std.proofs.Common.{◌≡◌, ap, subst}
-use Rattle.account_words.specs.Words.{Asks}
+use Rattle.account_model.specs.Words.{Asks}
 use Rattle.suite_session.specs.Runner.{Question, Runner}
 use Rattle.suite_session.proofs.LoadingTurns.{of-change}
 use Rattle.suite_session.proofs.loading.backing_up.Goals as goal

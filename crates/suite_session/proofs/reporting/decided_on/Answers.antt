@@ -2,8 +2,8 @@ use Rattle.std.proofs.Common.{◌≡◌, sym, ap, ◌∙◌, Bool, true, false, 
 use Rattle.std.specs.Option.{option_copied}
 use Rattle.acct_text.specs.Bytes.{Bytes}
 use Rattle.acct_text.specs.declared.files.Files.{Files}
-use Rattle.account_words.specs.Request.{is_report}
-use Rattle.account_words.specs.Words.{Asks}
+use Rattle.account_model.specs.Request.{is_report}
+use Rattle.account_model.specs.Words.{Asks}
 use Rattle.suite_session.specs.declared.tools.Decided.{Decided}
 use Rattle.suite_session.specs.declared.tools.Decided.TheVariants.{Change, Stay}
 use Rattle.suite_session.specs.Loading.{DecidesOn}

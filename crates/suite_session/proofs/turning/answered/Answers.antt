@@ -1,7 +1,7 @@
 use Rattle.std.proofs.Common.{◌≡◌, refl, subst, Ok}
 use Rattle.acct_outside.specs.Calls.{answers}
 use Rattle.acct_outside.specs.Contract.{Tells}
-use Rattle.account_words.specs.Words.{request_of}
+use Rattle.account_model.specs.Words.{request_of}
 use Rattle.suite_session.specs.Runner.{Runner}
 use Rattle.suite_session.proofs.SessionTurns.{answer-one, answers-turn}
 use Rattle.suite_session.proofs.StreamLemmas.{left-given}

@@ -1,4 +1,4 @@
-use Rattle.account_words.specs.declared.words_of.WordsOf.TheVariants.{Command}
+use Rattle.account_model.specs.declared.words_of.WordsOf.TheVariants.{Command}
 use Rattle.suite_session.proofs.turning.asks_once.Goals as goal
 
 pub returns : goal.returns

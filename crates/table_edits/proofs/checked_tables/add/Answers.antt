@@ -1,6 +1,6 @@
 use Rattle.std.proofs.Common.{ap, sym}
 use Rattle.std.specs.Prelude.{option_map}
-use Rattle.account_formats.specs.Tables.{table_after, table_records}
+use Rattle.account_model.specs.Tables.{table_after, table_records}
 use Rattle.account_model.specs.declared.refusal.Refusal.TheVariants.{Multiple}
 use Rattle.line_edits.specs.SeenEdits.{seen_edits}
 use Rattle.table_edits.proofs.IdleLemmas.{idle-file, idle-met}

@@ -1,6 +1,6 @@
 use Rattle.std.proofs.Common.{◌∙◌, sym}
-use Rattle.account_formats.specs.Records.{subid_format}
-use Rattle.account_formats.specs.Tables.{table_after}
+use Rattle.account_model.specs.Records.{subid_format}
+use Rattle.account_model.specs.Tables.{table_after}
 use Rattle.line_edits.specs.SeenEdits.{seen_edits}
 use Rattle.line_edits.specs.SubidChanges.{subid_becomes}
 use Rattle.range_edits.proofs.LeftLemmas.{file-left}

@@ -4,8 +4,8 @@ use Rattle.acct_text.specs.declared.Tab.TheVariants.{Passwd, Shadow, Group, Gsha
 use Rattle.acct_text.specs.declared.new_tables.NewTable.{NewTable}
 use Rattle.acct_text.specs.Files.{table_of}
 use Rattle.acct_text.specs.Tables.{all_tables}
-use Rattle.account_formats.specs.Records.{passwd_format, shadow_format, group_format, gshadow_format, subid_format}
-use Rattle.account_formats.specs.Tables.{files_after}
+use Rattle.account_model.specs.Records.{passwd_format, shadow_format, group_format, gshadow_format, subid_format}
+use Rattle.account_model.specs.Tables.{files_after}
 use Rattle.line_edits.specs.GroupChanges.{group_becomes}
 use Rattle.line_edits.specs.GshadowChanges.{gshadow_becomes}
 use Rattle.line_edits.specs.PasswdChanges.{passwd_becomes}

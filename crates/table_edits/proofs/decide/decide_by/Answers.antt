@@ -2,7 +2,7 @@ use Rattle.std.proofs.Common.{◌∙◌, ap, sym}
 use Rattle.std.proofs.lemmas.Result.{IfOk-weaker}
 use Rattle.acct_text.specs.ChangedTables.{changed_tables}
 use Rattle.acct_text.specs.Files.{table_of}
-use Rattle.account_formats.specs.Tables.{files_after}
+use Rattle.account_model.specs.Tables.{files_after}
 use Rattle.account_model.specs.Action.{multiple_entries}
 use Rattle.tool_answers.specs.Decisions.{decision_by, decision_of}
 use Rattle.table_edits.specs.SeenScript.{seen_script}

@@ -2,7 +2,7 @@ use Rattle.std.proofs.Common.{◌∙◌, ap, refl, sym, if◌then◌else◌}
 use Rattle.std.specs.Prelude.{Some, bytes_eq, option_map}
 use Rattle.std.proofs.lemmas.Map.Text.{hash_map_updates_str}
 use Rattle.std.proofs.lemmas.Slice.Eq.{bytes_eq-Decides}
-use Rattle.account_formats.specs.Naming.{first_field}
+use Rattle.account_model.specs.Naming.{first_field}
 use Rattle.table_lookups.specs.FirstLines.{has_name, is_asked, told_names}
 use Rattle.table_lookups.proofs.FirstLemmas.{first-known, first-noted, first-other, is-none, line-unasked, mapped-if, none-of, some-mapped, told-of}
 use Rattle.table_lookups.proofs.first_lines.note_name.Goals as goal

@@ -1,8 +1,8 @@
 use Rattle.std.proofs.Common.{length}
 use Rattle.acct_text.specs.Lines.{lines_of}
-use Rattle.account_formats.specs.Format.{records_of}
-use Rattle.account_formats.specs.Records.{group_format}
-use Rattle.account_words.specs.Ids.{is_used}
+use Rattle.account_model.specs.Format.{records_of}
+use Rattle.account_model.specs.Records.{group_format}
+use Rattle.account_model.specs.Ids.{is_used}
 use Rattle.table_lookups.specs.FirstLines.{Tells, has_gid, told_gids}
 use Rattle.table_lookups.proofs.group_index.lines_of_gids.Given as goal
 

@@ -1,8 +1,8 @@
 use Rattle.std.proofs.Common.{◌∙◌, ap, nat_eq, sym, if◌then◌else◌}
 use Rattle.std.specs.Prelude.{Some, option_map}
 use Rattle.std.proofs.lemmas.Bool.{eqb-true}
-use Rattle.account_formats.specs.Records.{group_format}
-use Rattle.account_words.specs.Ids.{is_used}
+use Rattle.account_model.specs.Records.{group_format}
+use Rattle.account_model.specs.Ids.{is_used}
 use Rattle.table_lookups.specs.FirstLines.{has_gid, told_gids}
 use Rattle.table_lookups.proofs.FirstLemmas.{first-known, first-noted, first-other, first-unasked, is-none, mapped-if, none-of, some-mapped, told-of}
 use Rattle.table_lookups.proofs.group_index.note_gid.Goals as goal

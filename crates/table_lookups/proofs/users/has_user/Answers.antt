@@ -1,7 +1,7 @@
 use Rattle.std.proofs.Common.{◌∙◌, subst, sym}
 use Rattle.std.specs.Prelude.{IfSome}
-use Rattle.account_formats.specs.Records.{passwd_format}
-use Rattle.account_formats.specs.Tables.{passwd_records}
+use Rattle.account_model.specs.Records.{passwd_format}
+use Rattle.account_model.specs.Tables.{passwd_records}
 use Rattle.table_lookups.specs.FirstLines.{TellsNames}
 use Rattle.table_lookups.proofs.users.has_user.Goals as goal
 

@@ -1,5 +1,5 @@
 use Rattle.std.proofs.Common.{◌∙◌, sym, ap}
-use Rattle.account_formats.specs.Text.{comma, has_byte}
+use Rattle.account_model.specs.Text.{comma, has_byte}
 use Rattle.user_changes.proofs.RefusalLemmas.{listed}
 use Rattle.user_changes.proofs.conflicts.check_listed.Goals as goal
 

@@ -1,8 +1,8 @@
 use Rattle.std.proofs.Common.{◌≡◌, ◌∙◌, true, sym, ap, subst, if◌then◌else◌}
 use Rattle.std.specs.Prelude.{OnOk}
 use Rattle.account_model.specs.Hashes.{each_user_hash}
-use Rattle.account_words.specs.Request.{operand}
-use Rattle.account_formats.specs.Tables.{no_edits}
+use Rattle.account_model.specs.Request.{operand}
+use Rattle.account_model.specs.Tables.{no_edits}
 use Rattle.account_model.specs.UsermodHash.{hash_after, sets_hash}
 use Rattle.table_edits.specs.Additions.{HasAlso}
 use Rattle.line_edits.specs.HashChanges.{hash_by}

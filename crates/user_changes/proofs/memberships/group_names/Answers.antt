@@ -1,6 +1,6 @@
 use Rattle.std.proofs.Common.{[], ◌∷◌, ◌++◌, ◌+◌, ◌∙◌, drop, sym, ap}
 use Rattle.account_model.specs.GivenGroups.{find_group}
-use Rattle.account_formats.specs.Tables.{group_records}
+use Rattle.account_model.specs.Tables.{group_records}
 use Rattle.user_changes.proofs.GroupNames.{name_of, names_of, names-found, names-missing}
 use Rattle.user_changes.proofs.memberships.group_names.Goals as goal
 use Rattle.user_changes.proofs.memberships.group_names.Goals.{in-Some+in_ok-push, in_default}

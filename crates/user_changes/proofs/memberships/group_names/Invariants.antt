@@ -1,5 +1,5 @@
 use Rattle.std.proofs.Common.{◌≡◌, ◌++◌, drop}
-use Rattle.account_formats.specs.Tables.{group_records}
+use Rattle.account_model.specs.Tables.{group_records}
 use Rattle.user_changes.proofs.GroupNames.{names_of}
 use Rattle.user_changes.proofs.memberships.group_names.Given as goal
 

@@ -1,8 +1,8 @@
 use Rattle.std.proofs.Common.{◌≡◌, ◌∙◌, [], ◌∷◌, ap}
 use Rattle.std.proofs.lemmas.Result.{on_ok_weaker}
-use Rattle.account_formats.specs.Edits.{each}
-use Rattle.account_formats.specs.Tables.{followed_by, no_edits}
-use Rattle.account_formats.proofs.ScriptLaws.{followed-assoc}
+use Rattle.account_model.specs.Edits.{each}
+use Rattle.account_model.specs.Tables.{followed_by, no_edits}
+use Rattle.account_model.proofs.ScriptLaws.{followed-assoc}
 use Rattle.account_model.specs.Usermod.{changed_group, changed_gshadow}
 use Rattle.table_edits.specs.SeenScript.{seen_script}
 use Rattle.user_changes.specs.Memberships.{group_edit, gshadow_edit, membership}

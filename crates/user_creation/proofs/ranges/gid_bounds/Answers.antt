@@ -1,5 +1,5 @@
 use Rattle.std.proofs.Common.{◌≤◌, sym, subst}
-use Rattle.account_formats.specs.Records.{greatest_id}
+use Rattle.account_model.specs.Records.{greatest_id}
 use Rattle.account_model.proofs.SettingBounds.{subgid-maximum}
 use Rattle.user_creation.proofs.ranges.gid_bounds.Goals as goal
 

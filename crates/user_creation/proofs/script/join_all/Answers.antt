@@ -1,5 +1,5 @@
 use Rattle.std.proofs.Common.{◌<◌, length, subst, arith}
-use Rattle.account_formats.specs.Tables.{followed_by}
+use Rattle.account_model.specs.Tables.{followed_by}
 use Rattle.table_edits.specs.Additions.{HasAlso}
 use Rattle.table_edits.specs.SeenScript.{seen_script}
 use Rattle.user_creation.specs.Joining.{joining, joining_all}

@@ -1,5 +1,5 @@
 use Rattle.std.proofs.Common.{◌≡◌, drop}
-use Rattle.account_formats.specs.Tables.{followed_by}
+use Rattle.account_model.specs.Tables.{followed_by}
 use Rattle.table_edits.specs.SeenScript.{seen_script}
 use Rattle.user_creation.specs.Joining.{joining_all}
 use Rattle.user_creation.proofs.script.join_all.Given as goal

@@ -1,9 +1,9 @@
 use Rattle.std.proofs.Common.{Bool, ◌∙◌, not, sym}
 use Rattle.std.proofs.lemmas.Result.{IfOk-weaker}
-use Rattle.account_formats.specs.declared.records.PasswdRecord.{PasswdRecord}
-use Rattle.account_formats.specs.Format.{is_named}
-use Rattle.account_formats.specs.Records.{passwd_format}
-use Rattle.account_formats.specs.Tables.{passwd_records}
+use Rattle.account_model.specs.declared.records.PasswdRecord.{PasswdRecord}
+use Rattle.account_model.specs.Format.{is_named}
+use Rattle.account_model.specs.Records.{passwd_format}
+use Rattle.account_model.specs.Tables.{passwd_records}
 use Rattle.user_removal.specs.Others.{has_id}
 use Rattle.user_removal.proofs.UserdelLemmas.{others-found}
 use Rattle.user_removal.proofs.others.first_other.Goals as goal

@@ -1,7 +1,7 @@
 use Rattle.std.proofs.Common.{◌≡◌, true, sym, ap, ◌∙◌, rules, if◌then◌else◌}
 use Rattle.std.specs.Prelude.{Bool, None}
 use Rattle.std.proofs.lemmas.Result.{IfOk-weaker}
-use Rattle.account_words.specs.Request.{operand}
+use Rattle.account_model.specs.Request.{operand}
 use Rattle.account_model.specs.Users.{group_named}
 use Rattle.user_removal.proofs.own_group.own_group.Goals as goal
 

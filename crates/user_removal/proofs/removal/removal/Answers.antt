@@ -1,8 +1,8 @@
 use Rattle.std.proofs.Common.{sym, ap, ◌∙◌}
-use Rattle.account_words.specs.Request.{operand}
-use Rattle.account_formats.specs.Tables.{followed_by}
+use Rattle.account_model.specs.Request.{operand}
+use Rattle.account_model.specs.Tables.{followed_by}
 use Rattle.account_model.specs.Userdel.{remove_user}
-use Rattle.account_formats.proofs.ScriptLaws.{followed-none}
+use Rattle.account_model.proofs.ScriptLaws.{followed-none}
 use Rattle.user_removal.specs.KeptGroups.{removal_of_group}
 use Rattle.user_removal.proofs.removal.removal.Goals as goal
 

@@ -1,9 +1,9 @@
 use Rattle.std.proofs.Common.{◌≡◌, [], ◌∷◌, ap, ◌∙◌, subst}
 use Rattle.std.specs.Prelude.{None}
 use Rattle.account_model.specs.Refusals.{missing_user}
-use Rattle.account_words.specs.Request.{operand}
-use Rattle.account_formats.specs.Tables.{in_order}
-use Rattle.account_formats.specs.Text.{first_some}
+use Rattle.account_model.specs.Request.{operand}
+use Rattle.account_model.specs.Tables.{in_order}
+use Rattle.account_model.specs.Text.{first_some}
 use Rattle.account_model.specs.Userdel.{remove_user}
 use Rattle.user_removal.specs.KeptGroups.{removal_of_group}
 use Rattle.user_removal.proofs.removal.userdel.Goals as goal

@@ -1,5 +1,5 @@
 use Rattle.std.proofs.Common.{ap}
-use Rattle.account_formats.specs.declared.fault.LineFault.TheVariants.{FieldCount}
+use Rattle.account_model.specs.declared.fault.LineFault.TheVariants.{FieldCount}
 use Rattle.acct_lines.proofs.Taken.{none-left-taken}
 use Rattle.acct_lines.proofs.fields.Fields.end.Goals as goal
 

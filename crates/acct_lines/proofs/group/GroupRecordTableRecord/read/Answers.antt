@@ -1,5 +1,5 @@
 use Rattle.std.proofs.Common.{ap, ◌∙◌, sym, Some}
-use Rattle.account_formats.proofs.FormatLaws.{group-is_format}
+use Rattle.account_model.proofs.FormatLaws.{group-is_format}
 use Rattle.acct_lines.proofs.group.GroupRecordTableRecord.read.Goals as goal
 
 pub returns-clause-reads : goal.returns-clause-reads

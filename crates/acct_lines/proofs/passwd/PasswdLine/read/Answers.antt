@@ -1,5 +1,5 @@
 use Rattle.std.proofs.Common.{refl, [], ◌∷◌}
-use Rattle.account_formats.specs.Records.{read_id}
+use Rattle.account_model.specs.Records.{read_id}
 use Rattle.acct_lines.proofs.FirstFault.{all_read, line-fault, was-read}
 use Rattle.acct_lines.proofs.PasswdFields.{passwd-read}
 use Rattle.acct_lines.proofs.Read.{told-first}

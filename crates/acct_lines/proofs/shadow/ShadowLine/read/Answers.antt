@@ -1,5 +1,5 @@
 use Rattle.std.proofs.Common.{refl, [], ◌∷◌}
-use Rattle.account_formats.specs.Records.{read_days}
+use Rattle.account_model.specs.Records.{read_days}
 use Rattle.acct_lines.proofs.FirstFault.{all_read, line-fault, was-read}
 use Rattle.acct_lines.proofs.ShadowFields.{shadow-read}
 use Rattle.acct_lines.proofs.Read.{told-first}

@@ -1,7 +1,7 @@
 use Rattle.std.proofs.Common.{◌∙◌}
-use Rattle.account_formats.proofs.FormatLaws.{shadow-is_format}
-use Rattle.account_formats.specs.Faults.{shadow_fault}
-use Rattle.account_formats.specs.Records.{shadow_format}
+use Rattle.account_model.proofs.FormatLaws.{shadow-is_format}
+use Rattle.account_model.specs.Faults.{shadow_fault}
+use Rattle.account_model.specs.Records.{shadow_format}
 use Rattle.acct_lines.specs.Shown.{shadow_shown}
 use Rattle.acct_lines.proofs.Read.{fault-told}
 use Rattle.acct_lines.proofs.shadow.ShadowRecordTableRecord.fault.Goals as goal

@@ -1,5 +1,5 @@
 use Rattle.std.proofs.Common.{refl, [], ◌∷◌, sym, ◌∙◌}
-use Rattle.account_formats.specs.Records.{read_count, read_id}
+use Rattle.account_model.specs.Records.{read_count, read_id}
 use Rattle.acct_lines.proofs.FirstFault.{all_read, line-fault, was-read}
 use Rattle.acct_lines.proofs.SubidFields.{subid-bad, subid-read}
 use Rattle.acct_lines.proofs.Read.{told-first}

@@ -1,7 +1,7 @@
 use Rattle.std.proofs.Common.{◌∙◌, ◌-◌, false, length, take, ap, ap₂, sym, subst}
 use Rattle.acct_text.specs.Bytes.{newline}
 use Rattle.acct_text.specs.Pieces.{Lacks}
-use Rattle.account_formats.specs.Edits.{with_line}
+use Rattle.account_model.specs.Edits.{with_line}
 use Rattle.acct_tables.specs.EditedLines.{lines_with, text_names}
 use Rattle.acct_tables.specs.NameHashes.{TellsHashes, told_hashes}
 use Rattle.acct_tables.proofs.IndexedTexts.{all-but-last, pushed-front, pushed-indexed, same-indexed}

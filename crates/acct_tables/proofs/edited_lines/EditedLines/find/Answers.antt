@@ -1,7 +1,7 @@
 use Rattle.std.proofs.Common.{◌≡◌, ◌∙◌, ap, sym}
 use Rattle.std.specs.Prelude.{option_map}
 use Rattle.std.proofs.lemmas.Result.{IfOk-weaker}
-use Rattle.account_formats.specs.Format.{find_named, records_of}
+use Rattle.account_model.specs.Format.{find_named, records_of}
 use Rattle.acct_tables.proofs.NamedRecords.{found-first, found-none}
 use Rattle.acct_tables.proofs.edited_lines.EditedLines.find.Goals as goal
 

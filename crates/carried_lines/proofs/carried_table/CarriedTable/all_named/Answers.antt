@@ -1,6 +1,6 @@
 use Rattle.std.proofs.Common.{◌≡◌, subst}
 use Rattle.std.specs.Prelude.{IfOk, IfSome, filter}
-use Rattle.account_formats.specs.Format.{is_named}
+use Rattle.account_model.specs.Format.{is_named}
 use Rattle.carried_lines.proofs.CarriedLemmas.{kept-records}
 use Rattle.carried_lines.proofs.carried_table.CarriedTable.all_named.Goals as goal
 

@@ -1,6 +1,6 @@
 use Rattle.std.proofs.Common.{◌∙◌, ap}
 use Rattle.std.proofs.lemmas.Result.{IfOk-weaker}
-use Rattle.account_formats.specs.Format.{find_named}
+use Rattle.account_model.specs.Format.{find_named}
 use Rattle.carried_lines.proofs.CarriedLemmas.{kept-records}
 use Rattle.carried_lines.proofs.carried_table.CarriedTable.find.Goals as goal
 

@@ -1,6 +1,6 @@
 use Rattle.std.proofs.Common.{◌∙◌, ap}
 use Rattle.std.proofs.lemmas.Result.{IfOk-weaker}
-use Rattle.account_formats.specs.Edits.{first_multiple}
+use Rattle.account_model.specs.Edits.{first_multiple}
 use Rattle.line_edits.specs.SeenEdits.{seen_edits}
 use Rattle.carried_lines.proofs.CarriedLemmas.{kept-records}
 use Rattle.carried_lines.proofs.carried_table.CarriedTable.first_multiple.Goals as goal

@@ -1,5 +1,5 @@
 use Rattle.std.proofs.Common.{◌∙◌, ap}
-use Rattle.account_formats.specs.Format.{has_named}
+use Rattle.account_model.specs.Format.{has_named}
 use Rattle.carried_lines.proofs.CarriedLemmas.{kept-records}
 use Rattle.carried_lines.proofs.carried_table.CarriedTable.has.Goals as goal
 

@@ -1,6 +1,6 @@
 use Rattle.std.proofs.Common.{◌∙◌, ap}
 use Rattle.std.specs.Prelude.{nat_le}
-use Rattle.account_formats.specs.Format.{count_named}
+use Rattle.account_model.specs.Format.{count_named}
 use Rattle.carried_lines.proofs.CarriedLemmas.{kept-records}
 use Rattle.carried_lines.proofs.carried_table.CarriedTable.has_several.Goals as goal
 

@@ -1,6 +1,6 @@
 use Rattle.std.proofs.Common.{◌∙◌, ap, sym}
 use Rattle.std.specs.Vec.{vec_items}
-use Rattle.account_formats.specs.Text.{is_listed}
+use Rattle.account_model.specs.Text.{is_listed}
 use Rattle.line_edits.proofs.NameSets.{keys-listed}
 use Rattle.carried_lines.proofs.gone_names.GoneNames.has.Goals as goal
 

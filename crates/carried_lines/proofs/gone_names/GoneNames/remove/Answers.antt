@@ -2,7 +2,7 @@ use Rattle.std.proofs.Common.{◌∙◌, ap, ap₂, sym}
 use Rattle.std.specs.Prelude.{◌&&◌, not}
 use Rattle.std.specs.Cmp.Lexicographic.{nat_list_eq_equiv}
 use Rattle.std.specs.Vec.{vec_items}
-use Rattle.account_formats.specs.Text.{is_listed}
+use Rattle.account_model.specs.Text.{is_listed}
 use Rattle.line_edits.proofs.NameSets.{keys-listed}
 use Rattle.carried_lines.proofs.FreedNames.{set-drops}
 use Rattle.carried_lines.proofs.gone_names.GoneNames.remove.Goals as goal

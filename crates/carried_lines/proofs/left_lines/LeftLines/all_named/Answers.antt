@@ -1,6 +1,6 @@
 use Rattle.std.proofs.Common.{◌∙◌, ap, sym, subst}
 use Rattle.std.specs.Prelude.{IfSome, filter}
-use Rattle.account_formats.specs.Format.{is_named, records_of}
+use Rattle.account_model.specs.Format.{is_named, records_of}
 use Rattle.record_keys.specs.KeyPlaces.{has_key}
 use Rattle.carried_lines.specs.KeyedLines.{AcceptsAt}
 use Rattle.carried_lines.proofs.NamedSearch.{all-found-left, named-accepts, none-found-left}

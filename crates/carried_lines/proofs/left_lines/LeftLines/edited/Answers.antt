@@ -1,5 +1,5 @@
 use Rattle.std.proofs.Common.{◌∙◌, ap}
-use Rattle.account_formats.specs.Edits.{edited_by}
+use Rattle.account_model.specs.Edits.{edited_by}
 use Rattle.line_edits.specs.SeenEdits.{seen_edits}
 use Rattle.carried_lines.proofs.GoneLemmas.{left-of_file}
 use Rattle.carried_lines.proofs.left_lines.LeftLines.edited.Goals as goal

@@ -1,6 +1,6 @@
 use Rattle.std.proofs.Common.{◌∙◌, ap, sym}
 use Rattle.std.proofs.lemmas.Result.{IfOk-weaker}
-use Rattle.account_formats.specs.Format.{find_named, records_of}
+use Rattle.account_model.specs.Format.{find_named, records_of}
 use Rattle.carried_lines.proofs.GoneLemmas.{found-gone, found-left}
 use Rattle.carried_lines.proofs.left_lines.LeftLines.find.Goals as goal
 

@@ -1,8 +1,8 @@
 use Rattle.std.proofs.Common.{◌∙◌, ap, sym, subst}
 use Rattle.std.proofs.lemmas.Result.{IfOk-weaker}
 use Rattle.acct_text.specs.Lines.{lines_of}
-use Rattle.account_formats.specs.Edits.{first_multiple}
-use Rattle.account_formats.specs.Format.{records_of}
+use Rattle.account_model.specs.Edits.{first_multiple}
+use Rattle.account_model.specs.Format.{records_of}
 use Rattle.acct_tables.specs.SeenLines.{AreOfFile}
 use Rattle.line_edits.specs.SeenEdits.{seen_edits}
 use Rattle.line_edits.proofs.TouchedRecords.{none-touched}

@@ -2,7 +2,7 @@ use Rattle.std.proofs.Common.{◌∙◌, ap, sym, subst}
 use Rattle.std.specs.Prelude.{IfSome, find}
 use Rattle.std.proofs.lemmas.Result.{IfOk-weaker}
 use Rattle.acct_text.specs.Lines.{lines_of}
-use Rattle.account_formats.specs.Format.{records_of}
+use Rattle.account_model.specs.Format.{records_of}
 use Rattle.acct_tables.specs.SeenLines.{AreOfFile}
 use Rattle.carried_lines.specs.Gone.{left_lines}
 use Rattle.carried_lines.specs.KeyedLines.{AcceptsAt}

@@ -1,6 +1,6 @@
 use Rattle.std.proofs.Common.{◌∙◌, ap, sym}
 use Rattle.std.specs.Prelude.{nat_le}
-use Rattle.account_formats.specs.Format.{count_named, records_of}
+use Rattle.account_model.specs.Format.{count_named, records_of}
 use Rattle.carried_lines.proofs.GoneLemmas.{counted-gone, counted-left}
 use Rattle.carried_lines.proofs.left_lines.LeftLines.has_several.Goals as goal
 

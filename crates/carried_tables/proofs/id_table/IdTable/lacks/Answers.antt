@@ -1,7 +1,7 @@
 use Rattle.std.proofs.Common.{◌∙◌, map, sym, subst}
 use Rattle.std.specs.Prelude.{IfSome}
 use Rattle.std.proofs.lemmas.Bool.{not-true}
-use Rattle.account_formats.specs.Tables.{table_records}
+use Rattle.account_model.specs.Tables.{table_records}
 use Rattle.carried_tables.specs.KeptIds.{AreIdsOf, table_counts}
 use Rattle.carried_tables.proofs.KeptIdLemmas.{kept-used}
 use Rattle.carried_tables.proofs.id_table.IdTable.lacks.Goals as goal

@@ -1,7 +1,7 @@
 use Rattle.std.proofs.Common.{◌∙◌, map, ap, subst}
 use Rattle.std.specs.Prelude.{IfSome}
-use Rattle.account_formats.specs.Tables.{table_records}
-use Rattle.account_words.specs.Ids.{is_used}
+use Rattle.account_model.specs.Tables.{table_records}
+use Rattle.account_model.specs.Ids.{is_used}
 use Rattle.carried_tables.specs.KeptIds.{AreIdsOf, table_counts}
 use Rattle.carried_tables.proofs.KeptIdLemmas.{kept-used}
 use Rattle.carried_tables.proofs.id_table.IdTable.used.Goals as goal

@@ -1,7 +1,7 @@
 use Rattle.std.proofs.Common.{subst}
 use Rattle.std.specs.Prelude.{IfSome}
-use Rattle.account_formats.specs.Records.{subid_format}
-use Rattle.account_formats.specs.Tables.{table_records}
+use Rattle.account_model.specs.Records.{subid_format}
+use Rattle.account_model.specs.Tables.{table_records}
 use Rattle.carried_tables.specs.RangeNumbers.{IsOnlyOf}
 use Rattle.carried_tables.proofs.range_lines.RangeLines.cut.Goals as goal
 

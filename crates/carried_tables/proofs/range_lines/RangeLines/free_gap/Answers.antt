@@ -1,7 +1,7 @@
 use Rattle.std.proofs.Common.{◌∙◌, ap, refl, sym, subst}
 use Rattle.std.specs.Prelude.{IfSome}
-use Rattle.account_formats.specs.Records.{subid_format}
-use Rattle.account_words.specs.FreeRange.{free_range}
+use Rattle.account_model.specs.Records.{subid_format}
+use Rattle.account_model.specs.FreeRange.{free_range}
 use Rattle.subid_ranges.specs.RangeNumbers.{AreNumbersOf}
 use Rattle.carried_lines.specs.TablesOfLines.{lines_in}
 use Rattle.carried_lines.proofs.FileLemmas.{records-in}

@@ -1,10 +1,10 @@
 use Rattle.std.proofs.Common.{◌∙◌, Bool, sym, ap}
 use Rattle.std.specs.Prelude.{◌||◌, None, decimal}
 use Rattle.std.specs.List.{list_any}
-use Rattle.account_formats.specs.Format.{has_named}
-use Rattle.account_formats.specs.Records.{subid_format}
-use Rattle.account_formats.specs.Tables.{table_records}
-use Rattle.account_words.specs.SubidOwner.{is_owned}
+use Rattle.account_model.specs.Format.{has_named}
+use Rattle.account_model.specs.Records.{subid_format}
+use Rattle.account_model.specs.Tables.{table_records}
+use Rattle.account_model.specs.SubidOwner.{is_owned}
 use Rattle.subid_ranges.proofs.OwnedLemmas.{owned-either}
 use Rattle.carried_tables.proofs.OwnerLemmas.{owned-named}
 use Rattle.carried_tables.proofs.range_lines.RangeLines.has_owner.Goals as goal

@@ -1,9 +1,9 @@
 use Rattle.std.proofs.Common.{◌∙◌, [], ◌∷◌, ap, sym}
 use Rattle.std.specs.Prelude.{None}
 use Rattle.std.proofs.lemmas.Result.{on_ok_weaker}
-use Rattle.account_formats.specs.Edits.Edit.{Become}
-use Rattle.account_formats.specs.Records.{subid_format}
-use Rattle.account_formats.specs.Tables.{table_after}
+use Rattle.account_model.specs.Edits.Edit.{Become}
+use Rattle.account_model.specs.Records.{subid_format}
+use Rattle.account_model.specs.Tables.{table_after}
 use Rattle.line_edits.specs.SubidChanges.{subid_becomes}
 use Rattle.line_edits.specs.declared.subid_changes.SubidChange.TheVariants.{Remove}
 use Rattle.carried_tables.proofs.OwnerLemmas.{removed-both}

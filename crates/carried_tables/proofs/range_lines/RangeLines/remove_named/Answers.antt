@@ -1,8 +1,8 @@
 use Rattle.std.proofs.Common.{◌∙◌, ap, sym}
 use Rattle.std.specs.Prelude.{None}
-use Rattle.account_formats.specs.Format.{has_named}
-use Rattle.account_formats.specs.Records.{subid_format}
-use Rattle.account_formats.specs.Tables.{table_records}
+use Rattle.account_model.specs.Format.{has_named}
+use Rattle.account_model.specs.Records.{subid_format}
+use Rattle.account_model.specs.Tables.{table_records}
 use Rattle.carried_tables.proofs.OwnerLemmas.{none-removed, removal-written}
 use Rattle.carried_tables.proofs.range_lines.RangeLines.remove_named.Goals as goal
 

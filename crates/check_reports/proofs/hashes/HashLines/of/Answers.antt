@@ -1,6 +1,6 @@
 use Rattle.std.proofs.Common.{◌∙◌, ◌+◌, ap, length, take, sym, subst, arith}
 use Rattle.std.specs.Prelude.{Some, None, option_map}
-use Rattle.account_formats.specs.Records.{shadow_format}
+use Rattle.account_model.specs.Records.{shadow_format}
 use Rattle.acct_tables.specs.NameIndex.{IsNoted, Tells, TellsAtMost, line_names, told}
 use Rattle.acct_tables.specs.SeenLines.{seen_line}
 use Rattle.acct_tables.proofs.LinesCounted.{lines-counted}

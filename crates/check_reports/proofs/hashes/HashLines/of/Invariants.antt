@@ -1,5 +1,5 @@
 use Rattle.std.proofs.Common.{◌≡◌, drop, length, take}
-use Rattle.account_formats.specs.Records.{shadow_format}
+use Rattle.account_model.specs.Records.{shadow_format}
 use Rattle.acct_tables.specs.NameIndex.{Tells, line_names, told}
 use Rattle.carried_lines.specs.TablesOfLines.{lines_in}
 use Rattle.check_reports.proofs.hashes.HashLines.of.Given as goal

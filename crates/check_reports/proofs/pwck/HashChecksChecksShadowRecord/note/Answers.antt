@@ -1,6 +1,6 @@
 use Rattle.std.proofs.Common.{◌∙◌, ◌++◌, Bool, List, append_assoc, sym, ap, ap₂}
 use Rattle.std.specs.Prelude.{Some, not, option_map}
-use Rattle.account_formats.specs.Records.{shadow_format}
+use Rattle.account_model.specs.Records.{shadow_format}
 use Rattle.account_model.specs.Problems.{ChangeInFuture, NoPasswdEntry, Problem, problem_if}
 use Rattle.account_model.specs.Pwck.{is_after}
 use Rattle.account_model.specs.Users.{has_user}

@@ -1,5 +1,5 @@
 use Rattle.std.proofs.Common.{◌∙◌, [], length, refl, ap, arith, subst}
-use Rattle.account_formats.specs.Format.{records_of}
+use Rattle.account_model.specs.Format.{records_of}
 use Rattle.acct_tables.specs.SeenLines.{seen_line}
 use Rattle.acct_tables.proofs.LinesCounted.{lines-counted}
 use Rattle.account_model.specs.Problems.{problems_behind}

@@ -1,5 +1,5 @@
 use Rattle.std.proofs.Common.{◌∙◌, ◌+◌, ◌++◌, [], append-nil, length, refl, sym, ap, subst, arith}
-use Rattle.account_formats.specs.Format.{records_of}
+use Rattle.account_model.specs.Format.{records_of}
 use Rattle.acct_tables.specs.SeenLines.{seen_line}
 use Rattle.carried_lines.specs.TablesOfLines.{lines_in}
 use Rattle.carried_lines.proofs.FileLemmas.{records-in}

@@ -3,9 +3,9 @@ use Rattle.std.specs.Prelude.{map, option_map}
 use Rattle.std.specs.List.{cons_option}
 use Rattle.std.specs.Option.{option_copied}
 use Rattle.std.proofs.lemmas.List.{drop_all}
-use Rattle.account_words.specs.declared.given.Given.{Given}
+use Rattle.account_model.specs.declared.given.Given.{Given}
 use Rattle.account_model.specs.declared.refusal.Refusal.TheVariants.{BadKey}
-use Rattle.account_words.specs.Settings.{bad_word, is_setting_word, word_setting}
+use Rattle.account_model.specs.Settings.{bad_word, is_setting_word, word_setting}
 use Rattle.login_defs.specs.Held.{HasSettings}
 use Rattle.tool_answers.specs.Refusing.{IsFaultOf}
 use Rattle.command_values.proofs.OptionLemmas.{values_in, values-from}

@@ -1,6 +1,6 @@
 use Rattle.std.proofs.Common.{◌≡◌, ◌++◌, List, drop}
 use Rattle.std.specs.Prelude.{map}
-use Rattle.account_words.specs.Settings.{Setting, bad_word, word_setting}
+use Rattle.account_model.specs.Settings.{Setting, bad_word, word_setting}
 use Rattle.login_defs.specs.Held.{HasSettings}
 use Rattle.command_values.proofs.OptionLemmas.{values_in}
 use Rattle.command_values.proofs.asked.Asked.settings.Given as goal

@@ -1,6 +1,6 @@
 use Rattle.std.proofs.Common.{◌∙◌, ◌+◌, sym, ap, drop}
 use Rattle.std.specs.Option.{option_or, option_copied}
-use Rattle.account_formats.specs.Text.{last_of}
+use Rattle.account_model.specs.Text.{last_of}
 use Rattle.command_values.proofs.OptionLemmas.{values_in, last-from}
 use Rattle.command_values.proofs.asked.Asked.value.Goals as goal
 use Rattle.command_values.proofs.asked.Asked.value.Goals.{in-Some, in_default}

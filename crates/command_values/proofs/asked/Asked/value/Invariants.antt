@@ -1,6 +1,6 @@
 use Rattle.std.proofs.Common.{◌≡◌, drop}
 use Rattle.std.specs.Option.{option_or, option_copied}
-use Rattle.account_formats.specs.Text.{last_of}
+use Rattle.account_model.specs.Text.{last_of}
 use Rattle.command_values.proofs.OptionLemmas.{values_in}
 use Rattle.command_values.proofs.asked.Asked.value.Given as goal
 

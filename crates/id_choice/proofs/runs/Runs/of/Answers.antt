@@ -4,7 +4,7 @@ use Rattle.std.proofs.lemmas.List.{take_all}
 use Rattle.std.proofs.lemmas.List.Elements.{All-get_or}
 use Rattle.std.proofs.lemmas.List.Folds.{list_any_more}
 use Rattle.std.proofs.lemmas.List.Sorted.{All-permutation, list_any-IsPermutation}
-use Rattle.account_words.specs.Ids.{in_range}
+use Rattle.account_model.specs.Ids.{in_range}
 use Rattle.id_choice.specs.Runs.{is_run}
 use Rattle.id_choice.specs.declared.runs.Run.{Run}
 use Rattle.id_choice.proofs.runs.Runs.of.Goals as goal

@@ -1,5 +1,5 @@
 use Rattle.std.proofs.Common.{ℕ, List, sym, subst, ◌∙◌}
-use Rattle.account_words.specs.Ids.{IsChosenId}
+use Rattle.account_model.specs.Ids.{IsChosenId}
 use Rattle.id_choice.proofs.UsedLemmas.{preferred-used, none-preferred}
 use Rattle.id_choice.proofs.used.UsedIds.choose.Goals.{in_default-via-in-Some+else-not-holds, in_default-via-in_default}
 use Rattle.id_choice.proofs.used.UsedIds.choose.Goals as goal

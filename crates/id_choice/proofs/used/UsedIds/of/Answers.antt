@@ -2,7 +2,7 @@ use Rattle.std.proofs.Common.{◌<◌, ◌∙◌, get_or, length, take, ap, sym,
 use Rattle.std.specs.Prelude.{◌==◌}
 use Rattle.std.proofs.lemmas.List.{take_all, take_more}
 use Rattle.std.proofs.lemmas.List.Sorted.{list_any-IsPermutation}
-use Rattle.account_words.specs.Ids.{is_used}
+use Rattle.account_model.specs.Ids.{is_used}
 use Rattle.id_choice.specs.Used.{AreThoseOf}
 use Rattle.id_choice.proofs.UsedLemmas.{added-behind}
 use Rattle.id_choice.proofs.used.UsedIds.of.Goals as goal

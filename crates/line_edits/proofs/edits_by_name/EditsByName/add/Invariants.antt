@@ -1,7 +1,7 @@
 use Rattle.std.proofs.Common.{◌≡◌, ℕ, Bool, List, take}
 use Rattle.std.specs.Prelude.{◌&&◌, ◌||◌}
 use Rattle.std.specs.List.{list_any}
-use Rattle.account_formats.specs.Text.{is_listed}
+use Rattle.account_model.specs.Text.{is_listed}
 use Rattle.line_edits.specs.EditsByName.{places_of}
 use Rattle.line_edits.specs.Naming.{names_in}
 use Rattle.line_edits.proofs.edits_by_name.EditsByName.add.Given as goal

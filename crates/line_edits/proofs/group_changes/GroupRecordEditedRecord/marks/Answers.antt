@@ -1,7 +1,7 @@
 use Rattle.std.proofs.Common.{[], ◌∷◌, ap, refl, subst, sym, ◌∙◌}
 use Rattle.std.specs.Prelude.{IfSome}
-use Rattle.account_formats.specs.Records.{group_format}
-use Rattle.account_formats.proofs.NamingLaws.{group-names_first}
+use Rattle.account_model.specs.Records.{group_format}
+use Rattle.account_model.proofs.NamingLaws.{group-names_first}
 use Rattle.acct_tables.specs.Marks.{marks_in}
 use Rattle.line_edits.specs.GroupChanges.{group_after, group_becomes}
 use Rattle.line_edits.specs.Naming.{AreMarksOf}

@@ -1,5 +1,5 @@
 use Rattle.std.proofs.Common.{refl}
-use Rattle.account_formats.specs.Records.{group_format}
+use Rattle.account_model.specs.Records.{group_format}
 use Rattle.line_edits.specs.GroupChanges.{group_becomes}
 use Rattle.line_edits.proofs.NamingLemmas.{removes-told}
 use Rattle.line_edits.proofs.group_changes.GroupRecordEditedRecord.removed.Goals as goal

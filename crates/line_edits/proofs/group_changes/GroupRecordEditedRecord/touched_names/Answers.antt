@@ -1,6 +1,6 @@
 use Rattle.std.proofs.Common.{subst, sym, refl}
 use Rattle.std.specs.Prelude.{IfSome}
-use Rattle.account_formats.specs.Records.{group_format}
+use Rattle.account_model.specs.Records.{group_format}
 use Rattle.line_edits.specs.GroupChanges.{group_after, group_becomes}
 use Rattle.line_edits.specs.Naming.{TouchesOnly, names_in}
 use Rattle.line_edits.proofs.NamingLemmas.{touches-named, touches-removed}

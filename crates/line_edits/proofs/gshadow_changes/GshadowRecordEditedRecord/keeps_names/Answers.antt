@@ -1,5 +1,5 @@
 use Rattle.std.proofs.Common.{◌∙◌, subst, sym}
-use Rattle.account_formats.specs.Records.{gshadow_format}
+use Rattle.account_model.specs.Records.{gshadow_format}
 use Rattle.line_edits.specs.GshadowChanges.{gshadow_becomes}
 use Rattle.line_edits.specs.Naming.{KeepsNames}
 use Rattle.line_edits.proofs.NamingLemmas.{gshadow-keeps, gshadow-all-keeps}

@@ -1,7 +1,7 @@
 use Rattle.std.proofs.Common.{[], ◌∷◌, ap, refl, subst, sym, ◌∙◌}
 use Rattle.std.specs.Prelude.{IfSome}
-use Rattle.account_formats.specs.Records.{gshadow_format}
-use Rattle.account_formats.proofs.NamingLaws.{gshadow-names_first}
+use Rattle.account_model.specs.Records.{gshadow_format}
+use Rattle.account_model.proofs.NamingLaws.{gshadow-names_first}
 use Rattle.acct_tables.specs.Marks.{marks_in}
 use Rattle.line_edits.specs.GshadowChanges.{gshadow_after, gshadow_becomes}
 use Rattle.line_edits.specs.Naming.{AreMarksOf}

@@ -1,5 +1,5 @@
 use Rattle.std.proofs.Common.{refl}
-use Rattle.account_formats.specs.Records.{gshadow_format}
+use Rattle.account_model.specs.Records.{gshadow_format}
 use Rattle.line_edits.specs.GshadowChanges.{gshadow_becomes}
 use Rattle.line_edits.proofs.NamingLemmas.{removes-told}
 use Rattle.line_edits.proofs.gshadow_changes.GshadowRecordEditedRecord.removed.Goals as goal

@@ -1,6 +1,6 @@
 use Rattle.std.proofs.Common.{subst, sym, refl}
 use Rattle.std.specs.Prelude.{IfSome}
-use Rattle.account_formats.specs.Records.{gshadow_format}
+use Rattle.account_model.specs.Records.{gshadow_format}
 use Rattle.line_edits.specs.GshadowChanges.{gshadow_after, gshadow_becomes}
 use Rattle.line_edits.specs.Naming.{TouchesOnly, names_in}
 use Rattle.line_edits.proofs.NamingLemmas.{touches-named, touches-removed}

@@ -1,6 +1,6 @@
 use Rattle.std.proofs.Common.{◌==◌, ◌∙◌, ap}
-use Rattle.account_formats.specs.Format.{is_named}
-use Rattle.account_formats.specs.Records.{passwd_format}
+use Rattle.account_model.specs.Format.{is_named}
+use Rattle.account_model.specs.Records.{passwd_format}
 use Rattle.line_edits.specs.PasswdChanges.{passwd_after, passwd_becomes}
 use Rattle.line_edits.proofs.LeftLemmas.{left-either}
 use Rattle.line_edits.proofs.passwd_changes.PasswdRecordEditedRecord.is_left.Goals as goal

@@ -1,6 +1,6 @@
 use Rattle.std.proofs.Common.{[], ◌∷◌, ap, refl, ◌∙◌}
-use Rattle.account_formats.specs.Records.{passwd_format}
-use Rattle.account_formats.proofs.NamingLaws.{passwd-names_first}
+use Rattle.account_model.specs.Records.{passwd_format}
+use Rattle.account_model.proofs.NamingLaws.{passwd-names_first}
 use Rattle.acct_tables.specs.Marks.{marks_in}
 use Rattle.line_edits.specs.PasswdChanges.{passwd_after, passwd_becomes}
 use Rattle.line_edits.proofs.MarkLemmas.{act-marks, primary-marks, removal-marks}

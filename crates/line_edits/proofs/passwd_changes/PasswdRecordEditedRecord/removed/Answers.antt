@@ -1,5 +1,5 @@
 use Rattle.std.proofs.Common.{refl}
-use Rattle.account_formats.specs.Records.{passwd_format}
+use Rattle.account_model.specs.Records.{passwd_format}
 use Rattle.line_edits.specs.PasswdChanges.{passwd_becomes}
 use Rattle.line_edits.proofs.NamingLemmas.{removes-told}
 use Rattle.line_edits.proofs.passwd_changes.PasswdRecordEditedRecord.removed.Goals as goal

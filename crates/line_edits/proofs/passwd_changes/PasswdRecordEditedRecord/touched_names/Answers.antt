@@ -1,5 +1,5 @@
 use Rattle.std.proofs.Common.{refl}
-use Rattle.account_formats.specs.Records.{passwd_format}
+use Rattle.account_model.specs.Records.{passwd_format}
 use Rattle.line_edits.specs.PasswdChanges.{passwd_after, passwd_becomes}
 use Rattle.line_edits.proofs.NamingLemmas.{touches-named, touches-removed}
 use Rattle.line_edits.proofs.passwd_changes.PasswdRecordEditedRecord.touched_names.Goals as goal

@@ -1,6 +1,6 @@
 use Rattle.std.proofs.Common.{◌∙◌, ap}
-use Rattle.account_formats.specs.Format.{is_named}
-use Rattle.account_formats.specs.Records.{shadow_format}
+use Rattle.account_model.specs.Format.{is_named}
+use Rattle.account_model.specs.Records.{shadow_format}
 use Rattle.line_edits.specs.ShadowChanges.{shadow_after, shadow_becomes}
 use Rattle.line_edits.proofs.LeftLemmas.{left-either}
 use Rattle.line_edits.proofs.shadow_changes.ShadowRecordEditedRecord.is_left.Goals as goal

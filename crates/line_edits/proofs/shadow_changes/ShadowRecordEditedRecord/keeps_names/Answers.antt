@@ -1,5 +1,5 @@
 use Rattle.std.proofs.Common.{◌∙◌, subst, sym}
-use Rattle.account_formats.specs.Records.{shadow_format}
+use Rattle.account_model.specs.Records.{shadow_format}
 use Rattle.line_edits.specs.ShadowChanges.{shadow_becomes}
 use Rattle.line_edits.specs.Naming.{KeepsNames}
 use Rattle.line_edits.proofs.NamingLemmas.{shadow-keeps}

@@ -1,6 +1,6 @@
 use Rattle.std.proofs.Common.{[], ◌∷◌, ap, sym, ◌∙◌, if◌then◌else◌}
-use Rattle.account_formats.specs.Records.{shadow_format}
-use Rattle.account_formats.proofs.NamingLaws.{shadow-names_first}
+use Rattle.account_model.specs.Records.{shadow_format}
+use Rattle.account_model.proofs.NamingLaws.{shadow-names_first}
 use Rattle.line_edits.specs.ShadowChanges.{shadow_after, shadow_becomes}
 use Rattle.line_edits.specs.declared.shadow_changes.ShadowChange.TheVariants.{Named, Remove}
 use Rattle.line_edits.proofs.LeftLemmas.{other-name}

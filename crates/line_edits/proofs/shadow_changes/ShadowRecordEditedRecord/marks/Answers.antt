@@ -1,6 +1,6 @@
 use Rattle.std.proofs.Common.{[], ◌∷◌, ap, refl, ◌∙◌}
-use Rattle.account_formats.specs.Records.{shadow_format}
-use Rattle.account_formats.proofs.NamingLaws.{shadow-names_first}
+use Rattle.account_model.specs.Records.{shadow_format}
+use Rattle.account_model.proofs.NamingLaws.{shadow-names_first}
 use Rattle.acct_tables.specs.Marks.{marks_in}
 use Rattle.line_edits.specs.ShadowChanges.{shadow_after, shadow_becomes}
 use Rattle.line_edits.proofs.MarkLemmas.{act-marks, removal-marks}

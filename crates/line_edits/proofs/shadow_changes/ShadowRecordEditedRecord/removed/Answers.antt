@@ -1,5 +1,5 @@
 use Rattle.std.proofs.Common.{refl}
-use Rattle.account_formats.specs.Records.{shadow_format}
+use Rattle.account_model.specs.Records.{shadow_format}
 use Rattle.line_edits.specs.ShadowChanges.{shadow_becomes}
 use Rattle.line_edits.proofs.NamingLemmas.{removes-told}
 use Rattle.line_edits.proofs.shadow_changes.ShadowRecordEditedRecord.removed.Goals as goal

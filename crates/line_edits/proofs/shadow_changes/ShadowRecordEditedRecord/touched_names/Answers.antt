@@ -1,5 +1,5 @@
 use Rattle.std.proofs.Common.{refl}
-use Rattle.account_formats.specs.Records.{shadow_format}
+use Rattle.account_model.specs.Records.{shadow_format}
 use Rattle.line_edits.specs.ShadowChanges.{shadow_after, shadow_becomes}
 use Rattle.line_edits.proofs.NamingLemmas.{touches-named, touches-removed}
 use Rattle.line_edits.proofs.shadow_changes.ShadowRecordEditedRecord.touched_names.Goals as goal

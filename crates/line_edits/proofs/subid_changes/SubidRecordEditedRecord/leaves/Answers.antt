@@ -1,6 +1,6 @@
 use Rattle.std.proofs.Common.{[], ◌∷◌, ap, sym, ◌∙◌, if◌then◌else◌}
-use Rattle.account_words.specs.SubidOwner.{is_owned, left_without}
-use Rattle.account_formats.proofs.NamingLaws.{subid-names_first}
+use Rattle.account_model.specs.SubidOwner.{is_owned, left_without}
+use Rattle.account_model.proofs.NamingLaws.{subid-names_first}
 use Rattle.line_edits.specs.SubidChanges.{subid_becomes}
 use Rattle.line_edits.specs.declared.subid_changes.SubidChange.TheVariants.{Remove}
 use Rattle.line_edits.proofs.LeftLemmas.{isn't}

@@ -1,6 +1,6 @@
 use Rattle.std.proofs.Common.{[], ◌∷◌, ap, ◌∙◌, if◌then◌else◌}
-use Rattle.account_formats.specs.Records.{subid_format}
-use Rattle.account_formats.proofs.NamingLaws.{subid-names_first}
+use Rattle.account_model.specs.Records.{subid_format}
+use Rattle.account_model.proofs.NamingLaws.{subid-names_first}
 use Rattle.acct_tables.specs.Marks.{marks_in}
 use Rattle.line_edits.specs.SubidChanges.{subid_becomes}
 use Rattle.line_edits.proofs.MarkLemmas.{named-marks}

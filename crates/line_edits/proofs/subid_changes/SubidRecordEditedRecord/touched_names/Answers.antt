@@ -1,6 +1,6 @@
 use Rattle.std.proofs.Common.{◌∙◌, ap, refl}
 use Rattle.std.specs.Prelude.{not}
-use Rattle.account_formats.specs.Records.{subid_format}
+use Rattle.account_model.specs.Records.{subid_format}
 use Rattle.line_edits.specs.SubidChanges.{subid_becomes}
 use Rattle.line_edits.proofs.NameRemovals.{removal-named}
 use Rattle.line_edits.proofs.NamingLemmas.{touches-named, touches-removed}

@@ -1,7 +1,7 @@
 use Rattle.std.proofs.Common.{◌∙◌, ap, Some}
 use Rattle.std.specs.Prelude.{unwrap_or}
-use Rattle.account_words.specs.declared.settings.Key.TheVariants.{UidMin, GidMin}
-use Rattle.account_words.specs.Settings.{one_less}
+use Rattle.account_model.specs.declared.settings.Key.TheVariants.{UidMin, GidMin}
+use Rattle.account_model.specs.Settings.{one_less}
 use Rattle.login_defs.proofs.defs.Defs.default.Goals as goal
 
 pub returns-in-SysUidMax : goal.returns-in-SysUidMax

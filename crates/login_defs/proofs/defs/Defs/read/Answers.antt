@@ -1,7 +1,7 @@
 use Rattle.std.proofs.Common.{◌++◌, [], sym, ◌∙◌, ap, subst, arith}
 use Rattle.std.specs.Prelude.{option_map}
 use Rattle.std.specs.List.{cons_option}
-use Rattle.account_words.specs.Settings.{settings_of}
+use Rattle.account_model.specs.Settings.{settings_of}
 use Rattle.login_defs.specs.declared.defs.DefsFault.TheVariants.{BadNumber}
 use Rattle.login_defs.specs.Held.{HasSettings}
 use Rattle.login_defs.specs.LineSetting.{text_setting}

@@ -1,6 +1,6 @@
 use Rattle.std.proofs.Common.{◌≡◌, ◌≤◌, ◌+◌, ◌++◌, List, length}
 use Rattle.acct_text.specs.Lines.{lines_of}
-use Rattle.account_words.specs.Settings.{Setting, settings_of, bad_line, first_line_from, is_bad_line}
+use Rattle.account_model.specs.Settings.{Setting, settings_of, bad_line, first_line_from, is_bad_line}
 use Rattle.login_defs.specs.Held.{HasSettings}
 use Rattle.login_defs.proofs.defs.Defs.read.Given as goal
 

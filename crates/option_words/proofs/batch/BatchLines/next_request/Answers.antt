@@ -1,7 +1,7 @@
 use Rattle.std.proofs.Common.{◌∷◌, ◌∙◌, List, ap, sym, subst}
-use Rattle.account_words.specs.BatchLines.{BatchLine}
-use Rattle.account_words.specs.Options.{Word}
-use Rattle.account_words.specs.Words.{AsksLine}
+use Rattle.account_model.specs.BatchLines.{BatchLine}
+use Rattle.account_model.specs.Options.{Word}
+use Rattle.account_model.specs.Words.{AsksLine}
 use Rattle.option_words.specs.Parsed.{request_in}
 use Rattle.option_words.proofs.BatchLemmas.{first-request}
 use Rattle.option_words.proofs.batch.BatchLines.next_request.Goals as goal

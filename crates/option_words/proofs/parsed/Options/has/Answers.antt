@@ -1,7 +1,7 @@
 use Rattle.std.proofs.Common.{◌∙◌, ◌==◌, ap, Bool}
 use Rattle.std.specs.Prelude.{is_some, find}
 use Rattle.acct_text.proofs.FoundOnes.{is_some-find}
-use Rattle.account_words.specs.declared.given.Given.{Given}
+use Rattle.account_model.specs.declared.given.Given.{Given}
 use Rattle.option_words.proofs.parsed.Options.has.Goals as goal
 
 pub returns : goal.returns

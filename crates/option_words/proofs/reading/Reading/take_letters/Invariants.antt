@@ -1,6 +1,6 @@
 use Rattle.std.proofs.Common.{◌≡◌, List, length}
-use Rattle.account_words.specs.Options.{Word}
-use Rattle.account_words.specs.Spelling.{letters_reading}
+use Rattle.account_model.specs.Options.{Word}
+use Rattle.account_model.specs.Spelling.{letters_reading}
 use Rattle.option_words.specs.declared.reading.Expects.TheVariants.{AnyWord}
 use Rattle.option_words.specs.Reading.{options_of_word, table_of}
 use Rattle.option_words.proofs.reading.Reading.take_letters.Given as goal

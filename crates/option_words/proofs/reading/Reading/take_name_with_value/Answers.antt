@@ -1,8 +1,8 @@
 use Rattle.std.proofs.Common.{◌≡◌, ◌∙◌, suc, ap, sym, Err, Bool, true}
 use Rattle.std.specs.Prelude.{if◌then◌else◌}
-use Rattle.account_words.specs.declared.word_fault.WordFault.TheVariants.{UnexpectedValue}
-use Rattle.account_words.specs.Options.{as_value}
-use Rattle.account_words.specs.Spelling.{WordReading, complete}
+use Rattle.account_model.specs.declared.word_fault.WordFault.TheVariants.{UnexpectedValue}
+use Rattle.account_model.specs.Options.{as_value}
+use Rattle.account_model.specs.Spelling.{WordReading, complete}
 use Rattle.option_words.specs.Forms.{form_of}
 use Rattle.option_words.specs.Reading.{after_option, options_of_word, outcome_of}
 use Rattle.option_words.proofs.ReadingLemmas.{complete-leads}

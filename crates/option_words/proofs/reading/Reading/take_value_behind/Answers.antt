@@ -1,5 +1,5 @@
 use Rattle.std.proofs.Common.{◌∙◌, suc, ap, sym}
-use Rattle.account_words.specs.Options.{as_value}
+use Rattle.account_model.specs.Options.{as_value}
 use Rattle.option_words.specs.Reading.{options_of_word, outcome_of}
 use Rattle.option_words.proofs.ReadingLemmas.{OnOk-from, complete-leads, value_behind-some}
 use Rattle.option_words.proofs.reading.Reading.take_value_behind.Goals as goal

@@ -1,5 +1,5 @@
 use Rattle.std.proofs.Common.{◌∷◌, ◌∙◌, suc, ap}
-use Rattle.account_words.specs.Spelling.{long_reading, letters_reading}
+use Rattle.account_model.specs.Spelling.{long_reading, letters_reading}
 use Rattle.option_words.specs.Meanings.{meaning_in}
 use Rattle.option_words.specs.Reading.{table_of, outcome_of, options_of_word}
 use Rattle.option_words.proofs.ReadingLemmas.{ReadsOn-before, operand-reads, outcome_of-options}

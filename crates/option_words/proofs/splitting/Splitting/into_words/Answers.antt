@@ -1,6 +1,6 @@
 use Rattle.std.proofs.Common.{◌∷◌, [], ◌++◌, ◌∙◌, List, ap, sym}
-use Rattle.account_formats.specs.Text.{nonempty}
-use Rattle.account_words.specs.Options.{Word}
+use Rattle.account_model.specs.Text.{nonempty}
+use Rattle.account_model.specs.Options.{Word}
 use Rattle.option_words.specs.declared.splitting.Splitting.{Splitting}
 use Rattle.option_words.specs.Splitting.{words_from}
 use Rattle.option_words.proofs.SplittingLemmas.{words_from-end, words_from-escaped_end}

@@ -1,5 +1,5 @@
 use Rattle.std.proofs.Common.{◌∙◌, ap}
-use Rattle.account_formats.specs.Format.{count_named, records_of}
+use Rattle.account_model.specs.Format.{count_named, records_of}
 use Rattle.record_tables.proofs.ToldLines.{count_told, told-counts}
 use Rattle.record_tables.proofs.table.Table.count.Goals as goal
 

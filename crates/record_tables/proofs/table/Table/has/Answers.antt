@@ -1,6 +1,6 @@
 use Rattle.std.proofs.Common.{◌∙◌, ap}
 use Rattle.std.specs.Prelude.{is_some}
-use Rattle.account_formats.specs.Format.{has_named, records_of}
+use Rattle.account_model.specs.Format.{has_named, records_of}
 use Rattle.acct_tables.proofs.NamedRecords.{told-has}
 use Rattle.record_tables.proofs.table.Table.has.Goals as goal
 

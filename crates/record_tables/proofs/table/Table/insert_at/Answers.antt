@@ -1,7 +1,7 @@
 use Rattle.std.proofs.Common.{◌∙◌, length, refl, sym, ap}
 use Rattle.std.specs.List.{insert}
 use Rattle.std.proofs.lemmas.Bool.{eq-eqb, ne_eqb}
-use Rattle.account_formats.specs.Edits.{printed_line}
+use Rattle.account_model.specs.Edits.{printed_line}
 use Rattle.record_tables.proofs.table.Table.insert_at.Goals as goal
 
 pub returns-then-place-len-clause-inserted : goal.returns-then-place-len-clause-inserted

@@ -1,6 +1,6 @@
 use Rattle.std.proofs.Common.{◌≡◌, ◌∙◌, ap, subst, sym}
 use Rattle.std.specs.Prelude.{None, option_map}
-use Rattle.account_formats.specs.Format.{records_of}
+use Rattle.account_model.specs.Format.{records_of}
 use Rattle.record_tables.specs.Lists.{line_refusal}
 use Rattle.record_tables.proofs.ListLines.{single-stays}
 use Rattle.record_tables.proofs.table.Table.multiple.Goals as goal

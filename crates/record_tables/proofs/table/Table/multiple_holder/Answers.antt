@@ -1,5 +1,5 @@
 use Rattle.std.proofs.Common.{◌∙◌, true, false, ap, arith, sym}
-use Rattle.account_formats.specs.Format.{records_of}
+use Rattle.account_model.specs.Format.{records_of}
 use Rattle.acct_tables.specs.TableLines.{text_at}
 use Rattle.record_tables.specs.Lists.{line_refusal}
 use Rattle.record_tables.proofs.ListLines.{first-by}

@@ -1,6 +1,6 @@
 use Rattle.std.proofs.Common.{◌≡◌, map, drop}
-use Rattle.account_formats.specs.Format.{records_of}
-use Rattle.account_formats.specs.Text.{first_some}
+use Rattle.account_model.specs.Format.{records_of}
+use Rattle.account_model.specs.Text.{first_some}
 use Rattle.record_tables.specs.Lists.{line_refusal}
 use Rattle.record_tables.proofs.table.Table.multiple_holder.Given as goal
 

@@ -5,7 +5,7 @@ use Rattle.std.proofs.lemmas.List.Elements.{All-push}
 use Rattle.std.proofs.lemmas.Result.{IfOk-weaker}
 use Rattle.acct_text.specs.Bytes.{newline}
 use Rattle.acct_text.specs.Pieces.{Lacks}
-use Rattle.account_formats.specs.Edits.{each, edited}
+use Rattle.account_model.specs.Edits.{each, edited}
 use Rattle.acct_tables.proofs.LinesHere.{blank_line, line_here, text-here}
 use Rattle.record_tables.specs.Lists.{changed_line}
 use Rattle.record_tables.proofs.ListLines.{changed-lines}

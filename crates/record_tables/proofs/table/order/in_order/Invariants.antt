@@ -2,7 +2,7 @@ use Rattle.std.proofs.Common.{◌≡◌, ◌+◌, ◌++◌, length, map, drop}
 use Rattle.std.specs.Prelude.{All}
 use Rattle.acct_text.specs.Bytes.{newline}
 use Rattle.acct_text.specs.Pieces.{Lacks}
-use Rattle.account_formats.specs.Format.{records_of}
+use Rattle.account_model.specs.Format.{records_of}
 use Rattle.acct_tables.specs.TableLines.{text_at}
 use Rattle.record_tables.specs.Order.{arranged, with_texts}
 use Rattle.record_tables.proofs.MadeLines.{with_each}

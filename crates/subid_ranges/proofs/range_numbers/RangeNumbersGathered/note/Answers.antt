@@ -1,7 +1,7 @@
 use Rattle.std.proofs.Common.{◌≡◌, ◌≤◌, ◌∙◌, ℕ, Bool, false, sym, ap, subst, arith}
 use Rattle.std.specs.Prelude.{MatchOption, cond, is_some}
 use Rattle.std.proofs.lemmas.Result.{on_ok_weaker}
-use Rattle.account_formats.specs.Records.{last_id}
+use Rattle.account_model.specs.Records.{last_id}
 use Rattle.acct_lines.specs.Shown.{subid_shown}
 use Rattle.subid_ranges.specs.Taken.{AreFree, AreMet, TakesThoseOf}
 use Rattle.subid_ranges.specs.declared.range_numbers.RangeNumbers.{RangeNumbers}

@@ -1,7 +1,7 @@
 use Rattle.std.proofs.Common.{◌≡◌, ◌∙◌, ap, arith}
 use Rattle.acct_text.specs.Lines.{file_bytes, lines_of}
-use Rattle.account_formats.specs.Edits.{with_line}
-use Rattle.account_formats.specs.Records.{subid_format}
+use Rattle.account_model.specs.Edits.{with_line}
+use Rattle.account_model.specs.Records.{subid_format}
 use Rattle.subid_ranges.specs.RangeLines.{new_range, with_range}
 use Rattle.subid_ranges.proofs.FileLines.{range-found}
 use Rattle.subid_ranges.proofs.TellLemmas.{range-takes}

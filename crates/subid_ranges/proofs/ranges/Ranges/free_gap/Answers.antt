@@ -1,6 +1,6 @@
 use Rattle.std.proofs.Common.{◌∙◌, ap}
 use Rattle.acct_text.specs.Lines.{lines_of}
-use Rattle.account_words.specs.FreeRange.{free_range}
+use Rattle.account_model.specs.FreeRange.{free_range}
 use Rattle.subid_ranges.specs.RangeLines.{ranges_of}
 use Rattle.subid_ranges.proofs.LeastStart.{least-free}
 use Rattle.subid_ranges.proofs.ranges.Ranges.free_gap.Goals as goal

@@ -2,7 +2,7 @@ use Rattle.std.proofs.Common.{sym, ap, subst, ◌∙◌, ℕ, Option}
 use Rattle.std.specs.Prelude.{option_map}
 use Rattle.std.specs.Option.{option_copied}
 use Rattle.account_model.specs.Answer.{BadSettingAt}
-use Rattle.account_words.specs.Settings.{settings_of}
+use Rattle.account_model.specs.Settings.{settings_of}
 use Rattle.suite_session.specs.declared.tools.Decided.{Decided}
 use Rattle.suite_session.specs.Loading.{DecidesOn}
 use Rattle.suite_core.specs.Deciding.{bad_line, settings_text}

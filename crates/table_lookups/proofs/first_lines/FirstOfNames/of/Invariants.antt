@@ -1,6 +1,6 @@
 use Rattle.std.proofs.Common.{length}
-use Rattle.account_formats.specs.Format.{records_of}
-use Rattle.account_formats.specs.Tables.{table_records}
+use Rattle.account_model.specs.Format.{records_of}
+use Rattle.account_model.specs.Tables.{table_records}
 use Rattle.table_lookups.specs.FirstLines.{Tells, has_name, is_asked, told_names}
 use Rattle.table_lookups.proofs.first_lines.FirstOfNames.of.Given as goal
 

@@ -1,8 +1,8 @@
 use Rattle.std.proofs.Common.{◌∙◌, ℕ, List, ap, sym, subst}
 use Rattle.std.specs.Prelude.{IfSome, is_some}
 use Rattle.std.proofs.lemmas.Result.{IfOk-weaker}
-use Rattle.account_formats.specs.Tables.{group_records}
-use Rattle.account_formats.specs.declared.records.GroupRecord.{GroupRecord}
+use Rattle.account_model.specs.Tables.{group_records}
+use Rattle.account_model.specs.declared.records.GroupRecord.{GroupRecord}
 use Rattle.account_model.specs.GivenGroups.{find_gid}
 use Rattle.table_lookups.specs.FirstLines.{TellsGids}
 use Rattle.table_lookups.proofs.FirstLemmas.{some-mapped}

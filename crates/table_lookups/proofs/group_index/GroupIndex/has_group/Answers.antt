@@ -1,8 +1,8 @@
 use Rattle.std.proofs.Common.{◌∙◌, ap, subst, sym}
 use Rattle.std.specs.Prelude.{IfSome}
-use Rattle.account_formats.specs.Format.{has_named}
-use Rattle.account_formats.specs.Records.{group_format}
-use Rattle.account_formats.specs.Tables.{group_records}
+use Rattle.account_model.specs.Format.{has_named}
+use Rattle.account_model.specs.Records.{group_format}
+use Rattle.account_model.specs.Tables.{group_records}
 use Rattle.table_lookups.specs.FirstLines.{TellsNames}
 use Rattle.table_lookups.proofs.group_index.GroupIndex.has_group.Goals as goal
 

@@ -1,8 +1,8 @@
 use Rattle.std.proofs.Common.{◌∙◌, ap, sym}
 use Rattle.acct_text.specs.declared.files.Files.{Files}
-use Rattle.account_formats.specs.Records.{group_format}
-use Rattle.account_formats.specs.Tables.{table_records}
-use Rattle.account_formats.specs.declared.records.GroupRecord.{GroupRecord}
+use Rattle.account_model.specs.Records.{group_format}
+use Rattle.account_model.specs.Tables.{table_records}
+use Rattle.account_model.specs.declared.records.GroupRecord.{GroupRecord}
 use Rattle.account_model.specs.GivenGroups.{find_gid}
 use Rattle.table_lookups.proofs.FirstLemmas.{is-none}
 use Rattle.carried_tables.proofs.KeptIdLemmas.{used-found}

@@ -1,7 +1,7 @@
 use Rattle.std.proofs.Common.{◌∙◌, ap}
 use Rattle.std.specs.Prelude.{is_some}
-use Rattle.account_formats.specs.Tables.{passwd_records}
-use Rattle.account_formats.specs.declared.records.PasswdRecord.{PasswdRecord}
+use Rattle.account_model.specs.Tables.{passwd_records}
+use Rattle.account_model.specs.declared.records.PasswdRecord.{PasswdRecord}
 use Rattle.carried_tables.proofs.KeptIdLemmas.{used-found}
 use Rattle.table_lookups.proofs.tables.Tables.is_uid_used.Goals as goal
 

@@ -1,7 +1,7 @@
 use Rattle.std.proofs.Common.{◌≤◌, subst}
 use Rattle.std.specs.Prelude.{◌==◌}
 use Rattle.std.proofs.lemmas.Result.{IfOk-weaker}
-use Rattle.account_formats.specs.Tables.{passwd_records}
+use Rattle.account_model.specs.Tables.{passwd_records}
 use Rattle.table_lookups.proofs.OtherUsers.{none-beside, uid-counted}
 use Rattle.table_lookups.proofs.tables.Tables.lacks_other_of_uid.Goals as goal
 

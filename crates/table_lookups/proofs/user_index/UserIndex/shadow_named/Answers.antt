@@ -1,9 +1,9 @@
 use Rattle.std.proofs.Common.{◌∙◌, ap, subst, sym}
 use Rattle.std.specs.Prelude.{IfSome}
 use Rattle.std.proofs.lemmas.Result.{IfOk-weaker}
-use Rattle.account_formats.specs.Format.{find_named}
-use Rattle.account_formats.specs.Records.{shadow_format}
-use Rattle.account_formats.specs.Tables.{shadow_records}
+use Rattle.account_model.specs.Format.{find_named}
+use Rattle.account_model.specs.Records.{shadow_format}
+use Rattle.account_model.specs.Tables.{shadow_records}
 use Rattle.table_lookups.specs.FirstLines.{AreUsers}
 use Rattle.table_lookups.proofs.user_index.UserIndex.shadow_named.Goals as goal
 

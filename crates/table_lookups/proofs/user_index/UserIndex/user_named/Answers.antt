@@ -1,9 +1,9 @@
 use Rattle.std.proofs.Common.{◌∙◌, ap, subst, sym}
 use Rattle.std.specs.Prelude.{IfSome}
 use Rattle.std.proofs.lemmas.Result.{IfOk-weaker}
-use Rattle.account_formats.specs.Format.{find_named}
-use Rattle.account_formats.specs.Records.{passwd_format}
-use Rattle.account_formats.specs.Tables.{passwd_records}
+use Rattle.account_model.specs.Format.{find_named}
+use Rattle.account_model.specs.Records.{passwd_format}
+use Rattle.account_model.specs.Tables.{passwd_records}
 use Rattle.table_lookups.specs.FirstLines.{AreUsers}
 use Rattle.table_lookups.proofs.user_index.UserIndex.user_named.Goals as goal
 

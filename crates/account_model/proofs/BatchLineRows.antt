@@ -1,0 +1,90 @@
+-- The lines of a batch by their numbers, what they ask for, and the first that asks for nothing, each
+-- decided by computing.
+use Prim.Native.String.{String}
+use Rattle.std.specs.Prelude.{◌≡◌, ℕ, ◌==◌, List, [], ◌∷◌, ◌++◌, map, Some, None, codes, refl}
+use Rattle.std.specs.List.{slice_split}
+use Rattle.std.specs.Str.{byte}
+use Rattle.account_model.specs.declared.tool.Tool.TheVariants.{Useradd, Groupadd}
+use Rattle.account_model.specs.declared.word_fault.WordFault.TheVariants.{UnknownTool, UnknownOption, TooFew}
+use Rattle.account_model.specs.BatchLines.{batch_lines, first_faulty, line_requests}
+use Rattle.account_model.specs.LineWords.{backslash}
+use Rattle.account_model.specs.Options.{as_flag, as_value}
+use Rattle.account_model.proofs.SettingsImage.{file}
+
+-- the lines of a text, which are cut at `|` here
+abbrev lines : String → List ℕ
+lines text = file (slice_split (λ c. c == 124) (codes text))
+
+-- skipped lines count
+numbers_of_lines : map (λ line. line.number) (batch_lines (lines "# staff|groupadd a|| |groupadd b"))
+    ≡ 2 ∷ 5 ∷ []
+numbers_of_lines = refl
+
+-- the last line needs no newline
+no_last_newline : map (λ line. line.number) (batch_lines (lines "groupadd a" ++ codes "groupadd b"))
+    ≡ 1 ∷ 2 ∷ []
+no_last_newline = refl
+
+-- a comment, and two groups of which the first has a GID
+two_requests : line_requests (lines "# groups|groupadd -g 1500 staff|groupadd q") ≡
+    (record {
+      number = 2;
+      request = record {
+        tool = Groupadd;
+        prefix = [];
+        options = as_value (byte "g") (codes "1500") ∷ [];
+        operands = codes "staff" ∷ [];
+      };
+    })
+    ∷ (record {
+      number = 3;
+      request = record { tool = Groupadd; prefix = []; options = []; operands = codes "q" ∷ [] };
+    })
+    ∷ []
+two_requests = refl
+
+-- an option's value with a blank
+asks_with_blank :
+    line_requests (codes "useradd -c Ann" ++ backslash ∷ codes " Lee -N ann") ≡
+    (record {
+      number = 1;
+      request = record {
+        tool = Useradd;
+        prefix = [];
+        options = as_value (byte "c") (codes "Ann Lee") ∷ as_flag (byte "N") ∷ [];
+        operands = codes "ann" ∷ [];
+      };
+    })
+    ∷ []
+asks_with_blank = refl
+
+-- no input asks for nothing, and has no faulty line
+nothing_asked : line_requests [] ≡ []
+nothing_asked = refl
+
+no_faulty_line : first_faulty (lines "|# a|groupadd a") ≡ None
+no_faulty_line = refl
+
+-- `-P` is unknown in a line
+faulty_prefix_line : first_faulty (lines "groupadd -P X z") ≡ Some (record {
+  line = record {
+    number = 1;
+    words = codes "groupadd" ∷ codes "-P" ∷ codes "X" ∷ codes "z" ∷ [];
+  };
+  fault = UnknownOption 1;
+})
+faulty_prefix_line = refl
+
+-- the first faulty line counts, by its number among all
+second_line_faulty : first_faulty (lines "# a|groupadd a|groupadd|batch") ≡ Some (record {
+  line = record { number = 3; words = codes "groupadd" ∷ [] };
+  fault = TooFew;
+})
+second_line_faulty = refl
+
+-- a batch has no batches
+batch_in_batch : first_faulty (lines "batch") ≡ Some (record {
+  line = record { number = 1; words = codes "batch" ∷ [] };
+  fault = UnknownTool;
+})
+batch_in_batch = refl

@@ -1,0 +1,88 @@
+//! The tools of the suite.
+ghost use Rattle.std.specs.Prelude.{◌≡◌};
+ghost use Rattle.account_model.specs.Words.{tool_name, tools, tool_named};
+
+/// A tool, which word 0 of a command names.
+#[derive(Clone, Copy, Debug, PartialEq, Eq, Drop)]
+pub enum Tool {
+    /// Adds a user (useradd(8)).
+    Useradd,
+    /// Changes a user (usermod(8)).
+    Usermod,
+    /// Removes a user (userdel(8)).
+    Userdel,
+    /// Adds a group (groupadd(8)).
+    Groupadd,
+    /// Changes a group (groupmod(8)).
+    Groupmod,
+    /// Removes a group (groupdel(8)).
+    Groupdel,
+    /// Changes the hash, the administrators and the members of a group (gpasswd(1)).
+    Gpasswd,
+    /// Changes or lists the aging of a user's hash (chage(1)).
+    Chage,
+    /// Sets the hashes of many users (chpasswd(8)).
+    Chpasswd,
+    /// Checks or sorts passwd and shadow (pwck(8)).
+    Pwck,
+    /// Checks or sorts group and gshadow (grpck(8)).
+    Grpck,
+    /// Lists the subordinate ranges of a user (getsubids(1)).
+    Getsubids,
+    /// Carries out the commands that its input lists, as one.
+    Batch,
+}
+
+impl Tool {
+    /// The tools in the order of the enum.
+    pub fn all() -> [Tool; 13]
+        ensures { result ≡ tools }
+    {
+        [
+            Tool::Useradd,
+            Tool::Usermod,
+            Tool::Userdel,
+            Tool::Groupadd,
+            Tool::Groupmod,
+            Tool::Groupdel,
+            Tool::Gpasswd,
+            Tool::Chage,
+            Tool::Chpasswd,
+            Tool::Pwck,
+            Tool::Grpck,
+            Tool::Getsubids,
+            Tool::Batch,
+        ]
+    }
+
+    /// The word that names the tool.
+    pub fn name(self) -> &'static str
+        ensures { result.now ≡ tool_name self }
+    {
+        match self {
+            Tool::Useradd => "useradd",
+            Tool::Usermod => "usermod",
+            Tool::Userdel => "userdel",
+            Tool::Groupadd => "groupadd",
+            Tool::Groupmod => "groupmod",
+            Tool::Groupdel => "groupdel",
+            Tool::Gpasswd => "gpasswd",
+            Tool::Chage => "chage",
+            Tool::Chpasswd => "chpasswd",
+            Tool::Pwck => "pwck",
+            Tool::Grpck => "grpck",
+            Tool::Getsubids => "getsubids",
+            Tool::Batch => "batch",
+        }
+    }
+
+    /// The tool that a word names, and none where it names no tool.
+    pub fn named(word: &[u8]) -> Option<Tool>
+        ensures { result ≡ tool_named word.now }
+    {
+        Tool::all()
+            .iter()
+            .copied()
+            .find(|tool| tool.name().as_bytes() == word)
+    }
+}

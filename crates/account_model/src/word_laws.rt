@@ -1,0 +1,20 @@
+//! A law of words.
+ghost use Rattle.std.specs.Prelude.{◌≡◌, ◌↔◌, ◌⊎◌, ℕ, List, Ok, Some, None};
+ghost use Rattle.account_model.specs.declared.word_fault.WordFault.{WordFault};
+ghost use Rattle.account_model.specs.declared.words_of.WordsOf.{WordsOf as Whose};
+ghost use Rattle.account_model.specs.Request.{Request};
+ghost use Rattle.account_model.specs.Words.{AsksAs, request_as, fault_as};
+
+/// Every list of words, of a command or of a line of a batch, asks for one request, which is read of
+/// it, or has one fault (getopt_long(3)).
+pub fn words_have_one_reading()
+    ensures read { (whose : Whose) (words : List (List ℕ)) (request : Request)
+        → AsksAs whose words request ↔ (request_as whose words ≡ Ok request) }
+    ensures one { (whose : Whose) (words : List (List ℕ)) (first second : Request)
+        → AsksAs whose words first → AsksAs whose words second → first ≡ second }
+    ensures faultless { (whose : Whose) (words : List (List ℕ)) (request : Request)
+        → AsksAs whose words request → fault_as whose words ≡ None }
+    ensures faulty { (whose : Whose) (words : List (List ℕ))
+        → ((request : Request) × AsksAs whose words request)
+        ⊎ ((first : WordFault) × (fault_as whose words ≡ Some first)) }
+{}
