@@ -1,5 +1,4 @@
 pub mod TableLines
-pub mod Lists
 pub mod Renaming
 pub mod EditedLines
 pub mod LineTexts

@@ -1,11 +1,9 @@
 -- A table as its calls see it: the list of the lines of its file, each other text or a record of
 -- the table's format (passwd(5), shadow(5), group(5), gshadow(5), subuid(5), subgid(5)).
 -- Places count the lines from 0.
-use Rattle.std.specs.Prelude.{◌≡◌, ℕ, ◌+◌, ◌==◌, Bool, false, List, [], ◌++◌, length, map, take, drop, Option, Some, None, slice_get, option_map, if◌then◌else◌}
-use Rattle.std.specs.List.{insert}
+use Rattle.std.specs.Prelude.{◌≡◌, ℕ, ◌+◌, Bool, false, List, [], ◌++◌, map, take, drop, Option, Some, None, slice_get, option_map, if◌then◌else◌}
 use Rattle.acct_text.specs.Lines.{Line}
 use Rattle.account_model.specs.Format.{Format, is_named}
-use Rattle.account_model.specs.Edits.{printed_line, with_line}
 use Rattle.account_model.specs.Written.{IsWritten}
 
 -- ---- What is found
@@ -41,13 +39,6 @@ with_record format r line = elim (format.read line.text) [
   | None ↦ record line { text = format.print r }
   | Some old ↦ if format.same old r then line else record line { text = format.print r }
 ]
-
--- the lines with that of a new record, which has an end, in front of the line at this place; at the
--- end it goes behind the last line
-abbrev pub with_record_at : {R : Type 0} → Format R → R → ℕ → List Line → List Line
-with_record_at format r place lines = if place == length lines
-    then with_line (format.print r) lines
-    else insert lines place (printed_line format r)
 
 -- the text is the canonical one of a record that a line can hold, of the name of the record here
 pub record IsPrintedFor {R : Type 0} (format : Format R) (here : Option R) (text : List ℕ) : Type 0

@@ -1,7 +1,7 @@
 // The lines of a table's file while edits change them.
 ghost use Rattle.std.specs.Prelude.{◌≡◌, ◌<◌, Some, get_or, if◌then◌else◌, length, nat_le, option_map, All, IfOk, IfSome, OnOk, OnErr};
 ghost use Rattle.acct_text.specs.Bytes.{newline};
-ghost use Rattle.acct_text.specs.Lines.{Line, file_bytes, lines_of, texts_of};
+ghost use Rattle.acct_text.specs.Lines.{Line, file_bytes, lines_of};
 ghost use Rattle.acct_text.specs.Pieces.{Lacks};
 ghost use Rattle.account_model.specs.Edits.{with_line};
 ghost use Rattle.account_model.specs.Format.{count_named, find_named, records_of};
@@ -74,12 +74,8 @@ impl<'a, R: TableRecord + Drop> EditedLines<'a, R> {
         EditedLines::of_texts(alloc, texts, lacks_end)
     }
 
-    /// The lines of these texts, each with an end, but for the last where it lacks it.
-    pub fn of_texts(
-        alloc: Global,
-        texts: LineTexts<'a>,
-        lacks_end: bool,
-    ) -> Result<Self, AllocError>
+    // The lines of these texts, each with an end, but for the last where it lacks it.
+    fn of_texts(alloc: Global, texts: LineTexts<'a>, lacks_end: bool) -> Result<Self, AllocError>
         requires { All (Lacks newline) texts }
         ensures { IfOk result (λ lines. lines ≡ lines_with lacks_end texts.entry) }
     {
@@ -90,20 +86,6 @@ impl<'a, R: TableRecord + Drop> EditedLines<'a, R> {
             names,
             record: PhantomData,
         })
-    }
-
-    /// The texts of the lines, without their ends.
-    pub fn texts(&self) -> &LineTexts<'a>
-        ensures { result.now ≡ texts_of self.now }
-    {
-        &self.texts
-    }
-
-    /// Whether the last line lacks its end, as it may in a file; each other line has one.
-    pub fn lacks_end(&self) -> bool
-        ensures { self.now ≡ lines_with result (texts_of self.now) }
-    {
-        self.lacks_end
     }
 
     /// The number of lines, of records and other text.

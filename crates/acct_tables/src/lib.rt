@@ -4,7 +4,7 @@
 //! `Lines` takes the lines of a large file one after another where they stand in its bytes.
 //! `EditedLines` keeps them there until edits change them, with an index of their names. A line keeps
 //! its bytes until an edit puts another record into it, and after want of memory the lines are as
-//! before the call. Each line has a text of its own (`LineTexts`), of which new lines can be made.
+//! before the call.
 #![tactic(auto)]
 
 mod edited_lines;
@@ -22,7 +22,6 @@ mod renaming;
 pub use acct_lines::TableRecord;
 pub use edited_lines::EditedLines;
 pub use line::{is_named, is_record, name_of, read_record};
-pub use line_texts::LineTexts;
 pub use lines::{FileLine, Lines, append_line, find_record, has_record, has_several_records};
 pub use list_record::ListRecord;
 pub use marks::{Marks, from_mark, from_marks};

@@ -46,7 +46,7 @@ struct LinePlace {
 /// The texts of the lines of a file, without their newlines. Each stands in the bytes of the file, which
 /// takes 8 bytes and no memory of its own, until another is put into the line.
 #[derive(Drop)]
-pub struct LineTexts<'a> {
+pub(crate) struct LineTexts<'a> {
     file: FileText<'a>,
     // of a line that was added any place
     places: Vec<LinePlace>,
@@ -66,17 +66,6 @@ impl<'a> Model for LineTexts<'a> {
 }
 
 impl<'a> LineTexts<'a> {
-    /// The texts of no lines. It allocates nothing before the first `push`.
-    pub fn new(alloc: Global) -> Self
-        ensures { result ≡ [] }
-    {
-        LineTexts {
-            file: FileText::Lent(&[]),
-            places: Vec::new(alloc),
-            changed: IndexMap::new(alloc),
-        }
-    }
-
     /// The texts of the lines of a file. One of 4 GiB or more is answered as want of memory.
     pub(crate) fn of(alloc: Global, file: FileText<'a>) -> Result<Self, AllocError>
         ensures { IfOk result (λ texts. texts ≡ texts_of (lines_of (file_text file.entry))) }
@@ -90,7 +79,7 @@ impl<'a> LineTexts<'a> {
     }
 
     /// The number of lines.
-    pub fn len(&self) -> usize
+    pub(crate) fn len(&self) -> usize
         ensures count { result ≡ length self.now }
         ensures small { result + 1 < 2 ^ 64 }
     {
@@ -98,7 +87,7 @@ impl<'a> LineTexts<'a> {
     }
 
     /// The text of a line; none behind the last.
-    pub fn get(&self, line: usize) -> Option<&[u8]>
+    pub(crate) fn get(&self, line: usize) -> Option<&[u8]>
         ensures { option_copied result ≡ slice_get self.now line }
     {
         let place = self.places.get(line)?;
@@ -127,7 +116,7 @@ impl<'a> LineTexts<'a> {
     }
 
     /// Puts a line of this text behind the last. At `AllocError` the texts are as before.
-    pub fn push(&mut self, text: Bytes) -> Result<(), AllocError>
+    pub(crate) fn push(&mut self, text: Bytes) -> Result<(), AllocError>
         ensures pushed { OnOk result (self.new ≡ self.old ++ text ∷ []) }
         ensures unchanged { OnErr result (self.new ≡ self.old) }
     {
@@ -145,7 +134,7 @@ impl<'a> LineTexts<'a> {
     }
 
     /// The allocator of the texts.
-    pub fn allocator(&self) -> Global {
+    pub(crate) fn allocator(&self) -> Global {
         *self.places.allocator()
     }
 }

@@ -3,7 +3,6 @@ use acct_dates::DateFault;
 use acct_lines::{LineFault, ReadFault};
 use acct_text::NumberFault;
 use intent_file::IntentFault;
-use record_tables::TableFault;
 use std::alloc::{AllocError, Global};
 use std::fmt::Display;
 use std::test::Fail;
@@ -39,13 +38,6 @@ const DATE_FAULTS: [(DateFault, &str); 3] = [
     (DateFault::OutOfRange, "the day is out of range"),
 ];
 
-const TABLE_FAULTS: [(TableFault, &str); 4] = [
-    (TableFault::Absent, "no record has the name"),
-    (TableFault::Multiple(2), "2 records have the name"),
-    (TableFault::Present, "a record has the new name"),
-    (TableFault::Memory, "out of memory"),
-];
-
 const RANGE_FAULTS: [(RangeFault, &str); 4] = [
     (RangeFault::NoGap, "no free range"),
     (RangeFault::Overlap(5), "the range meets line 5"),
@@ -75,7 +67,6 @@ fn each_fault_has_its_text(rt: HostRuntime) -> Result<(), Fail> {
     assert!(rt; have_texts(alloc, &LINE_FAULTS)?);
     assert!(rt; have_texts(alloc, &READ_FAULTS)?);
     assert!(rt; have_texts(alloc, &DATE_FAULTS)?);
-    assert!(rt; have_texts(alloc, &TABLE_FAULTS)?);
     assert!(rt; have_texts(alloc, &RANGE_FAULTS)?);
     assert!(rt; have_texts(alloc, &INTENT_FAULTS)?);
     Ok(())
