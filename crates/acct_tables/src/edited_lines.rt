@@ -26,7 +26,6 @@ use std::marker::{Model, PhantomData};
 /// The lines of a file of such records, which edits change, with an index of the records of each
 /// name. A line stays where it is in the file's bytes until a record is put into it, and is read as
 /// a record when it is asked for. Contracts see the list of lines.
-#[derive(Drop)]
 pub struct EditedLines<'a, R: TableRecord> {
     texts: LineTexts<'a>,
     // whether the last line lacks its end, as it may in a file; each other line has one
@@ -34,6 +33,18 @@ pub struct EditedLines<'a, R: TableRecord> {
     // where the records of each name stand among the lines
     names: NameHashes,
     record: PhantomData<R>,
+}
+
+// One call for two maps and a text, so that who holds the lines has few ways through them.
+impl<'a, R: TableRecord> Drop for EditedLines<'a, R> {
+    fn drop(self) {
+        let EditedLines {
+            texts: _,
+            lacks_end: _,
+            names: _,
+            record: _,
+        } = self;
+    }
 }
 
 impl<'a, R: TableRecord> Model for EditedLines<'a, R> {

@@ -45,13 +45,23 @@ struct LinePlace {
 
 /// The texts of the lines of a file, without their newlines. Each stands in the bytes of the file, which
 /// takes 8 bytes and no memory of its own, until another is put into the line.
-#[derive(Drop)]
 pub(crate) struct LineTexts<'a> {
     file: FileText<'a>,
     // of a line that was added any place
     places: Vec<LinePlace>,
     // the texts that were put into lines
     changed: IndexMap<usize, Bytes>,
+}
+
+// One call for a text that may be lent and a map.
+impl<'a> Drop for LineTexts<'a> {
+    fn drop(self) {
+        let LineTexts {
+            file: _,
+            places: _,
+            changed: _,
+        } = self;
+    }
 }
 
 impl<'a> Model for LineTexts<'a> {

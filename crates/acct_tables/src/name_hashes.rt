@@ -42,9 +42,15 @@ pub(crate) struct HashChange {
 /// For each hash that the name of a record of a table has, the line of the first, how many there are,
 /// and whether all have one name. A look-up compares the name of the first. It takes a pass over the
 /// lines only where two names of the table have the same hash.
-#[derive(Drop)]
 pub(crate) struct NameHashes {
     hashes: IndexMap<u64, HashedLines>,
+}
+
+// One call for a map.
+impl Drop for NameHashes {
+    fn drop(self) {
+        let NameHashes { hashes: _ } = self;
+    }
 }
 
 impl NameHashes {

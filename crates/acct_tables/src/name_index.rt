@@ -23,9 +23,15 @@ pub struct NamedLines {
 
 /// For each name that a record of a file has, the line of the first and how many there are. A look-up
 /// takes no pass over the lines and no memory.
-#[derive(Drop)]
 pub struct NameIndex<'a> {
     names: IndexMap<&'a [u8], NamedLines>,
+}
+
+// One call for a map, so that who holds several indexes has few ways through them.
+impl<'a> Drop for NameIndex<'a> {
+    fn drop(self) {
+        let NameIndex { names: _ } = self;
+    }
 }
 
 impl<'a> NameIndex<'a> {
