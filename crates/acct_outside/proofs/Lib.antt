@@ -1,13 +1,4 @@
 mod Rows
-pub mod NameLemmas
 pub mod PieceLemmas
-pub mod StoreLemmas
 pub mod TokenLemmas
-pub mod NewTokenLemmas
-pub mod NumberLemmas
-pub mod FolderLemmas
-pub mod EventLemmas
-pub mod ResultLemmas
-pub mod ToldLemmas
-mod StreamLemmas
 pub mod OthersLemmas

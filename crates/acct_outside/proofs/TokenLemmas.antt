@@ -1,14 +1,11 @@
--- Lists of tokens, and the sessions that run after a begin or an end.
-use Rattle.std.proofs.Common.{◌≡◌, ℕ, zero, suc, ◌<◌, Bool, true, false, not, ◌||◌, ◌&&◌, List, [], ◌∷◌, ◌++◌, length, take, drop, get_or, refl, sym, ◌∙◌, ap, subst, inl, inr, arith}
+-- Tokens that are one by the test of their bytes, and the life of a token without an event.
+use Rattle.std.proofs.Common.{◌≡◌, ℕ, true, List, [], ◌∷◌, refl, sym, ◌∙◌, inl, inr}
 use Rattle.std.specs.Prelude.{bytes_eq}
-use Rattle.std.specs.List.{filter}
 use Rattle.std.proofs.lemmas.Bool.{cases_Bool, cond-true, cond-false}
 use Rattle.std.proofs.lemmas.Slice.Eq.{bytes_eq-Decides}
 use Rattle.acct_outside.specs.Tokens.{Token}
-use Rattle.acct_outside.specs.Calls.{Call, Answer, CallResult, Command, Effect, begins, answers, done, died}
-use Rattle.acct_outside.specs.History.{Event, History, is_of, own_events}
-use Rattle.acct_outside.specs.Life.{Life, unbegun, running, faulted, ended, life, life_step, runs_in, is_running}
-use Rattle.acct_outside.specs.Events.{has_token}
+use Rattle.acct_outside.specs.History.{History, is_of, own_events}
+use Rattle.acct_outside.specs.Life.{unbegun, life}
 
 -- texts that pass the test are one
 pub bytes_eq-true : (a b : List ℕ) → bytes_eq a b ≡ true → a ≡ b
@@ -17,109 +14,6 @@ bytes_eq-true a b same = (bytes_eq-Decides a b).0 same
 -- a text passes the test with itself
 pub bytes_eq-self : (a : List ℕ) → bytes_eq a a ≡ true
 bytes_eq-self a = (bytes_eq-Decides a a).1 refl
-
--- a token that isn't one isn't it the other way round either
-pub bytes_eq-other : (a b : List ℕ) → bytes_eq a b ≡ false → bytes_eq b a ≡ false
-bytes_eq-other a b other = elim (cases_Bool (bytes_eq b a)) [
-  | inl hit ↦ absurd (
-      let back : bytes_eq a b ≡ true =
-      subst (λ (x : List ℕ). bytes_eq x b ≡ true) (bytes_eq-true b a hit) (bytes_eq-self b) in
-      cc (back, other))
-  | inr miss ↦ miss
-]
-
--- one of two that isn't the first is the second
-either_not : (e h : Bool) → (e || h) && not e ≡ h && not e
-either_not true true = refl
-either_not true false = refl
-either_not false true = refl
-either_not false false = refl
-
--- no test and a second pass both
-and_false : (h : Bool) → h && false ≡ false
-and_false true = refl
-and_false false = refl
-
--- a test that passes changes no other
-and_true : (h : Bool) → h && true ≡ h
-and_true true = refl
-and_true false = refl
-
--- nor does one that fails, as the other of two
-or_false : (h : Bool) → h || false ≡ h
-or_false true = refl
-or_false false = refl
-
--- one of two passes, where the second does
-pub or_true : (h : Bool) → h || true ≡ true
-or_true true = refl
-or_true false = refl
-
-module _ (token other : Token) where
-  -- without a token stand those that aren't it
-  pub without :
-      (tokens : List Token)
-      → has_token other (filter (λ x. not (bytes_eq x token)) tokens)
-      ≡ has_token other tokens && not (bytes_eq token other)
-  without [] = refl
-  without (x ∷ tokens) = elim (cases_Bool (bytes_eq x token)) [
-    | inl hit ↦
-        rw hit (without tokens ∙ sym (either_not (bytes_eq token other) (has_token other tokens))
-        ∙ ap
-        (λ (t : Token). (bytes_eq t other || has_token other tokens) && not (bytes_eq token other))
-        (sym (bytes_eq-true x token hit)))
-    | inr miss ↦ rw miss (elim (cases_Bool (bytes_eq x other)) [
-      | inl here ↦
-          let apart : bytes_eq token other ≡ false =
-          subst (λ (t : Token). bytes_eq token t ≡ false)
-          (bytes_eq-true x other here) (bytes_eq-other x token miss) in
-          rw (here, apart) refl
-      | inr not_here ↦ rw not_here (without tokens)
-    ])
-  ]
-
-  -- without one that isn't the other
-  others_stay :
-      bytes_eq token other ≡ false
-      → (tokens : List Token) (place : ℕ)
-      → place < length tokens
-      → bytes_eq (get_or tokens place token) token ≡ true
-      → has_token other (take place tokens ++ drop (suc place) tokens) ≡ has_token other tokens
-  others_stay apart [] place low at = absurd (omega arith)
-  others_stay apart (x ∷ tokens) zero low at =
-      let far : bytes_eq x other ≡ false =
-      subst (λ (t : Token). bytes_eq t other ≡ false) (sym (bytes_eq-true x token at)) apart in
-      sym (ap (λ (b : Bool). b || has_token other tokens) far)
-  others_stay apart (x ∷ tokens) (suc place) low at =
-      ap (λ (b : Bool). bytes_eq x other || b) (others_stay apart tokens place (omega arith) at)
-
-  -- the tokens after one was taken out with all that are the same
-  pub taken-out :
-      (tokens : List Token) (place : ℕ)
-      → place < length tokens
-      → bytes_eq (get_or tokens place token) token ≡ true
-      → has_token other
-      (filter (λ x. not (bytes_eq x token)) (take place tokens ++ drop (suc place) tokens))
-      ≡ has_token other tokens && not (bytes_eq token other)
-  taken-out tokens place low at =
-      let left = take place tokens ++ drop (suc place) tokens in
-      without left ∙ elim (cases_Bool (bytes_eq token other)) [
-        | inl same ↦
-            rw same (and_false (has_token other left) ∙ sym (and_false (has_token other tokens)))
-        | inr apart ↦
-            ap (λ (b : Bool). b && not (bytes_eq token other))
-            (others_stay apart tokens place low at)
-      ]
-
--- one token more stands beside the others
-pub has_token-push :
-    (tokens : List Token) (token other : Token)
-    → has_token other (tokens ++ token ∷ []) ≡ has_token other tokens || bytes_eq token other
-has_token-push [] token other = or_false (bytes_eq token other)
-has_token-push (x ∷ tokens) token other = elim (cases_Bool (bytes_eq x other)) [
-  | inl here ↦ rw here refl
-  | inr not_here ↦ rw not_here (has_token-push tokens token other)
-]
 
 -- a session without an event has not begun
 pub unbegun-without :
@@ -136,56 +30,3 @@ unbegun-without token (e ∷ history) none =
           cond-false _ _ _ other ∙ unbegun-without token history
           (sym (cond-false {A = History} (is_of token e) (e ∷ later) later other) ∙ none)
     ]
-
--- the sessions that run after a begin
-pub begin-runs :
-    (token : Token) (command : Command) (history : History)
-    → own_events token history ≡ []
-    → (other : Token)
-    → is_running other
-    (record { token = token; call = begins command; result = done tt } ∷ history)
-    ≡ is_running other history || bytes_eq token other
-begin-runs token command history none other = elim (cases_Bool (bytes_eq token other)) [
-  | inl same ↦
-      let at : life other history ≡ unbegun =
-      subst (λ (t : Token). life t history ≡ unbegun)
-      (bytes_eq-true token other same) (unbegun-without token history none) in
-      rw (same, at) refl
-  | inr apart ↦ rw apart (sym (or_false (is_running other history)))
-]
-
--- a call that ends its session
-abbrev pub Ends : (call : Call) → CallResult (Answer call) → Type 0
-Ends call result = (l : Life) → runs_in l ≡ true → runs_in (life_step call result l) ≡ false
-
--- an answer ends it
-pub answer-ends : (status : ℕ) (result : CallResult (Unit {0})) → Ends (answers status) result
-answer-ends status result unbegun runs = absurd cc
-answer-ends status result running runs = refl
-answer-ends status result faulted runs = refl
-answer-ends status result ended runs = absurd cc
-
--- and so does a death
-pub death-ends : (call : Call) (effect : Effect) → Ends call (died effect)
-death-ends _ effect unbegun runs = absurd cc
-death-ends (answers status) effect running runs = refl
-death-ends _ effect running runs = refl
-death-ends (answers status) effect faulted runs = refl
-death-ends _ effect faulted runs = refl
-death-ends _ effect ended runs = absurd cc
-
--- the sessions that run after the end of one
-pub end-runs :
-    (e : Event)
-    → Ends e.call e.result
-    → (history : History)
-    → is_running e.token history ≡ true
-    → (other : Token)
-    → is_running other (e ∷ history) ≡ is_running other history && not (bytes_eq e.token other)
-end-runs e ends history runs other = elim (cases_Bool (bytes_eq e.token other)) [
-  | inl same ↦
-      let at : is_running other history ≡ true =
-      subst (λ (t : Token). is_running t history ≡ true) (bytes_eq-true e.token other same) runs in
-      rw same (ends (life other history) at ∙ sym (and_false (is_running other history)))
-  | inr apart ↦ rw apart (sym (and_true (is_running other history)))
-]

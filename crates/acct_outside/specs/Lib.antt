@@ -10,12 +10,5 @@ pub mod Others
 pub mod Faults
 pub mod Moment
 pub mod Contract
+pub mod NamedCalls
 pub mod Streams
-pub mod Store
-pub mod Events
-pub mod Stored
-pub mod Plan
-pub mod NewTokens
-pub mod Logged
-pub mod Memory
-pub mod MemoryStreams

@@ -1,34 +1,19 @@
 //! The outside of the suite: the folder of the account files with its lock, the streams and the clock.
 //!
 //! `Folder` is what a session may do to the files beside other sessions: each call is one event of a
-//! history, if the folder tells one. `MemoryFolder` is one in memory that does, with calls that fail
-//! and sessions that die as a test plans them.
+//! history, if the folder tells one. What meets these traits stands above: `memory_folder` in memory,
+//! `real_folder` on a disk.
 #![tactic(auto)]
 
-ghost use Rattle.std.specs.Prelude.{◌≡◌, IfOk};
-
-mod apply;
-mod event;
-mod failing;
 mod folder;
 mod limits;
-mod log;
-mod memory;
-mod memory_calls;
-mod memory_streams;
-mod mishap;
 mod pieces;
-mod store;
 mod streams;
 mod token;
-mod tokens;
 
 use acct_text::{Bytes, Tab};
 pub use folder::Folder;
 pub use limits::{GREATEST_LOCK, INTENT_LIMIT, LOCK_LIMIT};
-pub use memory::MemoryFolder;
-pub use memory_streams::{MemoryClock, MemorySink, MemorySource};
-pub use mishap::Mishap;
 pub use pieces::{PIECE_LIMIT, piece_at, piece_count, pieces_join};
 use std::alloc::AllocError;
 pub use streams::{Clock, ClockFault, Sink, SinkFault, Source, SourceFault};
@@ -84,31 +69,6 @@ pub enum Found {
     Held(Bytes),
     /// More bytes stand there than the limit of the read.
     TooLarge,
-}
-
-/// What a call did that failed, or within which its session died.
-#[derive(Debug, Drop)]
-pub enum Effect {
-    /// All that it does where it is done.
-    Happened,
-    /// Nothing.
-    Nothing,
-    /// Of a write or an append alone: these bytes, or nothing, stand at its name.
-    Left(Option<Bytes>),
-}
-
-impl Effect {
-    /// An equal effect.
-    pub fn copy(&self) -> Result<Self, AllocError>
-        ensures { IfOk result (λ effect. effect ≡ self.now) }
-    {
-        match self {
-            Effect::Happened => Ok(Effect::Happened),
-            Effect::Nothing => Ok(Effect::Nothing),
-            Effect::Left(None) => Ok(Effect::Left(None)),
-            Effect::Left(Some(bytes)) => Ok(Effect::Left(Some(bytes.copy()?))),
-        }
-    }
 }
 
 /// A call of the folder that makes an event, by the name of its method.

@@ -1,9 +1,8 @@
 // The tokens of sessions.
 ghost use Rattle.std.specs.Prelude.{◌≡◌, ◌≤◌, ◌↔◌, IsTrue, IfOk, MatchOption};
-ghost use Rattle.acct_outside.specs.Tokens.{IsToken, held_text};
-ghost use Rattle.acct_outside.specs.NewTokens.{numbered_token};
+ghost use Rattle.acct_outside.specs.Tokens.{IsToken};
 
-use acct_text::{Bytes, push_decimal};
+use acct_text::Bytes;
 use std::alloc::{AllocError, Global};
 use std::marker::Model;
 
@@ -38,15 +37,6 @@ impl Token {
         }))
     }
 
-    /// The token `mN` of the number N.
-    pub(crate) fn numbered(alloc: Global, number: u64) -> Result<Self, AllocError>
-        ensures { IfOk result (λ token. token ≡ numbered_token number) }
-    {
-        let mut text = Bytes::of(alloc, b"m")?;
-        push_decimal(&mut text, number)?;
-        Ok(Token { text })
-    }
-
     /// An equal token.
     pub fn copy(&self) -> Result<Self, AllocError>
         ensures { IfOk result (λ token. token ≡ self.now) }
@@ -62,16 +52,6 @@ impl Token {
         ensures token { IsToken self.now }
     {
         self.text.as_slice()
-    }
-
-    /// The text of a lock that the session makes: `held TOKEN` and a newline.
-    pub(crate) fn held(&self, alloc: Global) -> Result<Bytes, AllocError>
-        ensures { IfOk result (λ text. text ≡ held_text self.now) }
-    {
-        let mut text = Bytes::of(alloc, b"held ")?;
-        text.push(self.as_slice())?;
-        text.push(b"\n")?;
-        Ok(text)
     }
 }
 

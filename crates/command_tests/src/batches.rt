@@ -3,7 +3,9 @@
 ghost use Rattle.std.specs.Prelude.{All, IfOk};
 ghost use Rattle.acct_outside.specs.Contract.{IsName};
 
-use acct_outside::{MemoryFolder, Name};
+use acct_outside::Name;
+
+use memory_folder::MemoryFolder;
 use acct_text::{Bytes, Tab, pair, push_decimal};
 use std::alloc::{AllocError, Global};
 use std::test::Fail;

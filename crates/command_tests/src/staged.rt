@@ -1,5 +1,6 @@
 // A command in a folder in memory in which two others take their steps between its calls.
-use acct_outside::{MemoryFolder, Name};
+use acct_outside::Name;
+use memory_folder::MemoryFolder;
 use side_by_side::{StagedFolder, Step};
 use std::alloc::{AllocError, Global};
 use std::test::Fail;

@@ -4,7 +4,7 @@ use Rattle.std.specs.Prelude.{◌≡◌, ⊤, slice_get, Option, Some, None}
 use Rattle.acct_outside.specs.declared.Call.{Call as FolderCall}
 use Rattle.acct_outside.specs.declared.Name.TheVariants.{FreeStage, Lock}
 use Rattle.acct_outside.specs.Calls.{Call, removes, writes}
-use Rattle.acct_outside.specs.Events.{IsLaterCall, call_of}
+use Rattle.acct_outside.specs.NamedCalls.{IsLaterCall, call_of}
 use Rattle.acct_outside.specs.Tokens.{free_text}
 use Rattle.suite_rules.specs.Deeds.{SuiteDeeds}
 use Rattle.suite_rules.specs.Standing.{Standing}

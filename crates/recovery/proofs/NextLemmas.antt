@@ -8,7 +8,7 @@ use Rattle.std.proofs.lemmas.Option.{slice_get_past}
 use Rattle.acct_outside.specs.declared.Call.{Call as FolderCall}
 use Rattle.acct_outside.specs.declared.Name.TheVariants.{Intent}
 use Rattle.acct_outside.specs.Calls.{Call, removes}
-use Rattle.acct_outside.specs.Events.{IsLaterCall, call_of}
+use Rattle.acct_outside.specs.NamedCalls.{IsLaterCall, call_of}
 use Rattle.intent_file.specs.Intent.{NewTable}
 use Rattle.suite_rules.specs.Outcomes.{installs, stages, stages_more, pieces_left}
 use Rattle.lock_steps.specs.NextCall.{IsNextCall, next_or}

@@ -5,7 +5,7 @@ ghost use Rattle.std.specs.Prelude.{◌≡◌, IfOk};
 ghost use Rattle.acct_outside.specs.declared.Name.TheVariants.{Intent};
 ghost use Rattle.acct_outside.specs.Calls.{removes};
 ghost use Rattle.acct_outside.specs.Contract.{CallsFolder, MayAct};
-ghost use Rattle.acct_outside.specs.Events.{IsLaterCall, call_of};
+ghost use Rattle.acct_outside.specs.NamedCalls.{IsLaterCall, call_of};
 ghost use Rattle.suite_rules.specs.Outcomes.{installs, pieces_left, stages, stages_more};
 
 use acct_outside::{Call, Folder, FolderFault, Name, Token, piece_at, piece_count};

@@ -24,7 +24,7 @@ use Rattle.acct_outside.specs.Folder.{Folder, settings_file}
 use Rattle.acct_outside.specs.Calls.{Command}
 use Rattle.acct_outside.specs.History.{History, after}
 use Rattle.acct_outside.specs.Moment.{Past, Moment}
-use Rattle.acct_outside.specs.Memory.{no_others}
+use Rattle.memory_folder.specs.Memory.{no_others}
 use Rattle.account_model.specs.declared.tool.Tool.{Tool}
 use Rattle.account_model.specs.declared.word_fault.WordFault.{WordFault}
 use Rattle.account_model.specs.declared.word_fault.WordFault.TheVariants.{Memory as NoWordMemory}

@@ -9,7 +9,7 @@ use Rattle.std.specs.Prelude.{if◌then◌else◌, unwrap_or, IfOk}
 use Rattle.acct_text.specs.Bytes.{Bytes}
 use Rattle.acct_outside.specs.declared.Name.TheVariants.{Intent}
 use Rattle.acct_outside.specs.Folder.{Folder}
-use Rattle.acct_outside.specs.Logged.{folder_after}
+use Rattle.memory_folder.specs.Logged.{folder_after}
 use Rattle.acct_outside.specs.Moment.{Past}
 use Rattle.acct_outside.specs.Streams.{WhereBytesTold}
 use Rattle.account_model.specs.declared.tool.Tool.{Tool}

@@ -11,9 +11,9 @@ use Rattle.acct_text.specs.declared.files.Files.{Files}
 use Rattle.acct_outside.specs.declared.Name.{Name}
 use Rattle.acct_outside.specs.declared.Name.TheVariants.{Intent, Table}
 use Rattle.acct_outside.specs.Folder.{IsFolder}
-use Rattle.acct_outside.specs.Logged.{folder_after}
+use Rattle.memory_folder.specs.Logged.{folder_after}
 use Rattle.acct_outside.specs.Moment.{Past}
-use Rattle.acct_outside.specs.Store.{folder_with}
+use Rattle.memory_folder.specs.Store.{folder_with}
 use Rattle.intent_file.specs.Intent.{listed_in}
 use Rattle.suite_rules.specs.Deeds.{SuiteDeeds}
 use Rattle.suite_rules.specs.Settled.{listed_by, settled}

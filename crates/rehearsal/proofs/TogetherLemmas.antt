@@ -5,10 +5,10 @@
 -- Way: a folder in memory admits no event, so that a turn keeps its history lawful; the rest is what
 -- `Session::turn` and the laws say.
 use Rattle.std.proofs.Common.{◌≡◌, ◌≢◌, is_some, refl, sym, ap, subst, ◌<◌, ◌≤◌, ◌+◌, true, false, ◌||◌, Option, Some, None, IsSome, is_none, true≢false, arith}
-use Rattle.acct_outside.specs.declared.memory.MemoryFolder.{MemoryFolder}
+use Rattle.memory_folder.specs.declared.memory.MemoryFolder.{MemoryFolder}
 use Rattle.acct_outside.specs.Folder.{Folder}
 use Rattle.acct_outside.specs.Moment.{Past}
-use Rattle.acct_outside.specs.Memory.{moment_of, past_of}
+use Rattle.memory_folder.specs.Memory.{moment_of, past_of}
 use Rattle.suite_rules.specs.Lawful.{Lawful}
 use Rattle.suite_rules.proofs.Settles.{lawful-settles}
 use Rattle.suite_answers.specs.declared.answer.Answer.{Answer}

@@ -10,7 +10,7 @@ use Rattle.acct_text.specs.declared.files.Files.{Files}
 use Rattle.acct_outside.specs.Folder.{IsFolder}
 use Rattle.acct_outside.specs.declared.Name.TheVariants.{Intent}
 use Rattle.acct_outside.specs.History.{History, after}
-use Rattle.acct_outside.specs.Store.{folder_with}
+use Rattle.memory_folder.specs.Store.{folder_with}
 use Rattle.acct_outside.specs.Moment.{Past}
 use Rattle.account_model.specs.declared.refusal.Refusal.TheVariants.{GidInUse}
 use Rattle.account_model.specs.declared.word_fault.WordFault.{WordFault}

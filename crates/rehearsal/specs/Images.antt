@@ -7,7 +7,7 @@ use Rattle.acct_text.specs.Files.{table_of}
 use Rattle.acct_text.specs.Tables.{all_tables}
 use Rattle.acct_outside.specs.declared.Name.{Name}
 use Rattle.acct_outside.specs.declared.Name.TheVariants.{Table, Intent}
-use Rattle.acct_outside.specs.Logged.{folder_after}
+use Rattle.memory_folder.specs.Logged.{folder_after}
 use Rattle.acct_outside.specs.Moment.{Past}
 use Rattle.account_model.specs.Options.{Word}
 use Rattle.rehearsal.specs.Alone.{files_at}

@@ -1,10 +1,10 @@
 -- Sessions in one folder in memory, which are turned call by call in any order.
 use Rattle.std.specs.Prelude.{◌≡◌}
 use Rattle.acct_text.specs.declared.Tab.{Tab}
-use Rattle.acct_outside.specs.declared.memory.MemoryFolder.{MemoryFolder}
+use Rattle.memory_folder.specs.declared.memory.MemoryFolder.{MemoryFolder}
 use Rattle.acct_outside.specs.History.{after}
 use Rattle.acct_outside.specs.Moment.{Past}
-use Rattle.acct_outside.specs.Memory.{moment_of, past_of}
+use Rattle.memory_folder.specs.Memory.{moment_of, past_of}
 use Rattle.suite_rules.specs.Deeds.{SuiteDeeds}
 use Rattle.suite_rules.specs.Settled.{settled}
 use Rattle.suite_rules.specs.Committed.{committed, folded}

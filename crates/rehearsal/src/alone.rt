@@ -1,12 +1,14 @@
 // A command that is alone in its folder: one step of the account model.
 ghost use Rattle.account_model.specs.Request.{Request};
 ghost use Rattle.account_model.specs.Words.{Asks};
-ghost use Rattle.acct_outside.specs.Memory.{past_of};
+ghost use Rattle.memory_folder.specs.Memory.{past_of};
 ghost use Rattle.suite_session.specs.Stands.{IsDecided};
 ghost use Rattle.suite_course.specs.Supplies.{supplies};
 ghost use Rattle.rehearsal.specs.Alone.{IsLawful, IsSuppliedStep};
 
-use acct_outside::{Clock, MemoryFolder, Sink, Source};
+use acct_outside::{Clock, Sink, Source};
+
+use memory_folder::MemoryFolder;
 use acct_text::Word;
 use std::alloc::Global;
 use suite_core::{Outcome, run_suite};

@@ -1,6 +1,6 @@
 // One command of a rehearsal, in a folder in memory of its own.
 ghost use Rattle.std.specs.Prelude.{◌≡◌, None, IfOk};
-ghost use Rattle.acct_outside.specs.Memory.{past_of};
+ghost use Rattle.memory_folder.specs.Memory.{past_of};
 ghost use Rattle.suite_session.specs.Stands.{IsDecided};
 ghost use Rattle.rehearsal.specs.Alone.{IsLawful, defs_at};
 ghost use Rattle.rehearsal.specs.Answered.{is_changed};
@@ -8,7 +8,8 @@ ghost use Rattle.rehearsal.specs.Images.{IsAnswered};
 
 use crate::clock::RehearsalClock;
 use crate::run_alone;
-use acct_outside::{MemoryFolder, MemorySink, MemorySource, Name};
+use acct_outside::Name;
+use memory_folder::{MemoryFolder, MemorySink, MemorySource};
 use acct_text::{Bytes, Word};
 use std::alloc::{AllocError, Global};
 use suite_core::{Cause, Outcome, Which};

@@ -1,12 +1,14 @@
 // The tables between two commands: laid into a folder of their own, and read back from it.
 ghost use Rattle.std.specs.Prelude.{◌≡◌, None, IfOk};
-ghost use Rattle.acct_outside.specs.Memory.{past_of};
-ghost use Rattle.acct_outside.specs.Logged.{folder_after};
+ghost use Rattle.memory_folder.specs.Memory.{past_of};
+ghost use Rattle.memory_folder.specs.Logged.{folder_after};
 ghost use Rattle.rehearsal.specs.Alone.{HasFiles, files_at};
 ghost use Rattle.rehearsal.specs.Course.{empty_files};
 ghost use Rattle.rehearsal.specs.Images.{AllStand, contents_of, text_of};
 
-use acct_outside::{MemoryFolder, Name};
+use acct_outside::Name;
+
+use memory_folder::MemoryFolder;
 use acct_text::{Bytes, Files, Tab};
 use std::alloc::{AllocError, Global};
 use suite_core::tools_have_deeds;

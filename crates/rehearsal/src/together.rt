@@ -1,12 +1,12 @@
 // Sessions in one folder in memory that are turned in alternation.
 ghost use Rattle.std.specs.Prelude.{◌≡◌, ◌<◌, None, IsSome, is_none, ◌||◌};
-ghost use Rattle.acct_outside.specs.Memory.{moment_of, past_of};
+ghost use Rattle.memory_folder.specs.Memory.{moment_of, past_of};
 ghost use Rattle.suite_session.specs.Belongs.{Belongs};
 ghost use Rattle.suite_session.specs.Session.{answer_of, outcome_of, phase_left};
 ghost use Rattle.rehearsal.specs.Alone.{IsLawful};
 ghost use Rattle.rehearsal.specs.Together.{BelongTogether, HasPromised, IsFoldOfCommitted, StayTogether};
 
-use acct_outside::MemoryFolder;
+use memory_folder::MemoryFolder;
 use suite_core::{Session, answers_keep_promises};
 
 /// Makes one call of a session. Each other session that belongs to the folder together with it does so

@@ -2,13 +2,14 @@
 ghost use Rattle.std.specs.Prelude.{◌≡◌, IfOk};
 ghost use Rattle.account_model.specs.Request.{Request};
 ghost use Rattle.account_model.specs.Words.{Asks};
-ghost use Rattle.acct_outside.specs.Memory.{past_of};
+ghost use Rattle.memory_folder.specs.Memory.{past_of};
 ghost use Rattle.suite_session.specs.Stands.{IsDecided};
 ghost use Rattle.rehearsal.specs.Alone.{IsLawful, IsSomeStep};
 ghost use Rattle.rehearsal.specs.Twice.{HasNoAccounts, empty_tables, gid_in_use, group_words};
 
 use crate::alone::run_alone;
-use acct_outside::{MemoryClock, MemoryFolder, MemorySink, MemorySource, Name};
+use acct_outside::Name;
+use memory_folder::{MemoryClock, MemoryFolder, MemorySink, MemorySource};
 use acct_text::{Bytes, Tab, Word};
 use std::alloc::{AllocError, Global};
 use suite_core::{Cause, Outcome, tools_have_deeds};

@@ -8,10 +8,10 @@ use Rattle.std.proofs.lemmas.Bool.{cases_eq}
 use Rattle.std.proofs.lemmas.Grind.{get_or-set_at}
 use Rattle.std.proofs.lemmas.List.{append_assoc, get_or-set_other, length-set}
 use Rattle.std.proofs.lemmas.Option.{get_or_from_slice_get, slice_get_within}
-use Rattle.acct_outside.specs.declared.Effect.{Effect as CallEffect}
-use Rattle.acct_outside.specs.declared.memory.MemoryFolder.{MemoryFolder}
+use Rattle.memory_folder.specs.declared.Effect.{Effect as CallEffect}
+use Rattle.memory_folder.specs.declared.memory.MemoryFolder.{MemoryFolder}
 use Rattle.acct_outside.specs.History.{History}
-use Rattle.acct_outside.specs.Memory.{moment_of}
+use Rattle.memory_folder.specs.Memory.{moment_of}
 use Rattle.acct_outside.specs.Others.{Admission, ByOthers, none_came, one_came}
 use Rattle.suite_rules.specs.Deeds.{SuiteDeeds}
 use Rattle.suite_session.specs.declared.session.Phase.{Phase}

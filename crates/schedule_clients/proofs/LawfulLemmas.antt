@@ -1,11 +1,11 @@
 -- Claim: where a scene advances from a lawful history, all is kept (`kept-lawfully`). Way: each event that
 -- came keeps a lawful history lawful; the rest is what the laws say.
 use Rattle.std.proofs.Common.{sym, subst, List, get_or}
-use Rattle.acct_outside.specs.declared.memory.MemoryFolder.{MemoryFolder}
+use Rattle.memory_folder.specs.declared.memory.MemoryFolder.{MemoryFolder}
 use Rattle.acct_outside.specs.Folder.{Folder}
 use Rattle.acct_outside.specs.History.{History}
 use Rattle.acct_outside.specs.Others.{ByOthers, none_came, one_came}
-use Rattle.acct_outside.specs.Memory.{moment_of}
+use Rattle.memory_folder.specs.Memory.{moment_of}
 use Rattle.suite_rules.specs.Deeds.{SuiteDeeds}
 use Rattle.suite_rules.specs.Lawful.{Lawful}
 use Rattle.suite_rules.proofs.Settles.{lawful-settles}

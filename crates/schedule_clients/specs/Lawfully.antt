@@ -1,7 +1,7 @@
 -- What holds of sessions side by side in a folder whose history is lawful.
 use Rattle.std.specs.Prelude.{◌≡◌, ◌⊎◌, ℕ, ◌<◌, ◌++◌, All, length, get_or}
 use Rattle.acct_text.specs.declared.Tab.{Tab}
-use Rattle.acct_outside.specs.declared.Effect.{Effect as CallEffect}
+use Rattle.memory_folder.specs.declared.Effect.{Effect as CallEffect}
 use Rattle.acct_outside.specs.History.{History, after}
 use Rattle.acct_outside.specs.Moment.{Past}
 use Rattle.suite_rules.specs.Deeds.{SuiteDeeds}

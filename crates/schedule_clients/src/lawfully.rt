@@ -2,7 +2,7 @@
 ghost use Rattle.side_by_side.specs.Scenes.{TakePart, scene};
 ghost use Rattle.schedule_clients.specs.Lawfully.{DiesPromising, HoldsLawfully};
 
-use acct_outside::MemoryFolder;
+use memory_folder::MemoryFolder;
 use side_by_side::{Step, play};
 use std::alloc::AllocError;
 use suite_course::answers_keep_promises;

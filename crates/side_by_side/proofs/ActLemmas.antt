@@ -6,16 +6,16 @@
 use Rattle.std.proofs.Common.{◌≡◌, ◌≢◌, ◌⊎◌, inl, inr, refl, sym, ap, subst, ◌∙◌, ℕ, ◌≤◌, ◌∷◌, [], length, true, false, not, Some, None, Ok, true≢false, arith}
 use Rattle.std.specs.Prelude.{bytes_eq}
 use Rattle.std.proofs.lemmas.Bool.{cases_Bool, cond-true, cond-false, not-false}
-use Rattle.acct_outside.specs.declared.Effect.{Effect as CallEffect}
+use Rattle.memory_folder.specs.declared.Effect.{Effect as CallEffect}
 use Rattle.acct_outside.specs.declared.CommitStage.TheVariants.{Before}
 use Rattle.acct_outside.specs.declared.FolderFault.TheVariants.{Memory as NoMemory}
 use Rattle.acct_outside.specs.Tokens.{IsToken, Token}
 use Rattle.acct_outside.specs.Calls.{Call, Effect, answers, died}
 use Rattle.acct_outside.specs.History.{Event, History, is_of, own_events}
 use Rattle.acct_outside.specs.Life.{Life, unbegun, running, faulted, ended, life, life_step, runs_in, is_running}
-use Rattle.acct_outside.specs.Logged.{with_event}
+use Rattle.memory_folder.specs.Logged.{with_event}
 use Rattle.acct_outside.specs.Moment.{Past}
-use Rattle.acct_outside.specs.Memory.{no_others}
+use Rattle.memory_folder.specs.Memory.{no_others}
 use Rattle.acct_outside.specs.Contract.{has_begun, was_begun}
 use Rattle.acct_outside.proofs.TokenLemmas.{bytes_eq-self, bytes_eq-true, unbegun-without}
 use Rattle.suite_rules.specs.Lawful.{Lawful}

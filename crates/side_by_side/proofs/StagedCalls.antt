@@ -12,7 +12,7 @@ use Rattle.acct_outside.specs.declared.Name.{Name}
 use Rattle.acct_outside.specs.declared.FolderFault.{FolderFault}
 use Rattle.acct_outside.specs.declared.FolderFault.TheVariants.{Failed, Memory}
 use Rattle.acct_outside.specs.declared.Found.{Found as Reading}
-use Rattle.acct_outside.specs.declared.memory.MemoryFolder.{MemoryFolder}
+use Rattle.memory_folder.specs.declared.memory.MemoryFolder.{MemoryFolder}
 use Rattle.acct_outside.specs.Tokens.{Token}
 use Rattle.acct_outside.specs.Folder.{Folder}
 use Rattle.acct_outside.specs.Calls.{Answer, Call, CallResult, Command, answers, lists, reads}
@@ -20,7 +20,7 @@ use Rattle.acct_outside.specs.Contract.{BeginsSession, CallsFolder, GivesRead, L
 use Rattle.acct_outside.specs.Faults.{CountsFailure}
 use Rattle.acct_outside.specs.Gives.{GivesResult}
 use Rattle.acct_outside.specs.History.{History, after}
-use Rattle.acct_outside.specs.Memory.{TellsIn, faults_of, moment_of, no_others, past_of}
+use Rattle.memory_folder.specs.Memory.{TellsIn, faults_of, moment_of, no_others, past_of}
 use Rattle.acct_outside.specs.Moment.{Moment}
 use Rattle.side_by_side.specs.Scenes.{Scene, TakePart, scene, telling}
 use Rattle.side_by_side.specs.Advances.{Advances, IsOutsider, by_sessions}

@@ -17,7 +17,7 @@ use Rattle.acct_outside.specs.Contract.{MayAct, MayAnswer, NeverAdmits, Passes, 
 use Rattle.acct_outside.specs.Faults.{CountsFailure}
 use Rattle.acct_outside.specs.History.{Event, History, own_events}
 use Rattle.acct_outside.specs.Life.{Life, life, runs_in, unbegun, running, faulted, ended}
-use Rattle.acct_outside.specs.Memory.{no_others}
+use Rattle.memory_folder.specs.Memory.{no_others}
 use Rattle.acct_outside.specs.Others.{ByOthers, none_came, one_came}
 use Rattle.acct_outside.proofs.OthersLemmas.{begun-running}
 use Rattle.acct_outside.proofs.TokenLemmas.{bytes_eq-self}

@@ -3,7 +3,7 @@ use Rattle.std.specs.Prelude.{◌≡◌, ◌⊎◌, List, [], ◌∷◌, drop, R
 use Rattle.std.specs.Global.{Vec}
 use Rattle.acct_outside.specs.declared.FolderFault.{FolderFault}
 use Rattle.acct_outside.specs.declared.FolderFault.TheVariants.{Memory}
-use Rattle.acct_outside.specs.Memory.{moment_of}
+use Rattle.memory_folder.specs.Memory.{moment_of}
 use Rattle.acct_outside.specs.Moment.{Moment}
 use Rattle.side_by_side.specs.declared.schedule.Schedule.{Schedule}
 use Rattle.side_by_side.specs.declared.step.Step.{Step}

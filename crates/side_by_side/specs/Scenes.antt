@@ -1,10 +1,10 @@
 -- Sessions that share a folder in memory, of which some may have died, at one moment.
 use Rattle.std.specs.Prelude.{◌≡◌, ◌≢◌, ◌⊎◌, ℕ, Bool, true, false, not, List, [], All, AllPairs, None, Some}
-use Rattle.acct_outside.specs.declared.memory.MemoryFolder.{MemoryFolder}
+use Rattle.memory_folder.specs.declared.memory.MemoryFolder.{MemoryFolder}
 use Rattle.acct_outside.specs.Tokens.{Token}
 use Rattle.acct_outside.specs.Contract.{has_begun}
 use Rattle.acct_outside.specs.Life.{ended, is_running, life}
-use Rattle.acct_outside.specs.Memory.{faults_of, no_others, past_of}
+use Rattle.memory_folder.specs.Memory.{faults_of, no_others, past_of}
 use Rattle.acct_outside.specs.Moment.{Moment, Past}
 use Rattle.suite_session.specs.declared.session.Phase.{Phase}
 use Rattle.suite_session.specs.declared.session.Phase.TheVariants.{Begun}

@@ -1,7 +1,7 @@
 -- What a staged folder tells of itself.
 use Rattle.std.specs.Prelude.{List, Some}
 use Rattle.std.specs.Global.{Vec}
-use Rattle.acct_outside.specs.declared.memory.MemoryFolder.{MemoryFolder}
+use Rattle.memory_folder.specs.declared.memory.MemoryFolder.{MemoryFolder}
 use Rattle.acct_outside.specs.Moment.{Moment}
 use Rattle.suite_session.specs.declared.session.Phase.{Phase}
 use Rattle.side_by_side.specs.declared.step.Step.{Step}

@@ -1,7 +1,7 @@
 -- What the steps of a schedule do, one after another.
 use Rattle.std.specs.Prelude.{◌≡◌, List, [], ◌∷◌, ◌++◌, Option, None, Some, MatchBool, slice_get, slice_set}
-use Rattle.acct_outside.specs.declared.Effect.{Effect}
-use Rattle.acct_outside.specs.declared.memory.MemoryFolder.{MemoryFolder}
+use Rattle.memory_folder.specs.declared.Effect.{Effect}
+use Rattle.memory_folder.specs.declared.memory.MemoryFolder.{MemoryFolder}
 use Rattle.suite_session.specs.declared.session.Phase.{Phase}
 use Rattle.suite_session.specs.Belongs.{Belongs}
 use Rattle.suite_session.specs.Dying.{SessionDies}

@@ -5,7 +5,7 @@ ghost use Rattle.side_by_side.specs.Steps.{Acts, TakesFront, TakesStep, TakesSte
 ghost use Rattle.side_by_side.specs.Advances.{Advances};
 
 use crate::step::Step;
-use acct_outside::MemoryFolder;
+use memory_folder::MemoryFolder;
 use std::alloc::AllocError;
 use suite_session::{Session, Tools};
 

@@ -6,7 +6,7 @@ ghost use Rattle.side_by_side.specs.Lists.{lists_behind, next_list};
 
 use crate::playing::play;
 use crate::step::Step;
-use acct_outside::MemoryFolder;
+use memory_folder::MemoryFolder;
 use std::alloc::AllocError;
 use suite_session::{Session, Tools};
 

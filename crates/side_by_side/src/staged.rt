@@ -5,7 +5,7 @@ ghost use Rattle.side_by_side.specs.Staged.{scene_in, stage_of};
 
 use crate::schedule::Schedule;
 use crate::step::Step;
-use acct_outside::MemoryFolder;
+use memory_folder::MemoryFolder;
 use std::marker::Model;
 use suite_session::{Session, Tools};
 

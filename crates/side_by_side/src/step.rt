@@ -2,7 +2,7 @@
 ghost use Rattle.std.specs.Prelude.{◌≡◌};
 ghost use Rattle.side_by_side.specs.Places.{place_of};
 
-use acct_outside::Effect;
+use memory_folder::Effect;
 
 /// What one of several sessions does next. It is named by its place, counted from 0; where none
 /// stands there, nothing is done.

@@ -7,22 +7,23 @@
 use Rattle.std.proofs.lemmas.Slice.Eq.{bytes_eq-Decides}
 use Rattle.std.specs.Prelude.{OnErr, OnOk}
 use Rattle.std.proofs.Common.{◌≡◌, ◌≢◌, refl, sym, ap, subst, ◌∙◌, true, false, Option, Some, None, IfSome, Result, Ok, Err}
-use Rattle.acct_outside.specs.declared.memory.MemoryFolder.{MemoryFolder}
+use Rattle.memory_folder.specs.declared.memory.MemoryFolder.{MemoryFolder}
 use Rattle.acct_outside.specs.declared.Call.{Call as FolderCall}
 use Rattle.acct_outside.specs.declared.Call.TheVariants.{Append, Begin, Create, Rename, Remove}
-use Rattle.acct_outside.specs.declared.Effect.{Effect as CallEffect}
+use Rattle.memory_folder.specs.declared.Effect.{Effect as CallEffect}
 use Rattle.acct_outside.specs.Calls.{Call, Effect, answers, begins, died}
-use Rattle.acct_outside.specs.Events.{IsLaterCall, actual_effect, call_of, effect_in}
+use Rattle.acct_outside.specs.NamedCalls.{IsLaterCall, call_of}
+use Rattle.memory_folder.specs.Events.{actual_effect, effect_in}
 use Rattle.acct_outside.specs.Folder.{Folder}
 use Rattle.acct_outside.specs.Gives.{GivesResult}
 use Rattle.acct_outside.specs.History.{Event, History}
 use Rattle.acct_outside.specs.Life.{Life, MayCall, ended, faulted, is_running, life, life_step, running, runs_in, unbegun}
-use Rattle.acct_outside.specs.Logged.{folder_after, with_event}
-use Rattle.acct_outside.specs.Memory.{Runs, moment_of, past_of}
+use Rattle.memory_folder.specs.Logged.{folder_after, with_event}
+use Rattle.memory_folder.specs.Memory.{Runs, moment_of, past_of}
 use Rattle.acct_outside.specs.Moment.{Past}
 use Rattle.acct_outside.specs.Others.{ByOthers, none_came, one_came}
 use Rattle.acct_outside.specs.Tokens.{Token}
-use Rattle.acct_outside.proofs.EventLemmas.{actual-given}
+use Rattle.memory_folder.proofs.EventLemmas.{actual-given}
 use Rattle.account_model.specs.Words.{request_of}
 use Rattle.suite_rules.specs.Deeds.{SuiteDeeds}
 use Rattle.suite_rules.specs.Lawful.{KeepsRulesOrNone, Lawful, goes_on}

@@ -2,11 +2,11 @@
 -- session").
 use Rattle.std.specs.Prelude.{◌≡◌, false}
 use Rattle.acct_outside.specs.declared.CommitStage.TheVariants.{Before}
-use Rattle.acct_outside.specs.declared.Effect.{Effect as CallEffect}
+use Rattle.memory_folder.specs.declared.Effect.{Effect as CallEffect}
 use Rattle.acct_outside.specs.Calls.{Call, died}
-use Rattle.acct_outside.specs.Events.{actual_effect, effect_in}
+use Rattle.memory_folder.specs.Events.{actual_effect, effect_in}
 use Rattle.acct_outside.specs.Life.{is_running}
-use Rattle.acct_outside.specs.Logged.{folder_after, with_event}
+use Rattle.memory_folder.specs.Logged.{folder_after, with_event}
 use Rattle.acct_outside.specs.Moment.{Past}
 use Rattle.acct_outside.specs.Tokens.{Token}
 use Rattle.suite_session.specs.declared.session.Phase.{Phase}

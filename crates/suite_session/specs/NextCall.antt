@@ -4,7 +4,7 @@ use Rattle.acct_outside.specs.declared.Call.{Call as FolderCall}
 use Rattle.acct_outside.specs.declared.Call.TheVariants.{Begin}
 use Rattle.acct_outside.specs.declared.Name.TheVariants.{FreeStage, Intent, Lock}
 use Rattle.acct_outside.specs.Calls.{Call, answers, asks, begins, creates, lists, reads, removes, renames}
-use Rattle.acct_outside.specs.Events.{call_of}
+use Rattle.acct_outside.specs.NamedCalls.{call_of}
 use Rattle.suite_rules.specs.Deeds.{SuiteDeeds}
 use Rattle.suite_rules.specs.Standing.{Standing}
 use Rattle.suite_rules.specs.Rules.{AnswerRule}

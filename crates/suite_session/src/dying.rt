@@ -1,6 +1,6 @@
 // The death of a session in its next call, in a folder in memory.
 ghost use Rattle.std.specs.Prelude.{◌≡◌, OnErr, OnOk};
-ghost use Rattle.acct_outside.specs.Memory.{faults_of, moment_of, past_of};
+ghost use Rattle.memory_folder.specs.Memory.{faults_of, moment_of, past_of};
 ghost use Rattle.suite_session.specs.Belongs.{Belongs};
 ghost use Rattle.suite_session.specs.Dying.{SessionDies};
 ghost use Rattle.suite_session.specs.Stands.{StaysOurs};
@@ -11,7 +11,8 @@ use crate::session::{Phase, Session};
 use crate::state::State;
 use crate::tools::Tools;
 use crate::turning::asks_once;
-use acct_outside::{CommitStage, Effect, MemoryFolder};
+use acct_outside::CommitStage;
+use memory_folder::{Effect, MemoryFolder};
 use std::alloc::{AllocError, Global};
 use std::mem;
 

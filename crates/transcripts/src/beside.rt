@@ -1,6 +1,6 @@
 // The commands beside the next one, and the steps that all of them take.
 use crate::names::counted;
-use acct_outside::{Effect, MemoryFolder};
+use memory_folder::{Effect, MemoryFolder};
 use acct_text::{Bytes, read_decimal};
 use side_by_side::Step;
 use std::alloc::{AllocError, Global};

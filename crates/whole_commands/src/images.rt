@@ -2,7 +2,9 @@
 ghost use Rattle.std.specs.Prelude.{All, IfOk, OnOk};
 ghost use Rattle.acct_outside.specs.Contract.{IsName};
 
-use acct_outside::{MemoryFolder, Name};
+use acct_outside::Name;
+
+use memory_folder::MemoryFolder;
 use acct_text::{Bytes, Tab};
 use std::alloc::{AllocError, Global};
 

@@ -3,7 +3,7 @@
 use crate::beside::{played, push_answers};
 use crate::play::{push_changes, tables, told};
 use crate::{Asked, Streams};
-use acct_outside::MemoryFolder;
+use memory_folder::MemoryFolder;
 use acct_text::Bytes;
 use side_by_side::Step;
 use std::alloc::{AllocError, Global};

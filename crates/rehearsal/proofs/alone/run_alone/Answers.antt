@@ -1,6 +1,6 @@
 use Rattle.std.proofs.Common.{◌≡◌, inl, inr, sym, subst}
-use Rattle.acct_outside.specs.declared.memory.MemoryFolder.{MemoryFolder}
-use Rattle.acct_outside.specs.Memory.{past_of}
+use Rattle.memory_folder.specs.declared.memory.MemoryFolder.{MemoryFolder}
+use Rattle.memory_folder.specs.Memory.{past_of}
 use Rattle.account_model.proofs.AsksLaws.{request_or_fault}
 use Rattle.rehearsal.specs.Alone.{IsLawful}
 use Rattle.rehearsal.proofs.AloneLemmas.{faulty-undecided, ran-lawful, ran-step, unsupplied-undecided}

@@ -1,7 +1,7 @@
 use Rattle.std.proofs.Common.{◌∙◌, Some, ap, refl}
 use Rattle.acct_text.specs.Bytes.{Bytes}
-use Rattle.acct_outside.specs.Memory.{past_of}
-use Rattle.acct_outside.specs.MemoryStreams.{source_moment}
+use Rattle.memory_folder.specs.Memory.{past_of}
+use Rattle.memory_folder.specs.MemoryStreams.{source_moment}
 use Rattle.suite_course.specs.Supplies.{supplies}
 use Rattle.rehearsal.specs.Clock.{clock_moment}
 use Rattle.rehearsal.proofs.AnsweredLemmas.{if-answered}

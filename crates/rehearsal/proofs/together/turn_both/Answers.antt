@@ -1,5 +1,5 @@
 use Rattle.std.proofs.Common.{sym, ◌∙◌}
-use Rattle.acct_outside.specs.Memory.{past_of}
+use Rattle.memory_folder.specs.Memory.{past_of}
 use Rattle.suite_session.specs.Session.{answer_of}
 use Rattle.rehearsal.proofs.TogetherLemmas.{both-some, both-turned, left-falls, promised-so, settles-so}
 use Rattle.rehearsal.proofs.together.turn_both.Goals as goal

@@ -2,7 +2,7 @@ use Rattle.std.proofs.Common.{◌∙◌, [], List, ap}
 use Rattle.acct_text.specs.Bytes.{Bytes}
 use Rattle.acct_outside.specs.declared.Name.{Name}
 use Rattle.acct_outside.specs.Moment.{Past}
-use Rattle.acct_outside.specs.Store.{folder_with}
+use Rattle.memory_folder.specs.Store.{folder_with}
 use Rattle.rehearsal.proofs.TwiceLemmas.{begins-empty}
 use Rattle.rehearsal.proofs.twice.no_accounts.Goals as goal
 

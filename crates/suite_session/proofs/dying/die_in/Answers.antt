@@ -1,8 +1,9 @@
 use Rattle.std.proofs.Common.{◌≡◌, sym, subst, Ok}
 use Rattle.std.specs.Prelude.{OnOk}
-use Rattle.acct_outside.specs.Events.{call_of, effect_in}
-use Rattle.acct_outside.specs.Logged.{with_event}
-use Rattle.acct_outside.specs.Memory.{Runs, past_of}
+use Rattle.acct_outside.specs.NamedCalls.{call_of}
+use Rattle.memory_folder.specs.Events.{effect_in}
+use Rattle.memory_folder.specs.Logged.{with_event}
+use Rattle.memory_folder.specs.Memory.{Runs, past_of}
 use Rattle.account_model.specs.Words.{request_of}
 use Rattle.suite_session.specs.Runner.{Runner}
 use Rattle.suite_session.proofs.DyingLemmas.{death_of, dies-then, lawful-then, may-die, others-then, runs-there}

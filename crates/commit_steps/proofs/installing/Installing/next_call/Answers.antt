@@ -1,6 +1,6 @@
 use Rattle.std.specs.Prelude.{IfOk}
 use Rattle.std.proofs.Common.{◌≡◌, ℕ, sym, ap, subst, ◌∙◌, slice_get, Some, arith}
-use Rattle.acct_outside.specs.Events.{call_of}
+use Rattle.acct_outside.specs.NamedCalls.{call_of}
 use Rattle.suite_rules.specs.Outcomes.{stages_more}
 use Rattle.commit_steps.specs.States.{Walker, changed}
 use Rattle.commit_steps.proofs.InstallNextLemmas.{next-piece, next-removal}

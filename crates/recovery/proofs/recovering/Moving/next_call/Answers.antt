@@ -1,6 +1,6 @@
 use Rattle.std.proofs.Common.{◌≡◌, ◌<◌, ◌∙◌, sym, subst, slice_get, Some}
 use Rattle.std.specs.Prelude.{IfOk}
-use Rattle.acct_outside.specs.Events.{call_of}
+use Rattle.acct_outside.specs.NamedCalls.{call_of}
 use Rattle.suite_rules.specs.Outcomes.{stages_more}
 use Rattle.recovery.specs.States.{Mover}
 use Rattle.recovery.proofs.NextLemmas.{appends-next, moves-next, some-left}

@@ -1,6 +1,6 @@
 use Rattle.std.proofs.Common.{refl, sym, subst, ◌∙◌}
 use Rattle.std.specs.Prelude.{OnOk}
-use Rattle.acct_outside.specs.Memory.{moment_of, past_of}
+use Rattle.memory_folder.specs.Memory.{moment_of, past_of}
 use Rattle.suite_session.specs.declared.session.Phase.{Phase}
 use Rattle.suite_session.specs.Dying.{SessionDies}
 use Rattle.suite_session.specs.Turning.{KeepsOthers}

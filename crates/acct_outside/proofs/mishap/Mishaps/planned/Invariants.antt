@@ -1,8 +1,0 @@
-use Rattle.std.proofs.Common.{◌≡◌, drop}
-use Rattle.acct_outside.specs.Plan.{planned_effect}
-use Rattle.acct_outside.proofs.mishap.Mishaps.planned.Given as goal
-
-abbrev pub invariant-loop-mishap : goal.invariant-loop-mishap
-invariant-loop-mishap l =
-    planned_effect l.self.calls (drop l.mishap-index l.self.plan.items)
-    ≡ planned_effect l.self.calls l.self.plan.items
