@@ -7,9 +7,8 @@ ghost use Rattle.suite_course.specs.Supplies.{supplies};
 ghost use Rattle.rehearsal.specs.Alone.{IsLawful, IsSuppliedStep};
 
 use acct_outside::{Clock, Sink, Source};
-
-use memory_folder::MemoryFolder;
 use acct_text::Word;
+use memory_folder::MemoryFolder;
 use std::alloc::Global;
 use suite_core::{Outcome, run_suite};
 

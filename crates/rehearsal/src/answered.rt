@@ -9,8 +9,8 @@ ghost use Rattle.rehearsal.specs.Images.{IsAnswered};
 use crate::clock::RehearsalClock;
 use crate::run_alone;
 use acct_outside::Name;
-use memory_folder::{MemoryFolder, MemorySink, MemorySource};
 use acct_text::{Bytes, Word};
+use memory_folder::{MemoryFolder, MemorySink, MemorySource};
 use std::alloc::{AllocError, Global};
 use suite_core::{Cause, Outcome, Which};
 

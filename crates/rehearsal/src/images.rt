@@ -7,9 +7,8 @@ ghost use Rattle.rehearsal.specs.Course.{empty_files};
 ghost use Rattle.rehearsal.specs.Images.{AllStand, contents_of, text_of};
 
 use acct_outside::Name;
-
-use memory_folder::MemoryFolder;
 use acct_text::{Bytes, Files, Tab};
+use memory_folder::MemoryFolder;
 use std::alloc::{AllocError, Global};
 use suite_core::tools_have_deeds;
 

@@ -9,8 +9,8 @@ ghost use Rattle.rehearsal.specs.Twice.{HasNoAccounts, empty_tables, gid_in_use,
 
 use crate::alone::run_alone;
 use acct_outside::Name;
-use memory_folder::{MemoryClock, MemoryFolder, MemorySink, MemorySource};
 use acct_text::{Bytes, Tab, Word};
+use memory_folder::{MemoryClock, MemoryFolder, MemorySink, MemorySource};
 use std::alloc::{AllocError, Global};
 use suite_core::{Cause, Outcome, tools_have_deeds};
 
