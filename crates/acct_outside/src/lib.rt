@@ -20,7 +20,7 @@ pub use streams::{Clock, ClockFault, Sink, SinkFault, Source, SourceFault};
 pub use token::Token;
 
 /// A name in the folder of the account files.
-#[derive(Clone, Copy, Debug, PartialEq, Eq)]
+#[derive(Clone, Copy, PartialEq, Eq)]
 pub enum Name {
     /// An account table, as `passwd`.
     Table(Tab),
@@ -52,7 +52,7 @@ pub enum Verdict {
 }
 
 /// What an exclusive create answers.
-#[derive(Clone, Copy, Debug, PartialEq, Eq)]
+#[derive(Clone, Copy, PartialEq, Eq)]
 pub enum Created {
     /// The lock is made.
     Done,
@@ -61,7 +61,7 @@ pub enum Created {
 }
 
 /// What a read found.
-#[derive(Debug, Drop)]
+#[derive(Drop)]
 pub enum Found {
     /// Nothing stands at the name.
     Absent,
@@ -72,7 +72,7 @@ pub enum Found {
 }
 
 /// A call of the folder that makes an event, by the name of its method.
-#[derive(Debug, Drop)]
+#[derive(Drop)]
 pub enum Call {
     /// The begin of a session.
     Begin,
@@ -97,7 +97,7 @@ pub enum Call {
 }
 
 /// Why a call of the folder gave no answer.
-#[derive(Clone, Copy, Debug, PartialEq, Eq)]
+#[derive(Clone, Copy)]
 pub enum FolderFault {
     /// The folder's count of faults rose, and the call may have happened or not.
     Failed,
@@ -117,7 +117,7 @@ impl From<AllocError> for FolderFault {
 }
 
 /// How far a command came with its commit when it stopped.
-#[derive(Clone, Copy, Debug, PartialEq, Eq)]
+#[derive(Clone, Copy)]
 pub enum CommitStage {
     /// The rename to the intent wasn't called: nothing is changed.
     Before,
@@ -128,7 +128,7 @@ pub enum CommitStage {
 }
 
 /// A fault of the folder with the stage that was reached.
-#[derive(Clone, Copy, Debug)]
+#[derive(Clone, Copy)]
 pub struct StageFault {
     /// What came of the call.
     pub fault: FolderFault,

@@ -7,7 +7,7 @@ ghost use Rattle.acct_outside.specs.Streams.{ClockMoment, SinkMoment, SourceMome
 use acct_text::Bytes;
 
 /// Why a source gave nothing.
-#[derive(Clone, Copy, Debug, PartialEq, Eq)]
+#[derive(Clone, Copy)]
 pub enum SourceFault {
     /// Its count of faults rose.
     Failed,
@@ -16,7 +16,7 @@ pub enum SourceFault {
 }
 
 /// Why a sink didn't take a piece.
-#[derive(Clone, Copy, Debug, PartialEq, Eq)]
+#[derive(Clone, Copy)]
 pub enum SinkFault {
     /// Its count of faults rose.
     Failed,

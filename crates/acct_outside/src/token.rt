@@ -7,7 +7,7 @@ use std::alloc::{AllocError, Global};
 use std::marker::Model;
 
 /// The name of a session: 1 to 128 bytes from `!` to `~`. Contracts see a list of bytes.
-#[derive(Debug, Drop)]
+#[derive(Drop)]
 pub struct Token {
     text: Bytes,
 }

@@ -7,7 +7,7 @@ use crate::{Bytes, Tab};
 use std::alloc::{AllocError, Global};
 
 /// The bytes of the files of the six tables. None stands for a file that is absent.
-#[derive(Debug, Drop)]
+#[derive(Drop)]
 pub struct Files {
     /// The users (passwd(5)).
     pub passwd: Option<Bytes>,

@@ -27,7 +27,7 @@ pub use numbers::{NumberFault, push_decimal, read_decimal};
 pub use pieces::{Piece, pair, triple};
 
 /// A table of accounts. The variants stand in the order in which the suite reads and writes tables.
-#[derive(Clone, Copy, Debug, PartialEq, Eq, PartialOrd, Ord)]
+#[derive(Clone, Copy, Debug, PartialEq, Eq, PartialOrd)]
 pub enum Tab {
     /// The users (passwd(5)).
     Passwd,

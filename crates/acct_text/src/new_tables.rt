@@ -8,7 +8,7 @@ use std::alloc::{AllocError, Global};
 use std::marker::Model;
 
 /// A table with its new bytes.
-#[derive(Debug, Drop)]
+#[derive(Drop)]
 pub struct NewTable {
     /// Which of the six tables it is.
     pub table: Tab,
@@ -27,7 +27,7 @@ impl NewTable {
 
 /// The tables that differ from old ones, each once, with all of their new bytes. Those that stay
 /// aren't kept.
-#[derive(Debug, Drop)]
+#[derive(Drop)]
 pub struct NewTables {
     tables: Vec<NewTable>,
 }

@@ -27,7 +27,7 @@ use std::alloc::{AllocError, Global};
 use std::marker::Model;
 
 /// A keeper that backs up the tables that differ, and then stages the intent.
-#[derive(Debug, Drop)]
+#[derive(Drop)]
 pub struct Backing {
     walking: Walking,
 }

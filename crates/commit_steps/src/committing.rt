@@ -23,7 +23,7 @@ use std::alloc::{AllocError, Global};
 use std::marker::Model;
 
 /// A keeper that has backed up its tables, and stages its intent.
-#[derive(Debug, Drop)]
+#[derive(Drop)]
 pub struct IntentStaged {
     prepared: Prepared,
     /// How many first pieces of the intent are staged.

@@ -30,7 +30,7 @@ use std::alloc::{AllocError, Global};
 use std::marker::Model;
 
 /// A keeper that has committed, and puts the tables that differ in place.
-#[derive(Debug, Drop)]
+#[derive(Drop)]
 pub struct Installing {
     walking: Walking,
 }
@@ -44,7 +44,7 @@ impl Model for Installing {
 }
 
 /// A keeper whose change is carried out.
-#[derive(Debug, Drop)]
+#[derive(Drop)]
 pub struct Cleared {
     keeper: Keeper<Clean>,
 }

@@ -35,7 +35,7 @@ use lock_steps::{Clean, Keeper};
 pub use reading::{Loaded, Loader};
 
 /// What a read of the inputs leads to.
-#[derive(Debug, Drop)]
+#[derive(Drop)]
 pub enum Loading {
     /// More is to be read.
     More(Loader),
@@ -44,7 +44,7 @@ pub enum Loading {
 }
 
 /// Why a read of the inputs didn't lead on.
-#[derive(Debug, Drop)]
+#[derive(Drop)]
 pub enum LoadEnd {
     /// The folder failed, or the read found no memory. No call of the session is left then but its
     /// answer.

@@ -16,7 +16,7 @@ use std::marker::Model;
 /// The inputs, and the intent with the tables that differ and their new bytes. Its text isn't made, as
 /// its pieces are parts of these; nor are the new files held: they are the old ones with these tables
 /// in their place.
-#[derive(Debug, Drop)]
+#[derive(Drop)]
 pub(crate) struct Prepared {
     loaded: Loaded,
     intent: Intent,

@@ -29,7 +29,7 @@ use std::alloc::{AllocError, Global};
 use std::marker::Model;
 
 /// A keeper that reads the tables and login.defs, one by one.
-#[derive(Debug, Drop)]
+#[derive(Drop)]
 pub struct Loader {
     keeper: Keeper<Clean>,
     files: Files,
@@ -51,7 +51,7 @@ impl Model for Loader {
 }
 
 /// A keeper that has read the tables and login.defs.
-#[derive(Debug, Drop)]
+#[derive(Drop)]
 pub struct Loaded {
     keeper: Keeper<Clean>,
     files: Files,

@@ -9,7 +9,7 @@ use intent_file::NewTable;
 use std::marker::Model;
 
 /// A change, and how far its tables are done: those before the place, and so many pieces of the one there.
-#[derive(Debug, Drop)]
+#[derive(Drop)]
 pub(crate) struct Walking {
     prepared: Prepared,
     place: usize,

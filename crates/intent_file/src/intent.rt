@@ -21,7 +21,7 @@ use std::marker::Model;
 /// What one command commits as one file: the number of the lock under which it was made, and the
 /// tables that it changes, with all of their new bytes. It is made in version 2, and keeps the
 /// version that it was read in.
-#[derive(Debug, Drop)]
+#[derive(Drop)]
 pub struct Intent {
     version: Version,
     number: u64,

@@ -14,7 +14,7 @@ use std::alloc::{AllocError, AllocFailed};
 use thiserror::Error;
 
 /// How the text of an intent is laid out. A new intent is in version 2; both are read.
-#[derive(Clone, Copy, Debug, PartialEq, Eq)]
+#[derive(Clone, Copy)]
 pub enum Version {
     /// The header says how many tables follow it.
     One,

@@ -24,7 +24,7 @@ use acct_outside::{Call, Created, Folder, FolderFault, Name};
 use std::marker::Model;
 
 /// A session that may make the next lock, as nobody keeps the greatest.
-#[derive(Debug, Drop)]
+#[derive(Drop)]
 pub struct Judged {
     seen: Seen,
 }
@@ -38,7 +38,7 @@ impl Model for Judged {
 }
 
 /// A session that has made the lock of its number.
-#[derive(Debug, Drop)]
+#[derive(Drop)]
 pub struct Claimed {
     holder: Holder,
     number: u64,
@@ -56,7 +56,7 @@ impl Model for Claimed {
 }
 
 /// A session whose lock was outrun by a greater one.
-#[derive(Debug, Drop)]
+#[derive(Drop)]
 pub struct Loser {
     holder: Holder,
     number: u64,
@@ -80,7 +80,7 @@ impl Model for Loser {
 }
 
 /// What the second listing showed.
-#[derive(Debug, Drop)]
+#[derive(Drop)]
 pub enum Confirmed {
     /// The own lock is the greatest.
     Keeper(Keeper<Unknown>),

@@ -15,7 +15,7 @@ use std::collections::VecDeque;
 use std::marker::Model;
 
 /// What stands at the intent.
-#[derive(Clone, Copy, Debug, PartialEq, Eq)]
+#[derive(Clone, Copy)]
 pub enum IntentFound {
     /// Nothing.
     Absent,
@@ -29,7 +29,7 @@ pub enum IntentFound {
 }
 
 /// What was found at the intent, at each table that it doesn't list, and at login.defs.
-#[derive(Debug, Drop)]
+#[derive(Drop)]
 pub(crate) struct Gathered {
     pub(crate) intent: IntentFound,
     pub(crate) files: Files,

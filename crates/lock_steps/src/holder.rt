@@ -8,7 +8,7 @@ use acct_text::Bytes;
 use std::alloc::{AllocError, Global};
 
 /// The token of a session, with the text of a free lock.
-#[derive(Debug, Drop)]
+#[derive(Drop)]
 pub(crate) struct Holder {
     pub(crate) token: Token,
     pub(crate) free: Bytes,

@@ -28,7 +28,7 @@ use std::alloc::{AllocError, Global};
 use std::marker::Model;
 
 /// A session that has called nothing of the lock. Contracts see its token.
-#[derive(Debug, Drop)]
+#[derive(Drop)]
 pub struct Looking {
     holder: Holder,
 }
@@ -42,7 +42,7 @@ impl Model for Looking {
 }
 
 /// A session that knows the greatest lock of its listing.
-#[derive(Debug, Drop)]
+#[derive(Drop)]
 pub struct Seen {
     pub(crate) holder: Holder,
     pub(crate) greatest: u64,
@@ -61,7 +61,7 @@ impl Model for Seen {
 }
 
 /// A session that knows which other holds the greatest lock.
-#[derive(Debug, Drop)]
+#[derive(Drop)]
 pub struct Asking {
     seen: Seen,
     asked: Token,
@@ -80,7 +80,7 @@ impl Model for Asking {
 }
 
 /// What the text of the greatest lock leads to.
-#[derive(Debug, Drop)]
+#[derive(Drop)]
 pub enum Told {
     /// The lock is free.
     Judged(Judged),

@@ -29,7 +29,7 @@ pub trait Knowing {
 }
 
 /// A keeper may know anything of the intent, or nothing.
-#[derive(Clone, Copy, Debug)]
+#[derive(Clone, Copy)]
 pub struct Unknown;
 
 impl Knowing for Unknown {
@@ -37,7 +37,7 @@ impl Knowing for Unknown {
 }
 
 /// A keeper knows that no intent stands.
-#[derive(Clone, Copy, Debug)]
+#[derive(Clone, Copy)]
 pub struct Clean;
 
 impl Knowing for Clean {
@@ -45,7 +45,7 @@ impl Knowing for Clean {
 }
 
 /// The session whose lock is the greatest, and what it knows of the intent.
-#[derive(Debug, Drop)]
+#[derive(Drop)]
 pub struct Keeper<K> {
     holder: Holder,
     number: u64,
@@ -72,7 +72,7 @@ impl<K> Model for Keeper<K> {
 }
 
 /// A keeper that has staged the text with which it frees its lock.
-#[derive(Debug, Drop)]
+#[derive(Drop)]
 pub struct Freeing {
     holder: Holder,
     number: u64,
@@ -90,7 +90,7 @@ impl Model for Freeing {
 }
 
 /// The lock is free, and only the answer of the session is left.
-#[derive(Clone, Copy, Debug, PartialEq, Eq)]
+#[derive(Clone, Copy)]
 pub struct Ended;
 
 impl Keeper<Unknown> {

@@ -44,7 +44,7 @@ use std::alloc::AllocError;
 pub use watching::{Reading, Shown, Watcher};
 
 /// Why a session didn't get the lock. It made no change, but for a lock of its own.
-#[derive(Debug, Drop)]
+#[derive(Drop)]
 pub enum LockRefusal {
     /// The session that holds the greatest lock still runs.
     Held(Token),
@@ -62,7 +62,7 @@ pub enum LockRefusal {
 }
 
 /// Why a step didn't lead on. No call of the session is left then but its answer.
-#[derive(Debug, Drop)]
+#[derive(Drop)]
 pub enum LockEnd {
     /// The lock wasn't to be had.
     Refused(LockRefusal),

@@ -7,7 +7,7 @@ use acct_outside::Token;
 use std::alloc::{AllocError, Global};
 
 /// What the text of a lock says.
-#[derive(Debug, Drop)]
+#[derive(Drop)]
 pub(crate) enum LockText {
     /// Its session has freed it.
     Free,

@@ -34,7 +34,7 @@ use std::collections::VecDeque;
 use std::marker::Model;
 
 /// A session that has judged the greatest lock, and takes none.
-#[derive(Debug, Drop)]
+#[derive(Drop)]
 pub struct Watcher {
     token: Token,
     greatest: u64,
@@ -49,7 +49,7 @@ impl Model for Watcher {
 }
 
 /// A session that has read the intent since, and reads what it doesn't list.
-#[derive(Debug, Drop)]
+#[derive(Drop)]
 pub struct Reading {
     token: Token,
     number: u64,
@@ -74,7 +74,7 @@ impl Model for Reading {
 }
 
 /// What was found under the greatest lock of two listings.
-#[derive(Debug, Drop)]
+#[derive(Drop)]
 pub struct Shown {
     number: u64,
     gathered: Gathered,

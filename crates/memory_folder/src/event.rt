@@ -8,7 +8,7 @@ use acct_text::{Bytes, Word};
 use std::alloc::{AllocError, Global};
 
 /// What a session was asked to do at its begin.
-#[derive(Debug, Drop)]
+#[derive(Drop)]
 pub(crate) struct Command {
     pub words: Vec<Word>,
     pub input: Bytes,
@@ -16,7 +16,7 @@ pub(crate) struct Command {
 }
 
 /// What a call answered.
-#[derive(Debug, Drop)]
+#[derive(Drop)]
 pub(crate) enum Answer {
     /// Nothing but that it was done.
     Empty,
@@ -27,7 +27,7 @@ pub(crate) enum Answer {
 }
 
 /// How a call came to its end.
-#[derive(Debug, Drop)]
+#[derive(Drop)]
 pub(crate) enum Outcome {
     Done(Answer),
     Failed(Effect),
@@ -35,7 +35,7 @@ pub(crate) enum Outcome {
 }
 
 /// One call of one session.
-#[derive(Debug, Drop)]
+#[derive(Drop)]
 pub(crate) enum Event {
     /// A begin with the token that it gave; one that gave none has failed.
     Begun(Option<Token>, Command),

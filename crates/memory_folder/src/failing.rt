@@ -6,7 +6,7 @@ use crate::mishap::risen;
 
 /// The numbers of the calls that fail, with the calls and the faults so far, and whether the last call
 /// was one.
-#[derive(Debug, Drop)]
+#[derive(Drop)]
 pub(crate) struct Failing {
     pub failing: Vec<u64>,
     pub calls: u64,

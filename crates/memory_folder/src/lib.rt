@@ -25,7 +25,7 @@ pub use mishap::Mishap;
 use std::alloc::AllocError;
 
 /// What a call did that failed, or within which its session died.
-#[derive(Debug, Drop)]
+#[derive(Drop)]
 pub enum Effect {
     /// All that it does where it is done.
     Happened,

@@ -20,7 +20,7 @@ use std::alloc::{AllocError, Global};
 
 /// The events with the folder before the first and after the last, and the sessions that run.
 /// There is room for the answer of each of these.
-#[derive(Debug, Drop)]
+#[derive(Drop)]
 pub(crate) struct Log {
     pub first: Store,
     pub events: Vec<Event>,

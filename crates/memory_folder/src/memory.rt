@@ -25,7 +25,7 @@ use std::alloc::{AllocError, Global};
 /// A folder in memory. It tells its history, and admits no event of another session. Its tokens are
 /// `m1`, `m2` and so on, each the first that no lock names at first, no session has had and no
 /// outsider has.
-#[derive(Debug, Drop)]
+#[derive(Drop)]
 pub struct MemoryFolder {
     pub(crate) alloc: Global,
     pub(crate) log: Log,

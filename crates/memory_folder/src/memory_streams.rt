@@ -10,7 +10,7 @@ use acct_text::Bytes;
 use std::alloc::Global;
 
 /// A source of bytes in memory.
-#[derive(Debug, Drop)]
+#[derive(Drop)]
 pub struct MemorySource {
     alloc: Global,
     text: Bytes,
@@ -82,7 +82,7 @@ fn front(text: &[u8], room: usize) -> &[u8]
 }
 
 /// A sink that holds what was put. A failed put takes nothing of its piece.
-#[derive(Debug, Drop)]
+#[derive(Drop)]
 pub struct MemorySink {
     held: Bytes,
     failing: Failing,
@@ -142,7 +142,7 @@ impl Sink for MemorySink {
 }
 
 /// A clock that gives one day.
-#[derive(Debug, Drop)]
+#[derive(Drop)]
 pub struct MemoryClock {
     day: u32,
     gave: Option<u32>,

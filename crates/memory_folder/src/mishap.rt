@@ -8,7 +8,7 @@ use std::alloc::AllocError;
 
 /// A call of a folder in memory that fails: its number, counted from 1 over all calls but `enter`,
 /// `answered` and `faults`, and what it does.
-#[derive(Debug, Drop)]
+#[derive(Drop)]
 pub struct Mishap {
     /// The number of the call. Of several with one number the first counts.
     pub call: u64,
@@ -17,7 +17,7 @@ pub struct Mishap {
 }
 
 /// The plan with the calls and the faults so far.
-#[derive(Debug, Drop)]
+#[derive(Drop)]
 pub(crate) struct Mishaps {
     pub plan: Vec<Mishap>,
     pub calls: u64,

@@ -18,7 +18,7 @@ use acct_text::Bytes;
 use std::alloc::{AllocError, Global};
 
 /// What stands in a folder in memory.
-#[derive(Debug, Drop)]
+#[derive(Drop)]
 pub(crate) struct Store {
     files: Vec<(Name, Bytes)>,
     locks: Vec<u64>,

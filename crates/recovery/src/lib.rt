@@ -35,7 +35,7 @@ pub use reading::read_intent;
 pub use recovering::{Moving, Recovering};
 
 /// What the read of the intent leads to.
-#[derive(Debug, Drop)]
+#[derive(Drop)]
 pub enum IntentSeen {
     /// No intent stands.
     Clean(Keeper<Clean>),
@@ -44,7 +44,7 @@ pub enum IntentSeen {
 }
 
 /// Why the read of the intent didn't lead on.
-#[derive(Debug, Drop)]
+#[derive(Drop)]
 pub enum RecoveryEnd {
     /// The folder failed, or memory ran out. No call of the session is left then but its answer.
     Fault(StageFault),

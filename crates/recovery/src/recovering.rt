@@ -31,7 +31,7 @@ use std::collections::VecDeque;
 use std::marker::Model;
 
 /// A keeper that carries out the intent, with the tables that are left.
-#[derive(Debug, Drop)]
+#[derive(Drop)]
 pub struct Recovering {
     keeper: Keeper<Unknown>,
     left: VecDeque<NewTable>,
@@ -49,7 +49,7 @@ impl Model for Recovering {
 }
 
 /// A keeper that stages the bytes of the first table that is left, with the pieces that it has staged.
-#[derive(Debug, Drop)]
+#[derive(Drop)]
 pub struct Moving {
     recovering: Recovering,
     staged: usize,

@@ -17,7 +17,7 @@ pub const OUTPUT_FAULT_STATUS: u8 = 102;
 const CLOCK_FAULT_STATUS: u8 = 103;
 
 /// What has more bytes than it may have.
-#[derive(Clone, Copy, Debug, PartialEq, Eq, Drop)]
+#[derive(Clone, Copy, Drop)]
 pub enum Which {
     /// The input of chpasswd(8), or that of a batch.
     Input,

@@ -3,7 +3,7 @@ use option_words::WordFault;
 use std::alloc::AllocError;
 
 /// Why no session starts of a command's words and input.
-#[derive(Clone, Copy, Debug, PartialEq, Eq, Drop)]
+#[derive(Clone, Copy, Debug, Drop)]
 pub enum StartFault {
     /// The first fault of the words, or `Memory`.
     Words(WordFault),
