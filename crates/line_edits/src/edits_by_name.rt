@@ -11,9 +11,15 @@ use indexmap::IndexMap;
 use std::alloc::{AllocError, Global};
 
 /// For each name the places of the edits that may touch its records, counted from 0 over all edits.
-#[derive(Drop)]
 pub(crate) struct EditsByName<'e> {
     places: IndexMap<&'e [u8], Vec<usize>>,
+}
+
+// One call for a map of lists.
+impl<'e> Drop for EditsByName<'e> {
+    fn drop(self) {
+        let EditsByName { places: _ } = self;
+    }
 }
 
 impl<'e> EditsByName<'e> {

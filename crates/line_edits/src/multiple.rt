@@ -48,8 +48,27 @@ pub(crate) fn multiple_among<R: EditedRecord + Drop>(
     ensures { IfOk result (λ name. name ≡ first_multiple R.format (seen_edits R.becomes edits.now)
         (records_of R.format (lines_of file.now.text.now))) }
 {
-    let names = &names_for(alloc, file.text, file.part, edits)?;
-    let named = &by_names(alloc, edits)?;
+    let names = names_for(alloc, file.text, file.part, edits)?;
+    let named = by_names(alloc, edits)?;
+    first_met(alloc, file, edits, &names, &named)
+}
+
+// The same, by indexes of the names of the file and of the edits, where there are such.
+fn first_met<R: EditedRecord + Drop>(
+    alloc: Global,
+    file: &Opened<'_, '_>,
+    edits: &[Edit<R, R::Change>],
+    names: &Option<NameIndex<'_>>,
+    named: &Option<EditsByName<'_>>,
+) -> Result<Option<Bytes>, AllocError>
+    requires opened { IsOpened R.format (seen_edits R.becomes edits.now) file.now }
+    requires written { AllByRecursion (IsWrittenEdit R.format) (seen_edits R.becomes edits.now) }
+    requires told { IfSome names.now (λ names.
+        Tells (line_names R.format (lines_of file.now.text.now)) (told names)) }
+    requires touched { IfSome named.now (TellTouched R.format R.becomes edits.now) }
+    ensures { IfOk result (λ name. name ≡ first_multiple R.format (seen_edits R.becomes edits.now)
+        (records_of R.format (lines_of file.now.text.now))) }
+{
     let mut left = Lines::of(file.part);
     'lines: while let Some(line) = left.take() {
         if let Some(name) = met_in(alloc, file, edits, names, named, line.text)? {

@@ -14,10 +14,16 @@ use std::marker::Model;
 const MANY_NAMES: usize = 8;
 
 /// A list of names, of which each is found without a pass over all. Contracts see the list.
-#[derive(Drop)]
 pub struct NameSet {
     names: Names,
     texts: IndexSet<Vec<u8>>,
+}
+
+// One call for a list and a map.
+impl Drop for NameSet {
+    fn drop(self) {
+        let NameSet { names: _, texts: _ } = self;
+    }
 }
 
 impl Model for NameSet {

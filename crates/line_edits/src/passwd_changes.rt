@@ -27,7 +27,6 @@ pub enum PasswdAct {
 }
 
 /// Fields of a record of passwd that a tool sets. One that is none stays as it is.
-#[derive(Drop)]
 pub struct UserFields {
     /// The name of the user.
     pub name: Option<Bytes>,
@@ -41,6 +40,20 @@ pub struct UserFields {
     pub home: Option<Bytes>,
     /// The shell, or empty.
     pub shell: Option<Bytes>,
+}
+
+// One call for what may be given, so that who makes a change has few ways through it.
+impl Drop for UserFields {
+    fn drop(self) {
+        let UserFields {
+            name: _,
+            uid: _,
+            gid: _,
+            comment: _,
+            home: _,
+            shell: _,
+        } = self;
+    }
 }
 
 /// What becomes of the records of passwd.

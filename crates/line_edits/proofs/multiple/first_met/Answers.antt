@@ -6,7 +6,7 @@ use Rattle.line_edits.specs.SeenEdits.{seen_edits}
 use Rattle.line_edits.specs.Touching.{first_touched}
 use Rattle.line_edits.proofs.ReachLemmas.{open-fewer, open-met}
 use Rattle.line_edits.proofs.TouchedRecords.{met-here, passed-here}
-use Rattle.line_edits.proofs.multiple.multiple_among.Goals as goal
+use Rattle.line_edits.proofs.multiple.first_met.Goals as goal
 
 pub returns-in-Some-2 : goal.returns-in-Some-2
 returns-in-Some-2 g c =

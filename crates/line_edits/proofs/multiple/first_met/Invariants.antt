@@ -3,7 +3,7 @@ use Rattle.acct_text.specs.Lines.{lines_of}
 use Rattle.account_model.specs.Format.{records_of}
 use Rattle.line_edits.specs.SeenEdits.{seen_edits}
 use Rattle.line_edits.specs.Touching.{first_touched}
-use Rattle.line_edits.proofs.multiple.multiple_among.Given as goal
+use Rattle.line_edits.proofs.multiple.first_met.Given as goal
 
 -- the first among the records left is the first of all
 abbrev pub invariant-lines : goal.invariant-lines
