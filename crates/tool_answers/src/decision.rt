@@ -8,7 +8,7 @@ use acct_text::{Bytes, NewTables};
 use std::alloc::{AllocError, Global};
 
 /// What a command prints, and the status with which it ends.
-#[derive(Debug, Drop)]
+#[derive(Drop)]
 pub struct Output {
     /// The status, 0 to 255.
     pub status: u8,
