@@ -7,7 +7,6 @@ use crate::{Bytes, Tab};
 use std::alloc::{AllocError, Global};
 
 /// The bytes of the files of the six tables. None stands for a file that is absent.
-#[derive(Drop)]
 pub struct Files {
     /// The users (passwd(5)).
     pub passwd: Option<Bytes>,
@@ -21,6 +20,20 @@ pub struct Files {
     pub subuid: Option<Bytes>,
     /// Subordinate GIDs of the users (subgid(5)).
     pub subgid: Option<Bytes>,
+}
+
+// One call for six files that may be there, so that who holds them has few ways through them.
+impl Drop for Files {
+    fn drop(self) {
+        let Files {
+            passwd: _,
+            shadow: _,
+            group: _,
+            gshadow: _,
+            subuid: _,
+            subgid: _,
+        } = self;
+    }
 }
 
 impl Files {
