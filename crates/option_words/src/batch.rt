@@ -12,7 +12,7 @@ use std::alloc::{AllocError, Global};
 use std::marker::Model;
 
 /// A line of a batch that isn't skipped.
-#[derive(Debug, Drop)]
+#[derive(Drop)]
 pub struct BatchLine {
     /// Its number among all lines of the input, from 1.
     pub number: u32,
@@ -29,7 +29,7 @@ impl Model for BatchLine {
 }
 
 /// A line of a batch that isn't skipped and asks for nothing.
-#[derive(Debug, Drop)]
+#[derive(Drop)]
 pub struct FaultyLine {
     /// Its number among all lines of the input, from 1.
     pub number: u32,
@@ -51,7 +51,7 @@ impl Model for FaultyLine {
 }
 
 /// What a line of a batch asks for.
-#[derive(Debug, Drop)]
+#[derive(Drop)]
 pub struct LineRequest {
     /// Its number among all lines of the input, from 1.
     pub number: u32,

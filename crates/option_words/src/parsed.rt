@@ -10,7 +10,7 @@ use std::alloc::{AllocError, Global};
 use std::marker::Model;
 
 /// The options of a command but `-P`, in the order in which they were given.
-#[derive(Debug, Drop)]
+#[derive(Drop)]
 pub struct Options {
     options: Vec<Given>,
 }
@@ -77,7 +77,7 @@ impl Options {
 }
 
 /// What a command asks for. Its options and operands are those of the tool's manual page.
-#[derive(Debug, Drop)]
+#[derive(Drop)]
 pub struct Parsed {
     /// The tool that word 0 names.
     pub tool: Tool,
