@@ -15,7 +15,7 @@ use crate::{IdSort, Key, Kind};
 use acct_text::cut_once;
 
 /// Why a settings file is refused.
-#[derive(Clone, Copy, Debug, PartialEq, Eq)]
+#[derive(Clone, Copy)]
 pub enum DefsFault {
     /// This line, counted from 1, is the first with a numeric key and a value that the key
     /// doesn't allow.
@@ -23,7 +23,7 @@ pub enum DefsFault {
 }
 
 /// Why a setting of a command line is refused (useradd(8), `-K`).
-#[derive(Clone, Copy, Debug, PartialEq, Eq)]
+#[derive(Clone, Copy)]
 pub enum KeyFault {
     /// The key is none that the suite knows.
     UnknownKey,
