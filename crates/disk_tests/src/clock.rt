@@ -1,21 +1,22 @@
 // Which day the clock gives, by the system's time and by SOURCE_DATE_EPOCH.
-use acct_outside::{Clock, ClockFault};
+use crate::texts::{bytes_of, cut, push_answer, push_number, push_text};
+use acct_outside::Clock;
+use acct_text::{Bytes, read_decimal};
 use real_folder::RealClock;
-use std::alloc::Global;
+use std::alloc::{AllocError, Global};
 use std::env::FillError;
 use std::io;
 use std::rt::{Clock as SystemClock, Env};
-use std::test::Fail;
 use std::time::Duration;
 
 /// A system whose time is so many seconds after 1970-01-01, with SOURCE_DATE_EPOCH where it is set.
 #[derive(Drop)]
-struct Stopped {
+struct Stopped<'a> {
     seconds: u64,
-    epoch: Option<&'static [u8]>,
+    epoch: Option<&'a [u8]>,
 }
 
-impl SystemClock for Stopped {
+impl<'a> SystemClock for Stopped<'a> {
     fn monotonic(&self) -> io::Result<Duration> {
         self.since_1970()
     }
@@ -25,7 +26,7 @@ impl SystemClock for Stopped {
     }
 }
 
-impl Env for Stopped {
+impl<'a> Env for Stopped<'a> {
     fn arg(&self, _place: usize, _buffer: &mut [u8]) -> Result<usize, FillError> {
         Err(FillError::NotPresent)
     }
@@ -49,46 +50,48 @@ impl Env for Stopped {
     }
 }
 
-// The clock of such a system.
-fn clock(
-    rt: &HostRuntime,
-    seconds: u64,
-    epoch: Option<&'static [u8]>,
-) -> RealClock<(Stopped, Global)> {
-    RealClock::new((Stopped { seconds, epoch }, rt.alloc()))
+/// Pushes the day that a moment has, in seconds after 1970-01-01, with SOURCE_DATE_EPOCH behind a `=`.
+pub(crate) fn push_day(alloc: Global, line: &str, shown: &mut Bytes) -> Result<(), AllocError> {
+    let (seconds, epoch) = cut(line);
+    let seconds = read_decimal(seconds.as_bytes(), u64::MAX).unwrap_or(0);
+    match epoch.strip_prefix('=') {
+        Some(epoch) => {
+            let epoch = bytes_of(alloc, epoch)?;
+            push_day_of(
+                alloc,
+                Stopped {
+                    seconds,
+                    epoch: Some(epoch.as_slice()),
+                },
+                shown,
+            )
+        }
+        None => push_day_of(
+            alloc,
+            Stopped {
+                seconds,
+                epoch: None,
+            },
+            shown,
+        ),
+    }
 }
 
-/// Seconds after 1970-01-01, SOURCE_DATE_EPOCH, and the day that the clock gives, if it gives one.
-const MOMENTS: [(u64, Option<&[u8]>, Option<u32>); 18] = [
-    (0, None, Some(0)),
-    (86_399, None, Some(0)),
-    (86_400, None, Some(1)),
-    (253_402_300_799, None, Some(2_932_896)),
-    (253_402_300_800, None, None),
-    (1_728_000_000, Some(b""), Some(20_000)),
-    (1_728_000_000, Some(b"0"), Some(0)),
-    (1_728_000_000, Some(b"86399"), Some(0)),
-    (1_728_000_000, Some(b"086400"), Some(1)),
-    (1_728_000_000, Some(b"253402300799"), Some(2_932_896)),
-    (0, Some(b"253402300800"), None),
-    (0, Some(b"18446744073709551616"), None),
-    (0, Some(b"-1"), None),
-    (0, Some(b"+1"), None),
-    (0, Some(b" 1"), None),
-    (0, Some(b"1.5"), None),
-    (0, Some(b"now"), None),
-    (0, Some(b"\xE9"), None),
-];
-
-#[test]
-fn a_moment_has_its_day(rt: HostRuntime) -> Result<(), Fail> {
-    for (seconds, epoch, wanted) in MOMENTS {
-        let mut clock = clock(&rt, seconds, epoch);
-        assert_eq!(rt; clock.day().ok(), wanted, "at {seconds} {epoch:?}");
+fn push_day_of(alloc: Global, system: Stopped<'_>, shown: &mut Bytes) -> Result<(), AllocError> {
+    let mut clock = RealClock::new((system, alloc));
+    match clock.day() {
+        Ok(day) => push_number(shown, u64::from(day)),
+        Err(_) => push_refusal(alloc, &clock, shown),
     }
-    let mut clock = clock(&rt, 0, Some(b"now"));
-    assert_eq!(rt; clock.day(), Err(ClockFault::Failed));
-    let why = clock.last_error().ok_or("no error")?.text(rt.alloc())?;
-    assert_eq!(rt; why.as_str(), "SOURCE_DATE_EPOCH is no time");
-    Ok(())
+}
+
+fn push_refusal(
+    alloc: Global,
+    clock: &RealClock<(Stopped<'_>, Global)>,
+    shown: &mut Bytes,
+) -> Result<(), AllocError> {
+    match clock.last_error() {
+        Some(error) => push_text(shown, b" failed: ", error.text(alloc)?.as_str().as_bytes()),
+        None => push_answer(shown, "failed"),
+    }
 }

@@ -1,37 +1,34 @@
-// A file system without hard links, as FAT is, over that of a runtime.
-use acct_outside::Folder;
-use acct_text::Bytes;
-use real_folder::RealFolder;
+// The file system of a runtime, with hard links, or without them as FAT is.
 use std::alloc::Allocator;
 use std::fs::{Metadata, OpenOptions, Permissions};
 use std::io;
 use std::path::PathBuf;
 use std::rt::Files;
-use std::test::Fail;
 
-/// The files of a runtime without hard links: the trait's own `hard_link` refuses each.
-#[derive(Clone, Drop)]
-pub(crate) struct Linkless<R: Files + Clone + Drop> {
-    rt: R,
+/// Whether a file system knows hard links.
+#[derive(Clone, Copy, PartialEq, Eq)]
+pub(crate) enum Links {
+    /// It does.
+    Known,
+    /// It refuses each.
+    Unknown,
 }
 
-impl<R: Files + Clone + Drop> Linkless<R> {
-    pub(crate) fn new(rt: R) -> Self {
-        Linkless { rt }
+/// The files of a runtime.
+#[derive(Clone, Drop)]
+pub(crate) struct Disk<R: Files + Clone + Drop> {
+    rt: R,
+    links: Links,
+}
+
+impl<R: Files + Clone + Drop> Disk<R> {
+    /// Those that the runtime has.
+    pub(crate) fn new(rt: R, links: Links) -> Self {
+        Disk { rt, links }
     }
 }
 
-/// The folder DIR/etc on a file system without hard links.
-pub(crate) fn without_links(
-    rt: &HostRuntime,
-    dir: &str,
-) -> Result<RealFolder<Linkless<HostRuntime>>, Fail> {
-    let mut folder = RealFolder::new(Linkless::new(rt.clone()?));
-    folder.enter(&Bytes::of(rt.alloc(), dir.as_bytes())?)?;
-    Ok(folder)
-}
-
-impl<R: Files + Alloc + Clone + Drop> Alloc for Linkless<R> {
+impl<R: Files + Alloc + Clone + Drop> Alloc for Disk<R> {
     type A = R::A;
 
     fn alloc(&self) -> R::A {
@@ -39,7 +36,7 @@ impl<R: Files + Alloc + Clone + Drop> Alloc for Linkless<R> {
     }
 }
 
-impl<R: Files + Clone + Drop> Files for Linkless<R> {
+impl<R: Files + Clone + Drop> Files for Disk<R> {
     type File = R::File;
 
     type Dir = R::Dir;
@@ -90,5 +87,16 @@ impl<R: Files + Clone + Drop> Files for Linkless<R> {
 
     fn set_permissions(&self, path: &str, permissions: Permissions) -> io::Result<()> {
         self.rt.set_permissions(path, permissions)
+    }
+
+    fn lchown(&self, path: &str, uid: Option<u32>, gid: Option<u32>) -> io::Result<()> {
+        self.rt.lchown(path, uid, gid)
+    }
+
+    fn hard_link(&self, original: &str, link: &str) -> io::Result<()> {
+        match self.links {
+            Links::Known => self.rt.hard_link(original, link),
+            Links::Unknown => Err(io::Error::from(io::ErrorKind::Unsupported)),
+        }
     }
 }
