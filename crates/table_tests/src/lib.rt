@@ -8,8 +8,6 @@
 #![tactic(auto)]
 
 #[cfg(test)]
-mod batch_lines;
-#[cfg(test)]
 mod fault_texts;
 #[cfg(test)]
 mod ids;
