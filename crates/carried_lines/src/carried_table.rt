@@ -17,9 +17,15 @@ use std::mem::replace;
 
 /// A table of the records R. Look-ups and edits by name take no pass over its lines, nor do edits of
 /// records with a key. Contracts see it as the bytes of its file, and none where the file is absent.
-#[derive(Drop)]
 pub struct CarriedTable<R: KeyedRecord> {
     lines: Option<LeftLines<R>>,
+}
+
+// One call for what may be there, so that who holds tables has few ways through them.
+impl<R: KeyedRecord + Drop> Drop for CarriedTable<R> {
+    fn drop(self) {
+        let CarriedTable { lines: _ } = self;
+    }
 }
 
 impl<R: KeyedRecord> Model for CarriedTable<R> {

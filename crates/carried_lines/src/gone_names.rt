@@ -13,9 +13,15 @@ use std::alloc::{AllocError, Global};
 use std::marker::Model;
 
 /// Names, of which each is found without a pass over all. Contracts see a list of them.
-#[derive(Drop)]
 pub(crate) struct GoneNames {
     texts: IndexSet<Vec<u8>>,
+}
+
+// One call, so that who holds the names has one way through them.
+impl Drop for GoneNames {
+    fn drop(self) {
+        let GoneNames { texts: _ } = self;
+    }
 }
 
 impl Model for GoneNames {

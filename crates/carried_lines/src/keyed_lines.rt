@@ -23,12 +23,18 @@ use std::marker::Model;
 
 /// The lines of a table of the records R, with the places where records of each key are. Contracts see
 /// the lines.
-#[derive(Drop)]
 pub(crate) struct KeyedLines<R: KeyedRecord> {
     // each line has its own bytes, so that the file needn't stay
     lines: EditedLines<'static, R>,
     // none behind an edit that moves records, or where memory was wanting during one
     keys: Option<KeyPlaces>,
+}
+
+// One call for what may be there, so that who holds the lines has few ways through them.
+impl<R: KeyedRecord + Drop> Drop for KeyedLines<R> {
+    fn drop(self) {
+        let KeyedLines { lines: _, keys: _ } = self;
+    }
 }
 
 impl<R: KeyedRecord> Model for KeyedLines<R> {

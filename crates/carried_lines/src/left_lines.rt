@@ -27,12 +27,18 @@ use std::marker::Model;
 
 /// The lines of a table of the records R. Look-ups and edits by name take no pass over them. Contracts
 /// see those that are left.
-#[derive(Drop)]
 pub(crate) struct LeftLines<R: KeyedRecord> {
     // all lines, those of gone records too
     lines: KeyedLines<R>,
     // the names whose records are gone while their lines stand
     gone: GoneNames,
+}
+
+// One call, so that who holds the lines has few ways through them.
+impl<R: KeyedRecord + Drop> Drop for LeftLines<R> {
+    fn drop(self) {
+        let LeftLines { lines: _, gone: _ } = self;
+    }
 }
 
 impl<R: KeyedRecord> Model for LeftLines<R> {
