@@ -16,7 +16,7 @@ use thiserror::Error;
 const GREATEST_DAY: u64 = GREATEST_DAYS as u64;
 
 /// Why a text is no day.
-#[derive(Clone, Copy, Debug, PartialEq, Eq, Error)]
+#[derive(Clone, Copy, Debug, Error)]
 pub enum DateFault {
     /// The text is neither `-1` nor digits, nor of the form YYYY-MM-DD.
     #[error("neither a number of days nor a date")]
