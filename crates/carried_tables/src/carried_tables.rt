@@ -30,20 +30,17 @@ pub struct CarriedTables {
     subgid: RangeTable,
 }
 
-// One call, so that who holds the tables has no walk through all that they own on each way out. The two
-// with no drop of their own are let go by calls, as each way through one is else one through both.
+// One call, so that who holds the tables has no walk through all that they own on each way out.
 impl Drop for CarriedTables {
     fn drop(self) {
         let CarriedTables {
             passwd: _,
-            shadow,
+            shadow: _,
             group: _,
-            gshadow,
+            gshadow: _,
             subuid: _,
             subgid: _,
         } = self;
-        drop(shadow);
-        drop(gshadow);
     }
 }
 
