@@ -15,11 +15,17 @@ use std::alloc::{AllocError, Global};
 
 /// For each name that a record of a file has, or for those of them that are asked for, the line of the
 /// first. A look-up takes no pass over the lines.
-#[derive(Drop)]
 pub(crate) struct FirstOfNames<'a> {
     // the names that are noted; none where all are
     asked: Option<NameSet>,
     lines: IndexMap<&'a [u8], &'a [u8]>,
+}
+
+// One call for what may be there, so that who holds the lines has one way through them.
+impl<'a> Drop for FirstOfNames<'a> {
+    fn drop(self) {
+        let FirstOfNames { asked: _, lines: _ } = self;
+    }
 }
 
 impl<'a> FirstOfNames<'a> {

@@ -27,7 +27,6 @@ use std::alloc::{AllocError, Global};
 use std::marker::Model;
 
 /// The lines of group(5) that are the first with each of the GIDs that are asked for.
-#[derive(Drop)]
 pub(crate) struct FirstOfGids<'a> {
     /// The GIDs that are asked for.
     pub asked: UsedIds,
@@ -35,15 +34,32 @@ pub(crate) struct FirstOfGids<'a> {
     pub lines: IndexMap<u32, &'a [u8]>,
 }
 
+// One call, so that who holds the lines has one way through them.
+impl<'a> Drop for FirstOfGids<'a> {
+    fn drop(self) {
+        let FirstOfGids { asked: _, lines: _ } = self;
+    }
+}
+
 /// The groups, of which each is told by its name and by its GID, and none is copied. Contracts see
 /// them as the files.
-#[derive(Drop)]
 pub struct GroupIndex<'a> {
     tables: Tables<'a>,
     // none where few groups are asked for, and of carried tables
     names: Option<FirstOfNames<'a>>,
     // none as well where no GID is asked for
     gids: Option<FirstOfGids<'a>>,
+}
+
+// One call for what may be there, so that who holds the groups has one way through them.
+impl<'a> Drop for GroupIndex<'a> {
+    fn drop(self) {
+        let GroupIndex {
+            tables: _,
+            names: _,
+            gids: _,
+        } = self;
+    }
 }
 
 impl<'a> Model for GroupIndex<'a> {

@@ -12,7 +12,6 @@ use std::alloc::{AllocError, Global};
 use std::marker::Model;
 
 /// The lines of passwd(5) and shadow(5) that are the first of their name.
-#[derive(Drop)]
 pub(crate) struct UserLines<'a> {
     /// Those of passwd.
     pub users: FirstOfNames<'a>,
@@ -20,13 +19,32 @@ pub(crate) struct UserLines<'a> {
     pub shadow: FirstOfNames<'a>,
 }
 
+// One call, so that who holds the lines has one way through them.
+impl<'a> Drop for UserLines<'a> {
+    fn drop(self) {
+        let UserLines {
+            users: _,
+            shadow: _,
+        } = self;
+    }
+}
+
 /// The users, of which each is found by its name in passwd(5) and in shadow(5). Contracts see them as
 /// the files.
-#[derive(Drop)]
 pub struct UserIndex<'a> {
     tables: Tables<'a>,
     // none where few users are asked for, and of carried tables
     lines: Option<UserLines<'a>>,
+}
+
+// One call for what may be there, so that who holds the users has one way through them.
+impl<'a> Drop for UserIndex<'a> {
+    fn drop(self) {
+        let UserIndex {
+            tables: _,
+            lines: _,
+        } = self;
+    }
 }
 
 impl<'a> Model for UserIndex<'a> {
