@@ -7,7 +7,6 @@ use line_edits::{Edit, GroupChange, GshadowChange, PasswdChange, ShadowChange, S
 use std::alloc::Global;
 
 /// The edits of a command. Those of an absent table do nothing.
-#[derive(Drop)]
 pub struct Script {
     /// Those of passwd(5).
     pub passwd: Vec<Edit<PasswdRecord, PasswdChange>>,
@@ -21,6 +20,20 @@ pub struct Script {
     pub subuid: Vec<Edit<SubidRecord, SubidChange>>,
     /// Those of subgid(5).
     pub subgid: Vec<Edit<SubidRecord, SubidChange>>,
+}
+
+// One call for the six lists, as each tool holds a script over all its ways out.
+impl Drop for Script {
+    fn drop(self) {
+        let Script {
+            passwd: _,
+            shadow: _,
+            group: _,
+            gshadow: _,
+            subuid: _,
+            subgid: _,
+        } = self;
+    }
 }
 
 impl Script {
