@@ -18,12 +18,22 @@ use id_choice::UsedIds;
 use std::alloc::{AllocError, Global};
 
 /// The file of a table, which may be absent, with the names of its records.
-#[derive(Drop)]
 pub(crate) struct NamedFile<'a> {
     pub(crate) file: &'a Option<Bytes>,
     pub(crate) names: NameIndex<'a>,
     // whether the names of all records are there, or of those alone whose lines were checked
     is_whole: bool,
+}
+
+// One call, so that who holds several files has one way through each.
+impl<'a> Drop for NamedFile<'a> {
+    fn drop(self) {
+        let NamedFile {
+            file: _,
+            names: _,
+            is_whole: _,
+        } = self;
+    }
 }
 
 impl<'a> NamedFile<'a> {
