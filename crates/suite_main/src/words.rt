@@ -8,7 +8,7 @@ use std::rt::Env;
 use std::{env, io};
 
 /// Who answers the words.
-#[derive(Clone, Copy, Debug, PartialEq, Eq)]
+#[derive(Clone, Copy)]
 pub(crate) enum Request {
     /// main, with the list of the tools.
     Help,
