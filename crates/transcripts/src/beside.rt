@@ -18,11 +18,21 @@ pub(crate) fn effect_of(alloc: Global, text: &[u8]) -> Result<Option<Effect>, Al
 }
 
 /// Commands at the places from 1, and steps in which the next command is at place 0.
-#[derive(Drop)]
 pub(crate) struct Beside {
     alloc: Global,
     commands: Vec<Asked>,
     steps: Vec<Step>,
+}
+
+// One call for all that it has.
+impl Drop for Beside {
+    fn drop(self) {
+        let Beside {
+            alloc: _,
+            commands: _,
+            steps: _,
+        } = self;
+    }
 }
 
 impl Beside {

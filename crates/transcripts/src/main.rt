@@ -51,11 +51,9 @@ fn main(rt: HostRuntime) -> io::Result<()> {
         .as_slice()
         .strip_suffix(b"\n")
         .unwrap_or(text.as_slice());
-    let mut out = rt.stdout();
     let mut player = Player::new(rt.alloc())?;
     for line in lines.split(|byte| *byte == b'\n') {
-        let played = player.play(line)?;
-        out.write_all(played.as_slice())?;
+        player.play(line)?;
     }
-    Ok(())
+    rt.stdout().write_all(player.shown())
 }

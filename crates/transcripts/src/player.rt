@@ -5,63 +5,85 @@ use crate::sweep::Sweep;
 use acct_text::Bytes;
 use std::alloc::{AllocError, Global};
 
-/// The scene as far as it was played, and the lines of the sweep that was begun.
-#[derive(Drop)]
+/// The scene as far as it was played, the lines of the sweep that was begun, and what was shown.
 pub(crate) struct Player {
     alloc: Global,
     scene: Scene,
     sweep: Option<Sweep>,
+    shown: Bytes,
+}
+
+// One call for all that it has, so that who holds it has few ways through it.
+impl Drop for Player {
+    fn drop(self) {
+        let Player {
+            alloc: _,
+            scene: _,
+            sweep: _,
+            shown: _,
+        } = self;
+    }
 }
 
 impl Player {
     /// Nothing was played.
     pub(crate) fn new(alloc: Global) -> Result<Self, AllocError> {
+        let scene = Scene::empty(alloc)?;
         Ok(Player {
             alloc,
-            scene: Scene::empty(alloc)?,
+            scene,
             sweep: None,
+            shown: Bytes::new(alloc),
         })
     }
 
-    /// Plays a line, and gives what the transcript shows for it: the line itself, and behind a command
-    /// or the end of a sweep what it tells and does. A line of what was shown before gives nothing.
-    pub(crate) fn play(&mut self, line: &[u8]) -> Result<Bytes, AllocError> {
-        let mut played = Bytes::new(self.alloc);
+    /// What was shown so far.
+    pub(crate) fn shown(&self) -> &[u8] {
+        self.shown.as_slice()
+    }
+
+    /// Plays a line, and shows the line itself, and behind a command or the end of a sweep what it tells
+    /// and does. A line of what was shown before shows nothing.
+    pub(crate) fn play(&mut self, line: &[u8]) -> Result<(), AllocError> {
         match line {
             [b'*', b' ', numbers @ ..] => {
                 self.sweep = Some(Sweep::of(self.alloc, numbers));
-                push_line(&mut played, line)?;
+                push_line(&mut self.shown, line)
             }
             b"*" => {
-                push_line(&mut played, line)?;
-                self.end_sweep(&mut played)?;
+                push_line(&mut self.shown, line)?;
+                self.end_sweep()
             }
-            _ => self.play_in(line, &mut played)?,
+            _ => self.play_in(line),
         }
-        Ok(played)
     }
 
     // Keeps a line for the sweep that was begun, or plays it in the scene.
-    fn play_in(&mut self, line: &[u8], played: &mut Bytes) -> Result<(), AllocError> {
-        if let Some(sweep) = &mut self.sweep {
-            push_line(played, line)?;
-            return sweep.add(line);
+    fn play_in(&mut self, line: &[u8]) -> Result<(), AllocError> {
+        match &mut self.sweep {
+            Some(sweep) => {
+                push_line(&mut self.shown, line)?;
+                sweep.add(line)
+            }
+            None => self.play_alone(line),
         }
-        let mut shown = Bytes::new(self.alloc);
-        if self.scene.play(line, &mut shown)? {
-            push_line(played, line)?;
-            played.push(shown.as_slice())?;
-        }
-        Ok(())
     }
 
-    // Plays the sweep that was begun, and pushes what it shows.
-    fn end_sweep(&mut self, played: &mut Bytes) -> Result<(), AllocError> {
-        let shown = match &self.sweep {
-            Some(sweep) => sweep.push_runs(self.alloc, played),
+    // Plays a line in the scene.
+    fn play_alone(&mut self, line: &[u8]) -> Result<(), AllocError> {
+        let mut shown = Bytes::new(self.alloc);
+        if !self.scene.play(line, &mut shown)? {
+            return Ok(());
+        }
+        push_line(&mut self.shown, line)?;
+        self.shown.push(shown.as_slice())
+    }
+
+    // Plays the sweep that was begun, and shows what it tells and does.
+    fn end_sweep(&mut self) -> Result<(), AllocError> {
+        match self.sweep.take() {
+            Some(sweep) => sweep.push_runs(self.alloc, &mut self.shown),
             None => Ok(()),
-        };
-        self.sweep = None;
-        shown
+        }
     }
 }

@@ -13,7 +13,6 @@ use std::mem;
 use whole_commands::{Contents, Failing, IMAGE, Streams, die_after, put};
 
 /// A folder in the making, until a command runs in it.
-#[derive(Drop)]
 pub(crate) struct Scene {
     alloc: Global,
     /// The files before the first command, of which the last of a name counts.
@@ -29,14 +28,46 @@ pub(crate) struct Scene {
     /// The commands beside the next.
     beside: Beside,
     /// The folder, once a command ran in it.
-    folder: Option<MemoryFolder>,
+    folder: Option<Standing>,
 }
 
 /// A file before the first command.
-#[derive(Drop)]
 struct File {
     name: Bytes,
     text: Bytes,
+}
+
+/// A folder in which a command ran.
+struct Standing {
+    folder: MemoryFolder,
+}
+
+// Each has one call for all that it has, so that who holds it has few ways through it.
+impl Drop for Scene {
+    fn drop(self) {
+        let Scene {
+            alloc: _,
+            files: _,
+            alive: _,
+            plan: _,
+            input: _,
+            failing: _,
+            beside: _,
+            folder: _,
+        } = self;
+    }
+}
+
+impl Drop for File {
+    fn drop(self) {
+        let File { name: _, text: _ } = self;
+    }
+}
+
+impl Drop for Standing {
+    fn drop(self) {
+        let Standing { folder: _ } = self;
+    }
 }
 
 impl Scene {
@@ -216,7 +247,9 @@ impl Scene {
         };
         self.make()?;
         match &mut self.folder {
-            Some(folder) => Ok(die_after(self.alloc, folder, command, calls).is_ok()),
+            Some(standing) => {
+                Ok(die_after(self.alloc, &mut standing.folder, command, calls).is_ok())
+            }
             None => Ok(false),
         }
     }
@@ -235,8 +268,8 @@ impl Scene {
             return self.show_alone(command, input.as_slice(), shown);
         }
         let mut beside = mem::replace(&mut self.beside, Beside::none(self.alloc));
-        if let Some(folder) = &mut self.folder {
-            beside.push_shown(folder, command, input.as_slice(), shown)?;
+        if let Some(standing) = &mut self.folder {
+            beside.push_shown(&mut standing.folder, command, input.as_slice(), shown)?;
         }
         Ok(true)
     }
@@ -250,8 +283,14 @@ impl Scene {
     ) -> Result<bool, AllocError> {
         let mut streams = Streams::new(self.alloc, input, self.failing)?;
         self.failing = None;
-        if let Some(folder) = &mut self.folder {
-            show_in(self.alloc, folder, command, &mut streams, shown)?;
+        if let Some(standing) = &mut self.folder {
+            show_in(
+                self.alloc,
+                &mut standing.folder,
+                command,
+                &mut streams,
+                shown,
+            )?;
         }
         Ok(true)
     }
@@ -259,12 +298,18 @@ impl Scene {
     // Makes the folder, where no command ran in it.
     fn make(&mut self) -> Result<(), AllocError> {
         if self.folder.is_none() {
-            let files = contents(self.alloc, self.files.as_slice())?;
-            let alive = mem::replace(&mut self.alive, Vec::new(self.alloc));
-            let plan = mem::replace(&mut self.plan, Vec::new(self.alloc));
-            self.folder = Some(MemoryFolder::new(self.alloc, files, alive, plan)?);
+            self.folder = Some(self.made()?);
         }
         Ok(())
+    }
+
+    // The folder of the files, with the sessions and the plan, which it takes.
+    fn made(&mut self) -> Result<Standing, AllocError> {
+        let files = contents(self.alloc, self.files.as_slice())?;
+        let alive = mem::replace(&mut self.alive, Vec::new(self.alloc));
+        let plan = mem::replace(&mut self.plan, Vec::new(self.alloc));
+        let folder = MemoryFolder::new(self.alloc, files, alive, plan)?;
+        Ok(Standing { folder })
     }
 }
 

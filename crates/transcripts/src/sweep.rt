@@ -6,11 +6,21 @@ use acct_text::{Bytes, push_decimal, read_decimal};
 use std::alloc::{AllocError, Global};
 
 /// The first number and the last, and the lines.
-#[derive(Drop)]
 pub(crate) struct Sweep {
     first: u64,
     last: u64,
     lines: Bytes,
+}
+
+// One call for all that it has.
+impl Drop for Sweep {
+    fn drop(self) {
+        let Sweep {
+            first: _,
+            last: _,
+            lines: _,
+        } = self;
+    }
 }
 
 impl Sweep {
@@ -47,14 +57,32 @@ impl Sweep {
 
     // What the lines show with this number, without the lines themselves.
     fn shown_at(&self, alloc: Global, number: u64) -> Result<Bytes, AllocError> {
-        let mut scene = Scene::empty(alloc)?;
         let mut shown = Bytes::new(alloc);
-        for line in self.lines.as_slice().split(|byte| *byte == b'\n') {
-            let line = with_number(alloc, line, number)?;
-            scene.play(line.as_slice(), &mut shown)?;
-        }
+        self.push_shown(alloc, number, &mut shown)?;
         Ok(shown)
     }
+
+    // Pushes this.
+    fn push_shown(&self, alloc: Global, number: u64, shown: &mut Bytes) -> Result<(), AllocError> {
+        let mut scene = Scene::empty(alloc)?;
+        for line in self.lines.as_slice().split(|byte| *byte == b'\n') {
+            play_at(alloc, &mut scene, line, number, shown)?;
+        }
+        Ok(())
+    }
+}
+
+// Plays a line with the number.
+fn play_at(
+    alloc: Global,
+    scene: &mut Scene,
+    line: &[u8],
+    number: u64,
+    shown: &mut Bytes,
+) -> Result<(), AllocError> {
+    let line = with_number(alloc, line, number)?;
+    scene.play(line.as_slice(), shown)?;
+    Ok(())
 }
 
 // The line with the number in place of each `~`.

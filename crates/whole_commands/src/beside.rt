@@ -15,10 +15,19 @@ use suite_session::StartFault;
 pub const TO_END: usize = 100;
 
 /// A command that is to be run, and its input.
-#[derive(Drop)]
 pub struct Asked {
     command: Bytes,
     input: Bytes,
+}
+
+// One call for all that it has, so that who holds it has few ways through it.
+impl Drop for Asked {
+    fn drop(self) {
+        let Asked {
+            command: _,
+            input: _,
+        } = self;
+    }
 }
 
 impl Asked {

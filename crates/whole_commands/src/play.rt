@@ -23,7 +23,6 @@ pub enum Failing {
 }
 
 /// What a command reads, what it prints to, and its clock.
-#[derive(Drop)]
 pub struct Streams {
     /// What chpasswd(8) takes, and a batch.
     pub input: MemorySource,
@@ -33,6 +32,18 @@ pub struct Streams {
     pub err: MemorySink,
     /// What gives the day.
     pub clock: MemoryClock,
+}
+
+// One call for all that it has, so that who holds it has few ways through it.
+impl Drop for Streams {
+    fn drop(self) {
+        let Streams {
+            input: _,
+            out: _,
+            err: _,
+            clock: _,
+        } = self;
+    }
 }
 
 impl Streams {
