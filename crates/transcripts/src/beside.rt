@@ -8,13 +8,24 @@ use whole_commands::{Asked, TO_END, push_done_beside, push_turns};
 
 /// What a call did that failed, or within which a command died; None where the text is none of these.
 pub(crate) fn effect_of(alloc: Global, text: &[u8]) -> Result<Option<Effect>, AllocError> {
-    match text {
-        b"happened" => Ok(Some(Effect::Happened)),
-        b"nothing" => Ok(Some(Effect::Nothing)),
-        b"junk" => Ok(Some(Effect::Left(Some(Bytes::of(alloc, b"junk")?)))),
-        b"gone" => Ok(Some(Effect::Left(None))),
-        _ => Ok(None),
+    if text == b"junk".as_slice() {
+        return Ok(Some(Effect::Left(Some(Bytes::of(alloc, b"junk")?))));
     }
+    Ok(plain_effect(text))
+}
+
+// One that leaves no other bytes.
+fn plain_effect(text: &[u8]) -> Option<Effect> {
+    if text == b"happened".as_slice() {
+        return Some(Effect::Happened);
+    }
+    if text == b"nothing".as_slice() {
+        return Some(Effect::Nothing);
+    }
+    if text == b"gone".as_slice() {
+        return Some(Effect::Left(None));
+    }
+    None
 }
 
 /// Commands at the places from 1, and steps in which the next command is at place 0.

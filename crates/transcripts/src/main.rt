@@ -47,13 +47,7 @@ use std::io::{Read, Write};
 fn main(rt: HostRuntime) -> io::Result<()> {
     let mut text = Vec::new(rt.alloc());
     rt.reader().read_to_end(&mut text)?;
-    let lines = text
-        .as_slice()
-        .strip_suffix(b"\n")
-        .unwrap_or(text.as_slice());
     let mut player = Player::new(rt.alloc())?;
-    for line in lines.split(|byte| *byte == b'\n') {
-        player.play(line)?;
-    }
+    player.play_all(text.as_slice())?;
     rt.stdout().write_all(player.shown())
 }

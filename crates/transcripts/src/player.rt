@@ -42,9 +42,18 @@ impl Player {
         self.shown.as_slice()
     }
 
-    /// Plays a line, and shows the line itself, and behind a command or the end of a sweep what it tells
-    /// and does. A line of what was shown before shows nothing.
-    pub(crate) fn play(&mut self, line: &[u8]) -> Result<(), AllocError> {
+    /// Plays each line of a transcript.
+    pub(crate) fn play_all(&mut self, text: &[u8]) -> Result<(), AllocError> {
+        let lines = text.strip_suffix(b"\n").unwrap_or(text);
+        for line in lines.split(|byte| *byte == b'\n') {
+            self.play(line)?;
+        }
+        Ok(())
+    }
+
+    // Plays a line, and shows the line itself, and behind a command or the end of a sweep what it tells
+    // and does. A line of what was shown before shows nothing.
+    fn play(&mut self, line: &[u8]) -> Result<(), AllocError> {
         match line {
             [b'*', b' ', numbers @ ..] => {
                 self.sweep = Some(Sweep::of(self.alloc, numbers));
