@@ -4,9 +4,8 @@ ghost use Rattle.std.specs.Prelude.{All, IfOk};
 ghost use Rattle.acct_outside.specs.Contract.{IsName};
 
 use acct_outside::Name;
-
-use memory_folder::MemoryFolder;
 use acct_text::{Bytes, Tab, pair, push_decimal};
+use memory_folder::MemoryFolder;
 use std::alloc::{AllocError, Global};
 use std::test::Fail;
 use whole_commands::{Contents, IMAGE, Streams, put, run, sound_folder, text_at};

@@ -1,7 +1,7 @@
 // The commands beside the next one, and the steps that all of them take.
 use crate::names::counted;
-use memory_folder::{Effect, MemoryFolder};
 use acct_text::{Bytes, read_decimal};
+use memory_folder::{Effect, MemoryFolder};
 use side_by_side::Step;
 use std::alloc::{AllocError, Global};
 use whole_commands::{Asked, TO_END, push_done_beside, push_turns};

@@ -2,8 +2,8 @@
 // behind a blank.
 use crate::names::name_of;
 use acct_outside::Name;
-use memory_folder::MemoryFolder;
 use acct_text::{Bytes, Tab, push_decimal};
+use memory_folder::MemoryFolder;
 use std::alloc::{AllocError, Global};
 use whole_commands::{Streams, push_done};
 

@@ -4,8 +4,8 @@ ghost use Rattle.std.specs.Prelude.{All, IfOk};
 ghost use Rattle.suite_session.specs.Session.{IsWaiting};
 
 use crate::play::{DAY, words_of};
-use memory_folder::{Effect, MemoryFolder};
 use acct_text::{Bytes, TABLE_LIMIT, push_decimal};
+use memory_folder::{Effect, MemoryFolder};
 use side_by_side::{Step, play};
 use std::alloc::{AllocError, Global};
 use suite_core::Session;

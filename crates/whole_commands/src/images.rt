@@ -3,9 +3,8 @@ ghost use Rattle.std.specs.Prelude.{All, IfOk, OnOk};
 ghost use Rattle.acct_outside.specs.Contract.{IsName};
 
 use acct_outside::Name;
-
-use memory_folder::MemoryFolder;
 use acct_text::{Bytes, Tab};
+use memory_folder::MemoryFolder;
 use std::alloc::{AllocError, Global};
 
 /// The files of a folder before its first command.

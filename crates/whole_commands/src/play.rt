@@ -1,7 +1,7 @@
 // Commands that are run over a folder in memory, and what they tell and do, as text.
 use acct_outside::{Folder, Name};
-use memory_folder::{MemoryClock, MemoryFolder, MemorySink, MemorySource};
 use acct_text::{Bytes, Tab, Word, push_decimal};
+use memory_folder::{MemoryClock, MemoryFolder, MemorySink, MemorySource};
 use std::alloc::{AllocError, Global};
 use suite_core::{Outcome, run_suite};
 

@@ -3,8 +3,8 @@
 use crate::beside::{played, push_answers};
 use crate::play::{push_changes, tables, told};
 use crate::{Asked, Streams};
-use memory_folder::MemoryFolder;
 use acct_text::Bytes;
+use memory_folder::MemoryFolder;
 use side_by_side::Step;
 use std::alloc::{AllocError, Global};
 use suite_session::StartFault;
