@@ -15,13 +15,13 @@ pub(crate) fn play_on_disk<R: Files + AllocGlobal + Clone + Drop>(
     shown: &mut Bytes,
 ) -> io::Result<()> {
     let (first, rest) = cut(rest);
-    match word.as_bytes() {
-        b"put" => put(rt, first, rest),
-        b"chmod" => set_mode(rt, first, rest),
-        b"mkdir" => fs::create_dir_all(rt, first),
-        b"link" => symlink(rt, rest, first),
-        b"ls" => push_names(rt, first, shown),
-        b"cat" => push_file(rt, first, shown),
+    match word {
+        "put" => put(rt, first, rest),
+        "chmod" => set_mode(rt, first, rest),
+        "mkdir" => fs::create_dir_all(rt, first),
+        "link" => symlink(rt, rest, first),
+        "ls" => push_names(rt, first, shown),
+        "cat" => push_file(rt, first, shown),
         _ => Ok(push_answer(shown, "no such line")?),
     }
 }

@@ -47,12 +47,30 @@ fn table_name(text: &[u8]) -> Option<Name>
 fn other_name(text: &[u8]) -> Option<Name>
     ensures { IfSome result IsName }
 {
-    match text {
-        b"accounts.intent" => Some(Name::Intent),
-        b"accounts.intent+" => Some(Name::IntentStage),
-        b"accounts.backup+" => Some(Name::BackupStage),
-        b"accounts.free+" => Some(Name::FreeStage),
-        b"login.defs" => Some(Name::Defs),
-        _ => None,
+    if text == b"login.defs".as_slice() {
+        return Some(Name::Defs);
     }
+    match text.strip_prefix(b"accounts.") {
+        Some(rest) => own_name(rest),
+        None => None,
+    }
+}
+
+// A name that the suite gives, by what stands behind `accounts.` in it.
+fn own_name(text: &[u8]) -> Option<Name>
+    ensures { IfSome result IsName }
+{
+    if text == b"intent".as_slice() {
+        return Some(Name::Intent);
+    }
+    if text == b"intent+".as_slice() {
+        return Some(Name::IntentStage);
+    }
+    if text == b"backup+".as_slice() {
+        return Some(Name::BackupStage);
+    }
+    if text == b"free+".as_slice() {
+        return Some(Name::FreeStage);
+    }
+    None
 }

@@ -77,18 +77,18 @@ impl<R: Files<File = File> + AllocGlobal + Clone + Drop> Player<R> {
 
     fn carry_out(&mut self, line: &str) -> io::Result<()> {
         let (word, rest) = cut(line);
-        match word.as_bytes() {
-            b"1" => self.first.play(rest, &mut self.own, &mut self.shown),
-            b"2" => self.second.play(rest, &mut self.own, &mut self.shown),
-            b"=" => self.begin_image(rest),
-            b"hold" => self.hold(rest),
-            b"release" => {
+        match word {
+            "1" => self.first.play(rest, &mut self.own, &mut self.shown),
+            "2" => self.second.play(rest, &mut self.own, &mut self.shown),
+            "=" => self.begin_image(rest),
+            "hold" => self.hold(rest),
+            "release" => {
                 self.held = None;
                 Ok(())
             }
-            b"day" => Ok(push_day(self.rt.alloc(), rest, &mut self.shown)?),
-            b"take" => Ok(push_takes(self.rt.alloc(), rest, &mut self.shown)?),
-            b"fill" => Ok(push_puts(self.rt.alloc(), rest, &mut self.shown)?),
+            "day" => Ok(push_day(self.rt.alloc(), rest, &mut self.shown)?),
+            "take" => Ok(push_takes(self.rt.alloc(), rest, &mut self.shown)?),
+            "fill" => Ok(push_puts(self.rt.alloc(), rest, &mut self.shown)?),
             _ => play_on_disk(&self.rt, word, rest, &mut self.shown),
         }
     }

@@ -63,11 +63,11 @@ impl<R: Files<File = File> + AllocGlobal + Clone + Drop> Session<R> {
         shown: &mut Bytes,
     ) -> io::Result<()> {
         let (word, rest) = cut(call);
-        match word.as_bytes() {
-            b"enter" => self.enter(rest, Links::Known),
-            b"linkless" => self.enter(rest, Links::Unknown),
-            b"begin" => self.begin(own, shown),
-            b"as" => {
+        match word {
+            "enter" => self.enter(rest, Links::Known),
+            "linkless" => self.enter(rest, Links::Unknown),
+            "begin" => self.begin(own, shown),
+            "as" => {
                 self.by = Bytes::of(self.rt.alloc(), rest.as_bytes())?;
                 Ok(())
             }
@@ -104,11 +104,11 @@ impl<R: Files<File = File> + AllocGlobal + Clone + Drop> Session<R> {
         rest: &str,
         shown: &mut Bytes,
     ) -> Result<(), AllocError> {
-        match word.as_bytes() {
-            b"locks" => self.list(by, shown),
-            b"verdict" => self.judge(by, rest, shown),
-            b"faults" => push_number(shown, self.folder.faults()),
-            b"answered" => {
+        match word {
+            "locks" => self.list(by, shown),
+            "verdict" => self.judge(by, rest, shown),
+            "faults" => push_number(shown, self.folder.faults()),
+            "answered" => {
                 self.folder.answered(by, 0);
                 Ok(())
             }
@@ -128,13 +128,13 @@ impl<R: Files<File = File> + AllocGlobal + Clone + Drop> Session<R> {
         let Some(name) = name_of(text.as_bytes()) else {
             return push_answer(shown, "no name");
         };
-        match word.as_bytes() {
-            b"create" => self.create(by, name, shown),
-            b"read" => self.read(by, name, rest, shown),
-            b"rename" => self.rename(by, name, rest, shown),
-            b"write" => self.write(by, name, rest, shown),
-            b"append" => self.append(by, name, rest, shown),
-            b"remove" => {
+        match word {
+            "create" => self.create(by, name, shown),
+            "read" => self.read(by, name, rest, shown),
+            "rename" => self.rename(by, name, rest, shown),
+            "write" => self.write(by, name, rest, shown),
+            "append" => self.append(by, name, rest, shown),
+            "remove" => {
                 let removed = self.folder.remove(by, name);
                 self.push_done(removed, shown)
             }
