@@ -113,33 +113,34 @@ impl Written {
 }
 
 // The tables that differ from the first, in the fixed order.
-fn differing(alloc: Global, first: &Files, last: Files) -> Result<NewTables, AllocError>
+fn differing(alloc: Global, first: &Files, mut last: Files) -> Result<NewTables, AllocError>
     requires { StandWhere first.now last }
     ensures { IfOk result (λ tables.
         tables ≡ changed_tables (table_of first.now) (table_of last)) }
 {
     let mut tables = NewTables::none(alloc);
-    push_new(&mut tables, Tab::Passwd, &first.passwd, last.passwd)?;
-    push_new(&mut tables, Tab::Shadow, &first.shadow, last.shadow)?;
-    push_new(&mut tables, Tab::Group, &first.group, last.group)?;
-    push_new(&mut tables, Tab::Gshadow, &first.gshadow, last.gshadow)?;
-    push_new(&mut tables, Tab::Subuid, &first.subuid, last.subuid)?;
-    push_new(&mut tables, Tab::Subgid, &first.subgid, last.subgid)?;
+    push_new(&mut tables, Tab::Passwd, &first.passwd, &mut last.passwd)?;
+    push_new(&mut tables, Tab::Shadow, &first.shadow, &mut last.shadow)?;
+    push_new(&mut tables, Tab::Group, &first.group, &mut last.group)?;
+    push_new(&mut tables, Tab::Gshadow, &first.gshadow, &mut last.gshadow)?;
+    push_new(&mut tables, Tab::Subuid, &first.subuid, &mut last.subuid)?;
+    push_new(&mut tables, Tab::Subgid, &first.subgid, &mut last.subgid)?;
     Ok(tables)
 }
 
-// Adds the table where it differs from the first. None is made, and none goes.
+// Adds the table where it differs from the first, with the bytes taken out of the last. None is made,
+// and none goes.
 fn push_new(
     tables: &mut NewTables,
     table: Tab,
     first: &Option<Bytes>,
-    last: Option<Bytes>,
+    last: &mut Option<Bytes>,
 ) -> Result<(), AllocError>
-    requires { is_some last ≡ is_some first.now }
+    requires { is_some last.old ≡ is_some first.now }
     ensures { OnOk result (tables.new ≡ tables.old
-        ++ with_new_table table (changed_bytes first.now last) []) }
+        ++ with_new_table table (changed_bytes first.now last.old) []) }
 {
-    match (first, last) {
+    match (first, last.take()) {
         (Some(first), Some(last)) => tables.push(table, first, last),
         _ => Ok(()),
     }
