@@ -58,8 +58,9 @@ class Case:
         return ended.returncode, ended.stderr
 
     def settle(self):
-        """The next command, which finds nothing wrong and changes nothing."""
-        return self.run((), words=("pwck", "-r")) == (0, b"")
+        """The next command: it takes the lock, finishes what was committed, and is refused with status 6, as no
+        group has an empty name."""
+        return self.run((), words=("groupdel", "--", ""))[0] == 6
 
     def judged(self, status, message):
         """`old` or `new`, as the tables are once the next command ran, or what is wrong."""
