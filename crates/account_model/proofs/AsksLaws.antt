@@ -15,9 +15,9 @@ use Rattle.account_model.specs.declared.tool.Tool.TheVariants.{Useradd, Usermod,
 use Rattle.account_model.specs.declared.word_fault.WordFault.{WordFault}
 use Rattle.account_model.specs.declared.word_fault.WordFault.TheVariants.{TooFew}
 use Rattle.account_model.specs.declared.given.Given.{Given}
-use Rattle.account_model.specs.Request.{Request, last_value}
-use Rattle.account_model.specs.Words.{tool_name, tools, tool_named, may_name, tool_for, past_limit, without_prefix, broken_rule, IsPrefix, AsksAs, Asks, request_by_rules, prefix_for, request_with, request_of_arguments, request_of_tool, request_within_limits, request_by_limit, request_as, request_of, fault_as, fault}
-use Rattle.account_model.specs.Options.{Word, OptionForm, prefix_letter, with_value, option_forms, own_options, options_for, operands_of}
+use Rattle.account_model.specs.Request.{Request}
+use Rattle.account_model.specs.Words.{tool_name, tools, tool_named, may_name, tool_for, past_limit, without_prefix, prefix_value, broken_rule, IsPrefix, AsksAs, Asks, request_by_rules, prefix_for, request_with, request_of_arguments, request_of_tool, request_within_limits, request_by_limit, request_as, request_of, fault_as, fault}
+use Rattle.account_model.specs.Options.{Word, OptionForm, with_value, root_form, option_forms, own_options, options_for, operands_of, most_operands}
 use Rattle.account_model.specs.Text.{hyphen}
 use Rattle.account_model.specs.Spelling.{Spelled, Arguments, form_of_letter, has_long_name, form_of_name, read_arguments}
 use Rattle.account_model.proofs.SpelledIsRead.{IsTable, spelled_is_read}
@@ -62,7 +62,8 @@ table-behind form table is = record { letters = letters; names = names }
 pub is_table_for : (whose : WordsOf) (tool : Tool) → IsTable (options_for whose tool)
 is_table_for Command tool = is_table tool
 is_table_for Line tool =
-    table-behind (with_value "P" "prefix") (own_options tool) (is_table tool)
+    table-behind (root_form tool) (own_options tool)
+    (table-behind (with_value "P" "prefix") (root_form tool ∷ own_options tool) (is_table tool))
 
 -- a tool's name names it
 pub tool_of_its_name : (tool : Tool) → tool_named (tool_name tool) ≡ Some tool
@@ -139,21 +140,21 @@ named_for whose name tool found = by (tool_named name) refl found
 
 -- a prefix by its condition
 pub prefix_is_read :
-    (whose : WordsOf) (given : List Given) (prefix : Word)
-    → IsPrefix whose given prefix
-    → prefix_for whose (last_value prefix_letter given) ≡ Some prefix
-prefix_is_read Command given [] is = absurd (is.1 refl)
-prefix_is_read Command given (c ∷ prefix) is = ap (prefix_for Command) is.0
-prefix_is_read Line given prefix is = ap Some (sym is)
+    (whose : WordsOf) (tool : Tool) (given : List Given) (prefix : Word)
+    → IsPrefix whose tool given prefix
+    → prefix_for whose (prefix_value tool given) ≡ Ok prefix
+prefix_is_read Command tool given [] is = absurd (is.1 refl)
+prefix_is_read Command tool given (c ∷ prefix) is = ap (prefix_for Command) is.0
+prefix_is_read Line tool given prefix is = ap Ok (sym is)
 
 -- the request of a prefix, as many operands as the tool takes, and options that break no rule
 pub asked_with :
     (tool : Tool) (options : List Given) (operands : List Word) (prefix : Word)
-    → length operands ≡ operands_of tool
+    → operands_of tool ≤ length operands
     → broken_rule tool options ≡ None
-    → request_with tool options operands (Some prefix)
+    → request_with tool options operands (Ok prefix)
     ≡ Ok (record { tool = tool; prefix = prefix; options = options; operands = operands })
-asked_with tool options operands prefix many rules =
+asked_with tool options operands prefix enough_operands rules =
     let request : Request =
     record { tool = tool; prefix = prefix; options = options; operands = operands } in
     let few = nat_lt (length operands) (operands_of tool) in
@@ -173,17 +174,16 @@ asked_is_read whose words request asks =
     let tool = request.tool in
     let operands = request.operands in
     let table = is_table_for whose tool in
-    let fits : length operands ≤ operands_of tool = omega (arith, asks.operands) in
-    let read = spelled_is_read asks.spelled table (operands_of tool) 1 fits in
+    let read = spelled_is_read asks.spelled table (most_operands tool) 1 asks.few in
     ap (λ limit. request_by_limit whose limit words) asks.limits
     ∙ ap (request_within_limits whose) asks.tool
     ∙ ap (λ named. request_of_tool whose named asks.arguments)
     (tool_for_its_name whose tool asks.may_name)
     ∙ ap (request_of_arguments whose tool) read
-    ∙ ap (request_with tool (without_prefix asks.given) operands)
-    (prefix_is_read whose asks.given request.prefix asks.prefix)
-    ∙ ap (λ options. request_with tool options operands (Some request.prefix)) (sym asks.options)
-    ∙ asked_with tool request.options operands request.prefix asks.operands asks.rules
+    ∙ ap (request_with tool (without_prefix tool asks.given) operands)
+    (prefix_is_read whose tool asks.given request.prefix asks.prefix)
+    ∙ ap (λ options. request_with tool options operands (Ok request.prefix)) (sym asks.options)
+    ∙ asked_with tool request.options operands request.prefix asks.enough asks.rules
 
 -- ---- What is read is asked for
 
@@ -198,40 +198,42 @@ pub record IsSpelt (whose : WordsOf) (words : List Word) (tool : Tool) (given : 
 
 -- a prefix that is read has its condition
 pub prefix_is_so :
-    (whose : WordsOf) (given : List Given) (prefix : Word) (value : Option Word)
-    → last_value prefix_letter given ≡ value
-    → prefix_for whose value ≡ Some prefix
-    → IsPrefix whose given prefix
-prefix_is_so Command given prefix None last read = absurd (cc)
-prefix_is_so Command given prefix (Some []) last read = absurd (cc)
-prefix_is_so Command given prefix (Some (c ∷ value)) last read =
+    (whose : WordsOf) (tool : Tool) (given : List Given) (prefix : Word) (value : Option Word)
+    → prefix_value tool given ≡ value
+    → prefix_for whose value ≡ Ok prefix
+    → IsPrefix whose tool given prefix
+prefix_is_so Command tool given prefix None last read = absurd (cc)
+prefix_is_so Command tool given prefix (Some []) last read = absurd (cc)
+prefix_is_so Command tool given prefix (Some (c ∷ value)) last read =
     let same : c ∷ value ≡ prefix = cc in (last ∙ ap Some same, λ empty. cc)
-prefix_is_so Line given prefix value last read = cc
+prefix_is_so Line tool given prefix value last read = cc
 
 -- with a prefix and the operands, what is read is asked for where no rule is broken
 pub rules_are_kept :
     (whose : WordsOf) (words : List Word) (tool : Tool) (given : List Given)
     (operands : List Word) (prefix : Word) (request : Request)
     → IsSpelt whose words tool given operands
-    → length operands ≡ operands_of tool
-    → IsPrefix whose given prefix
+    → operands_of tool ≤ length operands
+    → length operands ≤ most_operands tool
+    → IsPrefix whose tool given prefix
     → (broken : Option ℕ)
-    → broken_rule tool (without_prefix given) ≡ broken
+    → broken_rule tool (without_prefix tool given) ≡ broken
     → request_by_rules broken (record {
       tool = tool;
       prefix = prefix;
-      options = without_prefix given;
+      options = without_prefix tool given;
       operands = operands;
     })
     ≡ Ok request
     → AsksAs whose words request
-rules_are_kept whose words tool given operands prefix request is many stands (Some number) rules
-    read = absurd (cc)
-rules_are_kept whose words tool given operands prefix request is many stands None rules read =
+rules_are_kept whose words tool given operands prefix request is enough few stands (Some number)
+    rules read = absurd (cc)
+rules_are_kept whose words tool given operands prefix request is enough few stands None rules
+    read =
     let same : record {
       tool = tool;
       prefix = prefix;
-      options = without_prefix given;
+      options = without_prefix tool given;
       operands = operands;
     }
     ≡ request = cc in
@@ -243,7 +245,8 @@ rules_are_kept whose words tool given operands prefix request is many stands Non
       given = given;
       spelled = is.spelled;
       prefix = stands;
-      operands = many;
+      enough = enough;
+      few = few;
       options = refl;
       rules = rules;
     })
@@ -253,28 +256,27 @@ pub prefix_is_kept :
     (whose : WordsOf) (words : List Word) (tool : Tool) (given : List Given)
     (operands : List Word) (request : Request)
     → IsSpelt whose words tool given operands
-    → length operands ≤ operands_of tool
-    → (prefix : Option Word)
-    → prefix_for whose (last_value prefix_letter given) ≡ prefix
-    → request_with tool (without_prefix given) operands prefix ≡ Ok request
+    → length operands ≤ most_operands tool
+    → (prefix : Result Word WordFault)
+    → prefix_for whose (prefix_value tool given) ≡ prefix
+    → request_with tool (without_prefix tool given) operands prefix ≡ Ok request
     → AsksAs whose words request
-prefix_is_kept whose words tool given operands request is fits None found read = absurd (cc)
-prefix_is_kept whose words tool given operands request is fits (Some prefix) found read =
+prefix_is_kept whose words tool given operands request is fits (Err fault) found read =
+    absurd (cc)
+prefix_is_kept whose words tool given operands request is fits (Ok prefix) found read =
     elim (cases_Bool (nat_lt (length operands) (operands_of tool))) [
       | inl less ↦ absurd (few_operands less)
       | inr enough ↦
-          rules_are_kept whose words tool given operands prefix request is (many enough)
-          (prefix_is_so whose given prefix (last_value prefix_letter given) refl found)
-          (broken_rule tool (without_prefix given)) refl (rw enough at read)
+          rules_are_kept whose words tool given operands prefix request is (many enough) fits
+          (prefix_is_so whose tool given prefix (prefix_value tool given) refl found)
+          (broken_rule tool (without_prefix tool given)) refl (rw enough at read)
     ]
   where
     few_operands : nat_lt (length operands) (operands_of tool) ≡ true → ⊥
     few_operands less = let wrong : Err TooFew ≡ Ok request = rw less at read in cc
 
-    many : nat_lt (length operands) (operands_of tool) ≡ false → length operands ≡ operands_of tool
-    many enough =
-        let above : operands_of tool ≤ length operands =
-        ltb-false (length operands) (operands_of tool) enough in omega arith
+    many : nat_lt (length operands) (operands_of tool) ≡ false → operands_of tool ≤ length operands
+    many enough = ltb-false (length operands) (operands_of tool) enough
 
 -- what the words behind the name give
 pub arguments_are_kept :
@@ -283,7 +285,7 @@ pub arguments_are_kept :
     → words ≡ tool_name tool ∷ arguments
     → may_name whose tool ≡ true
     → (read : Result Arguments WordFault)
-    → IsReading (options_for whose tool) arguments (operands_of tool) read
+    → IsReading (options_for whose tool) arguments (most_operands tool) read
     → request_of_arguments whose tool read ≡ Ok request
     → AsksAs whose words request
 arguments_are_kept whose words arguments tool request limits named may (Ok found) reads read =
@@ -295,7 +297,7 @@ arguments_are_kept whose words arguments tool request limits named may (Ok found
       may_name = may;
       spelled = reads.0;
     })
-    reads.1 (prefix_for whose (last_value prefix_letter found.0)) refl read
+    reads.1 (prefix_for whose (prefix_value tool found.0)) refl read
 arguments_are_kept whose words arguments tool request limits named may (Err fault) reads read =
     absurd (cc)
 
@@ -313,8 +315,8 @@ tool_is_kept whose name arguments request limits (Some tool) found read =
     let table = options_for whose tool in
     arguments_are_kept whose (name ∷ arguments) arguments tool request limits
     (ap (λ word. word ∷ arguments) named.0) named.1
-    (read_arguments table None (operands_of tool) 1 arguments)
-    (read_is_spelled table (is_table_for whose tool) arguments (operands_of tool) 1) read
+    (read_arguments table None (most_operands tool) 1 arguments)
+    (read_is_spelled table (is_table_for whose tool) arguments (most_operands tool) 1) read
 
 -- words within the limits
 pub words_are_kept :

@@ -1,6 +1,7 @@
--- Claim: what each line's tool keeps, a batch keeps (`batch-keeps`). Way: the first line is carried out,
--- and so are those behind it on the files that it leaves (`line-carried`).
-use Rattle.std.proofs.Common.{◌≡◌, ℕ, List, [], ◌∷◌, refl, subst, ap}
+-- Claims: what each line's tool keeps, a batch keeps (`batch-keeps`), and one that ensures what stands
+-- already leaves all as it is (`done-lines-stay`). Way: the first line is carried out, and so are those
+-- behind it on the files that it leaves (`line-carried`).
+use Rattle.std.proofs.Common.{◌≡◌, ◌⊎◌, inl, inr, ℕ, Bool, true, false, ◌&&◌, if◌then◌else◌, List, [], ◌∷◌, refl, sym, ◌∙◌, subst, ap}
 use Rattle.std.specs.Prelude.{Option, Some, None, Result, Ok, Err}
 use Rattle.std.specs.List.{AllByRecursion}
 use Rattle.acct_text.specs.declared.files.Files.{Files}
@@ -9,7 +10,9 @@ use Rattle.account_model.specs.BatchLines.{LineRequest}
 use Rattle.account_model.specs.Settings.{Setting}
 use Rattle.account_model.specs.declared.refusal.Refusal.{Refusal}
 use Rattle.account_model.specs.Action.{Action, Made, made_by, multiple_entries, outcome_of}
-use Rattle.account_model.specs.Batch.{LineRefusal, Written, batch, before_others, with_rest, written_by}
+use Rattle.account_model.specs.declared.tool.Tool.{Tool}
+use Rattle.account_model.specs.Batch.{IsDoneOn, LineRefusal, Written, batch, before_others, in_turn, is_done, line_outcome, nothing_on, outcome_ensured, passed_by, with_rest, written_by}
+use Rattle.account_model.specs.Laws.{DoneLinesStay, LeavesAll}
 use Rattle.account_model.specs.Change.{action_of}
 
 -- what is wrapped in `Ok`
@@ -43,6 +46,21 @@ made-by action files made (Some r) multiple passes single is = absurd (cc)
 made-by action files made None (Some r) passes single is = absurd (cc)
 made-by action files made None None passes single is =
     record { passes = passes; single = single; makes = ok-inj _ _ refl refl is }
+
+-- a line that doesn't refuse is made as by itself, or passed by
+pub ensured-made :
+    (ensuring : Bool) (tool : Tool) (files : Files) (outcome : Result Made Refusal) (made : Made)
+    → outcome_ensured ensuring tool files outcome ≡ Ok made
+    → (outcome ≡ Ok made) ⊎ (made ≡ passed_by files)
+ensured-made ensuring tool files (Ok one) made is = inl is
+ensured-made ensuring tool files (Err refusal) made is = by (ensuring && is_done tool refusal) is
+  where
+    by :
+        (passes : Bool)
+        → (if passes then Ok (passed_by files) else Err refusal) ≡ Ok made
+        → (Err refusal ≡ Ok made) ⊎ (made ≡ passed_by files)
+    by true is = inr (sym (ok-inj _ _ refl refl is))
+    by false is = absurd (cc is)
 
 -- what has an outcome that isn't a refusal is made
 pub outcome-made :
@@ -89,7 +107,7 @@ line-carried line (Err refusal) rest written is = absurd (cc)
 line-carried line (Ok made) rest written is =
     others-carried made (written_by line.request.tool made) written rest (rest made.files) refl is
 
-module _ (day : ℕ) (settings : List Setting) (Holds : Files → Type 0) where
+module _ (ensuring : Bool) (day : ℕ) (settings : List Setting) (Holds : Files → Type 0) where
   -- the line's tool keeps it, on whatever files
   abbrev pub LineKeeps : LineRequest → Type 0
   LineKeeps line = (files : Files) (made : Made)
@@ -102,18 +120,45 @@ module _ (day : ℕ) (settings : List Setting) (Holds : Files → Type 0) where
       (IsSo : LineRequest → Type 0) (lines : List LineRequest) (old : Files) (written : Written)
       → ((line : LineRequest) → IsSo line → LineKeeps line)
       → AllByRecursion IsSo lines
-      → batch lines day settings old ≡ Ok written
+      → batch ensuring lines day settings old ≡ Ok written
       → Holds old
       → Holds written.files
   batch-keeps IsSo [] old written keep all is holds =
       subst (λ (one : Written). Holds one.files) (ok-inj _ _ refl refl is) holds
   batch-keeps IsSo (line ∷ rest) old written keep all is holds =
-      let carried = line-carried line
-      (outcome_of (action_of line.request [] day old settings) old) (batch rest day settings)
-      written is
+      let carried = line-carried line (line_outcome ensuring line.request day settings old)
+      (batch ensuring rest day settings) written is
+      in let kept : Holds carried.made.files = elim (ensured-made ensuring line.request.tool old
+      (outcome_of (action_of line.request [] day old settings) old) carried.made carried.is) [
+        | inl by_itself ↦ keep line all.0 old carried.made by_itself holds
+        | inr passed ↦ subst (λ (one : Made). Holds one.files) (sym passed) holds
+      ]
       in subst Holds carried.files
-      (batch-keeps IsSo rest carried.made.files carried.others keep all.1 carried.behind
-      (keep line all.0 old carried.made carried.is holds))
+      (batch-keeps IsSo rest carried.made.files carried.others keep all.1 carried.behind kept)
+
+-- a line that is done and those behind it leave all
+line-stays :
+    (line : LineRequest) (rest : List LineRequest) (day : ℕ) (settings : List Setting) (files : Files)
+    → IsDoneOn day settings files line
+    → LeavesAll rest day settings files
+    → LeavesAll (line ∷ rest) day settings files
+line-stays line rest day settings files done others =
+    let behind : batch true rest day settings done.made.files ≡ Ok others.written =
+    ap (λ (one : Files). batch true rest day settings one) done.stays ∙ others.is in
+    record {
+      written = in_turn (written_by line.request.tool done.made) others.written;
+      is = ap (λ (one : Result Made Refusal). with_rest line one (batch true rest day settings))
+          done.outcome
+          ∙ ap (before_others (written_by line.request.tool done.made)) behind;
+      stays = others.stays;
+    }
+
+-- the second claim
+pub done-lines-stay : DoneLinesStay
+done-lines-stay [] day settings files done =
+    record { written = nothing_on files; is = refl; stays = refl }
+done-lines-stay (line ∷ rest) day settings files done =
+    line-stays line rest day settings files done.0 (done-lines-stay rest day settings files done.1)
 
 -- what is so of any line is so of all
 pub any-line :

@@ -1,13 +1,14 @@
 -- The lines of a batch by their numbers, what they ask for, and the first that asks for nothing, each
 -- decided by computing.
 use Prim.Native.String.{String}
-use Rattle.std.specs.Prelude.{◌≡◌, ℕ, ◌==◌, List, [], ◌∷◌, ◌++◌, map, Some, None, codes, refl}
+use Rattle.std.specs.Prelude.{◌≡◌, ℕ, ◌==◌, List, [], ◌∷◌, ◌++◌, map, Some, None, Ok, Err, codes, refl}
 use Rattle.std.specs.List.{slice_split}
 use Rattle.std.specs.Str.{byte}
+use Rattle.acct_text.specs.Bytes.{newline}
 use Rattle.account_model.specs.declared.tool.Tool.TheVariants.{Useradd, Groupadd}
-use Rattle.account_model.specs.declared.word_fault.WordFault.TheVariants.{UnknownTool, UnknownOption, TooFew}
-use Rattle.account_model.specs.BatchLines.{batch_lines, first_faulty, line_requests}
-use Rattle.account_model.specs.LineWords.{backslash}
+use Rattle.account_model.specs.declared.word_fault.WordFault.TheVariants.{UnknownTool, UnknownOption, TooFew, LineEnd, Unclosed}
+use Rattle.account_model.specs.BatchLines.{BatchLine, batch_lines, first_faulty, line_requests}
+use Rattle.account_model.specs.LineWords.{backslash, carriage_return}
 use Rattle.account_model.specs.Options.{as_flag, as_value}
 use Rattle.account_model.proofs.SettingsImage.{file}
 
@@ -15,14 +16,21 @@ use Rattle.account_model.proofs.SettingsImage.{file}
 abbrev lines : String → List ℕ
 lines text = file (slice_split (λ c. c == 124) (codes text))
 
+-- the number of a line
+abbrev number_of : BatchLine → ℕ
+number_of (Ok line) = line.number
+number_of (Err line) = line.number
+
+-- the numbers of the lines that aren't skipped
+abbrev numbers : List ℕ → List ℕ
+numbers input = map number_of (batch_lines input)
+
 -- skipped lines count
-numbers_of_lines : map (λ line. line.number) (batch_lines (lines "# staff|groupadd a|| |groupadd b"))
-    ≡ 2 ∷ 5 ∷ []
+numbers_of_lines : numbers (lines "# staff|groupadd a|| |groupadd|  # b|groupadd 'b") ≡ 2 ∷ 5 ∷ 7 ∷ []
 numbers_of_lines = refl
 
 -- the last line needs no newline
-no_last_newline : map (λ line. line.number) (batch_lines (lines "groupadd a" ++ codes "groupadd b"))
-    ≡ 1 ∷ 2 ∷ []
+no_last_newline : numbers (lines "groupadd a" ++ codes "groupadd b") ≡ 1 ∷ 2 ∷ []
 no_last_newline = refl
 
 -- a comment, and two groups of which the first has a GID
@@ -67,24 +75,37 @@ no_faulty_line = refl
 
 -- `-P` is unknown in a line
 faulty_prefix_line : first_faulty (lines "groupadd -P X z") ≡ Some (record {
-  line = record {
-    number = 1;
-    words = codes "groupadd" ∷ codes "-P" ∷ codes "X" ∷ codes "z" ∷ [];
-  };
+  number = 1;
+  words = codes "groupadd" ∷ codes "-P" ∷ codes "X" ∷ codes "z" ∷ [];
   fault = UnknownOption 1;
 })
 faulty_prefix_line = refl
 
 -- the first faulty line counts, by its number among all
 second_line_faulty : first_faulty (lines "# a|groupadd a|groupadd|batch") ≡ Some (record {
-  line = record { number = 3; words = codes "groupadd" ∷ [] };
+  number = 3;
+  words = codes "groupadd" ∷ [];
   fault = TooFew;
 })
 second_line_faulty = refl
 
 -- a batch has no batches
 batch_in_batch : first_faulty (lines "batch") ≡ Some (record {
-  line = record { number = 1; words = codes "batch" ∷ [] };
+  number = 1;
+  words = codes "batch" ∷ [];
   fault = UnknownTool;
 })
 batch_in_batch = refl
+
+-- a line that isn't split has no words
+unclosed_line : first_faulty (lines "groupadd a|groupadd 'b|groupadd") ≡ Some (record {
+  number = 2;
+  words = [];
+  fault = Unclosed 10;
+})
+unclosed_line = refl
+
+-- a comment that ends in a carriage return
+line_end : first_faulty (codes "# a" ++ carriage_return ∷ newline ∷ codes "groupadd 'b") ≡
+    Some (record { number = 1; words = []; fault = LineEnd })
+line_end = refl

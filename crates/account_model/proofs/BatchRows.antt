@@ -8,7 +8,7 @@ use Rattle.acct_text.specs.declared.Tab.TheVariants.{Group}
 use Rattle.account_model.specs.LineWords.{backslash}
 use Rattle.account_model.specs.declared.word_fault.WordFault.{WordFault}
 use Rattle.account_model.specs.declared.refusal.Refusal.{Refusal}
-use Rattle.account_model.specs.declared.refusal.Refusal.TheVariants.{GroupExists, Multiple, NoShadow}
+use Rattle.account_model.specs.declared.refusal.Refusal.TheVariants.{GidInUse, GroupExists, Multiple, NoShadow}
 use Rattle.account_model.specs.Answer.{Answer, RefusedLine}
 use Rattle.account_model.proofs.Commands.{words, lines, answer_with, changed, same, small, nothing}
 
@@ -77,3 +77,29 @@ twice_in_group : batch_on (small "" "q:!:7:|q:!:8:") (lines "groupadd z|groupmod
     "batch: line 2: groupmod: group has multiple entries for q"
 unfolding digits
 twice_in_group = refl
+
+-- ---- Lines that are done already
+
+-- what a batch with `--ensure` answers
+abbrev ensuring_on : Files → List ℕ → Result Answer WordFault
+ensuring_on files input = answer_with input (words "batch -P R --ensure") files None
+
+-- who is there stays, and who is gone needs no removal; the others are carried out
+ensured : ensuring_on (small "ann:!:5:7::/:" "q:!:7:")
+    (lines "groupadd -g 9 q|useradd -u 6 ann|userdel bea|groupdel z|gpasswd -d ann q|groupadd -g 8 p")
+    ≡ changed (small "ann:!:5:7::/:" "q:!:7:|p:!:8:")
+unfolding digits
+ensured = refl
+
+-- what it has made it finds made
+ensured_again : ensuring_on (small "ann:!:5:7::/:" "q:!:7:|p:!:8:")
+    (lines "groupadd -g 9 q|useradd -u 6 ann|userdel bea|groupdel z|gpasswd -d ann q|groupadd -g 8 p")
+    ≡ same
+unfolding digits
+ensured_again = refl
+
+-- any other refusal refuses it: a GID that another group has
+other_refusal : ensuring_on (small "" "q:!:7:") (lines "groupadd q|groupadd -g 7 p")
+    ≡ refused_line 2 4 (GidInUse 7) "batch: line 2: groupadd: GID 7 is in use"
+unfolding digits
+other_refusal = refl

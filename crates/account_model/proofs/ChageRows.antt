@@ -42,43 +42,50 @@ on_demand = refl
 
 -- `chage -P R -W x -d 2024-02-30 ann`
 bad_last_change : on image (words "chage -P R -W x -d 2024-02-30 ann")
-    ≡ refused 2 (BadValue (byte "d") (codes "2024-02-30")) "chage: invalid value for -d: 2024-02-30"
+    ≡ refused 2 (BadValue (byte "d") (codes "2024-02-30"))
+    "chage: invalid value for -d: 2024-02-30 (a date as 2026-01-31, days since 1970-01-01, or -1)"
 unfolding digits
 bad_last_change = refl
 
 -- `chage -P R -W x -E 2024-02-30 bob`
 bad_expiration : on image (words "chage -P R -W x -E 2024-02-30 bob")
-    ≡ refused 2 (BadValue (byte "E") (codes "2024-02-30")) "chage: invalid value for -E: 2024-02-30"
+    ≡ refused 2 (BadValue (byte "E") (codes "2024-02-30"))
+    "chage: invalid value for -E: 2024-02-30 (a date as 2026-01-31, days since 1970-01-01, or -1)"
 unfolding digits
 bad_expiration = refl
 
 -- `chage -P R -m x -I -2 bob`
 bad_inactive : on image (words "chage -P R -m x -I -2 bob")
-    ≡ refused 2 (BadValue (byte "I") (codes "-2")) "chage: invalid value for -I: -2"
+    ≡ refused 2 (BadValue (byte "I") (codes "-2"))
+    "chage: invalid value for -I: -2 (-1 or a number from 0 to 2147483647)"
 unfolding digits
 bad_inactive = refl
 
 -- `chage -P R -M x -m y bob`
 bad_minimum : on image (words "chage -P R -M x -m y bob")
-    ≡ refused 2 (BadValue (byte "m") (codes "y")) "chage: invalid value for -m: y"
+    ≡ refused 2 (BadValue (byte "m") (codes "y"))
+    "chage: invalid value for -m: y (-1 or a number from 0 to 2147483647)"
 unfolding digits
 bad_minimum = refl
 
 -- `chage -P R -W x -M 2147483648 bob`
 bad_maximum : on image (words "chage -P R -W x -M 2147483648 bob")
-    ≡ refused 2 (BadValue (byte "M") (codes "2147483648")) "chage: invalid value for -M: 2147483648"
+    ≡ refused 2 (BadValue (byte "M") (codes "2147483648"))
+    "chage: invalid value for -M: 2147483648 (-1 or a number from 0 to 2147483647)"
 unfolding digits
 bad_maximum = refl
 
 -- `chage -P R -W 2024-01-01 ann`
 bad_warning : on image (words "chage -P R -W 2024-01-01 ann")
-    ≡ refused 2 (BadValue (byte "W") (codes "2024-01-01")) "chage: invalid value for -W: 2024-01-01"
+    ≡ refused 2 (BadValue (byte "W") (codes "2024-01-01"))
+    "chage: invalid value for -W: 2024-01-01 (-1 or a number from 0 to 2147483647)"
 unfolding digits
 bad_warning = refl
 
 -- `chage -P R -E  bob`: an empty value is no date here
 empty_expiration : on image (words "chage -P R -E  bob")
-    ≡ refused 2 (BadValue (byte "E") []) "chage: invalid value for -E: "
+    ≡ refused 2 (BadValue (byte "E") [])
+    "chage: invalid value for -E:  (a date as 2026-01-31, days since 1970-01-01, or -1)"
 unfolding digits
 empty_expiration = refl
 

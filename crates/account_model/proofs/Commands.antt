@@ -46,6 +46,16 @@ plainly_on files words = answer_to words files None
 abbrev pub changed : Files → Result Answer WordFault
 changed files = Ok (record { cause = Changed files; status = 0; output = []; error = [] })
 
+-- the tables become these, with a notice on the error stream
+abbrev pub changed_with : String → Files → Result Answer WordFault
+changed_with notice files = Ok (record {
+  cause = Changed files;
+  status = 0;
+  output = [];
+  error = codes
+      notice ++ newline ∷ [];
+})
+
 -- all tables stay
 abbrev pub same : Result Answer WordFault
 same = Ok (record { cause = Same; status = 0; output = []; error = [] })

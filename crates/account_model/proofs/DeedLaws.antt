@@ -22,7 +22,7 @@ use Rattle.account_model.specs.Settings.{Setting, settings_of}
 use Rattle.account_model.specs.Words.{is_batch}
 use Rattle.account_model.specs.Request.{Request}
 use Rattle.account_model.specs.Action.{Action, Made, outcome_of}
-use Rattle.account_model.specs.Batch.{LineRefusal, Written, batch, written_by}
+use Rattle.account_model.specs.Batch.{LineRefusal, Written, batch, ensures, written_by}
 use Rattle.account_model.specs.Change.{action_of}
 use Rattle.acct_text.specs.Limits.{table_limit}
 use Rattle.acct_text.specs.Tables.{all_tables}
@@ -135,7 +135,7 @@ pub record IsByLines (request : Request) (input : List ℕ) (day : ℕ) (old : F
     (settings : List Setting) (new : Files) : Type 0 where
   pub is : is_batch request.tool ≡ true
   pub written : Written
-  pub outcome : batch (line_requests input) day settings old ≡ Ok written
+  pub outcome : batch (ensures request) (line_requests input) day settings old ≡ Ok written
   pub files : written.files ≡ new
 
 -- the request's tool makes them
@@ -181,7 +181,7 @@ module _ (request : Request) (input : List ℕ) (day : ℕ) (old : Files) (setti
   lines-make :
       (outcome : Result Written LineRefusal)
       → is_batch request.tool ≡ true
-      → batch (line_requests input) day settings old ≡ outcome
+      → batch (ensures request) (line_requests input) day settings old ≡ outcome
       → new_files (answer_lines old outcome).cause ≡ Some new
       → IsMadeNew × IsOther old new
   lines-make (Err line) is outcome e = absurd (cc)
@@ -206,12 +206,13 @@ module _ (request : Request) (input : List ℕ) (day : ℕ) (old : Files) (setti
   under-makes :
       (is : Bool)
       → is_batch request.tool ≡ is
-      → new_files (if is then answer_lines old (batch (line_requests input) day settings old)
+      → new_files (if is
+      then answer_lines old (batch (ensures request) (line_requests input) day settings old)
       else answer_outcome request.tool old
       (outcome_of (action_of request input day old settings) old)).cause ≡ Some new
       → IsMadeNew × IsOther old new
   under-makes true is e =
-      lines-make (batch (line_requests input) day settings old) is refl e
+      lines-make (batch (ensures request) (line_requests input) day settings old) is refl e
   under-makes false is e =
       tool-makes (outcome_of (action_of request input day old settings) old) refl e
 
@@ -253,12 +254,12 @@ made-stands action old made outcome tab =
 
 -- what the lines of a batch make
 pub batch-stands :
-    (lines : List LineRequest) (day : ℕ) (settings : List Setting) (old : Files)
+    (ensuring : Bool) (lines : List LineRequest) (day : ℕ) (settings : List Setting) (old : Files)
     (written : Written)
-    → batch lines day settings old ≡ Ok written
+    → batch ensuring lines day settings old ≡ Ok written
     → StandAlike old written.files
-batch-stands lines day settings old written outcome =
-    batch-keeps day settings (StandAlike old) (λ line. ⊤) lines old written
+batch-stands ensuring lines day settings old written outcome =
+    batch-keeps ensuring day settings (StandAlike old) (λ line. ⊤) lines old written
     (λ line so files made is alike tab.
     made-stands (action_of line.request [] day files settings) files made is tab ∙ alike tab)
     (any-line (λ line. ⊤) lines (λ line. tt)) outcome (λ tab. refl)
@@ -271,7 +272,8 @@ new-stand :
     → StandAlike old new
 new-stand request input day old settings new (inl by_lines) =
     subst (StandAlike old) by_lines.files
-    (batch-stands (line_requests input) day settings old by_lines.written by_lines.outcome)
+    (batch-stands (ensures request) (line_requests input) day settings old by_lines.written
+    by_lines.outcome)
 new-stand request input day old settings new (inr by_tool) =
     subst (StandAlike old) by_tool.files
     (made-stands (action_of request input day old settings) old by_tool.made by_tool.outcome)

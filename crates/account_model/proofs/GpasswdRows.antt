@@ -99,7 +99,8 @@ ghost_member = refl
 
 -- `gpasswd -P R -a a,b q`: a name with a comma can't stand in a list, which is tested before multiple entries
 comma_name : plainly_on (small "a,b:x:1:1:::" "q:x:5:|q:x:5:") (words "gpasswd -P R -a a,b q")
-    ≡ refused 3 (BadName (codes "a,b")) "gpasswd: invalid name: a,b"
+    ≡ refused 3 (BadName (codes "a,b"))
+    "gpasswd: invalid name: a,b (1 to 32 letters, digits, _ . or -, not - first, not digits alone)"
 unfolding digits
 comma_name = refl
 

@@ -55,7 +55,8 @@ forced_name = refl
 
 -- `groupadd -P R -f -p : sudo`: but its values are tested
 forced_bad_value : on image (words "groupadd -P R -f -p : sudo")
-    ≡ refused 3 (BadValue (byte "p") (codes ":")) "groupadd: invalid value for -p: :"
+    ≡ refused 3 (BadValue (byte "p") (codes ":"))
+    "groupadd: invalid value for -p: : (no : and no newline)"
 unfolding digits
 forced_bad_value = refl
 
@@ -85,7 +86,8 @@ own_hash = refl
 
 -- `groupadd -P R -K x q:`
 invalid_name : on image (words "groupadd -P R -K x q:")
-    ≡ refused 3 (BadName (codes "q:")) "groupadd: invalid name: q:"
+    ≡ refused 3 (BadName (codes "q:"))
+    "groupadd: invalid name: q: (1 to 32 letters, digits, _ . or -, not - first, not digits alone)"
 unfolding digits
 invalid_name = refl
 
@@ -97,14 +99,15 @@ invalid_setting = refl
 
 -- `groupadd -P R -g x -p a:b q`
 invalid_hash : on image (words "groupadd -P R -g x -p a:b q")
-    ≡ refused 3 (BadValue (byte "p") (codes "a:b")) "groupadd: invalid value for -p: a:b"
+    ≡ refused 3 (BadValue (byte "p") (codes "a:b"))
+    "groupadd: invalid value for -p: a:b (no : and no newline)"
 unfolding digits
 invalid_hash = refl
 
 -- `groupadd -P R -g 4294967295 sudo`
 invalid_gid : on image (words "groupadd -P R -g 4294967295 sudo")
     ≡ refused 3 (BadValue (byte "g") (codes "4294967295"))
-    "groupadd: invalid value for -g: 4294967295"
+    "groupadd: invalid value for -g: 4294967295 (a number from 0 to 4294967294)"
 unfolding digits
 invalid_gid = refl
 

@@ -65,19 +65,22 @@ own_gid = refl
 
 -- `groupmod -P R -g x -n - bob`
 invalid_gid : on image (words "groupmod -P R -g x -n - bob")
-    ≡ refused 3 (BadValue (byte "g") (codes "x")) "groupmod: invalid value for -g: x"
+    ≡ refused 3 (BadValue (byte "g") (codes "x"))
+    "groupmod: invalid value for -g: x (a number from 0 to 4294967294)"
 unfolding digits
 invalid_gid = refl
 
 -- `groupmod -P R -p : -n - bob`
 invalid_name : on image (words "groupmod -P R -p : -n - bob")
-    ≡ refused 3 (BadValue (byte "n") (codes "-")) "groupmod: invalid value for -n: -"
+    ≡ refused 3 (BadValue (byte "n") (codes "-"))
+    "groupmod: invalid value for -n: - (1 to 32 letters, digits, _ . or -, not - first, not digits alone)"
 unfolding digits
 invalid_name = refl
 
 -- `groupmod -P R -p : staff`
 invalid_hash : on image (words "groupmod -P R -p : staff")
-    ≡ refused 3 (BadValue (byte "p") (codes ":")) "groupmod: invalid value for -p: :"
+    ≡ refused 3 (BadValue (byte "p") (codes ":"))
+    "groupmod: invalid value for -p: : (no : and no newline)"
 unfolding digits
 invalid_hash = refl
 

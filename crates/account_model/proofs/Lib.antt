@@ -56,7 +56,8 @@ pub mod SubidLaws
 pub mod DateTextLaws
 pub mod DatesLaws
 pub mod AsksLaws
-pub mod LineWordsLaws
+pub mod ReadIsSplit
+pub mod SplitIsRead
 pub mod ReadIsSpelled
 pub mod SpelledIsRead
 pub mod DateRows

@@ -33,16 +33,30 @@ long_word :
 unfolding digits
 long_word = refl
 
-no_words : tell [] ≡ told 2 "accounts: no command given"
+no_words : tell [] ≡ told 2 "accounts: no command given: accounts --help lists them"
 no_words = refl
 
 unknown_tool : tell (words "adduser ann") ≡ told 2 "accounts: unknown command adduser"
 unknown_tool = refl
 
+-- a byte left out, one too many, another one, and a missing last one
+near_tools :
+    (tell (words "usradd ann") ≡ told 2 "accounts: unknown command usradd (useradd?)")
+    × (tell (words "pwcck") ≡ told 2 "accounts: unknown command pwcck (pwck?)")
+    × (tell (words "groupbdd x") ≡ told 2 "accounts: unknown command groupbdd (groupadd?)")
+    × (tell (words "chag x") ≡ told 2 "accounts: unknown command chag (chage?)")
+near_tools = (refl, refl, refl, refl)
+
 unknown_option :
     tell (words "useradd -aG sudo bob") ≡ told 2 "useradd: unknown option in word 1: -aG"
 unfolding digits
 unknown_option = refl
+
+wrapped_option :
+    tell (words "userdel --remove bob") ≡ told 2
+    "userdel: unknown option in word 1: --remove (the wrapper by the old names has it)"
+unfolding digits
+wrapped_option = refl
 
 missing_value : tell (words "gpasswd sudo -P") ≡ told 2 "gpasswd: option in word 2 needs a value"
 unfolding digits
@@ -56,12 +70,20 @@ too_many : tell (words "getsubids -P R bob ann") ≡ told 1 "getsubids: unexpect
 unfolding digits
 too_many = refl
 
-no_prefix : tell (words "groupadd staff") ≡ told 2 "groupadd: option -P is required"
+many_files : tell (words "batch -P R a b") ≡ told 2 "batch: unexpected word 4: b"
+unfolding digits
+many_files = refl
+
+no_prefix : tell (words "groupadd staff") ≡ told 2
+    "groupadd: option -P is required: -P DIR is the image in DIR, -P / this system"
 no_prefix = refl
+
+empty_prefix :
+    tell (words "groupadd -P  staff") ≡ told 2 "groupadd: value of -P is empty: -P / is this system"
+empty_prefix = refl
 
 too_few : tell (words "chage -P R -l") ≡ told 2 "chage: missing operand"
 too_few = refl
 
-clash : tell (words "pwck -P R -rs") ≡ told 1 "pwck: options break rule 2"
-unfolding digits
+clash : tell (words "pwck -P R -rs") ≡ told 1 "pwck: -r and -s exclude each other"
 clash = refl

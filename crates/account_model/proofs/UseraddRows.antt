@@ -9,7 +9,7 @@ use Rattle.account_model.specs.declared.word_fault.WordFault.TheVariants.{Unknow
 use Rattle.account_model.specs.Answer.{BadSettingAt}
 use Rattle.account_model.proofs.Image.{image, image_passwd, image_shadow}
 use Rattle.account_model.proofs.SettingsImage.{file}
-use Rattle.account_model.proofs.Commands.{words, lines, answer_to, on, plainly_on, changed, refused, unusable, image_group_with, image_gshadow_with, with_ann, image_and, small, nothing}
+use Rattle.account_model.proofs.Commands.{words, lines, answer_to, on, plainly_on, changed, changed_with, refused, unusable, image_group_with, image_gshadow_with, with_ann, image_and, small, nothing}
 
 -- `useradd -P R -c "Ann Lee" -G sudo ann`: a user with a comment and a group
 new_user : on image (words "useradd -P R -c" ++ codes "Ann Lee" ∷ words "-G sudo ann")
@@ -115,9 +115,29 @@ hexadecimal_setting = refl
 -- `useradd -P R -N -c C -b /b -s /s -p h -u 7 -e 2024-10-04 -f 3 ann`: each option sets its field; without shadow the hash stands in passwd, and `-e` and `-f` have no effect
 all_fields :
     plainly_on nothing (words "useradd -P R -N -c C -b /b -s /s -p h -u 7 -e 2024-10-04 -f 3 ann")
-    ≡ changed (record nothing { passwd = Some (lines "ann:h:7:100:C:/b/ann:/s") })
+    ≡ changed_with "useradd: password of ann stands in passwd, as shadow does not exist"
+    (record nothing { passwd = Some (lines "ann:h:7:100:C:/b/ann:/s") })
 unfolding digits
 all_fields = refl
+
+-- `useradd -P R -N -p !h ann`: no notice of a hash that opens nothing
+locked_hash : plainly_on nothing (words "useradd -P R -N -p !h ann")
+    ≡ changed (record nothing { passwd = Some (lines "ann:!h:1000:100::/home/ann:") })
+unfolding digits
+locked_hash = refl
+
+-- `useradd -P R -N -p * ann`
+no_hash : plainly_on nothing (words "useradd -P R -N -p * ann")
+    ≡ changed (record nothing { passwd = Some (lines "ann:*:1000:100::/home/ann:") })
+unfolding digits
+no_hash = refl
+
+-- `useradd -P R -N -p  ann`: an empty hash opens the account
+empty_hash : plainly_on nothing (words "useradd -P R -N -p  ann")
+    ≡ changed_with "useradd: password of ann stands in passwd, as shadow does not exist"
+    (record nothing { passwd = Some (lines "ann::1000:100::/home/ann:") })
+unfolding digits
+empty_hash = refl
 
 -- `useradd -P R -N -d /d -p h -e 2024-10-04 -f 3 -K PASS_WARN_AGE=5 ann`: with shadow they stand there
 all_shadow_fields : plainly_on (record nothing { shadow = Some [] })
@@ -161,7 +181,8 @@ shadow_line_is_put = refl
 
 -- `useradd -P R -K x -c : 12`: the refusals of useradd, in their order
 bad_login : on image (words "useradd -P R -K x -c : 12")
-    ≡ refused 3 (BadName (codes "12")) "useradd: invalid name: 12"
+    ≡ refused 3 (BadName (codes "12"))
+    "useradd: invalid name: 12 (1 to 32 letters, digits, _ . or -, not - first, not digits alone)"
 unfolding digits
 bad_login = refl
 
@@ -174,50 +195,57 @@ bad_key = refl
 -- `useradd -P R -u 4294967295 -p a:b -s sh -f -2 -e x -b : -d home -c : bob`
 bad_value_c :
     on image (words "useradd -P R -u 4294967295 -p a:b -s sh -f -2 -e x -b : -d home -c : bob")
-    ≡ refused 3 (BadValue (byte "c") (codes ":")) "useradd: invalid value for -c: :"
+    ≡ refused 3 (BadValue (byte "c") (codes ":"))
+    "useradd: invalid value for -c: : (no : and no newline)"
 unfolding digits
 bad_value_c = refl
 
 -- `useradd -P R -u 4294967295 -p a:b -s sh -f -2 -e x -b : -d home bob`
 bad_value_d : on image (words "useradd -P R -u 4294967295 -p a:b -s sh -f -2 -e x -b : -d home bob")
-    ≡ refused 3 (BadValue (byte "d") (codes "home")) "useradd: invalid value for -d: home"
+    ≡ refused 3 (BadValue (byte "d") (codes "home"))
+    "useradd: invalid value for -d: home (a path that begins with /, no : and no newline)"
 unfolding digits
 bad_value_d = refl
 
 -- `useradd -P R -u 4294967295 -p a:b -s sh -f -2 -e x -b : bob`
 bad_value_b : on image (words "useradd -P R -u 4294967295 -p a:b -s sh -f -2 -e x -b : bob")
-    ≡ refused 3 (BadValue (byte "b") (codes ":")) "useradd: invalid value for -b: :"
+    ≡ refused 3 (BadValue (byte "b") (codes ":"))
+    "useradd: invalid value for -b: : (a path that begins with /, no : and no newline)"
 unfolding digits
 bad_value_b = refl
 
 -- `useradd -P R -u 4294967295 -p a:b -s sh -f -2 -e x bob`
 bad_value_e : on image (words "useradd -P R -u 4294967295 -p a:b -s sh -f -2 -e x bob")
-    ≡ refused 3 (BadValue (byte "e") (codes "x")) "useradd: invalid value for -e: x"
+    ≡ refused 3 (BadValue (byte "e") (codes "x"))
+    "useradd: invalid value for -e: x (a date as 2026-01-31, days since 1970-01-01, or -1)"
 unfolding digits
 bad_value_e = refl
 
 -- `useradd -P R -u 4294967295 -p a:b -s sh -f -2 bob`
 bad_value_f : on image (words "useradd -P R -u 4294967295 -p a:b -s sh -f -2 bob")
-    ≡ refused 3 (BadValue (byte "f") (codes "-2")) "useradd: invalid value for -f: -2"
+    ≡ refused 3 (BadValue (byte "f") (codes "-2"))
+    "useradd: invalid value for -f: -2 (-1 or a number from 0 to 2147483647)"
 unfolding digits
 bad_value_f = refl
 
 -- `useradd -P R -u 4294967295 -p a:b -s sh bob`
 bad_value_s : on image (words "useradd -P R -u 4294967295 -p a:b -s sh bob")
-    ≡ refused 3 (BadValue (byte "s") (codes "sh")) "useradd: invalid value for -s: sh"
+    ≡ refused 3 (BadValue (byte "s") (codes "sh"))
+    "useradd: invalid value for -s: sh (a path that begins with /, no : and no newline)"
 unfolding digits
 bad_value_s = refl
 
 -- `useradd -P R -u 4294967295 -p a:b bob`
 bad_value_p : on image (words "useradd -P R -u 4294967295 -p a:b bob")
-    ≡ refused 3 (BadValue (byte "p") (codes "a:b")) "useradd: invalid value for -p: a:b"
+    ≡ refused 3 (BadValue (byte "p") (codes "a:b"))
+    "useradd: invalid value for -p: a:b (no : and no newline)"
 unfolding digits
 bad_value_p = refl
 
 -- `useradd -P R -u 4294967295 bob`
 bad_value_u : on image (words "useradd -P R -u 4294967295 bob")
     ≡ refused 3 (BadValue (byte "u") (codes "4294967295"))
-    "useradd: invalid value for -u: 4294967295"
+    "useradd: invalid value for -u: 4294967295 (a number from 0 to 4294967294)"
 unfolding digits
 bad_value_u = refl
 

@@ -1,13 +1,11 @@
 -- userdel from its words to its answer, each row decided by computing.
-use Rattle.std.specs.Prelude.{◌≡◌, [], ◌∷◌, ◌++◌, codes, refl, Some, Ok}
+use Rattle.std.specs.Prelude.{◌≡◌, [], ◌++◌, codes, refl, Some}
 use Rattle.std.specs.Fmt.{digits}
 use Rattle.acct_text.specs.declared.Tab.TheVariants.{Passwd, Shadow, Group}
 use Rattle.account_model.specs.declared.refusal.Refusal.TheVariants.{NoUser, Multiple}
-use Rattle.acct_text.specs.Bytes.{newline}
-use Rattle.account_model.specs.Answer.{Changed}
 use Rattle.account_model.proofs.Image.{image, image_passwd, image_group, image_gshadow}
 use Rattle.account_model.proofs.SettingsImage.{file}
-use Rattle.account_model.proofs.Commands.{words, lines, answer_to, on, plainly_on, changed, refused, with_ann, small}
+use Rattle.account_model.proofs.Commands.{words, lines, answer_to, on, plainly_on, changed, changed_with, refused, with_ann, small}
 
 -- `userdel -P R ann`: the group of the user's name stays: carl has it
 removed : on (record with_ann {
@@ -15,15 +13,10 @@ removed : on (record with_ann {
       (file image_passwd ++ lines
       "ann:x:1001:1001:Ann Lee:/home/ann:|carl:x:1002:1001::/home/carl:");
 }) (words "userdel -P R ann")
-    ≡ Ok (record {
-      cause = Changed (record image {
-        passwd = Some (file image_passwd ++ lines "carl:x:1002:1001::/home/carl:");
-        group = Some (file image_group ++ lines "ann:x:1001:");
-        gshadow = Some (file image_gshadow ++ lines "ann:!::");
-      });
-      status = 0;
-      output = [];
-      error = codes "userdel: group ann kept: primary group of carl" ++ newline ∷ [];
+    ≡ changed_with "userdel: group ann kept: primary group of carl" (record image {
+      passwd = Some (file image_passwd ++ lines "carl:x:1002:1001::/home/carl:");
+      group = Some (file image_group ++ lines "ann:x:1001:");
+      gshadow = Some (file image_gshadow ++ lines "ann:!::");
     })
 unfolding digits
 removed = refl
@@ -44,13 +37,8 @@ removed_with_group = refl
 members_left : answer_to (words "userdel -f -P R a")
     (record (small "a:x:1:1::/:" "a:x:1:a,b") { gshadow = Some (lines "a:!:b,a:a") })
     (Some (lines "USERGROUPS_ENAB yes"))
-    ≡ Ok (record {
-      cause = Changed (record (small "" "a:x:1:b")
-          { passwd = Some []; gshadow = Some (lines "a:!:b:") });
-      status = 0;
-      output = [];
-      error = codes "userdel: group a kept: it has members" ++ newline ∷ [];
-    })
+    ≡ changed_with "userdel: group a kept: it has members" (record (small "" "a:x:1:b")
+    { passwd = Some []; gshadow = Some (lines "a:!:b:") })
 unfolding digits
 members_left = refl
 
@@ -97,12 +85,7 @@ userdel_multiple_group = refl
 -- `userdel -P R a`: of two reasons to keep the group the notice names the members
 members_first : answer_to (words "userdel -P R a") (small "a:x:1:1::/:|c:x:2:1::/:" "a:x:1:b")
     (Some (lines "USERGROUPS_ENAB yes"))
-    ≡ Ok (record {
-      cause = Changed (small "c:x:2:1::/:" "a:x:1:b");
-      status = 0;
-      output = [];
-      error = codes "userdel: group a kept: it has members" ++ newline ∷ [];
-    })
+    ≡ changed_with "userdel: group a kept: it has members" (small "c:x:2:1::/:" "a:x:1:b")
 unfolding digits
 members_first = refl
 

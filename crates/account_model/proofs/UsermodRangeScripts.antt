@@ -1,19 +1,22 @@
 -- The subordinate ranges that usermod removes and adds can stand in lines: `range-edits-written`. Way: a value of `-v` or
 -- `-w` names two IDs in their order (`values-ordered`), and what is left of a range keeps its bounds (`left-held`).
 use Rattle.std.proofs.Common.{◌≡◌, ℕ, ◌+◌, ◌-◌, ◌<◌, ◌≤◌, min, max, Bool, true, false, List, [], ◌∷◌, map, refl, subst, arith}
-use Rattle.std.specs.Prelude.{Option, Some, None, filter_map, nat_le, nat_lt, if◌then◌else◌}
+use Rattle.std.specs.Prelude.{Option, Some, None, filter_map, nat_le, nat_lt, unwrap_or, if◌then◌else◌}
 use Rattle.std.specs.List.{AllByRecursion, cons_option}
 use Rattle.std.proofs.lemmas.Bool.{leb-true, ltb-true}
+use Rattle.acct_text.specs.Lines.{Line, lines_of}
 use Rattle.acct_text.specs.Pieces.{cut_at}
 use Rattle.acct_text.proofs.NumberLaws.{some-inj, number-is}
 use Rattle.account_model.specs.declared.records.SubidRecord.{SubidRecord}
 use Rattle.account_model.specs.Text.{hyphen}
 use Rattle.account_model.specs.Format.{is_named}
+use Rattle.account_model.specs.Edits.{edited, edited_by}
 use Rattle.account_model.specs.Records.{subid_format, greatest_id, read_id, last_id}
 use Rattle.account_model.specs.RecordEdits.{IsWrittenEdit}
 use Rattle.account_model.specs.Written.{IsWritten, IsNameField, IsSubid}
+use Rattle.account_model.specs.Request.{Request, values_of}
 use Rattle.account_model.specs.SubidOwner.{is_owned, left_below, left_above, left_without}
-use Rattle.account_model.specs.UsermodRanges.{IdRange, range_of_ids, range_of_pieces, range_value, RangeOwner, RangeChange, rename_owner, cut_range, add_range, edits_before_adding, range_edits}
+use Rattle.account_model.specs.UsermodRanges.{IdRange, range_of_ids, range_of_pieces, range_value, ranges_given, RangeOwner, RangeChange, change_asked, rename_owner, cut_range, add_range, edits_before_adding, range_edits, has_range, new_ranges, change_in}
 use Rattle.account_model.proofs.HeldLaws.{subid-holds, each_where-written}
 use Rattle.account_model.proofs.ListLaws.{all-append}
 
@@ -72,6 +75,38 @@ pub values-ordered :
 values-ordered [] = tt
 values-ordered (value ∷ values) = values-by (range_value value) (filter_map range_value values)
     (λ ids e. pieces-ordered (cut_at hyphen value) ids e) (values-ordered values)
+
+-- ranges of which one may be left out
+lacked-by :
+    (ids : IdRange) (ranges others : List IdRange) (held : Bool)
+    → IsOrdered ids
+    → AllByRecursion IsOrdered ranges
+    → AllByRecursion IsOrdered others
+    → AllByRecursion IsOrdered (if held then ranges else ids ∷ others)
+lacked-by ids ranges others true one all also = all
+lacked-by ids ranges others false one all also = (one, also)
+
+-- the ranges that the user lacks
+new-ordered :
+    (owner : RangeOwner) (ranges : List IdRange) (lines : List Line)
+    → AllByRecursion IsOrdered ranges
+    → AllByRecursion IsOrdered (new_ranges owner ranges lines)
+new-ordered owner [] lines all = tt
+new-ordered owner (ids ∷ ranges) lines all =
+    lacked-by ids (new_ranges owner ranges lines)
+    (new_ranges owner ranges (edited subid_format lines (add_range owner ids)))
+    (has_range owner ids lines) all.0
+    (new-ordered owner ranges lines all.1)
+    (new-ordered owner ranges (edited subid_format lines (add_range owner ids)) all.1)
+
+-- the ranges that a change adds to a file
+pub added-ordered :
+    (bytes : Option (List ℕ)) (owner : RangeOwner) (removing adding : List ℕ) (request : Request)
+    → AllByRecursion IsOrdered (change_in bytes owner (change_asked removing adding request)).added
+added-ordered bytes owner removing adding request = new-ordered owner (ranges_given adding request)
+    (edited_by subid_format (edits_before_adding owner (change_asked removing adding request))
+    (lines_of (unwrap_or bytes [])))
+    (values-ordered (values_of adding request))
 
 -- what is left below, by whether there is some
 pub below-by :

@@ -10,85 +10,97 @@ use Rattle.account_model.proofs.Commands.{words, lines, on, plainly_on, same, re
 -- `usermod -P R -W 1-4294967295 -w 1- -V 1 -v 2-1 -u -1 -l -x -p a:b -s sh -f -2 -e x -d home -c : ann`: the refusals of usermod, in their order
 usermod_value_c : on image (words "usermod -P R -W 1-4294967295 -w 1- -V 1 -v 2-1 -u -1 -l -x"
     ++ words "-p a:b -s sh -f -2 -e x -d home -c : ann")
-    ≡ refused 3 (BadValue (byte "c") (codes ":")) "usermod: invalid value for -c: :"
+    ≡ refused 3 (BadValue (byte "c") (codes ":"))
+    "usermod: invalid value for -c: : (no : and no newline)"
 unfolding digits
 usermod_value_c = refl
 
 -- `usermod -P R -W 1-4294967295 -w 1- -V 1 -v 2-1 -u -1 -l -x -p a:b -s sh -f -2 -e x -d home ann`
 usermod_value_d : on image (words "usermod -P R -W 1-4294967295 -w 1- -V 1 -v 2-1 -u -1 -l -x"
     ++ words "-p a:b -s sh -f -2 -e x -d home ann")
-    ≡ refused 3 (BadValue (byte "d") (codes "home")) "usermod: invalid value for -d: home"
+    ≡ refused 3 (BadValue (byte "d") (codes "home"))
+    "usermod: invalid value for -d: home (a path that begins with /, no : and no newline)"
 unfolding digits
 usermod_value_d = refl
 
 -- `usermod -P R -W 1-4294967295 -w 1- -V 1 -v 2-1 -u -1 -l -x -p a:b -s sh -f -2 -e x ann`
 usermod_value_e : on image (words
     "usermod -P R -W 1-4294967295 -w 1- -V 1 -v 2-1 -u -1 -l -x -p a:b -s sh -f -2 -e x ann")
-    ≡ refused 3 (BadValue (byte "e") (codes "x")) "usermod: invalid value for -e: x"
+    ≡ refused 3 (BadValue (byte "e") (codes "x"))
+    "usermod: invalid value for -e: x (a date as 2026-01-31, days since 1970-01-01, or -1)"
 unfolding digits
 usermod_value_e = refl
 
 -- `usermod -P R -W 1-4294967295 -w 1- -V 1 -v 2-1 -u -1 -l -x -p a:b -s sh -f -2 ann`
 usermod_value_f : on image (words
     "usermod -P R -W 1-4294967295 -w 1- -V 1 -v 2-1 -u -1 -l -x -p a:b -s sh -f -2 ann")
-    ≡ refused 3 (BadValue (byte "f") (codes "-2")) "usermod: invalid value for -f: -2"
+    ≡ refused 3 (BadValue (byte "f") (codes "-2"))
+    "usermod: invalid value for -f: -2 (-1 or a number from 0 to 2147483647)"
 unfolding digits
 usermod_value_f = refl
 
 -- `usermod -P R -W 1-4294967295 -w 1- -V 1 -v 2-1 -u -1 -l -x -p a:b -s sh ann`
 usermod_value_s : on image (words
     "usermod -P R -W 1-4294967295 -w 1- -V 1 -v 2-1 -u -1 -l -x -p a:b -s sh ann")
-    ≡ refused 3 (BadValue (byte "s") (codes "sh")) "usermod: invalid value for -s: sh"
+    ≡ refused 3 (BadValue (byte "s") (codes "sh"))
+    "usermod: invalid value for -s: sh (a path that begins with /, no : and no newline)"
 unfolding digits
 usermod_value_s = refl
 
 -- `usermod -P R -W 1-4294967295 -w 1- -V 1 -v 2-1 -u -1 -l -x -p a:b ann`
 usermod_value_p : on image (words
     "usermod -P R -W 1-4294967295 -w 1- -V 1 -v 2-1 -u -1 -l -x -p a:b ann")
-    ≡ refused 3 (BadValue (byte "p") (codes "a:b")) "usermod: invalid value for -p: a:b"
+    ≡ refused 3 (BadValue (byte "p") (codes "a:b"))
+    "usermod: invalid value for -p: a:b (no : and no newline)"
 unfolding digits
 usermod_value_p = refl
 
 -- `usermod -P R -W 1-4294967295 -w 1- -V 1 -v 2-1 -u -1 -l -x ann`
 usermod_value_l : on image (words "usermod -P R -W 1-4294967295 -w 1- -V 1 -v 2-1 -u -1 -l -x ann")
-    ≡ refused 3 (BadValue (byte "l") (codes "-x")) "usermod: invalid value for -l: -x"
+    ≡ refused 3 (BadValue (byte "l") (codes "-x"))
+    "usermod: invalid value for -l: -x (1 to 32 letters, digits, _ . or -, not - first, not digits alone)"
 unfolding digits
 usermod_value_l = refl
 
 -- `usermod -P R -W 1-4294967295 -w 1- -V 1 -v 2-1 -u -1 ann`
 usermod_value_u : on image (words "usermod -P R -W 1-4294967295 -w 1- -V 1 -v 2-1 -u -1 ann")
-    ≡ refused 3 (BadValue (byte "u") (codes "-1")) "usermod: invalid value for -u: -1"
+    ≡ refused 3 (BadValue (byte "u") (codes "-1"))
+    "usermod: invalid value for -u: -1 (a number from 0 to 4294967294)"
 unfolding digits
 usermod_value_u = refl
 
 -- `usermod -P R -W 1-4294967295 -w 1- -V 1 -v 2-1 ann`
 usermod_value_v : on image (words "usermod -P R -W 1-4294967295 -w 1- -V 1 -v 2-1 ann")
-    ≡ refused 3 (BadValue (byte "v") (codes "2-1")) "usermod: invalid value for -v: 2-1"
+    ≡ refused 3 (BadValue (byte "v") (codes "2-1"))
+    "usermod: invalid value for -v: 2-1 (FIRST-LAST, two IDs)"
 unfolding digits
 usermod_value_v = refl
 
 -- `usermod -P R -W 1-4294967295 -w 1- -V 1 ann`
 usermod_value_del_v : on image (words "usermod -P R -W 1-4294967295 -w 1- -V 1 ann")
-    ≡ refused 3 (BadValue (byte "V") (codes "1")) "usermod: invalid value for -V: 1"
+    ≡ refused 3 (BadValue (byte "V") (codes "1"))
+    "usermod: invalid value for -V: 1 (FIRST-LAST, two IDs)"
 unfolding digits
 usermod_value_del_v = refl
 
 -- `usermod -P R -W 1-4294967295 -w 1- ann`
 usermod_value_w : on image (words "usermod -P R -W 1-4294967295 -w 1- ann")
-    ≡ refused 3 (BadValue (byte "w") (codes "1-")) "usermod: invalid value for -w: 1-"
+    ≡ refused 3 (BadValue (byte "w") (codes "1-"))
+    "usermod: invalid value for -w: 1- (FIRST-LAST, two IDs)"
 unfolding digits
 usermod_value_w = refl
 
 -- `usermod -P R -W 1-4294967295 ann`
 usermod_value_del_w : on image (words "usermod -P R -W 1-4294967295 ann")
     ≡ refused 3 (BadValue (byte "W") (codes "1-4294967295"))
-    "usermod: invalid value for -W: 1-4294967295"
+    "usermod: invalid value for -W: 1-4294967295 (FIRST-LAST, two IDs)"
 unfolding digits
 usermod_value_del_w = refl
 
 -- `usermod -P R -v 5 -v 1-2 ann`: each range counts
 each_range_value : on image (words "usermod -P R -v 5 -v 1-2 ann")
-    ≡ refused 3 (BadValue (byte "v") (codes "5")) "usermod: invalid value for -v: 5"
+    ≡ refused 3 (BadValue (byte "v") (codes "5"))
+    "usermod: invalid value for -v: 5 (FIRST-LAST, two IDs)"
 unfolding digits
 each_range_value = refl
 
@@ -158,7 +170,8 @@ meets_before_no_shadow = refl
 
 -- `usermod -P R -G g a,b`: a name with a comma can't stand in a list
 name_with_comma : plainly_on (small "a,b:x:1:1::/:" "g:x:1:") (words "usermod -P R -G g a,b")
-    ≡ refused 3 (BadName (codes "a,b")) "usermod: invalid name: a,b"
+    ≡ refused 3 (BadName (codes "a,b"))
+    "usermod: invalid name: a,b (1 to 32 letters, digits, _ . or -, not - first, not digits alone)"
 unfolding digits
 name_with_comma = refl
 

@@ -39,11 +39,53 @@ cut_then_added :
 unfolding digits
 cut_then_added = refl
 
--- `usermod -P R -w 5-9 -w 9-9 ann`: an added range counts for the next
-added_meets_added : on with_ann (words "usermod -P R -w 5-9 -w 9-9 ann")
-    ≡ refused 3 (Meets 9 9 Subgid 3) "usermod: range 9-9 meets subgid line 3"
+-- `usermod -P R -w 5-9 -w 9-10 ann`: an added range counts for the next
+added_meets_added : on with_ann (words "usermod -P R -w 5-9 -w 9-10 ann")
+    ≡ refused 3 (Meets 9 10 Subgid 3) "usermod: range 9-10 meets subgid line 3"
 unfolding digits
 added_meets_added = refl
+
+-- `usermod -P R -v 165536-231071 -w 231071-231071 ann`: the user has them already
+held : on with_ann (words "usermod -P R -v 165536-231071 -w 231071-231071 ann")
+    ≡ same
+unfolding digits
+held = refl
+
+-- `usermod -P R -v 165536-231072 ann`: a part isn't enough
+held_in_part : on with_ann (words "usermod -P R -v 165536-231072 ann")
+    ≡ refused 3 (Meets 165536 231072 Subuid 2) "usermod: range 165536-231072 meets subuid line 2"
+unfolding digits
+held_in_part = refl
+
+-- `usermod -P R -v 100000-100001 ann`: nor is what another user has
+held_by_another : on with_ann (words "usermod -P R -v 100000-100001 ann")
+    ≡ refused 3 (Meets 100000 100001 Subuid 1) "usermod: range 100000-100001 meets subuid line 1"
+unfolding digits
+held_by_another = refl
+
+-- `usermod -P R -v 2-3 a`: one line has to hold the whole
+held_by_two_lines : plainly_on (record (small "a:x:1:1::/:" "g:x:1:")
+    { subuid = Some (lines "a:1:2|a:3:2") }) (words "usermod -P R -v 2-3 a")
+    ≡ refused 3 (Meets 2 3 Subuid 1) "usermod: range 2-3 meets subuid line 1"
+unfolding digits
+held_by_two_lines = refl
+
+-- `usermod -P R -l b -u 7 -v 4-4 -v 5-5 -v 8-9 -v 9-9 a`: what counts are the new name, the new UID, and what was added before
+held_by_new_owner : plainly_on (record (small "a:x:1:1::/:" "g:x:1:")
+    { subuid = Some (lines "a:4:1|7:5:1") })
+    (words "usermod -P R -l b -u 7 -v 4-4 -v 5-5 -v 8-9 -v 9-9 a")
+    ≡ changed (record (small "b:x:7:1::/:" "g:x:1:") {
+      subuid = Some (lines "b:4:1|7:5:1|b:8:2");
+    })
+unfolding digits
+held_by_new_owner = refl
+
+-- `usermod -P R -V 5-5 -v 4-5 a`: and what is left of a range
+held_before_the_cut : plainly_on (record (small "a:x:1:1::/:" "g:x:1:")
+    { subuid = Some (lines "a:4:2") }) (words "usermod -P R -V 5-5 -v 4-5 a")
+    ≡ refused 3 (Meets 4 5 Subuid 1) "usermod: range 4-5 meets subuid line 1"
+unfolding digits
+held_before_the_cut = refl
 
 -- `usermod -P R -l bea ann`
 renamed : on with_ann (words "usermod -P R -l bea ann")

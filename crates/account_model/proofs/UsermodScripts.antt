@@ -24,7 +24,7 @@ use Rattle.account_model.specs.Values.{is_field, is_folder, is_shell, is_days_va
 use Rattle.account_model.specs.GivenGroups.{given_groups, unknown_group, unknown_groups}
 use Rattle.account_model.specs.Hashes.{locked, demand_shadow, each_user_hash}
 use Rattle.account_model.specs.Members.{with_name, without_name}
-use Rattle.account_model.specs.Request.{Request, has_option, value_of, values_of, operand}
+use Rattle.account_model.specs.Request.{Request, has_option, value_of, operand}
 use Rattle.account_model.specs.Refusals.{bad_value, missing_user, bad_list_name}
 use Rattle.account_model.specs.UsermodHash.{sets_hash, sets_aging, locked_hash, unlocked_hash, relocked_hash, hash_after, hash_script}
 use Rattle.account_model.specs.UsermodRanges.{meeting_in}
@@ -35,7 +35,7 @@ use Rattle.account_model.proofs.FieldFacts.{is_field-is, is_folder-is, is_shell-
 use Rattle.account_model.proofs.RefusalFacts.{text-kept, field-kept, good-value, user-named, user-listed}
 use Rattle.account_model.proofs.WrittenScripts.{none-written, order-written, either-written, locked-field, demand-shadow-written, user-hash-written}
 use Rattle.account_model.proofs.MemberLaws.{with-listed, without-listed, renamed-listed}
-use Rattle.account_model.proofs.UsermodRangeScripts.{values-ordered, range-edits-written}
+use Rattle.account_model.proofs.UsermodRangeScripts.{added-ordered, range-edits-written}
 use Rattle.account_model.proofs.GivenFacts.{given-group-gid, expiration-held}
 use Rattle.account_model.proofs.AgingToolScripts.{days-held, lacks-drop}
 
@@ -83,9 +83,9 @@ usermod-passes request files none =
     in let after_groups = first-none (unknown_groups request files) _ after_group.1
     in let after_empty = first-none (empty_hash request files) _ after_groups.1
     in let after_subuid = first-none (meeting_in Subuid (range_owner request files)
-    (subuid_change request) files.subuid) _ after_empty.1
+    (subuid_change request files) files.subuid) _ after_empty.1
     in let after_subgid = first-none (meeting_in Subgid (range_owner request files)
-    (subgid_change request) files.subgid) _ after_subuid.1
+    (subgid_change request files) files.subgid) _ after_subuid.1
     in let after_shadow = first-none (no_shadow request files) _ after_subgid.1
     in record {
       comment = after_comment.0;
@@ -358,10 +358,12 @@ change-user-written request files day passes small = record {
         (λ r is. changed-gshadow-held request files r passes is),
     tt,
   );
-  subuid = range-edits-written (range_owner request files) (subuid_change request)
-      (new-name-field request files passes) (values-ordered (values_of (codes "v") request));
-  subgid = range-edits-written (range_owner request files) (subgid_change request)
-      (new-name-field request files passes) (values-ordered (values_of (codes "w") request));
+  subuid = range-edits-written (range_owner request files) (subuid_change request files)
+      (new-name-field request files passes)
+      (added-ordered files.subuid (range_owner request files) (codes "V") (codes "v") request);
+  subgid = range-edits-written (range_owner request files) (subgid_change request files)
+      (new-name-field request files passes)
+      (added-ordered files.subgid (range_owner request files) (codes "W") (codes "w") request);
 }
 
 -- usermod sets tested values

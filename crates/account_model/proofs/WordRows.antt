@@ -4,9 +4,9 @@ use Rattle.std.specs.Prelude.{◌≡◌, ◌==◌, List, [], ◌∷◌, replicat
 use Rattle.std.specs.List.{slice_split}
 use Rattle.std.specs.Str.{byte}
 use Rattle.account_model.specs.declared.tool.Tool.{Tool}
-use Rattle.account_model.specs.declared.tool.Tool.TheVariants.{Useradd, Usermod, Userdel, Groupadd, Groupmod, Groupdel, Gpasswd, Chage, Chpasswd, Pwck, Grpck, Getsubids}
+use Rattle.account_model.specs.declared.tool.Tool.TheVariants.{Useradd, Usermod, Userdel, Groupadd, Groupmod, Groupdel, Gpasswd, Chage, Chpasswd, Pwck, Grpck, Getsubids, Batch}
 use Rattle.account_model.specs.declared.word_fault.WordFault.{WordFault}
-use Rattle.account_model.specs.declared.word_fault.WordFault.TheVariants.{WordLimit, NoTool, UnknownTool, UnknownOption, MissingValue, UnexpectedValue, TooMany, NoPrefix, TooFew, Clash}
+use Rattle.account_model.specs.declared.word_fault.WordFault.TheVariants.{WordLimit, NoTool, UnknownTool, UnknownOption, MissingValue, UnexpectedValue, TooMany, NoPrefix, EmptyPrefix, TooFew, Clash}
 use Rattle.account_model.specs.Options.{Word}
 use Rattle.account_model.specs.declared.given.Given.{Given}
 use Rattle.account_model.specs.Request.{Request}
@@ -63,6 +63,18 @@ asks_userdel :
     ≡ request Userdel (flagged "f" ∷ []) (one "ann")
 asks_userdel = refl
 
+-- `-R` is `-P`, and so is `--root`; the last of them counts
+asks_userdel_2 :
+    request_of (words_of "userdel ann -P Q -R S --root R")
+    ≡ request Userdel [] (one "ann")
+asks_userdel_2 = refl
+
+-- of gpasswd `-Q` is, as `-R` restricts the group
+asks_gpasswd_3 :
+    request_of (words_of "gpasswd -Q R -R sudo")
+    ≡ request Gpasswd (flagged "R" ∷ []) (one "sudo")
+asks_gpasswd_3 = refl
+
 -- `--` ends the options, and `-` alone is an operand
 asks_groupdel : request_of (words_of "groupdel -P R -- -f") ≡ request Groupdel ([]) (one "-f")
 asks_groupdel = refl
@@ -91,6 +103,14 @@ asks_chage = refl
 -- no operands
 asks_chpasswd : request_of (words_of "chpasswd -P R -e") ≡ request Chpasswd (flagged "e" ∷ []) []
 asks_chpasswd = refl
+
+-- batch may have one operand, and may have none
+asks_batch : request_of (words_of "batch -P R") ≡ request Batch [] []
+asks_batch = refl
+
+-- which is its file
+asks_batch_2 : request_of (words_of "batch users -P R") ≡ request Batch [] (one "users")
+asks_batch_2 = refl
 
 -- a bundle before the prefix, and no operand
 asks_pwck : request_of (words_of "pwck -qr -P R") ≡ request Pwck (flagged "q" ∷ flagged "r" ∷ []) []
@@ -144,11 +164,11 @@ faulty_groupadd : fault (words_of "groupadd staff") ≡ Some NoPrefix
 faulty_groupadd = refl
 
 -- an empty prefix
-faulty_groupadd_2 : fault (words_of "groupadd --prefix= staff") ≡ Some NoPrefix
+faulty_groupadd_2 : fault (words_of "groupadd --prefix= staff") ≡ Some EmptyPrefix
 faulty_groupadd_2 = refl
 
 -- the last prefix counts
-faulty_groupadd_3 : fault (words_of "groupadd -P R --prefix= staff") ≡ Some NoPrefix
+faulty_groupadd_3 : fault (words_of "groupadd -P R --prefix= staff") ≡ Some EmptyPrefix
 faulty_groupadd_3 = refl
 
 -- an unknown tool

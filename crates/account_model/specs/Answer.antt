@@ -15,7 +15,7 @@ use Rattle.account_model.specs.Request.{Request}
 use Rattle.account_model.specs.Words.{is_batch}
 use Rattle.account_model.specs.Action.{Made, outcome_of}
 use Rattle.acct_text.specs.Tables.{table_name, all_tables}
-use Rattle.account_model.specs.Batch.{LineRefusal, Written, batch, written_by}
+use Rattle.account_model.specs.Batch.{LineRefusal, Written, batch, ensures, written_by}
 use Rattle.account_model.specs.Messages.{line_refusal_text, message, refusal_text}
 use Rattle.account_model.specs.Statuses.{file_status, refusal_status}
 use Rattle.account_model.specs.Change.{action_of}
@@ -117,7 +117,7 @@ refused tool refusal = record {
   cause = Refused refusal;
   status = refusal_status tool refusal;
   output = [];
-  error = message tool (refusal_text refusal);
+  error = message tool (refusal_text tool refusal);
 }
 
 -- an answer that says which line of a batch refuses, and why: the status is that of the line's tool
@@ -163,7 +163,7 @@ answer_lines files (Ok written) = answer_written Batch files written
 abbrev pub answer_under : Request → List ℕ → ℕ → Files → List Setting → Answer
 answer_under request input day files settings =
     if is_batch request.tool
-    then answer_lines files (batch (line_requests input) day settings files)
+    then answer_lines files (batch (ensures request) (line_requests input) day settings files)
     else answer_outcome request.tool files
     (outcome_of (action_of request input day files settings) files)
 

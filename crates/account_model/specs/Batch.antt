@@ -1,12 +1,16 @@
 -- batch: the commands that the lines of an input ask for, made as one. Each is made on the files that
--- those before it leave, and one that refuses refuses all. No manual page has such a tool.
-use Rattle.std.specs.Prelude.{ℕ, List, [], ◌∷◌, ◌++◌, Result}
+-- those before it leave, and one that refuses refuses all. With `--ensure` a line is passed by of which
+-- what it is to make stands, or what it is to remove is gone. No manual page has such a tool.
+use Rattle.std.specs.Prelude.{◌≡◌, ℕ, Bool, true, false, ◌&&◌, if◌then◌else◌, codes, List, [], ◌∷◌, ◌++◌, Result}
 use Rattle.std.specs.declared.result.Result.TheVariants.{Ok, Err}
 use Rattle.acct_text.specs.declared.files.Files.{Files}
 use Rattle.account_model.specs.declared.tool.Tool.{Tool}
+use Rattle.account_model.specs.declared.tool.Tool.TheVariants.{Useradd, Userdel, Groupadd, Groupdel, Gpasswd}
 use Rattle.account_model.specs.BatchLines.{LineRequest}
 use Rattle.account_model.specs.Settings.{Setting}
 use Rattle.account_model.specs.declared.refusal.Refusal.{Refusal}
+use Rattle.account_model.specs.declared.refusal.Refusal.TheVariants.{UserExists, GroupExists, NoUser, NoGroup, NotMember}
+use Rattle.account_model.specs.Request.{Request, has_option}
 use Rattle.account_model.specs.Action.{Made, outcome_of}
 use Rattle.account_model.specs.Change.{action_of}
 use Rattle.account_model.specs.Messages.{messages}
@@ -59,9 +63,49 @@ with_rest line (Err refusal) rest =
 with_rest line (Ok made) rest =
     before_others (written_by line.request.tool made) (rest made.files)
 
+-- ---- Lines that are done already
+
+-- whether the tool refuses as what it is to make stands already: a user or a group of the name; or as
+-- what it is to remove is gone: the user, the group, or the member of the group
+abbrev pub is_done : Tool → Refusal → Bool
+is_done Useradd (UserExists name) = true
+is_done Groupadd (GroupExists name) = true
+is_done Userdel (NoUser name) = true
+is_done Groupdel (NoGroup name) = true
+is_done Gpasswd (NotMember user group) = true
+is_done tool refusal = false
+
+-- whether the batch passes such lines by
+abbrev pub ensures : Request → Bool
+ensures request = has_option (codes "e") request
+
+-- a line that is passed by
+abbrev pub passed_by : Files → Made
+passed_by files = record { files = files; status = 0; output = []; notices = [] }
+
+-- what becomes of a line by its outcome, where such lines are passed by or aren't
+abbrev pub outcome_ensured : Bool → Tool → Files → Result Made Refusal → Result Made Refusal
+outcome_ensured ensuring tool files (Ok made) = Ok made
+outcome_ensured ensuring tool files (Err refusal) =
+    if ensuring && is_done tool refusal then Ok (passed_by files) else Err refusal
+
+-- what becomes of a line on these files
+abbrev pub line_outcome : Bool → Request → ℕ → List Setting → Files → Result Made Refusal
+line_outcome ensuring request day settings files = outcome_ensured ensuring request.tool files
+    (outcome_of (action_of request [] day files settings) files)
+
+-- the line is done on these files: it is passed by, or leaves them as they are
+pub record IsDoneOn (day : ℕ) (settings : List Setting) (files : Files) (line : LineRequest)
+    : Type 0 where
+  pub made : Made
+  pub outcome : line_outcome true line.request day settings files ≡ Ok made
+  pub stays : made.files ≡ files
+
+-- ---- The whole
+
 -- what the lines make of the files, one after another, on one day and under the same settings
-abbrev pub batch : List LineRequest → ℕ → List Setting → Files → Result Written LineRefusal
-batch [] day settings files = Ok (nothing_on files)
-batch (line ∷ rest) day settings files =
-    with_rest line (outcome_of (action_of line.request [] day files settings) files)
-    (batch rest day settings)
+abbrev pub batch : Bool → List LineRequest → ℕ → List Setting → Files → Result Written LineRefusal
+batch ensuring [] day settings files = Ok (nothing_on files)
+batch ensuring (line ∷ rest) day settings files =
+    with_rest line (line_outcome ensuring line.request day settings files)
+    (batch ensuring rest day settings)

@@ -1,6 +1,6 @@
--- The lines of a batch, and what they ask for. A line that is a comment, or has nothing but blanks,
--- is skipped; each other line has words, as those of a command. The form is this profile's own.
-use Rattle.std.specs.Prelude.{ℕ, Bool, List, map, filter, filter_map, is_some, Option, None, Some, option_map, Ok, Err, slice_get}
+-- The lines of a batch, and what they ask for. A line without words, which is empty or has nothing but
+-- blanks and a comment, is skipped. The form is this profile's own.
+use Rattle.std.specs.Prelude.{ℕ, List, [], ◌∷◌, map, filter_map, Option, None, Some, Result, Ok, Err}
 use Rattle.std.specs.List.{enumerate_from}
 use Rattle.acct_text.specs.Lines.{Line, lines_of}
 use Rattle.account_model.specs.Text.{first_some}
@@ -8,55 +8,59 @@ use Rattle.account_model.specs.declared.word_fault.WordFault.{WordFault}
 use Rattle.account_model.specs.LineWords.{split_line}
 use Rattle.account_model.specs.Options.{Word}
 use Rattle.account_model.specs.Request.{Request}
-use Rattle.account_model.specs.Words.{fault_line, request_as}
+use Rattle.account_model.specs.Words.{request_as}
 use Rattle.account_model.specs.declared.words_of.WordsOf.TheVariants.{Line as OfLine}
 
--- a line of a batch: its number, counted from 1, and its words
-pub record BatchLine : Type 0 where
-  pub number : ℕ
-  pub words : List Word
-
--- a line of the input, behind its number
-abbrev pub line_numbered : ℕ × Line → BatchLine
-line_numbered (number, line) = record { number = number; words = split_line line.text }
-
--- whether the line has words; one that is skipped has none
-abbrev pub has_words : BatchLine → Bool
-has_words line = is_some (slice_get line.words 0)
-
--- the lines of an input that aren't skipped; those that are count in the numbers
-abbrev pub batch_lines : List ℕ → List BatchLine
-batch_lines input = filter has_words (map line_numbered (enumerate_from 1 (lines_of input)))
-
--- ---- Lines that ask for nothing
-
--- a line that asks for nothing, and its first fault
-pub record FaultyLine : Type 0 where
-  pub line : BatchLine
-  pub fault : WordFault
-
--- the line with its first fault, where it has one
-abbrev pub with_fault : BatchLine → Option FaultyLine
-with_fault line =
-    option_map (λ fault. record { line = line; fault = fault }) (fault_line line.words)
-
--- the first line of the input that isn't skipped and asks for nothing
-abbrev pub first_faulty : List ℕ → Option FaultyLine
-first_faulty input = first_some (map with_fault (batch_lines input))
-
--- ---- What the lines ask for
-
--- what a line asks for, behind its number
+-- what a line asks for, behind its number, counted from 1
 pub record LineRequest : Type 0 where
   pub number : ℕ
   pub request : Request
 
+-- a line that asks for nothing: its number, its words, of which one that can't be split has none, and
+-- its first fault
+pub record FaultyLine : Type 0 where
+  pub number : ℕ
+  pub words : List Word
+  pub fault : WordFault
+
+-- a line that isn't skipped: what it asks for, or that it asks for nothing
+abbrev pub BatchLine : Type 0
+BatchLine = Result LineRequest FaultyLine
+
+-- a line of this number by what its words ask for
+abbrev pub line_asking : ℕ → List Word → Result Request WordFault → BatchLine
+line_asking number words (Ok request) = Ok (record { number = number; request = request })
+line_asking number words (Err fault) =
+    Err (record { number = number; words = words; fault = fault })
+
+-- a line of this number by its words, or by its fault; none without words
+abbrev pub line_with : ℕ → Result (List Word) WordFault → Option BatchLine
+line_with number (Err fault) = Some (line_asking number [] (Err fault))
+line_with number (Ok []) = None
+line_with number (Ok (word ∷ words)) =
+    Some (line_asking number (word ∷ words) (request_as OfLine (word ∷ words)))
+
+-- a line of the input, behind its number
+abbrev pub line_numbered : ℕ × Line → Option BatchLine
+line_numbered (number, line) = line_with number (split_line line.text)
+
+-- the lines of an input that aren't skipped; those that are count in the numbers
+abbrev pub batch_lines : List ℕ → List BatchLine
+batch_lines input = filter_map line_numbered (enumerate_from 1 (lines_of input))
+
+-- the line, where it asks for nothing
+abbrev pub faulty_line : BatchLine → Option FaultyLine
+faulty_line (Ok line) = None
+faulty_line (Err line) = Some line
+
+-- the first line of the input that isn't skipped and asks for nothing
+abbrev pub first_faulty : List ℕ → Option FaultyLine
+first_faulty input = first_some (map faulty_line (batch_lines input))
+
 -- what the line asks for, where it asks for something
 abbrev pub asked_by : BatchLine → Option LineRequest
-asked_by line = elim (request_as OfLine line.words) [
-  | Ok request ↦ Some (record { number = line.number; request = request })
-  | Err fault ↦ None
-]
+asked_by (Ok line) = Some line
+asked_by (Err line) = None
 
 -- what the lines of the input ask for, one after another: a batch runs where none of them is faulty,
 -- and then these are all that aren't skipped

@@ -1,10 +1,13 @@
 -- The laws of commands that other crates rely on.
-use Rattle.std.specs.Prelude.{None, ◌≡◌, ℕ, ◌≤◌, List, Option, Some}
+use Rattle.std.specs.Prelude.{None, ◌≡◌, ℕ, ◌≤◌, true, List, Option, Some, Ok}
+use Rattle.std.specs.List.{AllByRecursion}
 use Rattle.acct_text.specs.declared.files.Files.{Files}
 use Rattle.acct_text.specs.Lines.{lines_of}
 use Rattle.account_model.specs.Records.{passwd_format, shadow_format, group_format, gshadow_format, greatest_days}
 use Rattle.account_model.specs.Text.{first_some}
 use Rattle.account_model.specs.Settings.{Setting}
+use Rattle.account_model.specs.Batch.{IsDoneOn, Written, batch}
+use Rattle.account_model.specs.BatchLines.{LineRequest}
 use Rattle.account_model.specs.Request.{Request}
 use Rattle.account_model.specs.WrittenScript.{IsWrittenScript}
 use Rattle.account_model.specs.Change.{action_of}
@@ -40,3 +43,15 @@ abbrev pub DeedsAreChanges : Type 0
 DeedsAreChanges = (request : Request) (input : List ℕ) (day : ℕ) (old : Files)
     (defs : Option (List ℕ)) (new : Files)
     → deed request input day old defs ≡ Some new → IsChange (table_of old) (table_of new)
+
+-- a batch with `--ensure` leaves the files as they are, byte for byte, where each of its lines is done on them
+pub record LeavesAll (lines : List LineRequest) (day : ℕ) (settings : List Setting) (files : Files)
+    : Type 0 where
+  pub written : Written
+  pub is : batch true lines day settings files ≡ Ok written
+  pub stays : written.files ≡ files
+
+-- so it is with all lines, on any day and under any settings
+abbrev pub DoneLinesStay : Type 0
+DoneLinesStay = (lines : List LineRequest) (day : ℕ) (settings : List Setting) (files : Files)
+    → AllByRecursion (IsDoneOn day settings files) lines → LeavesAll lines day settings files

@@ -1,7 +1,7 @@
 -- The options of each tool, in the order of its manual page, and the rules that hold between them.
 -- The set of options and the rules are this profile's own choice after the manual pages.
 use Prim.Native.String.{String}
-use Rattle.std.specs.Prelude.{ℕ, Bool, true, false, not, ◌&&◌, ◌||◌, ◌==◌, nat_le, List, [], ◌∷◌, length, filter, Option, Some, None, codes}
+use Rattle.std.specs.Prelude.{ℕ, Bool, true, false, not, ◌&&◌, ◌||◌, ◌==◌, nat_le, List, [], ◌∷◌, length, filter, map, Option, Some, None, codes}
 use Rattle.std.specs.List.{list_any, list_all}
 use Rattle.std.specs.Str.{byte}
 use Rattle.account_model.specs.declared.given.Given.{Given}
@@ -38,7 +38,7 @@ with_value letter name =
 abbrev pub short_flag : String → OptionForm
 short_flag letter = record { letter = byte letter; long_name = None; takes_value = false }
 
--- the options of a tool but `-P` (its manual page, "OPTIONS")
+-- the options of a tool but those of the folder (its manual page, "OPTIONS")
 abbrev pub own_options : Tool → List OptionForm
 own_options Useradd =
     with_value "b" "base-dir"
@@ -117,28 +117,47 @@ own_options Chpasswd = flag "e" "encrypted" ∷ []
 own_options Pwck = flag "q" "quiet" ∷ flag "r" "read-only" ∷ flag "s" "sort" ∷ []
 own_options Grpck = flag "r" "read-only" ∷ flag "s" "sort" ∷ []
 own_options Getsubids = short_flag "g" ∷ []
-own_options Batch = []
+own_options Batch = flag "e" "ensure" ∷ []
 
 -- the letter of `-P`, the folder whose `etc` is worked on (useradd(8), `--prefix`)
 abbrev pub prefix_letter : ℕ
 prefix_letter = byte "P"
 
--- all options of a tool: each takes `-P`
-abbrev pub option_forms : Tool → List OptionForm
-option_forms tool = with_value "P" "prefix" ∷ own_options tool
+-- the letter of `--root`, which is `--prefix` here: no tool changes its root (useradd(8), gpasswd(1))
+abbrev pub root_letter : Tool → ℕ
+root_letter Gpasswd = byte "Q"
+root_letter tool = byte "R"
 
--- the options that such words may give: `-P` is unknown in a line of a batch
+-- `-R DIR` or `--root DIR`
+abbrev pub root_form : Tool → OptionForm
+root_form tool =
+    record { letter = root_letter tool; long_name = Some (codes "root"); takes_value = true }
+
+-- whether the option of a letter gives the folder
+abbrev pub is_prefix : Tool → ℕ → Bool
+is_prefix tool letter = letter == prefix_letter || letter == root_letter tool
+
+-- all options of a tool: each takes the folder
+abbrev pub option_forms : Tool → List OptionForm
+option_forms tool = with_value "P" "prefix" ∷ root_form tool ∷ own_options tool
+
+-- the options that such words may give: those of the folder are unknown in a line of a batch
 abbrev pub options_for : WordsOf → Tool → List OptionForm
 options_for Command tool = option_forms tool
 options_for Line tool = own_options tool
 
--- how many operands a tool takes: the user or the group, or none (its manual page, "SYNOPSIS")
+-- how many operands a tool needs: the user or the group, or none (its manual page, "SYNOPSIS")
 abbrev pub operands_of : Tool → ℕ
 operands_of Chpasswd = 0
 operands_of Pwck = 0
 operands_of Grpck = 0
 operands_of Batch = 0
 operands_of tool = 1
+
+-- how many it takes at most: for batch the file with the lines, which is the input where none is named
+abbrev pub most_operands : Tool → ℕ
+most_operands Batch = 1
+most_operands tool = operands_of tool
 
 -- ---- The options that are given
 
@@ -156,28 +175,37 @@ is_given letter options = list_any (λ option. option.letter == letter) options
 
 -- ---- The rules between options
 
--- a test of the options that were given, `-P` not among them
-abbrev pub Rule : Type 0
-Rule = List Given → Bool
+-- a test of the options that were given, those of the folder not among them
+abbrev pub Test : Type 0
+Test = List Given → Bool
+
+-- a rule: what is said where it is broken, and the test that options pass which keep it
+pub record Rule : Type 0 where
+  pub text : List ℕ
+  pub is_kept : Test
+
+-- a rule with its text
+abbrev pub rule : String → Test → Rule
+rule text test = record { text = codes text; is_kept = test }
 
 -- not both of these letters
-abbrev pub not_both : ℕ → ℕ → Rule
+abbrev pub not_both : ℕ → ℕ → Test
 not_both first second options = not (is_given first options && is_given second options)
 
 -- the first letter only with the second
-abbrev pub only_with : ℕ → ℕ → Rule
+abbrev pub only_with : ℕ → ℕ → Test
 only_with first second options = not (is_given first options) || is_given second options
 
 -- at least one option
-abbrev pub some_option : Rule
+abbrev pub some_option : Test
 some_option options = not (length options == 0)
 
 -- at least one of these letters
-abbrev pub some_of : List ℕ → Rule
+abbrev pub some_of : List ℕ → Test
 some_of letters options = list_any (λ letter. is_given letter options) letters
 
 -- at most one of these letters; an option that is given twice counts once
-abbrev pub one_of : List ℕ → Rule
+abbrev pub one_of : List ℕ → Test
 one_of letters options = nat_le (length (filter (λ letter. is_given letter options) letters)) 1
 
 -- whether no option has another letter
@@ -185,31 +213,51 @@ abbrev pub is_alone : ℕ → List Given → Bool
 is_alone letter options = list_all (λ option. option.letter == letter) options
 
 -- each of these letters with no other option
-abbrev pub alone : List ℕ → Rule
+abbrev pub alone : List ℕ → Test
 alone letters options =
     list_all (λ letter. not (is_given letter options) || is_alone letter options) letters
+
+-- an option is asked for
+abbrev pub wants_option : Rule
+wants_option = rule "at least one option besides -P is needed" some_option
+
+-- a report or an edit, and not both (pwck(8), grpck(8))
+abbrev pub report_rules : List Rule
+report_rules = rule "-r or -s is needed" (some_of (codes "rs"))
+    ∷ rule "-r and -s exclude each other" (not_both (byte "r") (byte "s"))
+    ∷ []
 
 -- the rules of a tool, in the order in which they are tested
 abbrev pub rules_of : Tool → List Rule
 rules_of Useradd =
-    not_both (byte "g") (byte "U")
-    ∷ not_both (byte "N") (byte "U")
-    ∷ only_with (byte "o") (byte "u")
+    rule "-g and -U exclude each other" (not_both (byte "g") (byte "U"))
+    ∷ rule "-N and -U exclude each other" (not_both (byte "N") (byte "U"))
+    ∷ rule "-o needs -u" (only_with (byte "o") (byte "u"))
     ∷ []
 rules_of Usermod =
-    only_with (byte "a") (byte "G")
-    ∷ only_with (byte "o") (byte "u")
-    ∷ one_of (codes "LUp")
-    ∷ some_option
+    rule "-a needs -G" (only_with (byte "a") (byte "G"))
+    ∷ rule "-o needs -u" (only_with (byte "o") (byte "u"))
+    ∷ rule "-L, -U and -p exclude each other" (one_of (codes "LUp"))
+    ∷ wants_option
     ∷ []
 rules_of Userdel = []
-rules_of Groupadd = only_with (byte "o") (byte "g") ∷ []
-rules_of Groupmod = only_with (byte "o") (byte "g") ∷ some_of (codes "gnp") ∷ []
+rules_of Groupadd = rule "-o needs -g" (only_with (byte "o") (byte "g")) ∷ []
+rules_of Groupmod = rule "-o needs -g" (only_with (byte "o") (byte "g"))
+    ∷ rule "-g, -n or -p is needed" (some_of (codes "gnp"))
+    ∷ []
 rules_of Groupdel = []
-rules_of Gpasswd = some_option ∷ alone (codes "adrR") ∷ []
-rules_of Chage = some_option ∷ alone (codes "l") ∷ []
-rules_of Chpasswd = some_of (codes "e") ∷ []
-rules_of Pwck = some_of (codes "rs") ∷ not_both (byte "r") (byte "s") ∷ []
-rules_of Grpck = some_of (codes "rs") ∷ not_both (byte "r") (byte "s") ∷ []
+rules_of Gpasswd = wants_option ∷ rule "only -A and -M go together" (alone (codes "adrR")) ∷ []
+rules_of Chage = wants_option ∷ rule "-l goes with no other option" (alone (codes "l")) ∷ []
+rules_of Chpasswd = rule "-e is needed" (some_of (codes "e")) ∷ []
+rules_of Pwck = report_rules
+rules_of Grpck = report_rules
 rules_of Getsubids = []
 rules_of Batch = []
+
+-- what is said of each rule of a tool
+abbrev pub rule_texts : Tool → List (List ℕ)
+rule_texts tool = map (λ rule. rule.text) (rules_of tool)
+
+-- the test of each rule of a tool
+abbrev pub rule_tests : Tool → List Test
+rule_tests tool = map (λ rule. rule.is_kept) (rules_of tool)

@@ -24,6 +24,10 @@ hash_mark = 35
 abbrev pub dollar : ℕ
 dollar = 36
 
+-- a `*` stands in place of a hash that no password has (shadow(5))
+abbrev pub asterisk : ℕ
+asterisk = 42
+
 -- a comma parts the names of a list (group(5))
 abbrev pub comma : ℕ
 comma = 44

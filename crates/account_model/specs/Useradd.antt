@@ -9,6 +9,7 @@ use Rattle.account_model.specs.declared.settings.Key.{Key}
 use Rattle.account_model.specs.declared.settings.Key.TheVariants.{PassMinDays, PassMaxDays, PassWarnAge}
 use Rattle.account_model.specs.declared.refusal.Refusal.{Refusal}
 use Rattle.account_model.specs.declared.refusal.Refusal.TheVariants.{UserExists, GroupExists, UidInUse, NoFreeUid, NoFreeGid}
+use Rattle.account_model.specs.Text.{asterisk, exclamation, begins_with}
 use Rattle.account_model.specs.Edits.Edit.{Add, Put}
 use Rattle.account_model.specs.Tables.{Script, no_edits, in_order}
 use Rattle.account_model.specs.Values.{is_field, is_folder, is_shell, is_days_value, is_expiration_value, days_value, expiration_value, field_value, text_value, given_uid}
@@ -20,7 +21,7 @@ use Rattle.account_model.specs.Members.{add_to_group}
 use Rattle.account_model.specs.Hashes.{elsewhere, locked}
 use Rattle.account_model.specs.Request.{Request, has_option, operand}
 use Rattle.account_model.specs.Refusals.{refuse_if, bad_value, bad_key, bad_name}
-use Rattle.account_model.specs.Action.{Action, changes}
+use Rattle.account_model.specs.Action.{Action}
 use Rattle.account_model.specs.NewAccount.{kind_of, settings_for, free_uid, free_gid, add_group, new_hash}
 use Rattle.account_model.specs.NewRanges.{subordinate_uids, subordinate_gids, allotment, no_gap, allotted}
 use Rattle.account_model.specs.Users.{has_user, has_group}
@@ -196,12 +197,34 @@ useradd_script request files plan shadow (Some uid) (Some gid) =
     add_user request files plan shadow uid gid
 useradd_script request files plan shadow uid gid = no_edits
 
+-- ---- The notice
+
+-- no password opens an account with such a hash: it begins with `!` or `*`
+abbrev pub opens_nothing : List ℕ → Bool
+opens_nothing hash = begins_with exclamation hash || begins_with asterisk hash
+
+-- the notice of a hash that all can read
+abbrev pub open_hash_text : List ℕ → List ℕ
+open_hash_text user =
+    codes "password of " ++ user ++ codes " stands in passwd, as shadow does not exist"
+
+-- a notice where the hash stands in passwd and could open the account, and else none
+abbrev pub useradd_notices : Request → Files → List (List ℕ)
+useradd_notices request files = if is_some files.shadow || opens_nothing (new_hash request)
+    then []
+    else open_hash_text (operand request) ∷ []
+
 -- ---- The whole
 
 -- what useradd does by a plan, with this line of shadow
 abbrev pub useradd_by : Plan → ShadowRecord → Request → Files → Action
-useradd_by plan shadow request files = changes (useradd_refusals request files plan)
-    (useradd_script request files plan shadow plan.uid plan.gid)
+useradd_by plan shadow request files = record {
+  refusals = useradd_refusals request files plan;
+  script = useradd_script request files plan shadow plan.uid plan.gid;
+  status = 0;
+  output = [];
+  notices = useradd_notices request files;
+}
 
 -- what useradd does under the settings that `-K` has changed
 abbrev pub useradd_under : List Setting → Request → Files → ℕ → Action

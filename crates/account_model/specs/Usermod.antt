@@ -25,7 +25,7 @@ use Rattle.account_model.specs.Refusals.{refuse_if, bad_value, bad_values, missi
 use Rattle.account_model.specs.Action.{Action, changes}
 use Rattle.account_model.specs.Users.{has_user, has_shadow, uid_of, hash_of}
 use Rattle.account_model.specs.UsermodHash.{sets_aging, hash_script}
-use Rattle.account_model.specs.UsermodRanges.{RangeOwner, RangeChange, is_range, ranges_given, range_edits, meeting_in}
+use Rattle.account_model.specs.UsermodRanges.{RangeOwner, RangeChange, is_range, change_asked, change_in, range_edits, meeting_in}
 
 -- ---- Passwd
 
@@ -105,19 +105,15 @@ range_owner request files = record {
   uid = uid_after request files;
 }
 
--- `-V` removes from subuid, and `-v` adds
-abbrev pub subuid_change : Request → RangeChange
-subuid_change request = record {
-  removed = ranges_given (codes "V") request;
-  added = ranges_given (codes "v") request;
-}
+-- `-V` removes from subuid, and `-v` adds what the user lacks
+abbrev pub subuid_change : Request → Files → RangeChange
+subuid_change request files = change_in files.subuid (range_owner request files)
+    (change_asked (codes "V") (codes "v") request)
 
--- `-W` removes from subgid, and `-w` adds
-abbrev pub subgid_change : Request → RangeChange
-subgid_change request = record {
-  removed = ranges_given (codes "W") request;
-  added = ranges_given (codes "w") request;
-}
+-- `-W` removes from subgid, and `-w` adds what the user lacks
+abbrev pub subgid_change : Request → Files → RangeChange
+subgid_change request files = change_in files.subgid (range_owner request files)
+    (change_asked (codes "W") (codes "w") request)
 
 -- ---- The refusals
 
@@ -186,8 +182,8 @@ usermod_conflicts request files =
     ∷ unknown_group request files
     ∷ unknown_groups request files
     ∷ empty_hash request files
-    ∷ meeting_in Subuid (range_owner request files) (subuid_change request) files.subuid
-    ∷ meeting_in Subgid (range_owner request files) (subgid_change request) files.subgid
+    ∷ meeting_in Subuid (range_owner request files) (subuid_change request files) files.subuid
+    ∷ meeting_in Subgid (range_owner request files) (subgid_change request files) files.subgid
     ∷ no_shadow request files
     ∷ unlistable_name request files
     ∷ []
@@ -205,8 +201,8 @@ change_user request files day = record {
   shadow = each_where (is_named shadow_format (operand request)) (changed_shadow request day) ∷ [];
   group = each (changed_group request files) ∷ [];
   gshadow = each (changed_gshadow request files) ∷ [];
-  subuid = range_edits (range_owner request files) (subuid_change request);
-  subgid = range_edits (range_owner request files) (subgid_change request);
+  subuid = range_edits (range_owner request files) (subuid_change request files);
+  subgid = range_edits (range_owner request files) (subgid_change request files);
 }
 
 -- the hash first, as it finds the user by the old name

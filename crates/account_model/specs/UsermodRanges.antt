@@ -1,6 +1,6 @@
 -- The subordinate IDs that usermod removes and adds (usermod(8), `-v`, `-V`, `-w` and `-W`; subuid(5), subgid(5)).
-use Rattle.std.specs.Prelude.{ℕ, ◌+◌, ◌-◌, Bool, false, List, [], ◌∷◌, ◌++◌, map, filter_map, nat_le, Option, Some, None, is_some, option_and_then, if◌then◌else◌}
-use Rattle.std.specs.List.{position_from}
+use Rattle.std.specs.Prelude.{ℕ, ◌+◌, ◌-◌, Bool, false, ◌&&◌, List, [], ◌∷◌, ◌++◌, map, filter_map, nat_le, Option, Some, None, is_some, option_and_then, unwrap_or, if◌then◌else◌}
+use Rattle.std.specs.List.{list_any, position_from}
 use Rattle.acct_text.specs.declared.Tab.{Tab}
 use Rattle.account_model.specs.declared.records.SubidRecord.{SubidRecord}
 use Rattle.account_model.specs.declared.refusal.Refusal.{Refusal}
@@ -8,10 +8,10 @@ use Rattle.account_model.specs.declared.refusal.Refusal.TheVariants.{Meets}
 use Rattle.acct_text.specs.Lines.{Line, lines_of}
 use Rattle.acct_text.specs.Pieces.{cut_at}
 use Rattle.account_model.specs.Text.{hyphen}
-use Rattle.account_model.specs.Format.{is_named}
-use Rattle.account_model.specs.Edits.{Edit, each_where, edited_by}
+use Rattle.account_model.specs.Format.{is_named, records_of}
+use Rattle.account_model.specs.Edits.{Edit, each_where, edited, edited_by}
 use Rattle.account_model.specs.Edits.Edit.{Add, Become}
-use Rattle.account_model.specs.Records.{subid_format, read_id}
+use Rattle.account_model.specs.Records.{last_id, subid_format, read_id}
 use Rattle.account_model.specs.FreeRange.{meets}
 use Rattle.account_model.specs.Request.{Request, values_of}
 use Rattle.account_model.specs.SubidOwner.{is_owned, left_without}
@@ -46,6 +46,10 @@ is_range text = is_some (range_value text)
 abbrev pub ranges_given : List ℕ → Request → List IdRange
 ranges_given letter request = filter_map range_value (values_of letter request)
 
+-- whether all numbers of the range are those of a line
+abbrev pub lies_in : IdRange → SubidRecord → Bool
+lies_in ids r = nat_le r.first ids.first && nat_le ids.last (last_id r)
+
 -- ---- The edits
 
 -- whose ranges they are: LOGIN as it was, the name as it becomes, and the UID as it becomes
@@ -58,6 +62,13 @@ pub record RangeOwner : Type 0 where
 pub record RangeChange : Type 0 where
   pub removed : List IdRange
   pub added : List IdRange
+
+-- what an option removes, and what another adds
+abbrev pub change_asked : List ℕ → List ℕ → Request → RangeChange
+change_asked removing adding request = record {
+  removed = ranges_given removing request;
+  added = ranges_given adding request;
+}
 
 -- the owner field follows the name
 abbrev pub rename_owner : RangeOwner → Edit SubidRecord
@@ -81,6 +92,28 @@ edits_before_adding owner change = rename_owner owner ∷ map (cut_range owner) 
 -- and then ranges are added
 abbrev pub range_edits : RangeOwner → RangeChange → List (Edit SubidRecord)
 range_edits owner change = edits_before_adding owner change ++ map (add_range owner) change.added
+
+-- ---- The ranges that come
+
+-- whether a line that the user owns has all numbers of the range
+abbrev pub has_range : RangeOwner → IdRange → List Line → Bool
+has_range owner ids lines = list_any (λ r. is_owned owner.new_name owner.uid r && lies_in ids r)
+    (records_of subid_format lines)
+
+-- the ranges that the user lacks, as the lines stand when the turn of each comes
+abbrev pub new_ranges : RangeOwner → List IdRange → List Line → List IdRange
+new_ranges owner [] lines = []
+new_ranges owner (ids ∷ rest) lines = if has_range owner ids lines
+    then new_ranges owner rest lines
+    else ids ∷ new_ranges owner rest (edited subid_format lines (add_range owner ids))
+
+-- a change as the table's file has it: no range is added that the user has after the renaming and all removals, or by
+-- one that is added before it
+abbrev pub change_in : Option (List ℕ) → RangeOwner → RangeChange → RangeChange
+change_in bytes owner change = record change {
+  added = new_ranges owner change.added
+      (edited_by subid_format (edits_before_adding owner change) (lines_of (unwrap_or bytes [])));
+}
 
 -- ---- The refusal
 

@@ -1,11 +1,13 @@
 -- The statuses and the texts of faults of words. The texts are this profile's own.
-use Rattle.std.specs.Prelude.{ℕ, List, [], ◌++◌, codes, decimal, Option, Some, None, unwrap_or, slice_get}
+use Rattle.std.specs.Prelude.{ℕ, suc, Bool, false, ◌||◌, ◌==◌, if◌then◌else◌, bytes_eq, find, List, [], ◌∷◌, ◌++◌, codes, decimal, Option, Some, None, unwrap_or, slice_get}
 use Rattle.account_model.specs.declared.tool.Tool.{Tool}
-use Rattle.account_model.specs.declared.tool.Tool.TheVariants.{Pwck, Grpck, Getsubids, Batch}
+use Rattle.account_model.specs.declared.tool.Tool.TheVariants.{Useradd, Usermod, Userdel, Pwck, Grpck, Getsubids, Batch}
 use Rattle.account_model.specs.declared.word_fault.WordFault.{WordFault}
-use Rattle.account_model.specs.declared.word_fault.WordFault.TheVariants.{WordLimit, NoTool, UnknownTool, UnknownOption, MissingValue, UnexpectedValue, TooMany, NoPrefix, TooFew, Clash, Memory}
-use Rattle.account_model.specs.Options.{Word}
-use Rattle.account_model.specs.Words.{tool_named}
+use Rattle.account_model.specs.declared.word_fault.WordFault.TheVariants.{LineEnd, Unclosed, WordLimit, NoTool, UnknownTool, UnknownOption, MissingValue, UnexpectedValue, TooMany, NoPrefix, EmptyPrefix, TooFew, Clash, Memory}
+use Rattle.std.specs.List.{list_any}
+use Rattle.acct_text.specs.Bytes.{is_empty}
+use Rattle.account_model.specs.Options.{Word, rule_texts}
+use Rattle.account_model.specs.Words.{tool_name, tool_named, tools}
 use Rattle.account_model.specs.BatchLines.{FaultyLine}
 use Rattle.account_model.specs.Messages.{line_by, line_text, message}
 use Rattle.account_model.specs.Statuses.{memory_status}
@@ -14,22 +16,72 @@ use Rattle.account_model.specs.Statuses.{memory_status}
 abbrev pub word_at : List Word → ℕ → Word
 word_at words place = unwrap_or (slice_get words place) []
 
+-- whether one of two words becomes the other where one byte is put in, left out or another
+abbrev pub is_near : Word → Word → Bool
+is_near [] name = elim name [ [] ↦ false | c ∷ rest ↦ is_empty rest ]
+is_near (c ∷ word) [] = is_empty word
+is_near (c ∷ word) (d ∷ name) =
+    if c == d then is_near word name else
+    bytes_eq word name || bytes_eq (c ∷ word) name || bytes_eq word (d ∷ name)
+
+-- the first tool whose name is near the word
+abbrev pub near_tool : Word → Option Tool
+near_tool word = find (λ tool. is_near word (tool_name tool)) tools
+
+-- what is said of a word that names no tool
+abbrev pub unknown_text : Word → List ℕ
+unknown_text word = codes "unknown command " ++ word
+    ++ elim (near_tool word) [
+      | None ↦ []
+      | Some tool ↦ codes " (" ++ tool_name tool ++ codes "?)"
+    ]
+
+-- the options of the original for home folders, which the wrapper by the old names takes
+abbrev pub wrapper_options : Tool → List Word
+wrapper_options Useradd =
+    codes "-m" ∷ codes "--create-home" ∷ codes "-k" ∷ codes "--skel" ∷ []
+wrapper_options Usermod = codes "-m" ∷ codes "--move-home" ∷ []
+wrapper_options Userdel = codes "-r" ∷ codes "--remove" ∷ []
+wrapper_options tool = []
+
+-- whether the wrapper takes the word as an option of the tool
+abbrev pub is_for_wrapper : Option Tool → Word → Bool
+is_for_wrapper None word = false
+is_for_wrapper (Some tool) word =
+    list_any (λ option. bytes_eq option word) (wrapper_options tool)
+
+-- what is said of a word with an unknown option, behind it
+abbrev pub wrapper_hint : Option Tool → Word → List ℕ
+wrapper_hint tool word =
+    if is_for_wrapper tool word then codes " (the wrapper by the old names has it)" else []
+
+-- what is said of the rule of this number, counted from 1
+abbrev pub rule_text : Option Tool → ℕ → List ℕ
+rule_text (Some tool) (suc place) = unwrap_or (slice_get (rule_texts tool) place) []
+rule_text tool number = []
+
 -- what is printed of a fault of these words; want of memory is no fault of theirs, and says nothing here
 abbrev pub word_fault_text : List Word → WordFault → List ℕ
+word_fault_text words LineEnd = codes "ends in a carriage return"
+word_fault_text words (Unclosed column) =
+    codes "quote in column " ++ decimal column ++ codes " isn't closed"
 word_fault_text words (WordLimit place) = codes "word " ++ decimal place ++ codes " passes a limit"
-word_fault_text words NoTool = codes "no command given"
-word_fault_text words UnknownTool = codes "unknown command " ++ word_at words 0
+word_fault_text words NoTool = codes "no command given: accounts --help lists them"
+word_fault_text words UnknownTool = unknown_text (word_at words 0)
 word_fault_text words (UnknownOption place) =
     codes "unknown option in word " ++ decimal place ++ codes ": " ++ word_at words place
+    ++ wrapper_hint (tool_named (word_at words 0)) (word_at words place)
 word_fault_text words (MissingValue place) =
     codes "option in word " ++ decimal place ++ codes " needs a value"
 word_fault_text words (UnexpectedValue place) =
     codes "option in word " ++ decimal place ++ codes " takes no value"
 word_fault_text words (TooMany place) =
     codes "unexpected word " ++ decimal place ++ codes ": " ++ word_at words place
-word_fault_text words NoPrefix = codes "option -P is required"
+word_fault_text words NoPrefix =
+    codes "option -P is required: -P DIR is the image in DIR, -P / this system"
+word_fault_text words EmptyPrefix = codes "value of -P is empty: -P / is this system"
 word_fault_text words TooFew = codes "missing operand"
-word_fault_text words (Clash rule) = codes "options break rule " ++ decimal rule
+word_fault_text words (Clash rule) = rule_text (tool_named (word_at words 0)) rule
 word_fault_text words Memory = []
 
 -- the status of a usage error (useradd(8), pwck(8), "EXIT VALUES")
@@ -41,6 +93,8 @@ syntax_status tool = 2
 
 -- the tool that a fault speaks for; the faults that come before a tool is known have none
 abbrev pub faulty_tool : List Word → WordFault → Option Tool
+faulty_tool words LineEnd = None
+faulty_tool words (Unclosed column) = None
 faulty_tool words (WordLimit place) = None
 faulty_tool words NoTool = None
 faulty_tool words UnknownTool = None
@@ -59,4 +113,4 @@ word_fault_message words fault = line_by (faulty_tool words fault) (word_fault_t
 -- the line on the error stream of a batch with this first line that asks for nothing
 abbrev pub line_fault_message : FaultyLine → List ℕ
 line_fault_message faulty =
-    message Batch (line_text faulty.line.number (word_fault_text faulty.line.words faulty.fault))
+    message Batch (line_text faulty.number (word_fault_text faulty.words faulty.fault))

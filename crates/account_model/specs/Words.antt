@@ -1,16 +1,17 @@
 -- What the words of a command, or of a line of a batch, ask for, and the first thing that is wrong
 -- with them: they are read as getopt_long(3) does, and then by the rules of the tool's manual page.
-use Rattle.std.specs.Prelude.{◌≡◌, ◌≢◌, ℕ, ◌+◌, true, false, not, ◌||◌, ◌==◌, nat_le, nat_lt, if◌then◌else◌, Bool, List, [], ◌∷◌, length, filter, find, position, Option, Some, None, option_map, Result, Ok, Err, bytes_eq, codes}
+use Rattle.std.specs.Prelude.{◌≡◌, ◌≢◌, ℕ, ◌+◌, ◌≤◌, true, false, not, ◌||◌, nat_le, nat_lt, if◌then◌else◌, Bool, List, [], ◌∷◌, length, filter, filter_map, find, position, Option, Some, None, option_map, Result, Ok, Err, bytes_eq, codes}
 use Rattle.std.specs.List.{enumerate_from}
 use Rattle.account_model.specs.declared.words_of.WordsOf.{WordsOf}
 use Rattle.account_model.specs.declared.words_of.WordsOf.TheVariants.{Command, Line}
 use Rattle.account_model.specs.declared.tool.Tool.{Tool}
 use Rattle.account_model.specs.declared.tool.Tool.TheVariants.{Useradd, Usermod, Userdel, Groupadd, Groupmod, Groupdel, Gpasswd, Chage, Chpasswd, Pwck, Grpck, Getsubids, Batch}
 use Rattle.account_model.specs.declared.word_fault.WordFault.{WordFault}
-use Rattle.account_model.specs.declared.word_fault.WordFault.TheVariants.{WordLimit, NoTool, UnknownTool, NoPrefix, TooFew, Clash}
-use Rattle.account_model.specs.Options.{Word, prefix_letter, options_for, operands_of, rules_of}
+use Rattle.account_model.specs.declared.word_fault.WordFault.TheVariants.{WordLimit, NoTool, UnknownTool, NoPrefix, EmptyPrefix, TooFew, Clash}
+use Rattle.account_model.specs.Text.{last_of}
+use Rattle.account_model.specs.Options.{Word, is_prefix, options_for, operands_of, most_operands, rule_tests}
 use Rattle.account_model.specs.declared.given.Given.{Given}
-use Rattle.account_model.specs.Request.{Request, last_value}
+use Rattle.account_model.specs.Request.{Request}
 use Rattle.account_model.specs.Spelling.{Spelled, Arguments, read_arguments}
 
 -- the word that names the tool
@@ -73,20 +74,26 @@ passes_limit placed = nat_le most_words placed.0 || nat_lt longest_word (length 
 abbrev pub past_limit : List Word → Option ℕ
 past_limit words = position passes_limit (enumerate_from 0 words)
 
--- the options of a request: all that were given but `-P`
-abbrev pub without_prefix : List Given → List Given
-without_prefix options = filter (λ option. not (option.letter == prefix_letter)) options
+-- the options of a request: all that were given but the folder
+abbrev pub without_prefix : Tool → List Given → List Given
+without_prefix tool options = filter (λ option. not (is_prefix tool option.letter)) options
+
+-- the folder that was given; of a repeated one the last counts
+abbrev pub prefix_value : Tool → List Given → Option Word
+prefix_value tool options =
+    last_of (filter_map (λ option. option.value)
+    (filter (λ option. is_prefix tool option.letter) options))
 
 -- the first rule of the tool that is broken, counted from 1
 abbrev pub broken_rule : Tool → List Given → Option ℕ
 broken_rule tool options =
-    option_map (λ place. place + 1) (position (λ rule. not (rule options)) (rules_of tool))
+    option_map (λ place. place + 1) (position (λ test. not (test options)) (rule_tests tool))
 
--- the prefix of a request: of a command the last value of its `-P`, which isn't empty; that of a
+-- the prefix of a request: of a command the folder that was given, which isn't empty; that of a
 -- line of a batch is empty, as the batch has it
-abbrev pub IsPrefix : WordsOf → List Given → Word → Type 0
-IsPrefix Command given prefix = (last_value prefix_letter given ≡ Some prefix) × (prefix ≢ [])
-IsPrefix Line given prefix = prefix ≡ []
+abbrev pub IsPrefix : WordsOf → Tool → List Given → Word → Type 0
+IsPrefix Command tool given prefix = (prefix_value tool given ≡ Some prefix) × (prefix ≢ [])
+IsPrefix Line tool given prefix = prefix ≡ []
 
 -- such words ask for this request
 pub record AsksAs (whose : WordsOf) (words : List Word) (request : Request) : Type 0 where
@@ -98,11 +105,12 @@ pub record AsksAs (whose : WordsOf) (words : List Word) (request : Request) : Ty
   pub may_name : may_name whose request.tool ≡ true
   pub given : List Given
   pub spelled : Spelled (options_for whose request.tool) arguments given request.operands
-  pub prefix : IsPrefix whose given request.prefix
-  -- there are as many operands as the tool takes
-  pub operands : length request.operands ≡ operands_of request.tool
+  pub prefix : IsPrefix whose request.tool given request.prefix
+  -- there are as many operands as the tool needs, and no more than it takes
+  pub enough : operands_of request.tool ≤ length request.operands
+  pub few : length request.operands ≤ most_operands request.tool
   -- no rule is broken
-  pub options : request.options ≡ without_prefix given
+  pub options : request.options ≡ without_prefix request.tool given
   pub rules : broken_rule request.tool request.options ≡ None
 
 -- the words of a command ask for this request
@@ -120,17 +128,18 @@ abbrev pub request_by_rules : Option ℕ → Request → Result Request WordFaul
 request_by_rules (Some number) request = Err (Clash number)
 request_by_rules None request = Ok request
 
--- the prefix, if there is one, by the last value of `-P`
-abbrev pub prefix_for : WordsOf → Option Word → Option Word
-prefix_for Command None = None
-prefix_for Command (Some []) = None
-prefix_for Command (Some (c ∷ prefix)) = Some (c ∷ prefix)
-prefix_for Line value = Some []
+-- the prefix by the folder that was given, or what is wrong with it
+abbrev pub prefix_for : WordsOf → Option Word → Result Word WordFault
+prefix_for Command None = Err NoPrefix
+prefix_for Command (Some []) = Err EmptyPrefix
+prefix_for Command (Some (c ∷ prefix)) = Ok (c ∷ prefix)
+prefix_for Line value = Ok []
 
--- a request of a tool from its options but `-P`, its operands and its prefix
-abbrev pub request_with : Tool → List Given → List Word → Option Word → Result Request WordFault
-request_with tool options operands None = Err NoPrefix
-request_with tool options operands (Some prefix) =
+-- a request of a tool from its options but the folder, its operands and its prefix
+abbrev pub request_with : Tool → List Given → List Word → Result Word WordFault →
+    Result Request WordFault
+request_with tool options operands (Err fault) = Err fault
+request_with tool options operands (Ok prefix) =
     if nat_lt (length operands) (operands_of tool) then Err TooFew else
     request_by_rules (broken_rule tool options)
     (record { tool = tool; prefix = prefix; options = options; operands = operands })
@@ -139,8 +148,8 @@ request_with tool options operands (Some prefix) =
 abbrev pub request_of_arguments : WordsOf → Tool → Result Arguments WordFault →
     Result Request WordFault
 request_of_arguments whose tool (Ok (given, operands)) =
-    request_with tool (without_prefix given) operands
-    (prefix_for whose (last_value prefix_letter given))
+    request_with tool (without_prefix tool given) operands
+    (prefix_for whose (prefix_value tool given))
 request_of_arguments whose tool (Err fault) = Err fault
 
 -- the tool that a word names, where such words may name it
@@ -155,7 +164,7 @@ abbrev pub request_of_tool : WordsOf → Option Tool → List Word → Result Re
 request_of_tool whose None words = Err UnknownTool
 request_of_tool whose (Some tool) words =
     request_of_arguments whose tool
-    (read_arguments (options_for whose tool) None (operands_of tool) 1 words)
+    (read_arguments (options_for whose tool) None (most_operands tool) 1 words)
 
 -- a request of words that keep the limits
 abbrev pub request_within_limits : WordsOf → List Word → Result Request WordFault

@@ -1,5 +1,5 @@
 //! Laws of commands. Each is a function that does nothing, and whose contract is the law.
-ghost use Rattle.account_model.specs.Laws.{ToolsAreWritten, DeedsAreChanges, ReportsAreWhole};
+ghost use Rattle.account_model.specs.Laws.{ToolsAreWritten, DeedsAreChanges, DoneLinesStay, ReportsAreWhole};
 
 /// A tool that doesn't refuse prints only records that read back.
 pub fn tools_are_written()
@@ -14,4 +14,9 @@ pub fn reports_are_whole()
 /// A deed changes a table, makes none stand or go, and keeps the limit of each.
 pub fn deeds_are_changes()
     ensures { DeedsAreChanges }
+{}
+
+/// A batch with `--ensure` leaves the files as they are where each of its lines is done on them already.
+pub fn done_lines_stay()
+    ensures { DoneLinesStay }
 {}

@@ -12,6 +12,7 @@ mod fault;
 mod given;
 mod laws;
 mod line_laws;
+mod line_place;
 mod new_user;
 mod records;
 mod refusal;
@@ -27,11 +28,12 @@ pub use choice_laws::{ids_are_chosen, ranges_are_found};
 pub use date_laws::{days_are_counted, days_have_dates};
 pub use fault::LineFault;
 pub use given::Given;
-pub use laws::{deeds_are_changes, reports_are_whole, tools_are_written};
+pub use laws::{deeds_are_changes, done_lines_stay, reports_are_whole, tools_are_written};
 pub use line_laws::{
     faults_are_found, no_edits_no_change, other_text_stays, records_are_found, records_read_back,
     tables_are_edited, touched_lines_are_met, untouched_lines_stay,
 };
+pub use line_place::LinePlace;
 pub use new_user::{Allotment, Plan};
 pub use records::{
     GREATEST_DAYS, GREATEST_ID, GroupRecord, GshadowRecord, PasswdRecord, ShadowRecord, SubidRecord,
@@ -42,5 +44,5 @@ pub use settings::{IdSort, Key, Kind};
 pub use subid_laws::ranges_are_cut;
 pub use tool::Tool;
 pub use word_fault::WordFault;
-pub use word_laws::words_have_one_reading;
+pub use word_laws::{lines_read_back, words_have_one_reading};
 pub use words_of::WordsOf;

@@ -1,12 +1,17 @@
-//! What is wrong with the words of a command.
+//! What is wrong with the words of a command, or with a line of a batch.
 use std::alloc::AllocError;
 
-/// The first fault of a list of words, in the order of the variants but for `Memory`.
+/// The first fault of a list of words or of a line, in the order of the variants but for `Memory`.
 ///
 /// The place of a word is counted from 0, where the tool's name stands. Of `UnknownOption` to
 /// `TooMany` the one of the lowest place is the first.
 #[derive(Clone, Copy, Debug, PartialEq, Eq, Drop)]
 pub enum WordFault {
+    /// A line of a batch ends in a carriage return. It is no fault of a command's own words.
+    LineEnd,
+    /// The quote in this column of a line of a batch, in bytes counted from 1, isn't closed in the line.
+    /// It is no fault of a command's own words.
+    Unclosed(usize),
     /// The word at this place is the first past the 512th, or of more than 4,096 bytes.
     WordLimit(usize),
     /// There is no word.
@@ -21,8 +26,10 @@ pub enum WordFault {
     UnexpectedValue(usize),
     /// The word at this place is one operand more than the tool takes.
     TooMany(usize),
-    /// `-P` isn't given, or its last value is empty.
+    /// Neither `-P` nor `--root` is given.
     NoPrefix,
+    /// The last value of these is empty.
+    EmptyPrefix,
     /// An operand is missing.
     TooFew,
     /// The options break this rule of the tool, counted from 1, and none before it.

@@ -1,7 +1,8 @@
-//! A law of words.
+//! Laws of words.
 ghost use Rattle.std.specs.Prelude.{◌≡◌, ◌↔◌, ◌⊎◌, ℕ, List, Ok, Some, None};
 ghost use Rattle.account_model.specs.declared.word_fault.WordFault.{WordFault};
 ghost use Rattle.account_model.specs.declared.words_of.WordsOf.{WordsOf as Whose};
+ghost use Rattle.account_model.specs.LineWords.{ReadsLine, line_printed, split_line};
 ghost use Rattle.account_model.specs.Request.{Request};
 ghost use Rattle.account_model.specs.Words.{AsksAs, request_as, fault_as};
 
@@ -17,4 +18,12 @@ pub fn words_have_one_reading()
     ensures faulty { (whose : Whose) (words : List (List ℕ))
         → ((request : Request) × AsksAs whose words request)
         ⊎ ((first : WordFault) × (fault_as whose words ≡ Some first)) }
+{}
+
+/// Words are split from a line of a batch exactly where the line reads as these, and words that are
+/// printed with quotes read back (sh(1), "Quoting").
+pub fn lines_read_back()
+    ensures split { (line : List ℕ) (words : List (List ℕ))
+        → ReadsLine line words ↔ (split_line line ≡ Ok words) }
+    ensures printed { (words : List (List ℕ)) → ReadsLine (line_printed words) words }
 {}

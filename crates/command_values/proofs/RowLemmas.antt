@@ -1,8 +1,8 @@
 -- Claim: what words ask for keeps the row of its tool (`asks-keeps_row`), so that an option which
 -- takes a value has one (`given-has_value`), and a tool of one operand has it (`one-operand`). Way:
 -- each way to spell an option tells its row of the tool's table, by its letter or by its long name,
--- and no two rows of a tool have one letter (`letters-apart`). The row of `-P` counts for nothing
--- among options without it.
+-- and no two rows of a tool have one letter (`letters-apart`). The rows of the folder count for
+-- nothing among options without it.
 use Rattle.std.proofs.Common.{◌≡◌, ℕ, Bool, true, false, ◌==◌, List, [], ◌∷◌, length, refl, sym, ap, subst, ◌∙◌, inl, inr, eq-eqb, arith}
 use Rattle.std.specs.Prelude.{Option, Some, None, find, is_some}
 use Rattle.std.specs.List.{AllByRecursion}
@@ -10,11 +10,12 @@ use Rattle.std.proofs.lemmas.Bool.{cases_Bool, eqb-true}
 use Rattle.account_model.specs.declared.given.Given.{Given}
 use Rattle.account_model.specs.declared.tool.Tool.{Tool}
 use Rattle.account_model.specs.declared.tool.Tool.TheVariants.{Useradd, Usermod, Userdel, Groupadd, Groupmod, Groupdel, Gpasswd, Chage, Chpasswd, Pwck, Grpck, Getsubids, Batch}
-use Rattle.account_model.specs.Options.{Word, OptionForm, prefix_letter, option_forms, own_options, operands_of}
+use Rattle.account_model.specs.Options.{Word, OptionForm, prefix_letter, root_letter, is_prefix, option_forms, own_options, operands_of, most_operands}
 use Rattle.account_model.specs.Request.{Request, has_option, value_of, last_value, operand as operand_of}
 use Rattle.account_model.specs.Spelling.{form_of_letter, HasLetter, HasName, Spelled, nothing, end_of_options, operand, letter_flag, letter_bundle, letter_with_value, letter_then_value, name_flag, name_with_value, name_then_value}
 use Rattle.account_model.specs.Text.{last_of}
 use Rattle.account_model.specs.Words.{Asks, without_prefix}
+use Rattle.account_model.proofs.SpelledIsRead.{both_false}
 use Rattle.command_values.specs.Options.{IsOfTable, KeepsRow}
 use Rattle.command_values.proofs.OptionLemmas.{values_in}
 
@@ -46,7 +47,10 @@ letters-apart Useradd = (
                   refl,
                   (
                     refl,
-                    (refl, (refl, (refl, (refl, (refl, (refl, (refl, (refl, (refl, tt))))))))),
+                    (
+                      refl,
+                      (refl, (refl, (refl, (refl, (refl, (refl, (refl, (refl, (refl, tt))))))))),
+                    ),
                   ),
                 ),
               ),
@@ -77,7 +81,10 @@ letters-apart Usermod = (
                   refl,
                   (
                     refl,
-                    (refl, (refl, (refl, (refl, (refl, (refl, (refl, (refl, (refl, tt))))))))),
+                    (
+                      refl,
+                      (refl, (refl, (refl, (refl, (refl, (refl, (refl, (refl, (refl, tt))))))))),
+                    ),
                   ),
                 ),
               ),
@@ -88,17 +95,17 @@ letters-apart Usermod = (
     ),
   ),
 )
-letters-apart Userdel = (refl, (refl, tt))
-letters-apart Groupadd = (refl, (refl, (refl, (refl, (refl, (refl, (refl, tt)))))))
-letters-apart Groupmod = (refl, (refl, (refl, (refl, (refl, tt)))))
-letters-apart Groupdel = (refl, (refl, tt))
-letters-apart Gpasswd = (refl, (refl, (refl, (refl, (refl, (refl, (refl, tt)))))))
-letters-apart Chage = (refl, (refl, (refl, (refl, (refl, (refl, (refl, (refl, tt))))))))
-letters-apart Chpasswd = (refl, (refl, tt))
-letters-apart Pwck = (refl, (refl, (refl, (refl, tt))))
-letters-apart Grpck = (refl, (refl, (refl, tt)))
-letters-apart Getsubids = (refl, (refl, tt))
-letters-apart Batch = (refl, tt)
+letters-apart Userdel = (refl, (refl, (refl, tt)))
+letters-apart Groupadd = (refl, (refl, (refl, (refl, (refl, (refl, (refl, (refl, tt))))))))
+letters-apart Groupmod = (refl, (refl, (refl, (refl, (refl, (refl, tt))))))
+letters-apart Groupdel = (refl, (refl, (refl, tt)))
+letters-apart Gpasswd = (refl, (refl, (refl, (refl, (refl, (refl, (refl, (refl, tt))))))))
+letters-apart Chage = (refl, (refl, (refl, (refl, (refl, (refl, (refl, (refl, (refl, tt)))))))))
+letters-apart Chpasswd = (refl, (refl, (refl, tt)))
+letters-apart Pwck = (refl, (refl, (refl, (refl, (refl, tt)))))
+letters-apart Grpck = (refl, (refl, (refl, (refl, tt))))
+letters-apart Getsubids = (refl, (refl, (refl, tt)))
+letters-apart Batch = (refl, (refl, (refl, tt)))
 
 -- what holds of all holds of the one that is found
 holds-found :
@@ -148,26 +155,34 @@ module _ (table : List OptionForm) (apart : AllByRecursion (IsOnlyRow table) tab
 
 -- ---- The options but the prefix
 
--- another letter than `-P` is one of the tool's own
+-- what is another than a letter has that as another
+apart-turned : (first second : ℕ) → (first == second) ≡ false → (second == first) ≡ false
+apart-turned first second other = elim (cases_Bool (second == first)) [
+  | inl same ↦
+      let turned : first ≡ second = sym (eqb-true second first same) in
+      let wrong : false ≡ true = sym other ∙ eq-eqb first second turned in absurd (cc)
+  | inr different ↦ different
+]
+
+-- another letter than those of the folder is one of the tool's own
 own-letter :
     (tool : Tool) (letter : ℕ) (takes_value : Bool)
-    → (letter == prefix_letter) ≡ false
+    → is_prefix tool letter ≡ false
     → HasLetter (option_forms tool) letter takes_value
     → HasLetter (own_options tool) letter takes_value
-own-letter tool letter takes_value other has = elim (cases_Bool (prefix_letter == letter)) [
-  | inl same ↦
-      let turned : letter ≡ prefix_letter = sym (eqb-true prefix_letter letter same) in
-      let wrong : false ≡ true = sym other ∙ eq-eqb letter prefix_letter turned in absurd (cc)
-  | inr different ↦ record { form = has.form; found = rw different at has.found; value = has.value }
-]
+own-letter tool letter takes_value other has =
+    let apart = both_false (letter == prefix_letter) (letter == root_letter tool) other in
+    let no_prefix = apart-turned letter prefix_letter apart.0 in
+    let no_root = apart-turned letter (root_letter tool) apart.1 in
+    record { form = has.form; found = rw (no_prefix, no_root) at has.found; value = has.value }
 
 -- the options but the prefix are the tool's own
 own-options :
     (tool : Tool) (options : List Given)
     → AllByRecursion (IsOfTable (option_forms tool)) options
-    → AllByRecursion (IsOfTable (own_options tool)) (without_prefix options)
+    → AllByRecursion (IsOfTable (own_options tool)) (without_prefix tool options)
 own-options tool [] all = tt
-own-options tool (option ∷ options) all = elim (cases_Bool (option.letter == prefix_letter)) [
+own-options tool (option ∷ options) all = elim (cases_Bool (is_prefix tool option.letter)) [
   | inl prefix ↦ rw prefix (own-options tool options all.1)
   | inr other ↦ rw other (
     own-letter tool option.letter (is_some option.value) other all.0,
@@ -186,7 +201,8 @@ asks-keeps_row words request asks =
     record {
       options = subst (AllByRecursion (IsOfTable (own_options tool))) (sym asks.options)
           (own-options tool asks.given all);
-      operands = asks.operands;
+      enough = asks.enough;
+      few = asks.few;
       rules = asks.rules;
     }
 
@@ -263,6 +279,8 @@ pub one-operand :
     (request : Request)
     → KeepsRow request
     → operands_of request.tool ≡ 1
+    → most_operands request.tool ≡ 1
     → request.operands ≡ operand_of request ∷ []
-one-operand request keeps one =
-    only-operand request.operands (operand_of request) (keeps.operands ∙ one) refl
+one-operand request keeps least most =
+    let one : length request.operands ≡ 1 = omega (arith, keeps.enough, keeps.few, least, most) in
+    only-operand request.operands (operand_of request) one refl

@@ -1,9 +1,9 @@
 -- What one option gives, and what the options and operands of a request are (the manual page of
 -- each tool, "OPTIONS" and "SYNOPSIS").
-use Rattle.std.specs.Prelude.{◌≡◌, ℕ, ◌==◌, List, length, Option, None, is_some, if◌then◌else◌}
+use Rattle.std.specs.Prelude.{◌≡◌, ℕ, ◌≤◌, ◌==◌, List, length, Option, None, is_some, if◌then◌else◌}
 use Rattle.std.specs.List.{AllByRecursion}
 use Rattle.account_model.specs.declared.given.Given.{Given}
-use Rattle.account_model.specs.Options.{OptionForm, own_options, operands_of}
+use Rattle.account_model.specs.Options.{OptionForm, own_options, operands_of, most_operands}
 use Rattle.account_model.specs.Spelling.{HasLetter}
 use Rattle.account_model.specs.Words.{broken_rule}
 use Rattle.account_model.specs.Request.{Request}
@@ -17,8 +17,9 @@ abbrev pub IsOfTable : List OptionForm → Given → Type 0
 IsOfTable table option = HasLetter table option.letter (is_some option.value)
 
 -- the request is one of its tool: each option is one that the tool takes, there are as many
--- operands as it takes, and no rule is broken
+-- operands as it needs and no more than it takes, and no rule is broken
 pub record KeepsRow (request : Request) : Type 0 where
   pub options : AllByRecursion (IsOfTable (own_options request.tool)) request.options
-  pub operands : length request.operands ≡ operands_of request.tool
+  pub enough : operands_of request.tool ≤ length request.operands
+  pub few : length request.operands ≤ most_operands request.tool
   pub rules : broken_rule request.tool request.options ≡ None

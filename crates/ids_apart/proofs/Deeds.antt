@@ -7,6 +7,7 @@ use Rattle.std.specs.List.{AllByRecursion}
 use Rattle.acct_text.specs.declared.files.Files.{Files}
 use Rattle.account_model.specs.Records.{passwd_format, group_format, subid_format}
 use Rattle.account_model.specs.Tables.{Script, files_after, passwd_records, group_records, subuid_records, subgid_records}
+use Rattle.account_model.specs.Batch.{ensures}
 use Rattle.account_model.specs.BatchLines.{line_requests}
 use Rattle.account_model.specs.Settings.{Setting, settings_of}
 use Rattle.account_model.specs.Request.{Request}
@@ -110,7 +111,7 @@ deed-keeps Holds IsSo keeps request input day old defs new so lines e holds =
     let settings = settings_of (unwrap_or defs [])
     in elim (deed-makes request input day old defs new e) [
       | inl by_lines ↦ subst Holds by_lines.files
-          (batch-keeps day settings Holds (λ line. IsSo line.request) (line_requests input) old
+          (batch-keeps (ensures request) day settings Holds (λ line. IsSo line.request) (line_requests input) old
           by_lines.written
           (λ line is files made outcome.
           keeps line.request [] day files settings made outcome is)

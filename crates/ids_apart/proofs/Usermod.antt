@@ -26,7 +26,7 @@ use Rattle.account_model.specs.UsermodHash.{sets_hash, sets_aging, hash_after, h
 use Rattle.account_model.specs.UsermodRanges.{range_edits}
 use Rattle.account_model.specs.Usermod.{changed_user, changed_group, range_owner, subuid_change, subgid_change, is_own_uid, is_uid_taken, usermod_checks, usermod_conflicts, usermod_script, usermod}
 use Rattle.account_model.proofs.SameLaws.{passwd-tells}
-use Rattle.account_model.proofs.UsermodRangeScripts.{values-ordered}
+use Rattle.account_model.proofs.UsermodRangeScripts.{values-ordered, added-ordered}
 use Rattle.account_model.proofs.ListLaws.{all-append}
 use Rattle.ids_apart.specs.Apart.{AreApart}
 use Rattle.ids_apart.proofs.PairEdits.{KeepsPairs, StayApart, edits-keep}
@@ -81,22 +81,22 @@ usermod-ranges request files day none written_uids written_gids =
     in let owner = range_owner request files
     in let leaves = (hash-quiet request files).ranges
     in let uids = ranges-behind (hash_script request files).subuid
-    (range_edits owner (subuid_change request))
+    (range_edits owner (subuid_change request files))
     leaves.subuid
     in let gids = ranges-behind (hash_script request files).subgid
-    (range_edits owner (subgid_change request))
+    (range_edits owner (subgid_change request files))
     leaves.subgid
     in record {
       subuids = subst (TableStays subid_format AreApart files.subuid) (sym uids)
-          (ranges-stay Subuid owner (subuid_change request) files.subuid
+          (ranges-stay Subuid owner (subuid_change request files) files.subuid
           (values-ordered (values_of (codes "V") request))
-          (values-ordered (values_of (codes "v") request))
+          (added-ordered files.subuid owner (codes "V") (codes "v") request)
           (subst (AllByRecursion (IsWrittenEdit subid_format)) uids written_uids)
           passed.1.1.1.1.1.1.0);
       subgids = subst (TableStays subid_format AreApart files.subgid) (sym gids)
-          (ranges-stay Subgid owner (subgid_change request) files.subgid
+          (ranges-stay Subgid owner (subgid_change request files) files.subgid
           (values-ordered (values_of (codes "W") request))
-          (values-ordered (values_of (codes "w") request))
+          (added-ordered files.subgid owner (codes "W") (codes "w") request)
           (subst (AllByRecursion (IsWrittenEdit subid_format)) gids written_gids)
           passed.1.1.1.1.1.1.1.0);
     }

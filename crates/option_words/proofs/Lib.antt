@@ -1,5 +1,4 @@
 pub mod TableLemmas
 pub mod CutLemmas
 pub mod ReadingLemmas
-pub mod SplittingLemmas
 pub mod BatchLemmas

@@ -15,10 +15,10 @@ use Rattle.account_model.specs.declared.word_fault.WordFault.TheVariants.{Unknow
 use Rattle.account_model.specs.declared.tool.Tool.{Tool}
 use Rattle.account_model.specs.declared.words_of.WordsOf.{WordsOf}
 use Rattle.account_model.specs.Text.{last_of, has_byte, equals_sign}
-use Rattle.account_model.specs.Options.{Word, OptionForm, prefix_letter, as_flag, as_value, options_for, operands_of}
-use Rattle.account_model.specs.Request.{Request, last_value}
+use Rattle.account_model.specs.Options.{Word, OptionForm, is_prefix, as_flag, as_value, options_for, most_operands}
+use Rattle.account_model.specs.Request.{Request}
 use Rattle.account_model.specs.Spelling.{form_of_letter, form_of_name, WordReading, complete, waits_for_value, flag_before, value_behind, letter_reading, letters_reading, name_reading, name_reading_with, name_part, value_part, long_reading, Meaning, is_an_operand, has_options, word_meaning, Arguments, with_options, with_operand, read_word, read_arguments}
-use Rattle.account_model.specs.Words.{AsksAs, without_prefix, prefix_for, request_with, request_of_arguments, request_of_tool, request_as}
+use Rattle.account_model.specs.Words.{AsksAs, without_prefix, prefix_value, prefix_for, request_with, request_of_arguments, request_of_tool, request_as}
 use Rattle.option_words.specs.declared.reading.Reading.{Reading}
 use Rattle.option_words.specs.declared.reading.Expects.{Expects}
 use Rattle.option_words.specs.declared.reading.Expects.TheVariants.{AnyWord, ValueOf, OperandsAlone}
@@ -56,18 +56,18 @@ request_by-option reading option (Err fault) = refl
 request_by-option reading option (Ok read) =
     let tool = reading.tool in
     let operands = reading.operands ++ read.1 in
-    let later = last_value prefix_letter read.0 in
-    elim (cases_Bool (option.letter == prefix_letter)) [
+    let later = prefix_value tool read.0 in
+    elim (cases_Bool (is_prefix tool option.letter)) [
       | inl prefix ↦ rw prefix
-          (ap (λ prefix. request_with tool (reading.options ++ without_prefix read.0) operands
+          (ap (λ prefix. request_with tool (reading.options ++ without_prefix tool read.0) operands
           (prefix_for reading.whose prefix))
           (last_of-cons_option option.value
-          (filter_map (λ given. given.value) (filter (λ given. given.letter == prefix_letter) read.0))
+          (filter_map (λ given. given.value) (filter (λ given. is_prefix tool given.letter) read.0))
           reading.prefix))
       | inr other ↦ rw other
           (ap (λ options. request_with tool options operands
           (prefix_for reading.whose (option_or later reading.prefix)))
-          (sym (append_assoc reading.options (option ∷ []) (without_prefix read.0))))
+          (sym (append_assoc reading.options (option ∷ []) (without_prefix tool read.0))))
     ]
 
 -- an operand before those that are read is one that was read
@@ -77,8 +77,8 @@ pub request_by-operand :
     ≡ request_by (record reading { operands = reading.operands ++ word ∷ [] }) read
 request_by-operand reading word (Err fault) = refl
 request_by-operand reading word (Ok read) =
-    ap (λ operands. request_with reading.tool (reading.options ++ without_prefix read.0) operands
-    (prefix_for reading.whose (option_or (last_value prefix_letter read.0) reading.prefix)))
+    ap (λ operands. request_with reading.tool (reading.options ++ without_prefix reading.tool read.0)
+    operands (prefix_for reading.whose (option_or (prefix_value reading.tool read.0) reading.prefix)))
     (sym (append_assoc reading.operands (word ∷ []) read.1))
 
 -- ---- The options of a word
@@ -347,8 +347,8 @@ pub request_by-no_words :
     → request_by (no_words alloc whose tool) read ≡ request_of_arguments whose tool read
 request_by-no_words alloc whose tool (Err fault) = refl
 request_by-no_words alloc whose tool (Ok read) =
-    ap (λ value. request_with tool (without_prefix read.0) read.1 (prefix_for whose value))
-    (option_or-none (last_value prefix_letter read.0))
+    ap (λ value. request_with tool (without_prefix tool read.0) read.1 (prefix_for whose value))
+    (option_or-none (prefix_value tool read.0))
 
 -- a reading of no words comes to the request of the words behind the tool's name
 pub outcome_of-no_words :
@@ -357,9 +357,9 @@ pub outcome_of-no_words :
 outcome_of-no_words alloc whose tool words =
     let table = options_for whose tool in
     ap (λ room. request_by (no_words alloc whose tool) (read_arguments table None room 1 words))
-    (sub-zero (operands_of tool))
+    (sub-zero (most_operands tool))
     ∙ request_by-no_words alloc whose tool
-    (read_arguments table None (operands_of tool) 1 words)
+    (read_arguments table None (most_operands tool) 1 words)
 
 -- with no words left, what was read is all
 pub request_by-nothing :

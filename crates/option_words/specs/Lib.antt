@@ -3,5 +3,4 @@ pub mod Rules
 pub mod Meanings
 pub mod Parsed
 pub mod Reading
-pub mod Splitting
 pub mod Batch

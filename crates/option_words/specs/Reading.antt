@@ -4,10 +4,10 @@ use Rattle.std.specs.Option.{option_or}
 use Rattle.account_model.specs.declared.given.Given.{Given}
 use Rattle.account_model.specs.declared.word_fault.WordFault.{WordFault}
 use Rattle.account_model.specs.declared.word_fault.WordFault.TheVariants.{Memory}
-use Rattle.account_model.specs.Options.{Word, OptionForm, prefix_letter, options_for, operands_of}
-use Rattle.account_model.specs.Request.{Request, last_value}
+use Rattle.account_model.specs.Options.{Word, OptionForm, is_prefix, options_for, most_operands}
+use Rattle.account_model.specs.Request.{Request}
 use Rattle.account_model.specs.Spelling.{WordReading, Arguments, has_options, read_operands, read_word, read_arguments}
-use Rattle.account_model.specs.Words.{without_prefix, prefix_for, request_with}
+use Rattle.account_model.specs.Words.{without_prefix, prefix_value, prefix_for, request_with}
 use Rattle.option_words.specs.declared.parsed.Parsed.{Parsed}
 use Rattle.option_words.specs.declared.reading.Reading.{Reading}
 use Rattle.option_words.specs.declared.reading.Expects.{Expects}
@@ -20,28 +20,28 @@ table_of reading = options_for reading.whose reading.tool
 
 -- how many operands the tool still takes
 abbrev pub room_of : Reading → ℕ
-room_of reading = operands_of reading.tool - length reading.operands
+room_of reading = most_operands reading.tool - length reading.operands
 
 -- the tool takes one operand more
 abbrev pub has_room : Reading → Type 0
-has_room reading = length reading.operands < operands_of reading.tool
+has_room reading = length reading.operands < most_operands reading.tool
 
 -- the reading after one more option
 abbrev pub after_option : Reading → Given → Reading
 after_option reading option =
-    let is_prefix = option.letter == prefix_letter in
+    let is_folder = is_prefix reading.tool option.letter in
     record reading {
-      prefix = (if is_prefix then option_or option.value reading.prefix else reading.prefix);
-      options = (if is_prefix then reading.options else reading.options ++ option ∷ []);
+      prefix = (if is_folder then option_or option.value reading.prefix else reading.prefix);
+      options = (if is_folder then reading.options else reading.options ++ option ∷ []);
     }
 
 -- the request of what was read and of what the words behind it give
 abbrev pub request_by : Reading → Result Arguments WordFault → Result Request WordFault
 request_by reading (Err fault) = Err fault
 request_by reading (Ok (given, operands)) =
-    request_with reading.tool (reading.options ++ without_prefix given)
+    request_with reading.tool (reading.options ++ without_prefix reading.tool given)
     (reading.operands ++ operands)
-    (prefix_for reading.whose (option_or (last_value prefix_letter given) reading.prefix))
+    (prefix_for reading.whose (option_or (prefix_value reading.tool given) reading.prefix))
 
 -- what the words from a place on give
 abbrev pub rest_by : Expects → Reading → ℕ → List Word → Result Arguments WordFault

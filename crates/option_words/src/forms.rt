@@ -1,6 +1,6 @@
 // The options of each tool, in the order of its manual page.
 ghost use Rattle.std.specs.Prelude.{◌≡◌, ◌==◌, map, find, option_map};
-ghost use Rattle.account_model.specs.Options.{option_forms as command_options, options_for, operands_of as number_of_operands};
+ghost use Rattle.account_model.specs.Options.{option_forms as command_options, options_for, operands_of as number_of_operands, most_operands as most_of_tool};
 ghost use Rattle.account_model.specs.Spelling.{form_of_letter as by_letter, form_of_name as by_name, has_long_name as is_named};
 ghost use Rattle.option_words.specs.Forms.{form_of};
 
@@ -21,8 +21,12 @@ pub(crate) enum OptionForm {
 // The folder whose `etc` is worked on, which each tool of a command takes.
 const PREFIX: OptionForm = Value(b'P', "prefix");
 
+// The same by the name that the original has for its root.
+const ROOT: OptionForm = Value(b'R', "root");
+
 const USERADD: &[OptionForm] = &[
     PREFIX,
+    ROOT,
     Value(b'b', "base-dir"),
     Value(b'c', "comment"),
     Value(b'd', "home-dir"),
@@ -45,6 +49,7 @@ const USERADD: &[OptionForm] = &[
 
 const USERMOD: &[OptionForm] = &[
     PREFIX,
+    ROOT,
     Flag(b'a', "append"),
     Value(b'c', "comment"),
     Value(b'd', "home"),
@@ -67,6 +72,7 @@ const USERMOD: &[OptionForm] = &[
 
 const GROUPADD: &[OptionForm] = &[
     PREFIX,
+    ROOT,
     Flag(b'f', "force"),
     Value(b'g', "gid"),
     Value(b'K', "key"),
@@ -77,6 +83,7 @@ const GROUPADD: &[OptionForm] = &[
 
 const GROUPMOD: &[OptionForm] = &[
     PREFIX,
+    ROOT,
     Value(b'g', "gid"),
     Value(b'n', "new-name"),
     Flag(b'o', "non-unique"),
@@ -85,6 +92,7 @@ const GROUPMOD: &[OptionForm] = &[
 
 const GPASSWD: &[OptionForm] = &[
     PREFIX,
+    Value(b'Q', "root"),
     Value(b'a', "add"),
     Value(b'd', "delete"),
     Value(b'A', "administrators"),
@@ -95,6 +103,7 @@ const GPASSWD: &[OptionForm] = &[
 
 const CHAGE: &[OptionForm] = &[
     PREFIX,
+    ROOT,
     Value(b'd', "lastday"),
     Value(b'E', "expiredate"),
     Value(b'I', "inactive"),
@@ -106,12 +115,13 @@ const CHAGE: &[OptionForm] = &[
 
 const PWCK: &[OptionForm] = &[
     PREFIX,
+    ROOT,
     Flag(b'q', "quiet"),
     Flag(b'r', "read-only"),
     Flag(b's', "sort"),
 ];
 
-const GRPCK: &[OptionForm] = &[PREFIX, Flag(b'r', "read-only"), Flag(b's', "sort")];
+const GRPCK: &[OptionForm] = &[PREFIX, ROOT, Flag(b'r', "read-only"), Flag(b's', "sort")];
 
 // The options of a tool, in words of a command.
 fn command_forms(tool: Tool) -> &'static [OptionForm]
@@ -120,26 +130,26 @@ fn command_forms(tool: Tool) -> &'static [OptionForm]
     match tool {
         Tool::Useradd => USERADD,
         Tool::Usermod => USERMOD,
-        Tool::Userdel | Tool::Groupdel => &[PREFIX, Flag(b'f', "force")],
+        Tool::Userdel | Tool::Groupdel => &[PREFIX, ROOT, Flag(b'f', "force")],
         Tool::Groupadd => GROUPADD,
         Tool::Groupmod => GROUPMOD,
         Tool::Gpasswd => GPASSWD,
         Tool::Chage => CHAGE,
-        Tool::Chpasswd => &[PREFIX, Flag(b'e', "encrypted")],
+        Tool::Chpasswd => &[PREFIX, ROOT, Flag(b'e', "encrypted")],
         Tool::Pwck => PWCK,
         Tool::Grpck => GRPCK,
-        Tool::Getsubids => &[PREFIX, ShortFlag(b'g')],
-        Tool::Batch => &[PREFIX],
+        Tool::Getsubids => &[PREFIX, ROOT, ShortFlag(b'g')],
+        Tool::Batch => &[PREFIX, ROOT, Flag(b'e', "ensure")],
     }
 }
 
-// The options that such words may give: the prefix, which is first, is a command's.
+// The options that such words may give: those of the folder, which come first, are a command's.
 fn forms_for(whose: WordsOf, tool: Tool) -> &'static [OptionForm]
     ensures { map form_of result.now ≡ options_for whose tool }
 {
     let forms = command_forms(tool);
     match (whose, forms) {
-        (WordsOf::Line, [_, own @ ..]) => own,
+        (WordsOf::Line, [_, _, own @ ..]) => own,
         _ => forms,
     }
 }
@@ -170,13 +180,23 @@ fn find_long_name(forms: &[OptionForm], name: &[u8]) -> Option<OptionForm>
     forms.iter().copied().find(|form| form.has_long_name(name))
 }
 
-/// How many operands a tool takes: the user or the group, or none.
+/// How many operands a tool needs: the user or the group, or none.
 pub(crate) fn operands_of(tool: Tool) -> usize
     ensures { result ≡ number_of_operands tool }
 {
     match tool {
         Tool::Chpasswd | Tool::Pwck | Tool::Grpck | Tool::Batch => 0,
         _ => 1,
+    }
+}
+
+/// How many operands a tool takes at most: batch one, the file with its lines.
+pub(crate) fn most_operands(tool: Tool) -> usize
+    ensures { result ≡ most_of_tool tool }
+{
+    match tool {
+        Tool::Batch => 1,
+        _ => operands_of(tool),
     }
 }
 

@@ -2,11 +2,12 @@
 // (getopt_long(3)).
 ghost use Rattle.std.specs.Prelude.{◌≡◌, ◌⊎◌, ℕ, suc, [], ◌∷◌, ◌++◌, OnOk, IfErr};
 ghost use Rattle.account_model.specs.Spelling.{letters_reading, long_reading, name_reading, name_reading_with, value_behind};
+ghost use Rattle.account_model.specs.Options.{is_prefix};
 ghost use Rattle.account_model.specs.Words.{prefix_for as prefix_by, request_of_tool, request_with};
 ghost use Rattle.option_words.specs.Forms.{form_of};
 ghost use Rattle.option_words.specs.Reading.{Answers, AnswersReading, LeadsTo, ReadsOn, after_option, has_room, options_of_word, outcome_of, table_of};
 
-use crate::forms::{OptionForm, form_of_letter, form_of_name, operands_of};
+use crate::forms::{OptionForm, form_of_letter, form_of_name, most_operands, operands_of};
 use crate::meaning::{Meaning, cut_at_equals, meaning_of};
 use crate::rules::broken_rule;
 use crate::{Options, Parsed};
@@ -16,6 +17,11 @@ use std::alloc::{AllocError, Global};
 
 // The letter of the prefix, which isn't among the options of a request.
 const PREFIX: u8 = b'P';
+
+// The letter of the same by another name, of gpasswd and of the others.
+const GPASSWD_ROOT: u8 = b'Q';
+
+const ROOT: u8 = b'R';
 
 /// What the next word can be.
 #[derive(Clone, Copy)]
@@ -124,7 +130,7 @@ impl Reading {
         ensures fault { IfErr result (λ fault. (fault ≡ WordFault.Memory)
             ⊎ (¬ (has_room self.old) × (fault ≡ WordFault.TooMany place))) }
     {
-        if self.operands.len() >= operands_of(self.tool) {
+        if self.operands.len() >= most_operands(self.tool) {
             return Err(WordFault::TooMany(place));
         }
         Ok(self.operands.push(word)?)
@@ -227,7 +233,7 @@ impl Reading {
         ensures { OnOk result
             (self.new ≡ after_option self.old (record { letter = letter; value = value })) }
     {
-        if letter != PREFIX {
+        if !is_prefix(self.tool, letter) {
             return self.options.push(Given { letter, value });
         }
         if value.is_some() {
@@ -250,9 +256,7 @@ impl Reading {
             operands,
             ..
         } = self;
-        let Some(prefix) = prefix_for(alloc, whose, prefix) else {
-            return Err(WordFault::NoPrefix);
-        };
+        let prefix = prefix_for(alloc, whose, prefix)?;
         if operands.len() < operands_of(tool) {
             return Err(WordFault::TooFew);
         }
@@ -268,13 +272,27 @@ impl Reading {
     }
 }
 
-// The prefix of such words, if there is one, by the last value of `-P`.
-fn prefix_for(alloc: Global, whose: WordsOf, value: Option<Bytes>) -> Option<Bytes>
+// Whether the option of a letter gives the prefix.
+fn is_prefix(tool: Tool, letter: u8) -> bool
+    ensures { result ≡ is_prefix tool letter }
+{
+    let root = match tool {
+        Tool::Gpasswd => GPASSWD_ROOT,
+        _ => ROOT,
+    };
+    letter == PREFIX || letter == root
+}
+
+// The prefix of such words by the folder that was given, or what is wrong with it.
+fn prefix_for(alloc: Global, whose: WordsOf, value: Option<Bytes>) -> Result<Bytes, WordFault>
     ensures { result ≡ prefix_by whose value }
 {
     match (whose, value) {
-        (WordsOf::Command, Some(value)) if !value.as_slice().is_empty() => Some(value),
-        (WordsOf::Command, _) => None,
-        (WordsOf::Line, _) => Some(Bytes::new(alloc)),
+        (WordsOf::Line, _) => Ok(Bytes::new(alloc)),
+        (WordsOf::Command, None) => Err(WordFault::NoPrefix),
+        (WordsOf::Command, Some(value)) if value.as_slice().is_empty() => {
+            Err(WordFault::EmptyPrefix)
+        }
+        (WordsOf::Command, Some(value)) => Ok(value),
     }
 }

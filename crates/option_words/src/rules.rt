@@ -1,8 +1,8 @@
 // The rules between the options of each tool, in the order in which they are tested.
 ghost use Rattle.std.specs.Prelude.{◌≡◌, ◌<◌, map, length, filter, position, not, IfSome};
-ghost use Rattle.account_model.specs.Options.{rules_of as all_rules, is_given as has_letter, is_alone as has_no_other, some_of, alone};
+ghost use Rattle.account_model.specs.Options.{rule_tests, is_given as has_letter, is_alone as has_no_other, some_of, alone};
 ghost use Rattle.account_model.specs.Words.{broken_rule as first_broken};
-ghost use Rattle.option_words.specs.Rules.{rule_of};
+ghost use Rattle.option_words.specs.Rules.{test_of};
 
 use Rule::{Alone, NotBoth, OneOf, OnlyWith, SomeOf, SomeOption};
 use account_model::{Given, Tool};
@@ -26,7 +26,7 @@ enum Rule {
 
 // The rules of a tool.
 fn rules_of(tool: Tool) -> &'static [Rule]
-    ensures rules { map rule_of result.now ≡ all_rules tool }
+    ensures rules { map test_of result.now ≡ rule_tests tool }
     ensures few { length result.now < 5 }
 {
     match tool {
@@ -61,7 +61,7 @@ pub(crate) fn broken_rule(tool: Tool, options: &[Given]) -> Option<u32>
 
 // The place of the first rule that the options break, counted from 0.
 fn place_of_broken(rules: &[Rule], options: &[Given]) -> Option<usize>
-    ensures place { result ≡ position (λ rule. not (rule_of rule options.now)) rules.now }
+    ensures place { result ≡ position (λ rule. not (test_of rule options.now)) rules.now }
     ensures within { IfSome result (λ place. place < length rules.now) }
 {
     rules.iter().position(|rule| !rule.is_kept(options))
@@ -70,7 +70,7 @@ fn place_of_broken(rules: &[Rule], options: &[Given]) -> Option<usize>
 impl Rule {
     // Whether the options keep the rule.
     fn is_kept(self, options: &[Given]) -> bool
-        ensures { result ≡ rule_of self options.now }
+        ensures { result ≡ test_of self options.now }
     {
         match self {
             NotBoth(first, second) => !(is_given(first, options) && is_given(second, options)),

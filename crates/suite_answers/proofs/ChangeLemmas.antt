@@ -18,7 +18,7 @@ use Rattle.account_model.specs.Request.{Request, has_option}
 use Rattle.account_model.specs.Words.{is_batch}
 use Rattle.account_model.specs.Tables.{Script, no_edits, files_after}
 use Rattle.account_model.specs.Action.{Action, Made, changes, made_by, outcome_of, multiple_entries}
-use Rattle.account_model.specs.Batch.{LineRefusal, Written, batch, before_others, with_rest, written_by}
+use Rattle.account_model.specs.Batch.{LineRefusal, Written, batch, before_others, ensures, line_outcome, with_rest, written_by}
 use Rattle.account_model.specs.Pwck.{pwck_sort, pwck_report}
 use Rattle.account_model.specs.Grpck.{grpck_sort, grpck_report}
 use Rattle.account_model.specs.Change.{action_by, action_of}
@@ -124,12 +124,12 @@ rest-zero line (Ok made) rest zero =
     before-zero (written_by line.request.tool made) (rest made.files) (zero made.files)
 
 -- and of all lines
-batch-zero : (lines : List LineRequest) (day : ℕ) (settings : List Setting) (files : Files) →
-    IsZero (batch lines day settings files)
-batch-zero [] day settings files = refl
-batch-zero (line ∷ rest) day settings files = rest-zero line
-    (outcome_of (action_of line.request [] day files settings) files) (batch rest day settings)
-    (batch-zero rest day settings)
+batch-zero : (ensuring : Bool) (lines : List LineRequest) (day : ℕ) (settings : List Setting)
+    (files : Files) → IsZero (batch ensuring lines day settings files)
+batch-zero ensuring [] day settings files = refl
+batch-zero ensuring (line ∷ rest) day settings files = rest-zero line
+    (line_outcome ensuring line.request day settings files) (batch ensuring rest day settings)
+    (batch-zero ensuring rest day settings)
 
 -- the answer to them, by what they write and its problem
 written-succeeds : (old : Files) (written : Written) (problem : Option FileProblem) (same : Bool) →
@@ -154,12 +154,13 @@ lines-succeed old (Ok written) zero new changed =
 -- an answer on files that can be used, by whether it is to a batch
 under-succeeds : (request : Request) (input : Bytes) (day : ℕ) (old : Files)
     (settings : List Setting) (lines : Bool) →
-    Succeeds (if lines then answer_lines old (batch (line_requests input) day settings old)
+    Succeeds (if lines
+    then answer_lines old (batch (ensures request) (line_requests input) day settings old)
     else answer_outcome request.tool old
     (outcome_of (action_of request input day old settings) old))
 under-succeeds request input day old settings true new changed =
-    lines-succeed old (batch (line_requests input) day settings old)
-    (batch-zero (line_requests input) day settings old) new changed
+    lines-succeed old (batch (ensures request) (line_requests input) day settings old)
+    (batch-zero (ensures request) (line_requests input) day settings old) new changed
 under-succeeds request input day old settings false new changed =
     outcome-succeeds request.tool (action_of request input day old settings) old
     (first_some (action_of request input day old settings).refusals)

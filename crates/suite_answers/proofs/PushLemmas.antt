@@ -15,18 +15,22 @@ pub error-is :
 error-is (Ok answer) error is = absurd is
 error-is (Err told) error is = ap Err is
 
+-- how the line of want of memory ends
+abbrev pub ending : List ℕ
+ending = codes ": want of memory" ++ newline ∷ []
+
 -- the line of want of memory in four pieces
 pub memory-pieces :
     (tool : Option Tool) (stage : CommitStage) (name words : List ℕ)
     → name ≡ speaker tool
     → words ≡ stage_text stage
-    → memory_message tool stage ≡ name ++ (codes ": want of memory " ++ (words ++ newline ∷ []))
+    → memory_message tool stage ≡ name ++ (codes ": " ++ (words ++ ending))
 memory-pieces tool stage name words named worded =
     append_assoc (speaker tool ++ codes ": ")
-    (codes "want of memory " ++ stage_text stage) (newline ∷ [])
+    (stage_text stage ++ codes ": want of memory") (newline ∷ [])
     ∙ append_assoc (speaker tool) (codes ": ")
-    ((codes "want of memory " ++ stage_text stage) ++ newline ∷ [])
-    ∙ ap (λ (text : List ℕ). speaker tool ++ (codes ": want of memory " ++ (text ++ newline ∷ [])))
-    (sym worded)
-    ∙ ap (λ (text : List ℕ). text ++ (codes ": want of memory " ++ (words ++ newline ∷ [])))
-    (sym named)
+    ((stage_text stage ++ codes ": want of memory") ++ newline ∷ [])
+    ∙ ap (λ (text : List ℕ). speaker tool ++ (codes ": " ++ text))
+    (append_assoc (stage_text stage) (codes ": want of memory") (newline ∷ []))
+    ∙ ap (λ (text : List ℕ). speaker tool ++ (codes ": " ++ (text ++ ending))) (sym worded)
+    ∙ ap (λ (text : List ℕ). text ++ (codes ": " ++ (words ++ ending))) (sym named)

@@ -61,24 +61,23 @@ intent_large = refl
 intent_large_status : status_of Pwck (TooLarge (File Intent)) ≡ 3
 intent_large_status = refl
 
-disk_fault : message_of Groupadd (DiskFault Unsure) ≡ line "groupadd: folder fault in the commit"
+disk_fault : message_of Groupadd (DiskFault Unsure)
+    ≡ line "groupadd: it isn't known whether the change was made: folder fault"
 disk_fault = refl
 
 disk_fault_status : status_of Pwck (DiskFault Before) ≡ 5
 disk_fault_status = refl
 
 memory : message_of Getsubids (Memory Committed)
-    ≡ line "getsubids: want of memory after the commit"
+    ≡ line "getsubids: the change was made, and the next command finishes it: want of memory"
 memory = refl
 
 -- ---- A line of a batch
 
 -- batch with the one line `groupadd -P X z`, as no line has a folder of its own
 line_fault : told_line (record {
-  line = record {
-    number = 1;
-    words = codes "groupadd" ∷ codes "-P" ∷ codes "X" ∷ codes "z" ∷ [];
-  };
+  number = 1;
+  words = codes "groupadd" ∷ codes "-P" ∷ codes "X" ∷ codes "z" ∷ [];
   fault = UnknownOption 1;
 })
     ≡ record {

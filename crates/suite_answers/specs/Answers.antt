@@ -60,5 +60,5 @@ told_words words fault =
 
 -- the answer to a batch of which this is the first line that asks for nothing
 abbrev pub told_line : FaultyLine → Answer
-told_line faulty = says (BatchSyntax faulty.line.number faulty.fault) (syntax_status Batch)
+told_line faulty = says (BatchSyntax faulty.number faulty.fault) (syntax_status Batch)
     (line_fault_message faulty)

@@ -23,11 +23,11 @@ stage_of (OutputFault stage) = stage
 stage_of (Memory stage) = stage
 stage_of cause = Before
 
--- the words for a stage
+-- what a fault at a stage left of the change; after the commit the next command does what is left
 abbrev pub stage_text : CommitStage → List ℕ
-stage_text Before = codes "before the commit"
-stage_text Unsure = codes "in the commit"
-stage_text Committed = codes "after the commit"
+stage_text Before = codes "nothing was changed"
+stage_text Unsure = codes "it isn't known whether the change was made"
+stage_text Committed = codes "the change was made, and the next command finishes it"
 
 -- ---- The status
 
@@ -61,7 +61,7 @@ too_large_text (File name) = codes "intent is too large"
 
 -- what is said of want of memory at a stage
 abbrev pub memory_text : CommitStage → List ℕ
-memory_text stage = codes "want of memory " ++ stage_text stage
+memory_text stage = stage_text stage ++ codes ": want of memory"
 
 -- what a line says of the cause, behind the tool's name; nothing of one that has no such line
 abbrev pub reason_text : Cause → List ℕ
@@ -76,7 +76,7 @@ reason_text (IntentDamaged part) = codes "intent is damaged in part " ++ decimal
 reason_text (TooLarge which) = too_large_text which
 reason_text (NoTable tab) = file_problem_text (TableAbsent tab)
 reason_text (BadSetting line) = file_problem_text (BadSettingAt line)
-reason_text (DiskFault stage) = codes "folder fault " ++ stage_text stage
+reason_text (DiskFault stage) = stage_text stage ++ codes ": folder fault"
 reason_text InputFault = codes "input fault"
 reason_text ClockFault = codes "clock fault"
 reason_text (Memory stage) = memory_text stage

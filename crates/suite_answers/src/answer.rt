@@ -63,7 +63,8 @@ impl Answer {
         fault: WordFault,
     ) -> Result<Self, AllocError>
         ensures { IfOk result (λ answer. answer ≡ told_line (record {
-          line = record { number = number; words = words.now };
+          number = number;
+          words = words.now;
           fault = fault;
         })) }
     {

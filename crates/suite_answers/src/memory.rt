@@ -23,7 +23,7 @@ pub fn put_memory_text<E: Sink>(
         (E.moment err.new).faults result }
 {
     err.put(speaker(tool))?;
-    err.put(b": want of memory ")?;
+    err.put(b": ")?;
     err.put(stage_text(stage))?;
-    err.put(b"\n")
+    err.put(b": want of memory\n")
 }

@@ -23,10 +23,10 @@ pub(crate) fn reason_text(alloc: Global, cause: &Cause) -> Result<Bytes, AllocEr
         Cause::TooLarge(which) => pair(alloc, which.name().as_bytes(), b" is too large"),
         Cause::NoTable(tab) => pair(alloc, tab.name().as_bytes(), b" does not exist"),
         Cause::BadSetting(line) => bad_setting(alloc, *line),
-        Cause::DiskFault(stage) => pair(alloc, b"folder fault ", stage_text(*stage)),
+        Cause::DiskFault(stage) => pair(alloc, stage_text(*stage), b": folder fault"),
         Cause::InputFault => Bytes::of(alloc, b"input fault"),
         Cause::ClockFault => Bytes::of(alloc, b"clock fault"),
-        Cause::Memory(stage) => pair(alloc, b"want of memory ", stage_text(*stage)),
+        Cause::Memory(stage) => pair(alloc, stage_text(*stage), b": want of memory"),
         _ => Ok(Bytes::new(alloc)),
     }
 }
@@ -79,14 +79,14 @@ fn bad_setting(alloc: Global, line: u32) -> Result<Bytes, AllocError>
     )
 }
 
-/// How the texts name the stage.
+/// What a fault at the stage left of the change.
 pub(crate) fn stage_text(stage: CommitStage) -> &'static [u8]
     ensures { result.now ≡ stage_text stage }
 {
     match stage {
-        CommitStage::Before => b"before the commit",
-        CommitStage::Unsure => b"in the commit",
-        CommitStage::Committed => b"after the commit",
+        CommitStage::Before => b"nothing was changed",
+        CommitStage::Unsure => b"it isn't known whether the change was made",
+        CommitStage::Committed => b"the change was made, and the next command finishes it",
     }
 }
 

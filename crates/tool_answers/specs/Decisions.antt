@@ -21,7 +21,7 @@ abbrev pub refusal_output : Tool → Refusal → Output
 refusal_output tool refusal = record {
   status = refusal_status tool refusal;
   out = [];
-  err = message tool (refusal_text refusal);
+  err = message tool (refusal_text tool refusal);
 }
 
 -- what commands print that aren't refused

@@ -49,7 +49,7 @@ pub fn refuse(alloc: Global, tool: Tool, refusal: Refusal) -> Result<Decision, A
     ensures { IfOk result (λ decision. decision ≡
         Decision.Refuse refusal (refusal_output tool refusal)) }
 {
-    let text = refusal_text(alloc, &refusal)?;
+    let text = refusal_text(alloc, tool, &refusal)?;
     let mut err = Bytes::new(alloc);
     push_line(&mut err, Some(tool), text.as_slice())?;
     let output = Output {

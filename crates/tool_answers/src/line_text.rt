@@ -19,7 +19,7 @@ pub fn line_refusal_message(
     ensures { IfOk result (λ line. line ≡
         message Tool.Batch (line_refusal_text number tool refusal.now)) }
 {
-    let reason = refusal_text(alloc, refusal)?;
+    let reason = refusal_text(alloc, tool, refusal)?;
     let text = Bytes::made_of(
         alloc,
         &[
@@ -34,8 +34,8 @@ pub fn line_refusal_message(
     batch_message(alloc, text.as_slice())
 }
 
-/// The line on the error stream of a batch whose line of this number has these words, and asks for
-/// nothing by this fault.
+/// The line on the error stream of a batch whose line of this number has these words, none where it
+/// can't be split, and asks for nothing by this fault.
 pub fn line_fault_message(
     alloc: Global,
     number: u32,
@@ -43,7 +43,8 @@ pub fn line_fault_message(
     fault: WordFault,
 ) -> Result<Bytes, AllocError>
     ensures { IfOk result (λ line. line ≡ line_fault_message (record {
-      line = record { number = number; words = words.now };
+      number = number;
+      words = words.now;
       fault = fault;
     })) }
 {

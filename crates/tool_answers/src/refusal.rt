@@ -1,22 +1,23 @@
 // The text and the status of a refusal. The texts are this suite's own, the statuses are those of
 // the "EXIT VALUES" of the manual pages.
 ghost use Rattle.std.specs.Prelude.{◌≡◌, ◌++◌, ◌∷◌, codes, decimal, IfOk};
-ghost use Rattle.account_model.specs.Messages.{line_problem_text, refusal_text};
+ghost use Rattle.account_model.specs.Messages.{but_wanted, line_problem_text, name_form, refusal_text, wanted_form};
 ghost use Rattle.acct_text.specs.Tables.{table_name};
 
-use account_model::{LineProblem, Refusal};
+use crate::{NAME_FORM, wanted_form};
+use account_model::{LineProblem, Refusal, Tool};
 use acct_text::Piece::{Number, Text};
 use acct_text::{Bytes, Tab, pair, triple};
 use std::alloc::{AllocError, Global};
 
-/// The text of a refusal, without the tool's name in front and without a newline.
-pub fn refusal_text(alloc: Global, refusal: &Refusal) -> Result<Bytes, AllocError>
-    ensures { IfOk result (λ text. text ≡ refusal_text refusal.now) }
+/// The text of a refusal of the tool, without its name in front and without a newline.
+pub fn refusal_text(alloc: Global, tool: Tool, refusal: &Refusal) -> Result<Bytes, AllocError>
+    ensures { IfOk result (λ text. text ≡ refusal_text tool refusal.now) }
 {
     match refusal {
-        Refusal::BadName(name) => pair(alloc, b"invalid name: ", name.as_slice()),
+        Refusal::BadName(name) => bad_name(alloc, name.as_slice()),
         Refusal::BadKey(word) => pair(alloc, b"invalid setting: ", word.as_slice()),
-        Refusal::BadValue(letter, value) => bad_value(alloc, *letter, value.as_slice()),
+        Refusal::BadValue(letter, value) => bad_value(alloc, tool, *letter, value.as_slice()),
         Refusal::UserExists(name) => triple(alloc, b"user ", name.as_slice(), b" exists"),
         Refusal::GroupExists(name) => triple(alloc, b"group ", name.as_slice(), b" exists"),
         Refusal::NoUser(name) => pair(alloc, b"unknown user ", name.as_slice()),
@@ -37,15 +38,35 @@ pub fn refusal_text(alloc: Global, refusal: &Refusal) -> Result<Bytes, AllocErro
     }
 }
 
+// The name can't be used.
+fn bad_name(alloc: Global, name: &[u8]) -> Result<Bytes, AllocError>
+    ensures { IfOk result (λ text. text ≡ but_wanted (codes "invalid name: " ++ name.now) name_form) }
+{
+    Bytes::made_of(
+        alloc,
+        &[
+            Text(b"invalid name: "),
+            Text(name),
+            Text(b" ("),
+            Text(NAME_FORM),
+            Text(b")"),
+        ],
+    )
+}
+
 // The value of the option of a letter can't be used.
-fn bad_value(alloc: Global, letter: u8, value: &[u8]) -> Result<Bytes, AllocError>
+fn bad_value(alloc: Global, tool: Tool, letter: u8, value: &[u8]) -> Result<Bytes, AllocError>
     ensures { IfOk result (λ text. text ≡
-        codes "invalid value for -" ++ letter ∷ codes ": " ++ value.now) }
+        but_wanted (codes "invalid value for -" ++ letter ∷ codes ": " ++ value.now)
+        (wanted_form tool letter)) }
 {
     let mut text = Bytes::of(alloc, b"invalid value for -")?;
     text.push(&[letter])?;
     text.push(b": ")?;
     text.push(value)?;
+    text.push(b" (")?;
+    text.push(wanted_form(tool, letter))?;
+    text.push(b")")?;
     Ok(text)
 }
 

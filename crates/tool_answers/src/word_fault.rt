@@ -3,10 +3,10 @@ ghost use Rattle.std.specs.Prelude.{◌≡◌, ◌++◌, codes, decimal, IfOk};
 ghost use Rattle.account_model.specs.Words.{tool_named};
 ghost use Rattle.account_model.specs.WordMessages.{faulty_tool, syntax_status, word_at, word_fault_message, word_fault_status, word_fault_text};
 
-use crate::{MEMORY_STATUS, push_line};
+use crate::{MEMORY_STATUS, push_line, rule_text, unknown_text, wrapper_hint};
 use account_model::{Tool, WordFault};
 use acct_text::Piece::{Number, Text};
-use acct_text::{Bytes, Word, pair};
+use acct_text::{Bytes, Word};
 use std::alloc::{AllocError, Global};
 
 // No tool is known, or its words make no sense.
@@ -14,6 +14,15 @@ const BAD_WORDS: u8 = 2;
 
 // The words of a report make no sense.
 const BAD_REPORT_WORDS: u8 = 1;
+
+// There is no word.
+const NO_TOOL: &[u8] = b"no command given: accounts --help lists them";
+
+// `-P` isn't given.
+const NO_PREFIX: &[u8] = b"option -P is required: -P DIR is the image in DIR, -P / this system";
+
+// The value of `-P` is empty.
+const EMPTY_PREFIX: &[u8] = b"value of -P is empty: -P / is this system";
 
 /// The line on the error stream: of the tool that the first word names, or of `accounts` where the
 /// fault comes before a tool is known.
@@ -48,11 +57,12 @@ pub fn faulty_tool(words: &[Word], fault: WordFault) -> Option<Tool>
     ensures { result ≡ faulty_tool words.now fault }
 {
     match fault {
-        WordFault::WordLimit(_) | WordFault::NoTool | WordFault::UnknownTool => None,
+        WordFault::LineEnd | WordFault::Unclosed(_) | WordFault::WordLimit(_) => None,
+        WordFault::NoTool | WordFault::UnknownTool => None,
         WordFault::UnknownOption(_) | WordFault::MissingValue(_) => named(words),
         WordFault::UnexpectedValue(_) | WordFault::TooMany(_) => named(words),
-        WordFault::NoPrefix | WordFault::TooFew | WordFault::Clash(_) => named(words),
-        WordFault::Memory => named(words),
+        WordFault::NoPrefix | WordFault::EmptyPrefix | WordFault::TooFew => named(words),
+        WordFault::Clash(_) | WordFault::Memory => named(words),
     }
 }
 
@@ -92,12 +102,14 @@ pub(crate) fn word_fault_text(
     ensures { IfOk result (λ text. text ≡ word_fault_text words.now fault) }
 {
     match fault {
-        WordFault::WordLimit(place) => at_place(alloc, b"word ", place, b" passes a limit"),
-        WordFault::NoTool => Bytes::of(alloc, b"no command given"),
-        WordFault::UnknownTool => pair(alloc, b"unknown command ", word_at(words, 0)),
-        WordFault::UnknownOption(place) => {
-            with_word(alloc, b"unknown option in word ", words, place)
+        WordFault::LineEnd => Bytes::of(alloc, b"ends in a carriage return"),
+        WordFault::Unclosed(column) => {
+            at_place(alloc, b"quote in column ", column, b" isn't closed")
         }
+        WordFault::WordLimit(place) => at_place(alloc, b"word ", place, b" passes a limit"),
+        WordFault::NoTool => Bytes::of(alloc, NO_TOOL),
+        WordFault::UnknownTool => unknown_text(alloc, word_at(words, 0)),
+        WordFault::UnknownOption(place) => { unknown_option(alloc, words, place) }
         WordFault::MissingValue(place) => {
             at_place(alloc, b"option in word ", place, b" needs a value")
         }
@@ -105,14 +117,32 @@ pub(crate) fn word_fault_text(
             at_place(alloc, b"option in word ", place, b" takes no value")
         }
         WordFault::TooMany(place) => with_word(alloc, b"unexpected word ", words, place),
-        WordFault::NoPrefix => Bytes::of(alloc, b"option -P is required"),
+        WordFault::NoPrefix => Bytes::of(alloc, NO_PREFIX),
+        WordFault::EmptyPrefix => Bytes::of(alloc, EMPTY_PREFIX),
         WordFault::TooFew => Bytes::of(alloc, b"missing operand"),
-        WordFault::Clash(rule) => clash(alloc, rule),
+        WordFault::Clash(rule) => Bytes::of(alloc, rule_text(named(words), rule)),
         WordFault::Memory => Ok(Bytes::new(alloc)),
     }
 }
 
-// A text with the place of a word in it.
+// The word at this place has an unknown option.
+fn unknown_option(alloc: Global, words: &[Word], place: usize) -> Result<Bytes, AllocError>
+    ensures { IfOk result (λ text. text ≡ word_fault_text words.now (WordFault.UnknownOption place)) }
+{
+    let word = word_at(words, place);
+    Bytes::made_of(
+        alloc,
+        &[
+            Text(b"unknown option in word "),
+            Number(place as u64),
+            Text(b": "),
+            Text(word),
+            Text(wrapper_hint(named(words), word)),
+        ],
+    )
+}
+
+// A text with the place of a word, or a column, in it.
 fn at_place<'x>(
     alloc: Global,
     before: &'x [u8],
@@ -138,15 +168,5 @@ fn with_word<'x>(
     Bytes::made_of(
         alloc,
         &[Text(before), Number(place as u64), Text(b": "), Text(word)],
-    )
-}
-
-// The options break the rule of this number.
-fn clash(alloc: Global, rule: u32) -> Result<Bytes, AllocError>
-    ensures { IfOk result (λ text. text ≡ codes "options break rule " ++ decimal rule) }
-{
-    Bytes::made_of(
-        alloc,
-        &[Text(b"options break rule "), Number(u64::from(rule))],
     )
 }

@@ -1,9 +1,9 @@
-use Rattle.std.proofs.Common.{◌≡◌, drop, false}
-use Rattle.account_model.specs.LineWords.{signs_behind, words_in}
-use Rattle.option_words.specs.Splitting.{words_with}
+use Rattle.std.proofs.Common.{◌≡◌, ◌+◌, drop}
+use Rattle.account_model.specs.LineWords.{nothing_split, with_bytes}
 use Rattle.option_words.proofs.splitting.split_line.Given as goal
 
--- the words that were cut, with those of the bytes that are left, are those of the line
+-- what was read and the bytes that are left come to what all bytes do
 abbrev pub invariant-bytes : goal.invariant-bytes
 invariant-bytes l =
-    words_with l.splitting (drop l.byte-index l.fn.line) ≡ words_in (signs_behind false l.fn.line)
+    with_bytes (l.place + 1) (drop l.place l.line) l.splitting
+    ≡ with_bytes 1 l.line nothing_split
