@@ -1,12 +1,12 @@
 -- Claim: what a search finds in the lines left is by the range of the next, and by what is left
--- behind it (`meeting-here`, `meeting-behind`, `owned-here`, `owned-behind`); a line of another
+-- behind it (`meeting-here`, `meeting-behind`, `owned-here`, `owned-behind`, `held-left`); a line of another
 -- owner has none of the owner's (`other-owned`); and an owner has a range where a first one is found
 -- (`has-first`).
-use Rattle.std.proofs.Common.{◌≡◌, ℕ, ◌+◌, Bool, true, false, List, [], ◌∷◌, refl, sym, ◌∙◌, ap, inl, inr}
-use Rattle.std.specs.Prelude.{Option, Some, None, ◌||◌, not, is_none, is_some, map, filter, if◌then◌else◌}
+use Rattle.std.proofs.Common.{◌≡◌, ◌≤◌, ℕ, ◌+◌, Bool, true, false, List, [], ◌∷◌, refl, sym, ◌∙◌, ap, inl, inr, arith}
+use Rattle.std.specs.Prelude.{Option, Some, None, ◌||◌, ◌&&◌, nat_le, not, is_none, is_some, map, filter, if◌then◌else◌}
 use Rattle.std.specs.List.{AllByRecursion, cons_option, list_any, position_from}
 use Rattle.std.specs.Option.{MatchOption}
-use Rattle.std.proofs.lemmas.Bool.{cases_Bool, le-leb, true≢false}
+use Rattle.std.proofs.lemmas.Bool.{and_parts, cases_Bool, le-leb, leb-true, true≢false}
 use Rattle.acct_text.specs.Lines.{Line}
 use Rattle.account_model.specs.declared.records.SubidRecord.{SubidRecord}
 use Rattle.account_model.specs.FreeRange.{Meeting, meets}
@@ -14,9 +14,9 @@ use Rattle.account_model.specs.Naming.{first_field}
 use Rattle.account_model.specs.Records.{last_id, subid_format}
 use Rattle.account_model.proofs.NamingLaws.{subid-names_first}
 use Rattle.account_model.specs.SubidOwner.{is_owned}
-use Rattle.account_model.specs.UsermodRanges.{line_meets}
+use Rattle.account_model.specs.UsermodRanges.{has_range, lies_in, line_meets}
 use Rattle.subid_ranges.specs.Owned.{first_and_count, owned_one, owned_ranges}
-use Rattle.subid_ranges.specs.RangeLines.{ids_from, meeting_line, meets_at, ranges_of}
+use Rattle.subid_ranges.specs.RangeLines.{holds_at, ids_from, meeting_line, meets_at, owner_of, ranges_of}
 
 -- the ranges of an owner with one more in front, by whether it is the owner's
 owned-test :
@@ -103,6 +103,28 @@ module _ (line : Line) (left rest : List Line) (is : left ≡ line ∷ rest) whe
     owned-behind found =
         owned-left ∙ ap (λ found. cons_option found (owned_ranges name uid rest)) found
 
+  module _ (name : List ℕ) (uid : Option ℕ) (first last : ℕ) where
+    -- whether the owner has the IDs in one line, by the next line
+    held-by :
+        (found : Option SubidRecord) (ranges : List SubidRecord)
+        → list_any (λ r. is_owned name uid r && lies_in (ids_from first last) r)
+        (cons_option found ranges)
+        ≡ (holds_at name uid first last found
+        || list_any (λ r. is_owned name uid r && lies_in (ids_from first last) r) ranges)
+    held-by None ranges = refl
+    held-by (Some r) ranges = refl
+
+    -- and by what is behind it
+    pub held-left :
+        (test : Bool)
+        → holds_at name uid first last (subid_format.read line.text) ≡ test
+        → has_range (owner_of name uid) (ids_from first last) left
+        ≡ (test || has_range (owner_of name uid) (ids_from first last) rest)
+    held-left test holds =
+        ap (has_range (owner_of name uid) (ids_from first last)) is
+        ∙ held-by (subid_format.read line.text) (ranges_of rest)
+        ∙ ap (λ test. test || has_range (owner_of name uid) (ids_from first last) rest) holds
+
 -- by whether the first line meets the IDs
 meeting-by :
     (first last : ℕ) (found : Option SubidRecord) (rest : List SubidRecord) (start : ℕ)
@@ -176,6 +198,52 @@ apart-all first last [] none = tt
 apart-all first last (r ∷ records) none =
     let parts = or_false (meets first last r) (list_any (meets first last) records) none in
     (apart-by first last r (meets first last r) refl parts.0, apart-all first last records parts.1)
+
+-- IDs that meet no range lie in none
+lies-by :
+    (first last : ℕ) (r : SubidRecord) (test : Bool)
+    → first ≤ last
+    → lies_in (ids_from first last) r ≡ test
+    → meets first last r ≡ false
+    → test ≡ false
+lies-by first last r false order is none = refl
+lies-by first last r true order is none =
+    let both = and_parts (nat_le r.first first) (nat_le last (last_id r)) is in
+    let low : r.first ≤ first = leb-true r.first first both.0 in
+    let high : last ≤ last_id r = leb-true last (last_id r) both.1 in
+    absurd (apart-by first last r (meets first last r) refl none
+    (record { begins_before = omega arith; ends_behind = omega arith }))
+
+-- neither a test of one nor of the others passes
+neither :
+    (owned lies others : Bool)
+    → lies ≡ false
+    → others ≡ false
+    → ((owned && lies) || others) ≡ false
+neither true lies others fails none = rw (fails, none) refl
+neither false lies others fails none = none
+
+-- so no owner has them
+held-none :
+    (name : List ℕ) (uid : Option ℕ) (first last : ℕ) (ranges : List SubidRecord)
+    → first ≤ last
+    → list_any (meets first last) ranges ≡ false
+    → list_any (λ r. is_owned name uid r && lies_in (ids_from first last) r) ranges ≡ false
+held-none name uid first last [] order none = refl
+held-none name uid first last (r ∷ ranges) order none =
+    let parts = or_false (meets first last r) (list_any (meets first last) ranges) none in
+    neither (is_owned name uid r) (lies_in (ids_from first last) r)
+    (list_any (λ r. is_owned name uid r && lies_in (ids_from first last) r) ranges)
+    (lies-by first last r (lies_in (ids_from first last) r) order refl parts.0)
+    (held-none name uid first last ranges order parts.1)
+
+-- no owner has IDs that meet no range of the lines
+pub held-free :
+    (name : List ℕ) (uid : Option ℕ) (first last : ℕ) (lines : List Line)
+    → first ≤ last
+    → list_any (meets first last) (ranges_of lines) ≡ false
+    → has_range (owner_of name uid) (ids_from first last) lines ≡ false
+held-free name uid first last lines = held-none name uid first last (ranges_of lines)
 
 -- a test that is false where its opposite is true
 not-true : (test : Bool) → true ≡ not test → test ≡ false

@@ -8,7 +8,8 @@ use Rattle.account_model.specs.Edits.{edited, Add}
 use Rattle.account_model.specs.Format.{records_of}
 use Rattle.account_model.specs.FreeRange.{meets}
 use Rattle.account_model.specs.Records.{greatest_id, subid_format}
-use Rattle.account_model.specs.UsermodRanges.{IdRange, RangeOwner, cut_range, line_meets}
+use Rattle.account_model.specs.SubidOwner.{is_owned}
+use Rattle.account_model.specs.UsermodRanges.{IdRange, RangeOwner, cut_range, lies_in, line_meets}
 
 -- the ranges of the lines, in their order
 abbrev pub ranges_of : List Line → List SubidRecord
@@ -31,6 +32,11 @@ meets_at first last found = elim found [ None ↦ false | Some r ↦ meets first
 -- the number of the first line, counted from 1, whose range has one of these IDs
 abbrev pub meeting_line : ℕ → ℕ → List Line → Option ℕ
 meeting_line first last lines = position_from (line_meets (ids_from first last)) 1 lines
+
+-- what is found at a place is a range of the owner with all these IDs
+abbrev pub holds_at : List ℕ → Option ℕ → ℕ → ℕ → Option SubidRecord → Bool
+holds_at name uid first last found =
+    elim found [ None ↦ false | Some r ↦ is_owned name uid r && lies_in (ids_from first last) r ]
 
 -- ---- A range that comes
 

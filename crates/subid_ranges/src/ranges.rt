@@ -8,9 +8,10 @@ ghost use Rattle.acct_text.specs.Pieces.{Lacks};
 ghost use Rattle.account_model.specs.FreeRange.{FitsAt, Meeting, free_range};
 ghost use Rattle.account_model.specs.Ids.{IsLeast};
 ghost use Rattle.account_model.specs.Records.{greatest_id, subid_format};
+ghost use Rattle.account_model.specs.UsermodRanges.{has_range};
 ghost use Rattle.account_model.specs.Written.{IsNameField, IsSubid};
 ghost use Rattle.subid_ranges.specs.Owned.{owned_ranges};
-ghost use Rattle.subid_ranges.specs.RangeLines.{is_bad, meets_at, meeting_line, new_range, ranges_of, with_range, without_range};
+ghost use Rattle.subid_ranges.specs.RangeLines.{holds_at, ids_from, is_bad, meets_at, meeting_line, new_range, owner_of, ranges_of, with_range, without_range};
 ghost use Rattle.subid_ranges.specs.Refusals.{AnswersRange, add_refusal, bad_refusal, gap_refusal};
 
 use crate::range_line::{end_of, range_in};
@@ -18,7 +19,7 @@ use crate::taken::Taken;
 use crate::{OwnedRanges, RangeFault};
 use account_model::GREATEST_ID;
 use acct_lines::{SubidRecord, TableRecord};
-use acct_tables::{FileLine, Lines, append_line};
+use acct_tables::{FileLine, Lines, append_line, is_owner};
 use acct_text::Bytes;
 use line_edits::{RangeCut, SubidChange, changed_text};
 use std::alloc::{AllocError, Global};
@@ -176,6 +177,18 @@ impl Ranges {
         OwnedRanges::new(self.text.as_slice(), owner, uid)
     }
 
+    /// Whether a line whose owner is the name, or the decimal text of the UID, has all IDs from the
+    /// first to the last. It takes no memory; lines are searched only where one has one of these.
+    pub fn has_range(&self, owner: &[u8], uid: Option<u32>, first: u32, last: u32) -> bool
+        requires { first ≤ last }
+        ensures { result ≡ has_range (owner_of owner.now uid) (ids_from first last) self.now }
+    {
+        match self.taken.last_met(first, last) {
+            Some(_) => self.holds(owner, uid, first, last),
+            None => false,
+        }
+    }
+
     /// The bytes of the file: those of its lines, one behind the other.
     pub fn text(&self, alloc: Global) -> Result<Bytes, AllocError>
         ensures { IfOk result (λ bytes. bytes ≡ file_bytes self.now) }
@@ -183,8 +196,11 @@ impl Ranges {
         Bytes::of(alloc, self.text.as_slice())
     }
 
-    // Adds a range behind the last line.
-    fn append(
+    /// Adds `count` IDs from the first on to the owner's, whichever lines they meet: the line
+    /// `owner:first:count` comes behind the last line, which gets an end where it had none.
+    ///
+    /// At `AllocError` the ranges are as before.
+    pub fn append(
         &mut self,
         alloc: Global,
         owner: &[u8],
@@ -206,6 +222,19 @@ impl Ranges {
         append_line(alloc, &mut self.text, line.as_slice())?;
         self.taken.put(first, first + (count - 1));
         Ok(())
+    }
+
+    // Whether a line of the owner's has all IDs from the first to the last.
+    fn holds(&self, owner: &[u8], uid: Option<u32>, first: u32, last: u32) -> bool
+        ensures { result ≡ has_range (owner_of owner.now uid) (ids_from first last) self.now }
+    {
+        let mut left = Lines::of(self.text.as_slice());
+        'lines: while let Some(line) = left.take() {
+            if holds_in(&line, owner, uid, first, last) {
+                return true;
+            }
+        }
+        false
     }
 
     // The number of the first line whose range has one of these IDs; the lines are searched only
@@ -241,6 +270,19 @@ fn meets_in(line: &FileLine<'_>, first: u32, last: u32) -> bool
 {
     match range_in(line.text) {
         Some(range) => range.first <= last && first <= end_of(&range),
+        None => false,
+    }
+}
+
+// Whether the line is a range of the owner's with all these IDs.
+fn holds_in(line: &FileLine<'_>, owner: &[u8], uid: Option<u32>, first: u32, last: u32) -> bool
+    requires { Lacks newline line.now.text.now }
+    ensures { result ≡ holds_at owner.now uid first last (subid_format.read line.now.text.now) }
+{
+    match range_in(line.text) {
+        Some(range) => {
+            is_owner(range.owner, owner, uid) && range.first <= first && last <= end_of(&range)
+        }
         None => false,
     }
 }

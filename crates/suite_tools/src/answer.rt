@@ -19,7 +19,7 @@ use table_edits::{Report, Script};
 use table_lookups::Tables;
 use tool_answers::ToolFault;
 use user_changes::usermod;
-use user_creation::useradd;
+use user_creation::{useradd, useradd_report};
 use user_removal::{userdel, userdel_report};
 
 /// The script of the tool's edits, by its words, the input and the tables, or its first refusal.
@@ -52,8 +52,8 @@ pub(crate) fn script_of(
     }
 }
 
-/// What the tool reports where it doesn't refuse: userdel its notices, chage what `-l` asks for, and
-/// the others nothing.
+/// What the tool reports where it doesn't refuse: useradd and userdel their notices, chage what
+/// `-l` asks for, and the others nothing.
 pub(crate) fn report_of(
     alloc: Global,
     asked: &Asked,
@@ -64,6 +64,7 @@ pub(crate) fn report_of(
     ensures { IfOk result (ReportsUnder defs.now asked.now tables.now) }
 {
     match asked.tool() {
+        Tool::Useradd => useradd_report(alloc, asked, tables),
         Tool::Userdel => userdel_report(alloc, asked, tables, defs),
         Tool::Chage => chage_report(alloc, asked, tables),
         _ => Ok(Report::silent(alloc)),

@@ -1,4 +1,5 @@
 pub mod RefusalLemmas
 pub mod MeetingLemmas
+pub mod LackedLemmas
 pub mod MembershipLemmas
 pub mod GroupNames

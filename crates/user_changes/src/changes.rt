@@ -6,6 +6,7 @@ ghost use Rattle.account_model.specs.Usermod.{new_name, usermod, usermod_checks,
 ghost use Rattle.account_model.specs.UsermodRanges.{is_range};
 ghost use Rattle.account_model.specs.Users.{uid_of};
 ghost use Rattle.account_model.specs.Request.{operand};
+ghost use Rattle.account_model.specs.Written.{IsNameField};
 ghost use Rattle.tool_answers.specs.Refusing.{RefusesBy};
 ghost use Rattle.table_edits.specs.Acting.{ActsBy};
 ghost use Rattle.table_edits.specs.SeenScript.{seen_script};
@@ -73,7 +74,8 @@ fn changed_user(
     old_uid: u32,
     day: u32,
 ) -> Result<Script, AllocError>
-    requires { Some old_uid ≡ uid_of (operand asked.now) tables.now }
+    requires named { IsNameField (new_name asked.now) }
+    requires uid { Some old_uid ≡ uid_of (operand asked.now) tables.now }
     ensures { IfOk result (λ script.
         seen_script script ≡ usermod_script asked.now tables.now day) }
 {
@@ -82,7 +84,7 @@ fn changed_user(
     write_passwd(alloc, &mut script, asked, tables)?;
     write_shadow(alloc, &mut script, asked, day)?;
     write_memberships(alloc, &mut script, asked, tables)?;
-    write_ranges(alloc, &mut script, asked, old_uid)?;
+    write_ranges(alloc, &mut script, asked, tables, old_uid)?;
     Ok(script)
 }
 

@@ -1,15 +1,17 @@
 //! How a user is changed: usermod(8). What a command decides on the tables, by its request and the
 //! day.
 //!
-//! `usermod` refuses bad values, then what is missing or taken (`conflicts`, and `meetings` for the
-//! ranges of subuid(5) and subgid(5)), and then builds the script of its edits: `hash`, `fields`,
-//! `memberships` and `ranges` have those of the tables.
+//! `usermod` refuses bad values, then what is missing or taken (`conflicts`, and `meetings` for
+//! the ranges of subuid(5) and subgid(5) that the user lacks, which `lacked` tells), and then
+//! builds the script of its edits: `hash`, `fields`, `memberships` and `ranges` have those of the
+//! tables.
 #![tactic(auto)]
 
 mod changes;
 mod conflicts;
 mod fields;
 mod hash;
+mod lacked;
 mod meetings;
 mod memberships;
 mod ranges;

@@ -1,5 +1,5 @@
-// The ranges of subordinate IDs that a user gets, and those that they meet (usermod(8), `-v` and
-// `-w`; subuid(5), subgid(5)).
+// The lines that the ranges meet which a user gets (usermod(8), `-v` and `-w`; subuid(5),
+// subgid(5)).
 ghost use Rattle.std.specs.Prelude.{◌≡◌, ◌+◌, ◌-◌, Some, IfOk, OnOk, option_map};
 ghost use Rattle.acct_text.specs.Lines.{lines_of};
 ghost use Rattle.acct_text.specs.Files.{table_of};
@@ -15,12 +15,12 @@ ghost use Rattle.subid_ranges.specs.RangeLines.{meeting_line, with_range};
 ghost use Rattle.table_lookups.specs.Stopping.{StopsBy};
 ghost use Rattle.user_changes.specs.Ranges.{change_of, first_meeting_in, owner_of, range_change, range_table};
 
-use crate::ranges::{UserRanges, user_ranges};
+use crate::lacked::{lines_before, range_file, range_table, user_ranges};
+use crate::ranges::UserRanges;
 use account_model::{IdSort, Refusal};
-use acct_text::{Bytes, Tab};
+use acct_text::Tab;
 use command_values::{Asked, IdRange, ToolFault};
-use range_edits::edited_ranges;
-use std::alloc::{AllocError, Global};
+use std::alloc::Global;
 use subid_ranges::{RangeFault, Ranges};
 use table_lookups::Tables;
 
@@ -36,30 +36,10 @@ pub(crate) fn check_meetings(
     requires named { IsNameField (new_name asked.now) }
     requires uid { Some old_uid ≡ uid_of (operand asked.now) tables.now }
     ensures { StopsBy (meeting_in (range_table sort) (range_owner asked.now tables.now)
-        (range_change sort asked.now) (table_of tables.now (range_table sort))) result }
+        (range_change sort asked.now tables.now) (table_of tables.now (range_table sort))) result }
 {
-    let ranges = user_ranges(alloc, asked, old_uid, sort)?;
+    let ranges = user_ranges(alloc, asked, tables, old_uid, sort)?;
     check_added(alloc, &ranges, tables, sort)
-}
-
-// The table of the ranges of such IDs.
-fn range_table(sort: IdSort) -> Tab
-    ensures { result ≡ range_table sort }
-{
-    match sort {
-        IdSort::Uid => Tab::Subuid,
-        IdSort::Gid => Tab::Subgid,
-    }
-}
-
-// A copy of the bytes of that table; none where there is no file.
-fn range_file(tables: &Tables, sort: IdSort) -> Result<Option<Bytes>, AllocError>
-    ensures { IfOk result (λ file. file ≡ table_of tables.now (range_table sort)) }
-{
-    match sort {
-        IdSort::Uid => tables.subuid_file(),
-        IdSort::Gid => tables.subgid_file(),
-    }
 }
 
 // Refuses the first new range that meets a line of the table: `Meets`. Its file is copied only where a
@@ -95,18 +75,6 @@ fn check_lines(alloc: Global, ranges: &UserRanges, tab: Tab, text: &[u8]) -> Res
         add_range(alloc, &mut lines, ranges.new_name.as_slice(), tab, ids)?;
     }
     Ok(())
-}
-
-// The lines of the text after the renaming and the removals.
-fn lines_before(alloc: Global, ranges: &UserRanges, text: &[u8]) -> Result<Ranges, AllocError>
-    requires { IsNameField (owner_of ranges.now).new_name }
-    ensures { IfOk result (λ lines. lines ≡ edited_by subid_format
-        (edits_before_adding (owner_of ranges.now) (change_of ranges.now)) (lines_of text.now)) }
-{
-    let mut edits = Vec::new(alloc);
-    ranges.push_removals(alloc, &mut edits)?;
-    let text = edited_ranges(alloc, text, edits.as_slice())?;
-    Ranges::load(alloc, text.as_slice())
 }
 
 // Adds the IDs to the owner's, where no line has one of them; else `Meets` refuses.

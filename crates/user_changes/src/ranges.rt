@@ -3,15 +3,19 @@
 ghost use Rattle.std.specs.Prelude.{◌≡◌, ◌++◌, ◌∷◌, [], map, Some, IfOk, OnOk};
 ghost use Rattle.account_model.specs.Edits.Edit.{Add, Become};
 ghost use Rattle.account_model.specs.Tables.{no_edits};
-ghost use Rattle.account_model.specs.Usermod.{subgid_change, subuid_change};
-ghost use Rattle.account_model.specs.UsermodRanges.{add_range, cut_range, edits_before_adding, range_edits, ranges_given};
+ghost use Rattle.account_model.specs.Request.{operand};
+ghost use Rattle.account_model.specs.Usermod.{new_name, range_owner, subgid_change, subuid_change};
+ghost use Rattle.account_model.specs.UsermodRanges.{add_range, change_asked, cut_range, edits_before_adding, range_edits};
+ghost use Rattle.account_model.specs.Users.{uid_of};
+ghost use Rattle.account_model.specs.Written.{IsNameField};
 ghost use Rattle.command_values.specs.Ranges.{ids_named};
 ghost use Rattle.table_edits.specs.Additions.{HasAlso};
 ghost use Rattle.line_edits.specs.SeenEdits.{seen_edits};
 ghost use Rattle.line_edits.specs.SubidChanges.{subid_becomes};
-ghost use Rattle.user_changes.specs.Ranges.{change_of, owner_by, owner_of, range_change};
+ghost use Rattle.user_changes.specs.Ranges.{change_of, owner_by, owner_of, ranges_asked};
 
 use crate::changes::new_name;
+use crate::lacked::user_ranges;
 use account_model::IdSort;
 use acct_lines::SubidRecord;
 use acct_text::Bytes;
@@ -19,6 +23,7 @@ use command_values::{Asked, IdRange};
 use line_edits::{Edit, RangeCut, SubidChange};
 use std::alloc::{AllocError, Global};
 use table_edits::Script;
+use table_lookups::Tables;
 
 /// The IDs of subuid or of subgid that a user loses and gets.
 #[derive(Drop)]
@@ -41,28 +46,35 @@ pub(crate) fn write_ranges(
     alloc: Global,
     script: &mut Script,
     asked: &Asked,
+    tables: &Tables,
     old_uid: u32,
 ) -> Result<(), AllocError>
+    requires named { IsNameField (new_name asked.now) }
+    requires uid { Some old_uid ≡ uid_of (operand asked.now) tables.now }
     ensures { OnOk result (HasAlso
         (record no_edits {
-          subuid = range_edits (owner_by asked.now (Some old_uid)) (subuid_change asked.now);
-          subgid = range_edits (owner_by asked.now (Some old_uid)) (subgid_change asked.now);
+          subuid = range_edits (range_owner asked.now tables.now)
+              (subuid_change asked.now tables.now);
+          subgid = range_edits (range_owner asked.now tables.now)
+              (subgid_change asked.now tables.now);
         })
         script.old script.new) }
 {
-    user_ranges(alloc, asked, old_uid, IdSort::Uid)?.push_edits(alloc, &mut script.subuid)?;
-    user_ranges(alloc, asked, old_uid, IdSort::Gid)?.push_edits(alloc, &mut script.subgid)
+    let uids = user_ranges(alloc, asked, tables, old_uid, IdSort::Uid)?;
+    uids.push_edits(alloc, &mut script.subuid)?;
+    let gids = user_ranges(alloc, asked, tables, old_uid, IdSort::Gid)?;
+    gids.push_edits(alloc, &mut script.subgid)
 }
 
-/// The UIDs of `-V` and `-v`, or the GIDs of `-W` and `-w`, of a user with that UID so far.
-pub(crate) fn user_ranges(
+/// The UIDs that `-V` and `-v` name, or the GIDs of `-W` and `-w`, of a user with that UID so far.
+pub(crate) fn asked_ranges(
     alloc: Global,
     asked: &Asked,
     old_uid: u32,
     sort: IdSort,
 ) -> Result<UserRanges, AllocError>
     ensures owner { IfOk result (λ ranges. owner_of ranges ≡ owner_by asked.now (Some old_uid)) }
-    ensures change { IfOk result (λ ranges. change_of ranges ≡ range_change sort asked.now) }
+    ensures change { IfOk result (λ ranges. change_of ranges ≡ ranges_asked sort asked.now) }
 {
     match sort {
         IdSort::Uid => UserRanges::of(alloc, asked, old_uid, b'V', b'v'),
@@ -80,10 +92,8 @@ impl UserRanges {
         adding: u8,
     ) -> Result<UserRanges, AllocError>
         ensures owner { IfOk result (λ ranges. owner_of ranges ≡ owner_by asked.now (Some old_uid)) }
-        ensures change { IfOk result (λ ranges. change_of ranges ≡ record {
-          removed = ranges_given (removing ∷ []) asked.now;
-          added = ranges_given (adding ∷ []) asked.now;
-        }) }
+        ensures change { IfOk result (λ ranges.
+            change_of ranges ≡ change_asked (removing ∷ []) (adding ∷ []) asked.now) }
     {
         Ok(UserRanges {
             old_name: Bytes::of(alloc, asked.operand())?,

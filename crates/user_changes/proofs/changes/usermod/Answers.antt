@@ -1,4 +1,7 @@
-use Rattle.user_changes.proofs.RefusalLemmas.{changed, new-name-good, refused-by_conflict, refused-by_value}
+use Rattle.account_model.specs.Refusals.{missing_user}
+use Rattle.account_model.specs.Request.{operand}
+use Rattle.account_model.proofs.DeedLaws.{first-none}
+use Rattle.user_changes.proofs.RefusalLemmas.{changed, new-name-field, new-name-good, refused-by_conflict, refused-by_value}
 use Rattle.table_edits.proofs.ActingLemmas.{acts-handed}
 use Rattle.user_changes.proofs.changes.usermod.Goals as goal
 
@@ -11,6 +14,14 @@ returns-in_err-check_values c =
 
 pub check_conflicts-requires : goal.check_conflicts-requires
 check_conflicts-requires c = new-name-good c.args.asked.now c.in_ok-check_values.ensures
+
+pub changed_user-requires-clause-named : goal.changed_user-requires-clause-named
+changed_user-requires-clause-named c =
+    let is = c.in_ok-old_uid.ensures {u = tt} in
+    let asked = c.args.asked.now in
+    let files = c.args.tables.now in
+    new-name-field asked files (new-name-good asked c.in_ok-check_values.ensures)
+    (first-none (missing_user (operand asked) files) _ is.refused).0
 
 pub returns-in_err-old_uid : goal.returns-in_err-old_uid
 returns-in_err-old_uid c =

@@ -10,7 +10,7 @@ use Rattle.line_edits.specs.SeenEdits.{seen_edits}
 use Rattle.line_edits.specs.SubidChanges.{subid_becomes}
 use Rattle.user_changes.specs.Ranges.{change_of, owner_of}
 use Rattle.user_changes.proofs.MeetingLemmas.{lines-before, removals-written}
-use Rattle.user_changes.proofs.meetings.lines_before.Goals as goal
+use Rattle.user_changes.proofs.lacked.lines_before.Goals as goal
 
 pub edited_ranges-requires : goal.edited_ranges-requires
 edited_ranges-requires c =
