@@ -1,54 +1,22 @@
--- Claims: what a line asks for is for lines (`requests-for-lines`), and is written behind the others where
--- it is carried out (`carried-behind`); and a batch is what its lines so far have written, with what the others make of it: at first (`none-written`), line by line (`line-written`),
--- and at the end (`all-done`), or up to a line that refuses (`line-refuses`).
-use Rattle.std.proofs.Common.{◌≡◌, ◌∙◌, ◌++◌, ℕ, List, [], ◌∷◌, true, ap, refl, subst, sym, append_assoc, append-nil}
-use Rattle.std.specs.Prelude.{Some, None, Result, Ok, Err}
-use Rattle.std.specs.List.{cons_option}
+-- Claims: what a line asks for is written behind the others where it is carried out
+-- (`carried-behind`), or passed by (`passed-behind`); and a batch is what its lines so far have written, with what the others make of
+-- it: at first (`none-written`), line by line (`line-written`), and at the end (`all-done`), or up to
+-- a line that refuses (`line-refuses`).
+use Rattle.std.proofs.Common.{◌≡◌, ◌∙◌, ◌++◌, ℕ, Bool, true, false, ◌&&◌, List, [], ◌∷◌, ap, refl, subst, sym, append_assoc, append-nil}
+use Rattle.std.specs.Prelude.{if◌then◌else◌, Some, None, Result, Ok, Err}
 use Rattle.acct_text.specs.declared.files.Files.{Files}
 use Rattle.account_model.specs.declared.tool.Tool.{Tool}
-use Rattle.account_model.specs.declared.word_fault.WordFault.{WordFault}
-use Rattle.account_model.specs.declared.words_of.WordsOf.TheVariants.{Line as OfLine}
-use Rattle.account_model.specs.BatchLines.{BatchLine, LineRequest}
-use Rattle.account_model.specs.Request.{Request}
+use Rattle.account_model.specs.BatchLines.{LineRequest}
 use Rattle.account_model.specs.Settings.{Setting}
-use Rattle.account_model.specs.Words.{is_for_lines, request_as}
-use Rattle.account_model.proofs.AsksLaws.{read_is_asked}
 use Rattle.account_model.specs.declared.refusal.Refusal.{Refusal}
-use Rattle.account_model.specs.Action.{Made, outcome_of}
-use Rattle.account_model.specs.Batch.{LineRefusal, Written, batch, before_others, nothing_on, with_rest, written_by}
-use Rattle.account_model.specs.Change.{action_of}
+use Rattle.account_model.specs.Action.{Made}
+use Rattle.account_model.specs.Batch.{LineRefusal, Written, batch, before_others, is_done, line_outcome, nothing_on, outcome_ensured, passed_by, with_rest, written_by}
 use Rattle.account_model.specs.Messages.{messages}
-use Rattle.option_words.specs.Batch.{requests_of}
 use Rattle.tool_answers.specs.declared.decision.Output.{Output}
 use Rattle.table_edits.specs.Deciding.{IsCarriedOut, written_with}
 use Rattle.batch_commands.specs.Writing.{IsWrittenBehind, with_made, with_output}
 
 -- ---- One line
-
--- what lines ask for is for lines
-pub requests-for-lines :
-    (lines : List BatchLine) (line : LineRequest) (rest : List LineRequest)
-    → requests_of lines ≡ line ∷ rest
-    → is_for_lines line.request.tool ≡ true
-requests-for-lines [] line rest is = absurd (cc is)
-requests-for-lines (first ∷ lines) line rest is =
-    by (requests-for-lines lines line rest) (request_as OfLine first.words) refl is
-  where
-    by :
-        (requests_of lines ≡ line ∷ rest → is_for_lines line.request.tool ≡ true)
-        → (read : Result Request WordFault)
-        → request_as OfLine first.words ≡ read
-        → cons_option (elim read [
-          | Ok request ↦ Some (record { number = first.number; request = request })
-          | Err fault ↦ None
-        ]) (requests_of lines)
-        ≡ line ∷ rest
-        → is_for_lines line.request.tool ≡ true
-    by others (Err fault) read is = others is
-    by others (Ok request) read is =
-        let asked : request ≡ line.request = cc in
-        subst (λ (one : Request). is_for_lines one.tool ≡ true) asked
-        (read_is_asked OfLine first.words request read).may_name
 
 -- what a line leaves and prints that is carried out is written behind the others
 pub carried-behind :
@@ -68,6 +36,55 @@ carried-behind tool (Ok made) files output old new carried is =
             error = old.error ++ one.error;
           }) same,
     )
+
+-- so is one that doesn't refuse, whether lines that are done are passed by or not
+pub ensured-behind :
+    (ensuring : Bool) (tool : Tool) (outcome : Result Made Refusal) (files : Files) (output : Output)
+    (old new : Written)
+    → IsCarriedOut tool outcome old.files files (Ok output)
+    → new ≡ with_output output (record old { files = files })
+    → IsWrittenBehind tool old new None (outcome_ensured ensuring tool old.files outcome)
+ensured-behind ensuring tool (Err refusal) files output old new carried is = absurd (cc carried)
+ensured-behind ensuring tool (Ok made) files output old new carried is =
+    carried-behind tool (Ok made) files output old new carried is
+
+-- and one that refuses as by itself, unless it is passed by
+pub refused-behind :
+    (ensuring : Bool) (tool : Tool) (refusal : Refusal) (outcome : Result Made Refusal)
+    (files : Files) (old new : Written)
+    → outcome ≡ Err refusal
+    → (ensuring && is_done tool refusal) ≡ false
+    → IsWrittenBehind tool old new (Some refusal) (outcome_ensured ensuring tool files outcome)
+refused-behind ensuring tool refusal (Ok made) files old new is other = absurd (cc is)
+refused-behind ensuring tool refusal (Err found) files old new is other =
+    let same : found ≡ refusal = cc in
+    subst (λ (one : Refusal). IsWrittenBehind tool old new (Some refusal)
+    (outcome_ensured ensuring tool files (Err one))) (sym same)
+    (subst (λ (passes : Bool). IsWrittenBehind tool old new (Some refusal)
+    (if passes then Ok (passed_by files) else Err refusal)) (sym other) refl)
+
+-- a line that is passed by leaves all as it was written
+pub passed-behind :
+    (ensuring : Bool) (tool : Tool) (refusal : Refusal) (outcome : Result Made Refusal)
+    (old new : Written)
+    → outcome ≡ Err refusal
+    → (ensuring && is_done tool refusal) ≡ true
+    → new ≡ old
+    → IsWrittenBehind tool old new None (outcome_ensured ensuring tool old.files outcome)
+passed-behind ensuring tool refusal (Ok made) old new is done same = absurd (cc is)
+passed-behind ensuring tool refusal (Err found) old new is done same =
+    let one : found ≡ refusal = cc in
+    subst (λ (refused : Refusal). IsWrittenBehind tool old new None
+    (outcome_ensured ensuring tool old.files (Err refused))) (sym one)
+    (subst (λ (passes : Bool). IsWrittenBehind tool old new None
+    (if passes then Ok (passed_by old.files) else Err refusal)) (sym done)
+    (refl, same ∙ nothing-more old))
+  where
+    nothing-more : (written : Written) → written ≡ with_made tool (passed_by written.files) written
+    nothing-more written = λ i. record written {
+      output = sym (append-nil written.output) i;
+      error = sym (append-nil written.error) i;
+    }
 
 -- ---- The lines of a batch
 
@@ -91,14 +108,14 @@ in-turn-again first tool made (Ok others) = λ i. Ok (record {
   error = sym (append_assoc first.error (messages tool made.notices) others.error) i;
 })
 
-module _ (day : ℕ) (settings : List Setting) where
+module _ (ensuring : Bool) (day : ℕ) (settings : List Setting) where
   -- what a line does on these files
   abbrev pub outcome_on : LineRequest → Files → Result Made Refusal
-  outcome_on line files = outcome_of (action_of line.request [] day files settings) files
+  outcome_on line files = line_outcome ensuring line.request day settings files
 
   -- what has been written, and the lines that are left
   abbrev pub with_left : List LineRequest → Written → Result Written LineRefusal
-  with_left lines written = before_others written (batch lines day settings written.files)
+  with_left lines written = before_others written (batch ensuring lines day settings written.files)
 
   module _ (line : LineRequest) (rest : List LineRequest) (old : Written) where
     -- the batch by the outcome of its line
@@ -106,9 +123,9 @@ module _ (day : ℕ) (settings : List Setting) where
         (outcome : Result Made Refusal)
         → outcome_on line old.files ≡ outcome
         → with_left (line ∷ rest) old
-        ≡ before_others old (with_rest line outcome (batch rest day settings))
+        ≡ before_others old (with_rest line outcome (batch ensuring rest day settings))
     by-line outcome is = ap (λ (one : Result Made Refusal).
-        before_others old (with_rest line one (batch rest day settings))) is
+        before_others old (with_rest line one (batch ensuring rest day settings))) is
 
     -- a line that is carried out is written before the others
     pub line-written :
@@ -119,7 +136,7 @@ module _ (day : ℕ) (settings : List Setting) where
     line-written new (Err refusal) is carried = absurd (cc carried)
     line-written new (Ok made) is carried =
         by-line (Ok made) is
-        ∙ (in-turn-again old line.request.tool made (batch rest day settings made.files)
+        ∙ (in-turn-again old line.request.tool made (batch ensuring rest day settings made.files)
         ∙ ap (with_left rest) (sym carried.1))
 
     -- a line that refuses refuses the batch

@@ -1,23 +1,23 @@
 -- What a command decides on the tables: a batch as its lines say, one after another, and any other
 -- command as its tool says.
-use Rattle.std.specs.Prelude.{◌≡◌, ℕ, List, if◌then◌else◌}
+use Rattle.std.specs.Prelude.{◌≡◌, ℕ, Bool, List, if◌then◌else◌}
 use Rattle.acct_text.specs.declared.files.Files.{Files}
 use Rattle.account_model.specs.BatchLines.{line_requests}
 use Rattle.account_model.specs.Request.{Request}
 use Rattle.account_model.specs.Settings.{Setting}
 use Rattle.account_model.specs.Words.{is_batch}
 use Rattle.account_model.specs.Action.{outcome_of}
-use Rattle.account_model.specs.Batch.{batch}
+use Rattle.account_model.specs.Batch.{batch, ensures}
 use Rattle.account_model.specs.Change.{action_of}
 use Rattle.login_defs.specs.declared.defs.Defs.{Defs}
 use Rattle.login_defs.specs.Held.{HasSettings}
 use Rattle.tool_answers.specs.declared.decision.Decision.{Decision}
 use Rattle.tool_answers.specs.Decisions.{decision_of, decision_of_lines}
 
--- what the lines of an input decide
-abbrev pub lines_decision : List ℕ → ℕ → Files → List Setting → Decision
-lines_decision input day files settings =
-    decision_of_lines files (batch (line_requests input) day settings files)
+-- what the lines of an input decide, where those that are done already are passed by or aren't
+abbrev pub lines_decision : Bool → List ℕ → ℕ → Files → List Setting → Decision
+lines_decision ensuring input day files settings =
+    decision_of_lines files (batch ensuring (line_requests input) day settings files)
 
 -- what the tool of a request decides by itself
 abbrev pub tool_decision : Request → List ℕ → ℕ → Files → List Setting → Decision
@@ -29,7 +29,7 @@ tool_decision request input day files settings =
 abbrev pub command_decision : Request → List ℕ → ℕ → Files → List Setting → Decision
 command_decision request input day files settings =
     if is_batch request.tool
-    then lines_decision input day files settings
+    then lines_decision (ensures request) input day files settings
     else tool_decision request input day files settings
 
 -- the decision is this one, whichever settings the values are those of
@@ -38,8 +38,9 @@ DecidesUnder defs told decision =
     (settings : List Setting) → HasSettings defs settings → decision ≡ told settings
 
 -- the lines of a batch decide so
-abbrev pub LinesDecideUnder : Defs → ℕ → List ℕ → Files → Decision → Type 0
-LinesDecideUnder defs day input files = DecidesUnder defs (lines_decision input day files)
+abbrev pub LinesDecideUnder : Bool → Defs → ℕ → List ℕ → Files → Decision → Type 0
+LinesDecideUnder ensuring defs day input files =
+    DecidesUnder defs (lines_decision ensuring input day files)
 
 -- the tool of a command decides so
 abbrev pub ToolDecides : Defs → ℕ → Request → List ℕ → Files → Decision → Type 0

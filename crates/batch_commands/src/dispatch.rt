@@ -32,7 +32,10 @@ pub fn decide(
         (CommandDecides defs.now day (request_in parsed.now) input.now files.now) }
 {
     match parsed.tool {
-        Tool::Batch => decide_lines(alloc, input, files, defs, day),
+        Tool::Batch => {
+            let ensuring = parsed.options.has(b'e');
+            decide_lines(alloc, ensuring, input, files, defs, day)
+        }
         _ => decide_tool(alloc, parsed, input, files, defs, day),
     }
 }

@@ -14,9 +14,11 @@ use tool_answers::{Decision, refuse_line};
 /// What a batch decides on these files by the lines of its input, which has at most 16,777,216
 /// bytes, by the settings and the day, in days since 1970-01-01: the first line that refuses refuses
 /// the batch with its number, and else the tables become what the last line leaves. A line that asks
-/// for nothing is left out; that fault is for the caller to find before.
+/// for nothing is left out; that fault is for the caller to find before. Where the batch is to ensure
+/// what its lines say, a line that is done already is passed by.
 pub fn decide_lines(
     alloc: Global,
+    ensuring: bool,
     input: &Bytes,
     files: &Files,
     defs: &Defs,
@@ -25,12 +27,12 @@ pub fn decide_lines(
     requires small { length input.now ≤ table_limit }
     requires held { IsHeld defs.now }
     requires in_time { day ≤ last_day }
-    ensures { IfOk result (LinesDecideUnder defs.now day input.now files.now) }
+    ensures { IfOk result (LinesDecideUnder ensuring defs.now day input.now files.now) }
 {
     let mut written = Written::nothing(alloc, files)?;
     let mut lines = BatchLines::of(alloc, input.as_slice());
     'lines: while let Some(line) = lines.next_request()? {
-        if let Some(refusal) = written.carry_out(alloc, &line.parsed, defs, day)? {
+        if let Some(refusal) = written.carry_out(alloc, ensuring, &line.parsed, defs, day)? {
             return refuse_line(alloc, line.number, line.parsed.tool, refusal);
         }
     }

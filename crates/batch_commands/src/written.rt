@@ -4,9 +4,7 @@ ghost use Rattle.acct_text.specs.ChangedTables.{changed_bytes, changed_tables, w
 ghost use Rattle.acct_text.specs.Files.{table_of};
 ghost use Rattle.acct_text.specs.Limits.{last_day};
 ghost use Rattle.acct_text.specs.declared.Tab.{Tab as Table};
-ghost use Rattle.account_model.specs.Action.{outcome_of};
-ghost use Rattle.account_model.specs.Batch.{nothing_on};
-ghost use Rattle.account_model.specs.Change.{action_of};
+ghost use Rattle.account_model.specs.Batch.{is_done, line_outcome, nothing_on};
 ghost use Rattle.account_model.specs.Settings.{Setting};
 ghost use Rattle.account_model.specs.Words.{is_for_lines};
 ghost use Rattle.login_defs.specs.Held.{HasSettings, IsHeld};
@@ -14,7 +12,7 @@ ghost use Rattle.option_words.specs.Parsed.{request_in};
 ghost use Rattle.tool_answers.specs.Decisions.{decision_by};
 ghost use Rattle.batch_commands.specs.Writing.{IsWrittenBehind, StandWhere, with_output};
 
-use account_model::Refusal;
+use account_model::{Refusal, Tool};
 use acct_text::{Bytes, Files, NewTables, Tab};
 use carried_tables::CarriedTables;
 use login_defs::Defs;
@@ -62,10 +60,12 @@ impl Written {
     /// Carries out what a line asks for behind those that have written this, or tells why its tool
     /// refuses.
     ///
-    /// Where it refuses all stays as it was written; at `AllocError` a part of the line may be written.
+    /// A line that is done already is passed by, where that is wanted. Where it refuses all stays as it
+    /// was written; at `AllocError` a part of the line may be written.
     pub(crate) fn carry_out(
         &mut self,
         alloc: Global,
+        ensuring: bool,
         line: &Parsed,
         defs: &Defs,
         day: u32,
@@ -75,14 +75,16 @@ impl Written {
         requires for_lines { is_for_lines line.now.tool ≡ true }
         ensures { IfOk result (λ refusal. (settings : List Setting) → HasSettings defs.now settings
             → IsWrittenBehind line.now.tool self.old self.new refusal
-            (outcome_of (action_of (request_in line.now) [] day self.old.files settings)
-            self.old.files)) }
+            (line_outcome ensuring (request_in line.now) day settings self.old.files)) }
     {
         match suite_tools::carry_out(alloc, line, &mut self.tables, defs, day) {
             Ok(output) => {
                 self.print(&output)?;
                 Ok(None)
             }
+            Err(ToolFault::Refused(refusal)) if ensuring && is_done(line.tool, &refusal) => Ok(
+                None,
+            ),
             Err(ToolFault::Refused(refusal)) => Ok(Some(refusal)),
             Err(ToolFault::Memory) => Err(AllocError),
         }
@@ -110,6 +112,20 @@ impl Written {
         let status = CARRIED_OUT;
         Ok(decision_by(tables, Output { status, out, err }))
     }
+}
+
+// Whether the tool refuses as what it is to make stands already, or what it is to remove is gone.
+fn is_done(tool: Tool, refusal: &Refusal) -> bool
+    ensures { result ≡ is_done tool refusal.now }
+{
+    matches!(
+        (tool, refusal),
+        (Tool::Useradd, Refusal::UserExists(_))
+            | (Tool::Groupadd, Refusal::GroupExists(_))
+            | (Tool::Userdel, Refusal::NoUser(_))
+            | (Tool::Groupdel, Refusal::NoGroup(_))
+            | (Tool::Gpasswd, Refusal::NotMember(..))
+    )
 }
 
 // The tables that differ from the first, in the fixed order.

@@ -20,7 +20,7 @@ use Rattle.account_model.specs.declared.refusal.Refusal.{Refusal}
 use Rattle.account_model.specs.declared.tool.Tool.{Tool}
 use Rattle.account_model.specs.Text.{first_some}
 use Rattle.account_model.specs.Action.{Action, Made, outcome_of}
-use Rattle.account_model.specs.Batch.{LineRefusal, Written, batch, written_by}
+use Rattle.account_model.specs.Batch.{LineRefusal, Written, batch, ensures, written_by}
 use Rattle.account_model.proofs.BatchLaws.{outcome-made}
 use Rattle.account_model.proofs.DeedLaws.{batch-stands, deed-is, files-stand}
 use Rattle.account_model.specs.Change.{action_of}
@@ -357,7 +357,8 @@ module _ (asked : Question) (files : Files) (defs : Option Bytes) where
 
     -- what the lines come to
     abbrev lines : Result Written LineRefusal
-    lines = batch (line_requests asked.command.input) asked.command.day settings files
+    lines = batch (ensures asked.request) (line_requests asked.command.input) asked.command.day
+        settings files
 
     by-tool : (came : Result Made Refusal) → outcome ≡ came →
         answer_on asked files defs ≡ answer_outcome tool files came → (decided : Decided) →
@@ -378,8 +379,8 @@ module _ (asked : Question) (files : Files) (defs : Option Bytes) where
         leaves-on written
         (told ∙ ap (λ (one : Tool). answer_written one files written)
         (sym (batch-tool tool is_one)))
-        (batch-stands (line_requests asked.command.input) asked.command.day settings
-        files written is)
+        (batch-stands (ensures asked.request) (line_requests asked.command.input) asked.command.day
+        settings files written is)
         decided shown
 
     by-command : (is_one : Bool) → is_batch tool ≡ is_one → (decided : Decided) →

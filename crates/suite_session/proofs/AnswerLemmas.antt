@@ -20,7 +20,7 @@ use Rattle.account_model.specs.declared.tool.Tool.TheVariants.{Batch}
 use Rattle.account_model.specs.declared.refusal.Refusal.{Refusal}
 use Rattle.account_model.specs.Request.{Request}
 use Rattle.account_model.specs.Action.{Made, outcome_of}
-use Rattle.account_model.specs.Batch.{LineRefusal, Written, batch, written_by}
+use Rattle.account_model.specs.Batch.{LineRefusal, Written, batch, ensures, written_by}
 use Rattle.account_model.specs.Change.{action_of}
 use Rattle.account_model.specs.BatchLines.{line_requests}
 use Rattle.account_model.specs.Settings.{Setting, settings_of}
@@ -105,7 +105,7 @@ under-whole : (request : Request) (input : List ℕ) (day : ℕ) (files : Files)
 under-whole request input day files settings problem = cases (is_batch request.tool) refl
   where
     lines : Result Written LineRefusal
-    lines = batch (line_requests input) day settings files
+    lines = batch (ensures request) (line_requests input) day settings files
 
     outcome : Result Made Refusal
     outcome = outcome_of (action_of request input day files settings) files

@@ -21,7 +21,7 @@ use Rattle.account_model.specs.Words.{Asks, broken_rule, is_batch}
 use Rattle.account_model.specs.declared.refusal.Refusal.{Refusal}
 use Rattle.account_model.specs.Text.{first_some}
 use Rattle.account_model.specs.Action.{Action, Made, made_by, multiple_entries, outcome_of, changes}
-use Rattle.account_model.specs.Batch.{batch, written_by}
+use Rattle.account_model.specs.Batch.{batch, ensures, written_by}
 use Rattle.account_model.specs.Change.{action_by, action_of}
 use Rattle.account_model.specs.Grpck.{grpck_report, grpck_sort}
 use Rattle.account_model.specs.Pwck.{pwck_report, pwck_sort}
@@ -181,7 +181,7 @@ report-stays words request input day files defs asks is = cases (files_problem f
 
     under : (is_one : Bool) → is_one ≡ false →
         is_change (if is_one then answer_lines files
-        (batch (line_requests input) day settings files)
+        (batch (ensures request) (line_requests input) day settings files)
         else answer_outcome request.tool files (outcome_of action files)).cause ≡ false
     under true single = absurd (true≢false single)
     under false single = outcome-stays request.tool files action

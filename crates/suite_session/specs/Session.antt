@@ -38,7 +38,7 @@ pub record HasFaultyLine (words : List Word) (input : Bytes) (faulty : FaultyLin
 abbrev pub CantStart : List Word → Bytes → StartFault → Type 0
 CantStart words input (OfWords found) = (fault words ≡ Some found) ⊎ (found ≡ NoWordMemory)
 CantStart words input (OfLine number found) = (faulty : FaultyLine)
-    × HasFaultyLine words input faulty × (faulty.line.number ≡ number) × (faulty.fault ≡ found)
+    × HasFaultyLine words input faulty × (faulty.number ≡ number) × (faulty.fault ≡ found)
 
 -- the session hasn't begun
 abbrev pub IsWaiting : Phase → Type 0

@@ -9,14 +9,13 @@ use Rattle.account_model.proofs.DeedLaws.{batch-stands}
 use Rattle.option_words.specs.Batch.{requests_of}
 use Rattle.tool_answers.specs.Decisions.{decision_of_lines}
 use Rattle.batch_commands.specs.Writing.{IsWrittenBehind}
-use Rattle.batch_commands.proofs.LinesLemmas.{all-done, line-refuses, line-written, outcome_on, requests-for-lines, with_left}
+use Rattle.batch_commands.proofs.LinesLemmas.{all-done, line-refuses, line-written, outcome_on, with_left}
 use Rattle.batch_commands.proofs.lines.decide_lines.Goals as goal
 
 pub carry_out-requires-clause-for_lines : goal.carry_out-requires-clause-for_lines
 carry_out-requires-clause-for_lines c =
     subst (λ (one : LineRequest). is_for_lines one.request.tool ≡ true) (sym c.line.view_is)
-    (requests-for-lines c.lines.lines c.in-Some.line (requests_of c.next_request.new.self)
-    (rw c.in-Some.is at c.in_ok-line.ensures))
+    (rw c.in-Some.is at c.in_ok-line.ensures.for_lines)
 
 pub lines-preserved : goal.lines-preserved
 lines-preserved c = λ settings holds.
@@ -25,14 +24,15 @@ lines-preserved c = λ settings holds.
     let new = c.carry_out.new.self in
     let rest = requests_of c.next_request.new.self in
     let line = c.in-Some.line in
-    let first = rw c.in-Some.is at c.in_ok-line.ensures in
+    let first = rw c.in-Some.is at c.in_ok-line.ensures.next in
     let behind = λ (refusal : Option Refusal) (one : LineRequest).
-    IsWrittenBehind one.request.tool old new refusal (outcome_on day settings one old.files) in
+    IsWrittenBehind one.request.tool old new refusal
+    (outcome_on c.args.ensuring day settings one old.files) in
     let written = subst (λ (refusal : Option Refusal). behind refusal line) c.in_default-2.is
     (subst (behind c.in_ok-refusal.field-0) c.line.view_is
     (c.in_ok-refusal.ensures settings holds)) in
-    sym (ap (λ (lines : List LineRequest). with_left day settings lines old) first
-    ∙ line-written day settings line rest old new (outcome_on day settings line old.files) refl
+    sym (ap (λ (lines : List LineRequest). with_left c.args.ensuring day settings lines old) first
+    ∙ line-written c.args.ensuring day settings line rest old new (outcome_on c.args.ensuring day settings line old.files) refl
     written)
     ∙ c.lines.invariant settings holds
 
@@ -43,9 +43,10 @@ returns-in-Some-2 c = IfOk-weaker c.refuse_line.result _ _ (λ decision is setti
     let new = c.carry_out.new.self in
     let rest = requests_of c.next_request.new.self in
     let line = c.in-Some.line in
-    let first = rw c.in-Some.is at c.in_ok-line.ensures in
+    let first = rw c.in-Some.is at c.in_ok-line.ensures.next in
     let behind = λ (refusal : Option Refusal) (one : LineRequest).
-    IsWrittenBehind one.request.tool old new refusal (outcome_on day settings one old.files) in
+    IsWrittenBehind one.request.tool old new refusal
+    (outcome_on c.args.ensuring day settings one old.files) in
     let refused = subst (λ (refusal : Option Refusal). behind refusal line) c.in-Some-2.is
     (subst (behind c.in_ok-refusal.field-0) c.line.view_is
     (c.in_ok-refusal.ensures settings holds)) in
@@ -57,9 +58,9 @@ returns-in-Some-2 c = IfOk-weaker c.refuse_line.result _ _ (λ decision is setti
     }))) c.line.view_is
     ∙ ap (decision_of_lines c.args.files.now)
     (sym (sym (c.lines.invariant settings holds)
-    ∙ (ap (λ (lines : List LineRequest). with_left day settings lines old) first
-    ∙ line-refuses day settings line rest old new c.in-Some-2.refusal
-    (outcome_on day settings line old.files) refl refused)))))
+    ∙ (ap (λ (lines : List LineRequest). with_left c.args.ensuring day settings lines old) first
+    ∙ line-refuses c.args.ensuring day settings line rest old new c.in-Some-2.refusal
+    (outcome_on c.args.ensuring day settings line old.files) refl refused)))))
     c.refuse_line.ensures
 
 pub decision-requires : goal.decision-requires
@@ -67,8 +68,8 @@ decision-requires c =
     let settings = c.requires.held.settings in
     let lines = line_requests c.args.input.now in
     let files = c.args.files.now in
-    let none = rw c.in_default.is at c.in_ok-line.ensures in
-    batch-stands lines c.args.day settings files _
-    (all-done c.args.day settings (requests_of c.lines.lines) c.lines.written
-    (batch lines c.args.day settings files) none
+    let none = rw c.in_default.is at c.in_ok-line.ensures.next in
+    batch-stands c.args.ensuring lines c.args.day settings files _
+    (all-done c.args.ensuring c.args.day settings (requests_of c.lines.lines) c.lines.written
+    (batch c.args.ensuring lines c.args.day settings files) none
     (c.lines.invariant settings c.requires.held.held))

@@ -12,8 +12,8 @@ abbrev pub invariant-lines : goal.invariant-lines
 invariant-lines l =
     (settings : List Setting)
     → HasSettings l.defs settings
-    → with_left l.day settings (requests_of l.lines) l.written
-    ≡ batch (line_requests l.input) l.day settings l.files
+    → with_left l.ensuring l.day settings (requests_of l.lines) l.written
+    ≡ batch l.ensuring (line_requests l.input) l.day settings l.files
 
 abbrev pub decreases-lines : goal.decreases-lines
 decreases-lines l = length (requests_of l.lines)
