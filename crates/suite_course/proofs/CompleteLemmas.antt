@@ -47,6 +47,7 @@ use Rattle.suite_session.specs.Locking.{cause_of_fault}
 use Rattle.suite_session.specs.Stands.{IsDiskFault}
 use Rattle.suite_course.specs.Open.{StandsOpen}
 use Rattle.suite_course.specs.Streams.{Streams, Serves}
+use Rattle.suite_course.proofs.StreamsLemmas.{serves-failed}
 use Rattle.suite_course.specs.declared.supplies.Lack.{Lack}
 use Rattle.suite_course.specs.declared.supplies.Lack.TheVariants.{Supply, Line}
 use Rattle.suite_course.specs.Supplies.{Supplies, IsTooMuch, IsUnsupplied, Lacks, LacksNothing, TakesAll, told_lack}
@@ -121,7 +122,7 @@ one-alone asked outcome token other old new alone answered fresh =
 module _ (tool : Option Tool) (was holds : Streams) (serve : StreamsServe was holds) where
   -- where no fault of a stream was counted, none failed
   none-failed : (given : Answer) → Serves tool given was holds (Err Failed) → ⊥
-  none-failed given served = elim (served.failed refl) [
+  none-failed given served = elim (serves-failed tool given was holds served) [
     | inl fails ↦ serve.out fails.rose
     | inr fails ↦ serve.err fails.rose
   ]

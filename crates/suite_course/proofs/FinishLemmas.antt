@@ -26,6 +26,7 @@ use Rattle.suite_session.specs.Turning.{HasAnswered, SessionTurns}
 use Rattle.suite_session.specs.Answers.{Says, after_streams}
 use Rattle.suite_session.proofs.BelongsLemmas.{output-stays}
 use Rattle.suite_course.specs.Streams.{Streams, Serves, memory_stage, text_of}
+use Rattle.suite_course.proofs.StreamsLemmas.{serves-texted}
 use Rattle.suite_course.specs.Course.{Comes, Concludes, Finished, phase_after}
 use Rattle.suite_course.proofs.CourseLemmas.{comes-belongs, turns-then, turns-as, unbegun-stays}
 use Rattle.suite_course.proofs.RanLemmas.{stays-turns}
@@ -58,9 +59,9 @@ pub is-to-put : (asked : Question) (entry now : Moment) (tool : Tool) (was holds
     (fault : SinkFault) → put ≡ Err fault → IsToPut phase
 is-to-put asked entry now tool was holds put (Begun runner (Answering given)) comes some
     served fault is =
-    has-text (Some tool) given (served.texted fault is)
+    has-text (Some tool) given (serves-texted (Some tool) given was holds put served fault is)
 is-to-put asked entry now tool was holds put (Unbegun named given) comes some served fault is =
-    has-text (Some tool) given (served.texted fault is)
+    has-text (Some tool) given (serves-texted (Some tool) given was holds put served fault is)
 is-to-put asked entry now tool was holds put (Waiting question) comes some served fault is =
     absurd (cc some)
 is-to-put asked entry now tool was holds put (Over runner given) comes some served fault is =

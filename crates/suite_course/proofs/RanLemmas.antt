@@ -136,6 +136,8 @@ module _ (asked : Question) (entry now : Moment) where
           (free-of runner past same answered is)
           (subst (λ (one : Question). Says one given given.outcome.cause) (sym same) says)
           answered.ended.due.shown answered.ended.drops_nothing;
+      left = λ quiet. let left = answered.ended.left quiet in
+          record { freed = left.freed; clean = left.clean };
       leaves = λ deeds ours others lawful earlier alone.
           let lawful_now = stays deeds ours others lawful in
           leaves-alone deeds asked was.first past runner.token given lawful_now ours earlier alone

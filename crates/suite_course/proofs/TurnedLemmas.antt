@@ -79,6 +79,7 @@ module _ (deeds : SuiteDeeds) (ours : AreOfTools deeds) where
           within = within;
           free_reports = λ is.
               reports-freely runner answer past.history (free is) says due.shown drops;
+          left = left;
           leaves = λ old alone. leaves-alone deeds runner.asked past.first past runner.token
               answer lawful ours old alone answer.outcome.cause due.commits shows.shown left backed
               free;

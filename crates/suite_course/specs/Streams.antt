@@ -1,5 +1,5 @@
 -- What the streams hold after an answer, and what tells that one of them failed.
-use Rattle.std.specs.Prelude.{◌≡◌, ◌≢◌, ◌⊎◌, [], ℕ, ◌≤◌, Option, Some, None, Result, Err}
+use Rattle.std.specs.Prelude.{◌≡◌, ◌≢◌, ◌⊎◌, [], ℕ, ◌≤◌, Option, Some, None, Result, Ok, Err}
 use Rattle.acct_text.specs.Bytes.{Bytes}
 use Rattle.acct_outside.specs.declared.CommitStage.{CommitStage}
 use Rattle.acct_outside.specs.declared.streams.SinkFault.{SinkFault}
@@ -46,15 +46,31 @@ pub record FailsAt (text : Bytes) (before now : ℕ) : Type 0 where
   pub rose : HasRisen before now
   pub some : text ≢ []
 
--- Output and message came whole; or where a stream failed or found no memory, a front of each. One that
--- did had a text to take. No count of faults falls.
-pub record Serves (tool : Option Tool) (answer : Answer) (before now : Streams)
-    (result : Result (Unit {0}) SinkFault) : Type 0 where
-  pub output : WhereBytesTold before.out now.out (PutsFront answer.out result)
-  pub message : WhereBytesTold before.err now.err (PutsFront (text_of tool answer) result)
-  pub failed : result ≡ Err Failed → FailsAt answer.out before.out_faults now.out_faults
-      ⊎ FailsAt (text_of tool answer) before.err_faults now.err_faults
-  pub texted : (fault : SinkFault) → result ≡ Err fault →
-      (answer.out ≢ []) ⊎ (text_of tool answer ≢ [])
-  pub out_counts : before.out_faults ≤ now.out_faults
-  pub err_counts : before.err_faults ≤ now.err_faults
+-- A stream that holds what it tells, and has failed so often, was to take a text. That came whole; or a
+-- front of it where the stream failed or found no memory, which it does only with something to take.
+pub record PutsText (text : Bytes) (held holds : Option Bytes) (before now : ℕ)
+    (put : Result (Unit {0}) SinkFault) : Type 0 where
+  pub front : WhereBytesTold held holds (PutsFront text put)
+  pub failed : put ≡ Err Failed → FailsAt text before now
+  pub texted : (fault : SinkFault) → put ≡ Err fault → text ≢ []
+  pub counts : before ≤ now
+
+-- the output didn't come whole, and nothing of the message was put
+pub record StopsAtOutput (answer : Answer) (before now : Streams)
+    (put : Result (Unit {0}) SinkFault) : Type 0 where
+  pub output : PutsText answer.out before.out now.out before.out_faults now.out_faults put
+  pub fault : SinkFault
+  pub is_fault : put ≡ Err fault
+  pub message : now.err ≡ before.err
+  pub message_faults : now.err_faults ≡ before.err_faults
+
+-- the output came whole, and then the message, or a front of it
+pub record GoesOnToMessage (tool : Option Tool) (answer : Answer) (before now : Streams)
+    (put : Result (Unit {0}) SinkFault) : Type 0 where
+  pub output : PutsText answer.out before.out now.out before.out_faults now.out_faults (Ok tt)
+  pub message : PutsText (text_of tool answer) before.err now.err before.err_faults now.err_faults put
+
+-- The streams took an answer in order, and this is what the last of them gave.
+abbrev pub Serves : Option Tool → Answer → Streams → Streams → Result (Unit {0}) SinkFault → Type 0
+Serves tool answer before now put =
+    StopsAtOutput answer before now put ⊎ GoesOnToMessage tool answer before now put
