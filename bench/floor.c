@@ -1,5 +1,5 @@
 // The calls, bytes and syncs of one command on DIR/etc, and nothing else: what the disk and the kernel
-// cost. It takes the lock, reads login.defs and the six tables, changes those that are named by a copy
+// cost. It takes the locks, reads login.defs and the six tables, changes those that are named by a copy
 // of their last line, as a commit does (docs/OPERATING.md), and frees the lock; as a report it reads them
 // between two listings, without a lock; given DIR alone it only reads. bench/run sets its time beside that
 // of the program. usage: floor DIR [report | lock [TABLE..]]
@@ -115,13 +115,43 @@ static void begin(void) {
     must(readlink("/proc/self/ns/pid", namespace, sizeof namespace) > 0, "/proc");
 }
 
-static int take_lock(void) {
-    char own[64];
-    snprintf(own, sizeof own, "accounts.held+%d", getpid());
-    struct stat about;
+// Whether the name is still that of the open file.
+static int stands_at(int file, const char *name) {
+    struct stat own, other;
+    return fstat(file, &own) == 0 && fstatat(folder, name, &other, AT_SYMLINK_NOFOLLOW) == 0 &&
+           own.st_ino == other.st_ino;
+}
+
+static int claim(char own[64]) {
+    snprintf(own, 64, "accounts.held+%d", getpid());
     int file = openat(folder, own, O_WRONLY | O_CREAT | O_EXCL | O_CLOEXEC, 0600);
     must(file >= 0 && fchmod(file, 0600) == 0 && flock(file, LOCK_EX) == 0, own);
-    must(fstat(file, &about) == 0 && fstatat(folder, own, &about, AT_SYMLINK_NOFOLLOW) == 0, own);
+    must(stands_at(file, own), own);
+    return file;
+}
+
+// The lock files of shadow-utils.
+static int take_shadow_locks(void) {
+    char own[64], text[64];
+    int file = claim(own);
+    put(file, text, snprintf(text, sizeof text, "%d%cflock", getpid(), 0));
+    must(fsync(file) == 0, own);
+    for (int i = 0; i < TABLES; i++)
+        must(linkat(folder, own, folder, with(names[i], ".lock"), 0) == 0, names[i]);
+    unlinkat(folder, own, 0);
+    return file;
+}
+
+static void let_go(int file) {
+    for (int i = 0; i < TABLES; i++)
+        if (stands_at(file, with(names[i], ".lock")))
+            unlinkat(folder, with(names[i], ".lock"), 0);
+    close(file);
+}
+
+static int take_lock(void) {
+    char own[64];
+    int file = claim(own);
     must(fchmod(file, 0644) == 0, own);
     put(file, "held 00000000-0000-0000-0000-000000000000.10000.100000.4026531836.flock\n", 72);
     must(fsync(file) == 0, own);
@@ -195,11 +225,12 @@ static void change(void) {
     unlinkat(folder, "accounts.intent", 0);
 }
 
-static void free_lock(int lock) {
+static void free_lock(int lock, int shadow_locks) {
     int file = make("accounts.free+", 0644);
     put(file, "free\n", 5);
     must(fsync(file) == 0, "accounts.free+");
     close(file);
+    let_go(shadow_locks);
     list();
     must(renameat(folder, "accounts.free+", folder, "accounts.lock.1") == 0, "accounts.free+");
     close(lock);
@@ -223,6 +254,7 @@ int main(int count, char **words) {
         list();
         return 0;
     }
+    int shadow_locks = take_shadow_locks();
     int lock = take_lock();
     read_all();
     for (int i = 0; i < TABLES; i++)
@@ -231,6 +263,6 @@ int main(int count, char **words) {
                 is_changed[i] = 1, changed[i] = longer(tables[i]);
     if (count > 3)
         change();
-    free_lock(lock);
+    free_lock(lock, shadow_locks);
     return 0;
 }

@@ -1,34 +1,45 @@
-// The file system of a runtime, with hard links, or without them as FAT is.
+// The system of a runtime, or one that lacks hard links, as FAT does, or /proc, as a bare chroot does.
 use std::alloc::Allocator;
 use std::fs::{Metadata, OpenOptions, Permissions};
 use std::io;
 use std::path::PathBuf;
-use std::rt::Files;
+use std::rt::{Clock, Files};
+use std::time::Duration;
 
-/// Whether a file system knows hard links.
+/// What a system lacks.
 #[derive(Clone, Copy, PartialEq, Eq)]
-pub(crate) enum Links {
-    /// It does.
-    Known,
-    /// It refuses each.
-    Unknown,
+pub(crate) enum Lack {
+    /// Nothing.
+    Nothing,
+    /// Hard links: each is refused.
+    Links,
+    /// What stands in /proc: nothing does.
+    Proc,
 }
 
-/// The files of a runtime.
+/// The files of a runtime, and its clock.
 #[derive(Clone, Drop)]
-pub(crate) struct Disk<R: Files + Clone + Drop> {
+pub(crate) struct Disk<R: Files + Clock + Clone + Drop> {
     rt: R,
-    links: Links,
+    lack: Lack,
 }
 
-impl<R: Files + Clone + Drop> Disk<R> {
+impl<R: Files + Clock + Clone + Drop> Disk<R> {
     /// Those that the runtime has.
-    pub(crate) fn new(rt: R, links: Links) -> Self {
-        Disk { rt, links }
+    pub(crate) fn new(rt: R, lack: Lack) -> Self {
+        Disk { rt, lack }
+    }
+
+    // Whether anything may stand at the path.
+    fn see(&self, path: &str) -> io::Result<()> {
+        if self.lack == Lack::Proc && path.starts_with("/proc") {
+            return Err(io::Error::from(io::ErrorKind::NotFound));
+        }
+        Ok(())
     }
 }
 
-impl<R: Files + Alloc + Clone + Drop> Alloc for Disk<R> {
+impl<R: Files + Clock + Alloc + Clone + Drop> Alloc for Disk<R> {
     type A = R::A;
 
     fn alloc(&self) -> R::A {
@@ -36,12 +47,23 @@ impl<R: Files + Alloc + Clone + Drop> Alloc for Disk<R> {
     }
 }
 
-impl<R: Files + Clone + Drop> Files for Disk<R> {
+impl<R: Files + Clock + Clone + Drop> Clock for Disk<R> {
+    fn monotonic(&self) -> io::Result<Duration> {
+        self.rt.monotonic()
+    }
+
+    fn since_1970(&self) -> io::Result<Duration> {
+        self.rt.since_1970()
+    }
+}
+
+impl<R: Files + Clock + Clone + Drop> Files for Disk<R> {
     type File = R::File;
 
     type Dir = R::Dir;
 
     fn open_file(&self, how: &OpenOptions, path: &str) -> io::Result<R::File> {
+        self.see(path)?;
         self.rt.open_file(how, path)
     }
 
@@ -50,6 +72,7 @@ impl<R: Files + Clone + Drop> Files for Disk<R> {
     }
 
     fn metadata(&self, path: &str) -> io::Result<Metadata> {
+        self.see(path)?;
         self.rt.metadata(path)
     }
 
@@ -82,6 +105,7 @@ impl<R: Files + Clone + Drop> Files for Disk<R> {
     }
 
     fn read_link<B: Allocator>(&self, alloc: B, path: &str) -> io::Result<PathBuf<B>> {
+        self.see(path)?;
         self.rt.read_link(alloc, path)
     }
 
@@ -94,9 +118,9 @@ impl<R: Files + Clone + Drop> Files for Disk<R> {
     }
 
     fn hard_link(&self, original: &str, link: &str) -> io::Result<()> {
-        match self.links {
-            Links::Known => self.rt.hard_link(original, link),
-            Links::Unknown => Err(io::Error::from(io::ErrorKind::Unsupported)),
+        match self.lack {
+            Lack::Links => Err(io::Error::from(io::ErrorKind::Unsupported)),
+            _ => self.rt.hard_link(original, link),
         }
     }
 }

@@ -21,10 +21,12 @@
 //! The calls are those of a folder, with the names of its files: `begin`, `locks`, `read NAME LIMIT`,
 //! `verdict TOKEN`, `create NAME`, `write NAME TEXT`, `append NAME TEXT`, `rename NAME NAME`, `remove NAME`
 //! and `answered`. Beside these `enter DIR` ends the session and begins another, `linkless DIR` one on a
-//! file system without hard links, `as TOKEN` says whose the next calls are, and `faults` how many failed.
+//! file system without hard links, `procless DIR` one on a system without /proc, `as TOKEN` says whose the
+//! next calls are, and `faults` how many failed.
 //!
-//! In a text `|` is the end of a line, and `^` a byte that is no UTF-8. The token that the last `begin`
-//! gave is `~b.~p.~n.flock`: its boot, its process with the start of it, and its namespace.
+//! In a text `|` is the end of a line, `^` a byte that is no UTF-8, and `%` the byte 0. The token that the
+//! last `begin` gave is `~b.~p.~n.flock`: its boot, its process with the start of it, and its namespace. The
+//! number of its process alone is `~i`.
 //!
 //! All else, as what begins with a blank, is what was shown.
 #![tactic(auto)]
@@ -39,13 +41,13 @@ mod streams;
 mod texts;
 
 use player::Player;
-use std::io;
 use std::io::{Read, Write};
+use std::{io, process};
 
 fn main(rt: HostRuntime) -> io::Result<()> {
     let mut text = String::new(rt.alloc());
     rt.reader().read_to_string(&mut text)?;
-    let mut player = Player::new(rt.clone()?)?;
+    let mut player = Player::new(rt.clone()?, process::id(rt.process()))?;
     for line in text.as_str().lines() {
         player.play(line)?;
     }

@@ -6,11 +6,11 @@ use crate::streams::{push_puts, push_takes};
 use crate::texts::{cut, expanded, push_line};
 use acct_text::Bytes;
 use std::fs::File;
-use std::rt::Files;
+use std::rt::{Clock, Files};
 use std::{fs, io};
 
 /// Two sessions, and what was shown so far.
-pub(crate) struct Player<R: Files<File = File> + AllocGlobal + Clone + Drop> {
+pub(crate) struct Player<R: Files<File = File> + Clock + AllocGlobal + Clone + Drop> {
     rt: R,
     first: Session<R>,
     second: Session<R>,
@@ -22,7 +22,7 @@ pub(crate) struct Player<R: Files<File = File> + AllocGlobal + Clone + Drop> {
 }
 
 // One call for all that it has, so that who holds it has few ways through it.
-impl<R: Files<File = File> + AllocGlobal + Clone + Drop> Drop for Player<R> {
+impl<R: Files<File = File> + Clock + AllocGlobal + Clone + Drop> Drop for Player<R> {
     fn drop(self) {
         let Player {
             rt: _,
@@ -35,11 +35,11 @@ impl<R: Files<File = File> + AllocGlobal + Clone + Drop> Drop for Player<R> {
     }
 }
 
-impl<R: Files<File = File> + AllocGlobal + Clone + Drop> Player<R> {
+impl<R: Files<File = File> + Clock + AllocGlobal + Clone + Drop> Player<R> {
     /// Nothing was played.
-    pub(crate) fn new(rt: R) -> io::Result<Self> {
-        let first = Session::new(&rt)?;
-        let second = Session::new(&rt)?;
+    pub(crate) fn new(rt: R, process: u32) -> io::Result<Self> {
+        let first = Session::new(&rt, process)?;
+        let second = Session::new(&rt, process)?;
         let own = String::new(rt.alloc());
         let shown = Bytes::new(rt.alloc());
         Ok(Player {

@@ -1,42 +1,46 @@
 // A session in the real folder, and its calls.
 ghost use Rattle.acct_outside.specs.Contract.{IsName};
 
-use crate::disk::{Disk, Links};
+use crate::disk::{Disk, Lack};
 use crate::names::name_of;
-use crate::texts::{bytes_of, cut, push_answer, push_number, push_text};
+use crate::texts::{bytes_of, cut, push_answer, push_line, push_number, push_text};
 use acct_outside::{Created, Folder, FolderFault, Found, Name, Token, Verdict};
 use acct_text::{Bytes, push_decimal, read_decimal};
 use real_folder::RealFolder;
 use std::alloc::{AllocError, Global};
 use std::fs::File;
-use std::rt::Files;
+use std::rt::{Clock, Files};
 use std::{io, str};
 
 /// A session, and the token as which it calls.
-pub(crate) struct Session<R: Files<File = File> + AllocGlobal + Clone + Drop> {
+pub(crate) struct Session<R: Files<File = File> + Clock + AllocGlobal + Clone + Drop> {
     rt: R,
+    /// The number of the process.
+    process: u32,
     folder: RealFolder<Disk<R>>,
     by: Bytes,
 }
 
 // One call for all that it has, so that who holds it has few ways through it.
-impl<R: Files<File = File> + AllocGlobal + Clone + Drop> Drop for Session<R> {
+impl<R: Files<File = File> + Clock + AllocGlobal + Clone + Drop> Drop for Session<R> {
     fn drop(self) {
         let Session {
             rt: _,
+            process: _,
             folder: _,
             by: _,
         } = self;
     }
 }
 
-impl<R: Files<File = File> + AllocGlobal + Clone + Drop> Session<R> {
+impl<R: Files<File = File> + Clock + AllocGlobal + Clone + Drop> Session<R> {
     /// One that entered no folder.
-    pub(crate) fn new(rt: &R) -> io::Result<Self> {
+    pub(crate) fn new(rt: &R, process: u32) -> io::Result<Self> {
         let by = Bytes::of(rt.alloc(), b"me")?;
-        let folder = RealFolder::new(Disk::new(rt.clone()?, Links::Known));
+        let folder = RealFolder::new(Disk::new(rt.clone()?, Lack::Nothing), process);
         Ok(Session {
             rt: rt.clone()?,
+            process,
             folder,
             by,
         })
@@ -45,11 +49,11 @@ impl<R: Files<File = File> + AllocGlobal + Clone + Drop> Session<R> {
     /// Ends, and begins another in this folder, with the token `me`.
     pub(crate) fn begin_anew(&mut self, dir: &str) -> io::Result<()> {
         self.by = Bytes::of(self.rt.alloc(), b"me")?;
-        self.enter(dir, Links::Known)
+        self.enter(dir, Lack::Nothing)
     }
 
-    fn enter(&mut self, dir: &str, links: Links) -> io::Result<()> {
-        self.folder = RealFolder::new(Disk::new(self.rt.clone()?, links));
+    fn enter(&mut self, dir: &str, lack: Lack) -> io::Result<()> {
+        self.folder = RealFolder::new(Disk::new(self.rt.clone()?, lack), self.process);
         let dir = bytes_of(self.rt.alloc(), dir)?;
         let _ = self.folder.enter(&dir);
         Ok(())
@@ -64,8 +68,9 @@ impl<R: Files<File = File> + AllocGlobal + Clone + Drop> Session<R> {
     ) -> io::Result<()> {
         let (word, rest) = cut(call);
         match word {
-            "enter" => self.enter(rest, Links::Known),
-            "linkless" => self.enter(rest, Links::Unknown),
+            "enter" => self.enter(rest, Lack::Nothing),
+            "linkless" => self.enter(rest, Lack::Links),
+            "procless" => self.enter(rest, Lack::Proc),
             "begin" => self.begin(own, shown),
             "as" => {
                 self.by = Bytes::of(self.rt.alloc(), rest.as_bytes())?;
@@ -144,7 +149,7 @@ impl<R: Files<File = File> + AllocGlobal + Clone + Drop> Session<R> {
 }
 
 // The calls about a name, and what is shown of them.
-impl<R: Files<File = File> + AllocGlobal + Clone + Drop> Session<R> {
+impl<R: Files<File = File> + Clock + AllocGlobal + Clone + Drop> Session<R> {
     fn create(&mut self, by: &Token, name: Name, shown: &mut Bytes) -> Result<(), AllocError>
         requires { IsName name }
     {
@@ -256,7 +261,20 @@ impl<R: Files<File = File> + AllocGlobal + Clone + Drop> Session<R> {
             return push_answer(shown, "failed");
         };
         let text = error.text(self.rt.alloc())?;
-        push_text(shown, b" failed: ", text.as_str().as_bytes())
+        self.push_reason(text.as_str(), shown)
+    }
+
+    // Pushes a reason. The number of this process at its end is `~i`.
+    fn push_reason(&self, text: &str, shown: &mut Bytes) -> Result<(), AllocError> {
+        let own = format!(in self.rt.alloc(); "process {}", self.process)?;
+        match text.strip_suffix(own.as_str()) {
+            Some(front) => {
+                shown.push(b" failed: ")?;
+                shown.push(front.as_bytes())?;
+                push_line(shown, "process ~i")
+            }
+            None => push_text(shown, b" failed: ", text.as_bytes()),
+        }
     }
 }
 

@@ -7,13 +7,14 @@ pub(crate) fn cut(text: &str) -> (&str, &str) {
     text.split_once(' ').unwrap_or((text, ""))
 }
 
-/// The text with the ends of its lines, and with bytes that are no UTF-8.
+/// The text with the ends of its lines, with bytes that are no UTF-8, and with bytes 0.
 pub(crate) fn bytes_of(alloc: Global, text: &str) -> Result<Bytes, AllocError> {
     let mut bytes = Bytes::new(alloc);
     for byte in text.as_bytes() {
         match *byte {
             b'|' => bytes.push(b"\n")?,
             b'^' => bytes.push(b"\xE9")?,
+            b'%' => bytes.push(b"\0")?,
             byte => bytes.push(&[byte])?,
         }
     }
@@ -51,7 +52,7 @@ pub(crate) fn push_number(shown: &mut Bytes, number: u64) -> Result<(), AllocErr
     shown.push(b"\n")
 }
 
-/// The line with the parts of a token in the place of `~b`, `~p` and `~n`.
+/// The line with the parts of a token in the place of `~b`, `~p`, `~i` and `~n`.
 pub(crate) fn expanded(alloc: Global, token: &str, line: &str) -> Result<String, AllocError> {
     let mut text = String::new(alloc);
     let mut is_behind = false;
@@ -72,6 +73,7 @@ fn push_part(text: &mut String, token: &str, part: &str) -> Result<(), AllocErro
     match part.split_at_checked(1) {
         Some(("b", rest)) => push_both(text, boot, rest),
         Some(("p", rest)) => push_both(text, process, rest),
+        Some(("i", rest)) => push_both(text, number_of(process), rest),
         Some(("n", rest)) => push_both(text, namespace, rest),
         _ => Ok(()),
     }
@@ -81,6 +83,11 @@ fn push_both(text: &mut String, part: &str, rest: &str) -> Result<(), AllocError
     text.push_str(part)?;
     text.push_str(rest)?;
     Ok(())
+}
+
+// The number of a process with its start.
+fn number_of(process: &str) -> &str {
+    process.split_once('.').map_or(process, |parts| parts.0)
 }
 
 // The boot of a token, its process with the start, and its namespace.

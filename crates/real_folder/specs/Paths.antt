@@ -1,5 +1,7 @@
 -- Which path of the file system stands for which name of the folder.
 use Rattle.std.specs.Prelude.{◌≡◌, ◌↔◌, ℕ, ◌==◌, ◌++◌, List, [], length, Option, Some, codes, if◌then◌else◌}
+use Rattle.acct_text.specs.declared.Tab.{Tab}
+use Rattle.acct_text.specs.Tables.{table_name}
 use Rattle.acct_outside.specs.declared.Name.{Name}
 use Rattle.acct_outside.specs.Contract.{IsLockNumber}
 use Rattle.acct_outside.specs.Names.{file_name}
@@ -20,6 +22,10 @@ own_front = codes "accounts.held+"
 -- the name of the file that the session with a token fills before it is its lock
 abbrev pub own_name : List ℕ → List ℕ
 own_name token = own_front ++ token
+
+-- the name of the lock file that shadow-utils has for a table (its commonio_lock)
+abbrev pub shadow_lock : Tab → List ℕ
+shadow_lock table = table_name table ++ codes ".lock"
 
 -- what is found is the number of a lock whose text this is
 abbrev pub FindsLock : (ℕ → List ℕ) → List ℕ → Option ℕ → Type 0

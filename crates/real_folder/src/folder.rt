@@ -2,6 +2,7 @@
 // lines over whole files. What each step relies on is on the disk before it (docs/OPERATING.md, "What is
 // on the disk when").
 ghost use Rattle.std.specs.Prelude.{◌≡◌, ◌↔◌, Ok, All, IsOk, IfOk, IsErrOf, string_bytes};
+ghost use Rattle.std.specs.List.Sorted.{IsNonDecreasing};
 ghost use Rattle.acct_outside.specs.declared.FolderFault.TheVariants.{Failed};
 ghost use Rattle.acct_outside.specs.Contract.{IsLockNumber, IsWithinLimit};
 ghost use Rattle.acct_outside.specs.Faults.{CountsFailure};
@@ -11,15 +12,16 @@ ghost use Rattle.real_folder.specs.Paths.{path_at};
 use crate::faults::{Faults, SystemError, about};
 use crate::files;
 use crate::files::Links;
-use crate::lock_file::{Hold, LockFile, hold_in, remove_left_over};
+use crate::lock_file::{Claimed, Hold, LockFile, hold_in, remove_left_over};
 use crate::names::{lock_number, own_path, path_of};
 use crate::process::{locked_token, own_identity};
+use crate::shadow_locks::{ShadowLocks, shadow_lock_file};
 use crate::staged_file::StagedFile;
 use acct_outside::{Created, FolderFault, Found, Name, Token};
 use acct_text::Bytes;
 use std::alloc::{AllocError, Global};
 use std::fs::File;
-use std::rt::Files;
+use std::rt::{Clock, Files};
 use std::{fs, io};
 
 mod calls;
@@ -27,14 +29,18 @@ mod calls;
 /// DIR/etc on a file system, for one session: its token is that of the process, and its lock is held
 /// until the folder is dropped.
 #[derive(Drop)]
-pub struct RealFolder<R: Files<File = File> + AllocGlobal + Clone + Drop> {
+pub struct RealFolder<R: Files<File = File> + Clock + AllocGlobal + Clone + Drop> {
     rt: R,
+    /// The number of the process.
+    process: u32,
     /// The path of DIR/etc, empty until `enter` named it.
     etc: String,
     /// How the session's lock is held, as its token tells.
     hold: Hold,
     /// The file of the session's lock, from its create on.
     lock_file: Option<LockFile>,
+    /// The lock files of shadow-utils, from the create of the session's lock until that is freed.
+    shadow_locks: ShadowLocks,
     /// The staging file that the session wrote last, until it is renamed.
     staged: Option<StagedFile>,
     /// The path of the lock that was read last, empty where none was: a verdict is on its holder.
@@ -42,16 +48,19 @@ pub struct RealFolder<R: Files<File = File> + AllocGlobal + Clone + Drop> {
     faults: Faults,
 }
 
-impl<R: Files<File = File> + AllocGlobal + Clone + Drop> RealFolder<R> {
-    /// A folder that isn't named yet.
-    pub fn new(rt: R) -> Self {
+impl<R: Files<File = File> + Clock + AllocGlobal + Clone + Drop> RealFolder<R> {
+    /// A folder that isn't named yet, for a session of the process with this number (getpid(2)).
+    pub fn new(rt: R, process: u32) -> Self {
         let etc = String::new(rt.alloc());
         let judged = String::new(rt.alloc());
+        let shadow_locks = ShadowLocks::new(rt.alloc());
         RealFolder {
             rt,
+            process,
             etc,
             hold: Hold::Kernel,
             lock_file: None,
+            shadow_locks,
             staged: None,
             judged,
             faults: Faults::new(),
@@ -119,7 +128,7 @@ impl<R: Files<File = File> + AllocGlobal + Clone + Drop> RealFolder<R> {
     {
         let alloc = self.rt.alloc();
         self.hold = self.at(self.etc.as_str(), hold_in(&self.rt, self.etc.as_str()))?;
-        let identity = own_identity(&self.rt)?;
+        let identity = own_identity(&self.rt, self.process)?;
         match self.hold {
             Hold::Kernel => token_of(alloc, &locked_token(alloc, identity.as_str())?),
             Hold::Text => token_of(alloc, &identity),
@@ -128,16 +137,26 @@ impl<R: Files<File = File> + AllocGlobal + Clone + Drop> RealFolder<R> {
 
     // The numbers of the locks in the folder, ascending.
     fn lock_numbers(&self) -> io::Result<Vec<u64>>
-        ensures { IfOk result (λ numbers. All IsLockNumber numbers.items) }
+        ensures numbers { IfOk result (λ numbers. All IsLockNumber numbers.items) }
+        ensures ascending { IfOk result (λ numbers. IsNonDecreasing numbers.items) }
     {
         let mut numbers = Vec::new(self.rt.alloc());
+        self.push_numbers(&mut numbers)?;
+        numbers.sort()?;
+        Ok(numbers)
+    }
+
+    // Pushes the numbers of the locks in the folder.
+    fn push_numbers(&self, numbers: &mut Vec<u64>) -> io::Result<()>
+        requires { All IsLockNumber numbers.old.items }
+        ensures { All IsLockNumber numbers.new.items }
+    {
         for entry in fs::read_dir(&self.rt, self.etc.as_str())? {
             if let Some(number) = lock_number(entry?.file_name()) {
                 numbers.push(number)?;
             }
         }
-        numbers.sort()?;
-        Ok(numbers)
+        Ok(())
     }
 
     // Reads a file. An intent that is found is to last before anyone carries it out.
@@ -157,11 +176,22 @@ impl<R: Files<File = File> + AllocGlobal + Clone + Drop> RealFolder<R> {
         self.at(etc, files::sync_folder(&self.rt, etc))
     }
 
+    // Takes the lock files of shadow-utils, by a file that has the session's own name meanwhile.
+    fn take_shadow_locks(&mut self, own: &str, lock: &str) -> Result<(), SystemError>
+        ensures { self.new.faults.count ≡ self.old.faults.count }
+    {
+        let made = shadow_lock_file(&self.rt, own, self.hold, self.process);
+        let file = self.at(lock, made)?;
+        self.shadow_locks.take(&self.rt, self.process, file, own)
+    }
+
     // Claims a file and makes a lock of it.
     fn make_lock(&mut self, own: String, lock: &str, text: &[u8]) -> Result<Created, SystemError>
         ensures { self.new.faults.count ≡ self.old.faults.count }
     {
-        let mut file = self.at(lock, LockFile::claimed(&self.rt, own, self.hold))?;
+        self.take_shadow_locks(own.as_str(), lock)?;
+        let claimed = self.at(lock, Claimed::at(&self.rt, own.as_str(), self.hold))?;
+        let mut file = LockFile::new(claimed, own);
         let placed = self.at(lock, file.place(&self.rt, lock, text));
         self.lock_file = Some(file);
         placed
@@ -214,9 +244,19 @@ impl<R: Files<File = File> + AllocGlobal + Clone + Drop> RealFolder<R> {
         }
     }
 
+    // Makes what the session stages at the name last, and lets it go.
+    fn sync_staged(&mut self, name: Name, path: &str) -> Result<(), SystemError>
+        ensures { self.new.faults.count ≡ self.old.faults.count }
+    {
+        match self.take_staged(name) {
+            Some(file) => self.at(path, file.sync()),
+            None => Ok(()),
+        }
+    }
+
     // Renames a file to a name, once all that the session staged there is on the disk. The rename to
-    // the intent is the commit, and is to last once it is answered. With the freed lock goes what others
-    // left over.
+    // the intent is the commit, and is to last once it is answered. With the freed lock go those of
+    // shadow-utils, and what others left over.
     fn rename_to(
         &mut self,
         from: Name,
@@ -230,10 +270,9 @@ impl<R: Files<File = File> + AllocGlobal + Clone + Drop> RealFolder<R> {
         if let Name::Backup(_) = to {
             files::take_on(&self.rt, old, table)?;
         }
-        if let Some(file) = self.take_staged(from) {
-            self.at(old, file.sync())?;
-        }
+        self.sync_staged(from, old)?;
         if let Name::Lock(_) = to {
+            self.shadow_locks.let_go(&self.rt);
             let _ = remove_left_over(&self.rt, self.etc.as_str());
         }
         self.at(new, fs::rename(&self.rt, old, new))?;

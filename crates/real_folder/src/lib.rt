@@ -13,6 +13,7 @@ mod folder;
 mod lock_file;
 mod names;
 mod process;
+mod shadow_locks;
 mod staged_file;
 mod streams;
 mod verdict;

@@ -69,13 +69,43 @@ fn claim<R: Files<File = File>>(rt: &R, path: &str) -> io::Result<Option<File>> 
     Err(io::Error::from(ErrorKind::TimedOut))
 }
 
-// Whether the path is one of the file's names.
-fn stands_at<R: Files>(rt: &R, file: &File, path: &str) -> io::Result<bool> {
+/// Whether the path is one of the file's names.
+pub(crate) fn stands_at<R: Files>(rt: &R, file: &File, path: &str) -> io::Result<bool> {
     let own = file.metadata()?;
     match fs::symlink_metadata(rt, path) {
         Ok(standing) => Ok(standing.dev() == own.dev() && standing.ino() == own.ino()),
         Err(e) if e.kind() == ErrorKind::NotFound => Ok(false),
         Err(e) => Err(e),
+    }
+}
+
+/// A file that was claimed, and how it is held.
+#[derive(Drop)]
+pub(crate) struct Claimed {
+    /// The file, which is empty.
+    pub file: File,
+    /// Whether the kernel has locked it.
+    pub hold: Hold,
+}
+
+impl Claimed {
+    /// Claims a file under the session's own name. Where the kernel locks no file nothing but its text
+    /// will keep it.
+    pub(crate) fn at<R: Files<File = File>>(rt: &R, own: &str, hold: Hold) -> io::Result<Self> {
+        let locked = match hold {
+            Hold::Kernel => claim_own(rt, own)?,
+            Hold::Text => None,
+        };
+        match locked {
+            Some(file) => Ok(Claimed {
+                file,
+                hold: Hold::Kernel,
+            }),
+            None => Ok(Claimed {
+                file: files::make(rt, own, CLAIM_MODE)?,
+                hold: Hold::Text,
+            }),
+        }
     }
 }
 
@@ -92,26 +122,13 @@ fn claim_own<R: Files<File = File>>(rt: &R, own: &str) -> io::Result<Option<File
 }
 
 impl LockFile {
-    /// Claims a file under the session's own name. Where the kernel locks no file nothing but its text will
-    /// keep it.
-    pub(crate) fn claimed<R: Files<File = File>>(
-        rt: &R,
-        own: String,
-        hold: Hold,
-    ) -> io::Result<Self> {
-        let locked = match hold {
-            Hold::Kernel => claim_own(rt, own.as_str())?,
-            Hold::Text => None,
-        };
-        let (file, hold) = match locked {
-            Some(file) => (file, Hold::Kernel),
-            None => (files::make(rt, own.as_str(), CLAIM_MODE)?, Hold::Text),
-        };
-        Ok(LockFile {
-            file,
-            hold,
+    /// The file that was claimed under the session's own name.
+    pub(crate) fn new(claimed: Claimed, own: String) -> Self {
+        LockFile {
+            file: claimed.file,
+            hold: claimed.hold,
             own: Some(own),
-        })
+        }
     }
 
     /// Fills the file and gives it the lock's name, in place of its own.
@@ -182,8 +199,8 @@ fn make_held<R: Files<File = File>>(rt: &R, path: &str, hold: Hold) -> io::Resul
     }
 }
 
-// Whether the error says that the file system has no hard links (link(2), EPERM and EOPNOTSUPP).
-fn has_no_links(error: &io::Error) -> bool {
+/// Whether the error says that the file system has no hard links (link(2), EPERM and EOPNOTSUPP).
+pub(crate) fn has_no_links(error: &io::Error) -> bool {
     error.kind() == ErrorKind::PermissionDenied || error.kind() == ErrorKind::Unsupported
 }
 

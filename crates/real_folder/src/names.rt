@@ -3,10 +3,10 @@ ghost use Rattle.std.specs.Prelude.{◌≡◌, ◌++◌, nat_eq, IfOk, IfSome, I
 ghost use Rattle.std.specs.List.{starts_with};
 ghost use Rattle.acct_outside.specs.Contract.{IsLockNumber};
 ghost use Rattle.acct_outside.specs.Names.{file_name};
-ghost use Rattle.real_folder.specs.Paths.{path_at, path_in, own_front, own_name, FindsLock};
+ghost use Rattle.real_folder.specs.Paths.{path_at, path_in, own_front, own_name, shadow_lock, FindsLock};
 
 use acct_outside::{GREATEST_LOCK, Name};
-use acct_text::{Bytes, one_number, read_decimal};
+use acct_text::{Bytes, Tab, one_number, read_decimal};
 use std::alloc::{AllocError, Global};
 use std::str;
 
@@ -33,6 +33,14 @@ pub(crate) fn own_path(alloc: Global, etc: &str, token: &str) -> Result<String, 
     ensures { IfOk result (λ path. string_bytes path ≡ path_in etc.now (own_name token.now)) }
 {
     let file = format!(in alloc; "accounts.held+{token}")?;
+    path_to(alloc, etc, file.as_str())
+}
+
+/// The path of the lock file that shadow-utils has for a table.
+pub(crate) fn shadow_lock_path(alloc: Global, etc: &str, table: Tab) -> Result<String, AllocError>
+    ensures { IfOk result (λ path. string_bytes path ≡ path_in etc.now (shadow_lock table)) }
+{
+    let file = format!(in alloc; "{}.lock", table.name())?;
     path_to(alloc, etc, file.as_str())
 }
 

@@ -1,8 +1,9 @@
 // The process of a token, and what the system shows of it in /proc (proc(5)).
 use crate::faults::{SystemError, about};
 use crate::lock_file::Hold;
+use acct_text::read_decimal;
 use std::alloc::{AllocError, Global};
-use std::rt::Files;
+use std::rt::{Clock, Files};
 use std::{fs, io};
 
 /// The error of the system that a process has ended (errno(3), ESRCH).
@@ -10,6 +11,12 @@ const NO_SUCH_PROCESS: i32 = 3;
 
 /// The last part of a token whose holder has locked its lock file in the kernel.
 const KERNEL_MARK: &str = "flock";
+
+/// The stat file of this process.
+const OWN_STAT: &str = "/proc/self/stat";
+
+/// The boot and the namespace of a process that /proc doesn't show.
+const UNSEEN: &str = "-";
 
 /// What tells a process from all others: `BOOT.PID.START.NAMESPACE`.
 ///
@@ -21,7 +28,8 @@ pub(crate) struct Identity<'a> {
     boot: &'a str,
     /// The number of the process.
     number: &'a str,
-    /// Its start in clock ticks since the boot, field 22 of its stat file.
+    /// Its start in clock ticks since the boot, field 22 of its stat file; where /proc doesn't show it, the
+    /// moment of its begin in nanoseconds since 1970-01-01.
     start: &'a str,
     /// The number of its namespace of process numbers (pid_namespaces(7)).
     namespace: &'a str,
@@ -47,7 +55,7 @@ impl<'a> Holder<'a> {
             Some(_) => return None,
             None => (rest, Hold::Text),
         };
-        if !is_boot(boot) || !is_number(number) || !is_number(start) || !is_number(namespace) {
+        if !is_boot(boot) || !is_number(number) || !is_number(start) || !is_namespace(namespace) {
             return None;
         }
         let process = Identity {
@@ -58,15 +66,62 @@ impl<'a> Holder<'a> {
         };
         Some(Holder { process, hold })
     }
+
+    /// Whether nobody can tell that it has ended: neither the kernel nor /proc shows it.
+    pub(crate) fn ends_unseen(&self) -> bool {
+        self.hold == Hold::Text && self.process.boot == UNSEEN
+    }
 }
 
-/// The identity of this process, as a token begins.
-pub(crate) fn own_identity<R: Files + AllocGlobal>(rt: &R) -> Result<String, SystemError> {
-    let boot = boot_id(rt)?;
-    let stat = about(rt.alloc(), "/proc/self/stat", stat_of(rt, "self"))?;
-    let namespace = own_namespace(rt)?;
+/// The identity of this process, which has the number, as a token begins.
+pub(crate) fn own_identity<R: Files + Clock + AllocGlobal>(
+    rt: &R,
+    number: u32,
+) -> Result<String, SystemError> {
+    let identity = seen_identity(rt);
+    if is_absent(&identity) {
+        return unseen_identity(rt, number);
+    }
+    identity
+}
+
+// Whether what /proc was asked for isn't there.
+fn is_absent<T>(told: &Result<T, SystemError>) -> bool {
+    match told {
+        Err(e) => e.kind() == io::ErrorKind::NotFound,
+        Ok(_) => false,
+    }
+}
+
+// The identity of this process, as /proc shows it.
+fn seen_identity<R: Files + AllocGlobal>(rt: &R) -> Result<String, SystemError> {
+    let mut identity = boot_id(rt)?;
+    push_process(rt, &mut identity)?;
+    push_namespace(rt, &mut identity)?;
+    Ok(identity)
+}
+
+// Pushes the number of this process and its start.
+fn push_process<R: Files + AllocGlobal>(rt: &R, identity: &mut String) -> Result<(), SystemError> {
+    let stat = about(rt.alloc(), OWN_STAT, stat_at(rt, OWN_STAT))?;
     let (number, start) = (number_in(stat.as_str()), start_in(stat.as_str()));
-    Ok(format!(in rt.alloc(); "{boot}.{number}.{start}.{namespace}")?)
+    Ok(write!(identity, ".{number}.{start}")?)
+}
+
+// Pushes the number of this process's namespace.
+fn push_namespace<R: Files + AllocGlobal>(
+    rt: &R,
+    identity: &mut String,
+) -> Result<(), SystemError> {
+    let namespace = own_namespace(rt)?;
+    Ok(write!(identity, ".{namespace}")?)
+}
+
+// The identity of a process that /proc doesn't show: its number, and the moment in place of its start.
+fn unseen_identity<R: Clock + AllocGlobal>(rt: &R, number: u32) -> Result<String, SystemError> {
+    let now = rt.since_1970()?;
+    let (seconds, nanoseconds) = (now.as_secs(), now.subsec_nanos());
+    Ok(format!(in rt.alloc(); "-.{number}.{seconds}{nanoseconds:09}.-")?)
 }
 
 /// The token of a process whose lock file the kernel has locked.
@@ -86,8 +141,20 @@ pub(crate) enum Origin {
     Elsewhere,
 }
 
-/// Where a process is or was.
+/// Where a process is or was. Without /proc nothing is seen of any.
 pub(crate) fn origin_of<R: Files + AllocGlobal>(
+    rt: &R,
+    process: Identity<'_>,
+) -> Result<Origin, SystemError> {
+    let origin = seen_origin(rt, process);
+    if is_absent(&origin) {
+        return Ok(Origin::Elsewhere);
+    }
+    origin
+}
+
+// Where a process is or was, as /proc tells of this one.
+fn seen_origin<R: Files + AllocGlobal>(
     rt: &R,
     process: Identity<'_>,
 ) -> Result<Origin, SystemError> {
@@ -125,6 +192,32 @@ pub(crate) fn sight_of<R: Files + AllocGlobal>(
     }
 }
 
+/// Whether a process of this namespace has ended, of which nothing but its number is known. It isn't told
+/// so where /proc is of another namespace than this process, which has the number `own`, or absent.
+pub(crate) fn has_ended<R: Files + AllocGlobal>(rt: &R, own: u32, number: u32) -> bool {
+    match format!(in rt.alloc(); "/proc/{number}/stat") {
+        Ok(path) => shows_own(rt, own) && is_gone(rt, path.as_str()),
+        Err(_) => false,
+    }
+}
+
+// Whether the process with this stat file is gone, or has ended and isn't waited for.
+fn is_gone<R: Files + AllocGlobal>(rt: &R, path: &str) -> bool {
+    match stat_at(rt, path) {
+        Ok(stat) => is_over(stat.as_str()),
+        Err(e) => is_unseen(&e) && matches!(sight_of_unseen(rt), Ok(Sight::Ended)),
+    }
+}
+
+// Whether /proc shows this process by its own number.
+fn shows_own<R: Files + AllocGlobal>(rt: &R, own: u32) -> bool {
+    match stat_at(rt, OWN_STAT) {
+        Ok(stat) => read_decimal(number_in(stat.as_str()).as_bytes(), u64::MAX)
+            == Ok(u64::from(own)),
+        Err(_) => false,
+    }
+}
+
 // What it means that a process isn't seen: where /proc hides the processes of others (its mount
 // option `hidepid`), it hides the first process too, which always runs.
 fn sight_of_unseen<R: Files>(rt: &R) -> io::Result<Sight> {
@@ -144,12 +237,18 @@ fn is_number(text: &str) -> bool {
     !text.is_empty() && text.bytes().all(|byte| byte.is_ascii_digit())
 }
 
-// Whether the text has the form of a boot's, as `0b1c2d3e-0000-4000-8000-000000000000`.
+// Whether the text has the form of a boot's, as `0b1c2d3e-0000-4000-8000-000000000000`, or is of none.
 fn is_boot(text: &str) -> bool {
-    text.len() == 36
+    let is_whole = text.len() == 36 || text == UNSEEN;
+    is_whole
         && text
             .bytes()
             .all(|byte| byte.is_ascii_hexdigit() || byte == b'-')
+}
+
+// Whether the text has the form of a namespace's, or is of none.
+fn is_namespace(text: &str) -> bool {
+    is_number(text) || text == UNSEEN
 }
 
 fn boot_id<R: Files + AllocGlobal>(rt: &R) -> Result<String, SystemError> {
@@ -169,10 +268,15 @@ fn own_namespace<R: Files + AllocGlobal>(rt: &R) -> Result<String, SystemError> 
     Ok(String::from_str(rt.alloc(), number)?)
 }
 
-// The stat file of a process. The name of its program in it may hold bytes that are no text.
+// The stat file of a process.
 fn stat_of<R: Files + AllocGlobal>(rt: &R, process: &str) -> io::Result<String> {
     let path = format!(in rt.alloc(); "/proc/{process}/stat")?;
-    let bytes = fs::read(rt, path.as_str())?;
+    stat_at(rt, path.as_str())
+}
+
+// A stat file at its path. The name of the program in it may hold bytes that are no text.
+fn stat_at<R: Files + AllocGlobal>(rt: &R, path: &str) -> io::Result<String> {
+    let bytes = fs::read(rt, path)?;
     Ok(String::from_utf8_lossy(rt.alloc(), &bytes)?)
 }
 
@@ -186,11 +290,16 @@ fn start_in(stat: &str) -> &str {
     field_behind_name(stat, 19)
 }
 
-// Whether the stat file is of a process with this start that runs: field 3 is `Z` or `X` where it has
-// ended and its parent hasn't waited for it.
+// Whether the stat file is of a process with this start that runs.
 fn runs(stat: &str, start: &str) -> bool {
+    start_in(stat) == start && !is_over(stat)
+}
+
+// Whether the stat file is of a process that has ended and that its parent hasn't waited for: field 3 is
+// `Z` or `X`.
+fn is_over(stat: &str) -> bool {
     let state = field_behind_name(stat, 0);
-    start_in(stat) == start && state != "Z" && state != "X"
+    state == "Z" || state == "X"
 }
 
 // A field of a stat file, counted from 0 behind field 2. That is a name in parentheses, which may hold

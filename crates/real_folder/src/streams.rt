@@ -6,24 +6,33 @@ use crate::faults::{Faults, SystemError};
 use acct_outside::{Sink, SinkFault, Source, SourceFault};
 use acct_text::Bytes;
 use std::alloc::Global;
-use std::io::{Read, Write};
+use std::io::{ErrorKind, Read, Write};
+use std::{io, mem};
 
 /// How many bytes one read asks for at most.
 const PIECE: usize = 4096;
 
-/// A source of what a reader gives, as standard input. It doesn't tell what is left.
+/// A source of what a reader gives, as standard input or a file. It doesn't tell what is left.
 #[derive(Drop)]
-pub struct RealSource<R: Read + Drop> {
+pub struct RealSource<'a, R: Read + Drop> {
     alloc: Global,
-    reader: R,
+    name: &'a str,
+    /// The reader, or why it couldn't be opened: the first read fails by that.
+    reader: io::Result<R>,
     faults: Faults,
 }
 
-impl<R: Read + Drop> RealSource<R> {
-    /// A source that has given nothing yet.
+impl<'a, R: Read + Drop> RealSource<'a, R> {
+    /// Standard input, of which nothing is read yet.
     pub fn new(alloc: Global, reader: R) -> Self {
+        RealSource::of(alloc, "standard input", Ok(reader))
+    }
+
+    /// A source with the name that its errors tell, of which nothing is read yet.
+    pub fn of(alloc: Global, name: &'a str, reader: io::Result<R>) -> Self {
         RealSource {
             alloc,
+            name,
             reader,
             faults: Faults::new(),
         }
@@ -35,16 +44,20 @@ impl<R: Read + Drop> RealSource<R> {
     }
 }
 
-impl<R: Read + Drop> Source for RealSource<R> {
+impl<'a, R: Read + Drop> Source for RealSource<'a, R> {
     ghost moment = { λ source. untold_source source.faults };
 
     fn take(&mut self, room: usize) -> Result<Bytes, SourceFault> {
         let mut buffer = [0u8; PIECE];
         let most = room.min(PIECE);
-        let count = match self.reader.read(&mut buffer[..most]) {
+        let read = match &mut self.reader {
+            Ok(reader) => reader.read(&mut buffer[..most]),
+            Err(e) => Err(mem::replace(e, io::Error::from(ErrorKind::NotFound))),
+        };
+        let count = match read {
             Ok(count) => count,
             Err(e) => {
-                let error = SystemError::new(self.alloc, "standard input", e);
+                let error = SystemError::new(self.alloc, self.name, e);
                 self.faults.note(error);
                 return Err(SourceFault::Failed);
             }

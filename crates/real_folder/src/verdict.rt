@@ -30,6 +30,14 @@ pub(crate) fn verdict_of<R: Files<File = File> + AllocGlobal>(
     }
 }
 
+/// Whether nobody can tell that the session with the token has ended, so that it may make no lock.
+pub(crate) fn ends_unseen(token: &Token) -> bool {
+    match holder_of(token) {
+        Some(holder) => holder.ends_unseen(),
+        None => false,
+    }
+}
+
 // The holder that a token names, and none where it has another form.
 fn holder_of(token: &Token) -> Option<Holder<'_>> {
     Holder::read(str::from_utf8(token.as_slice()).ok()?)

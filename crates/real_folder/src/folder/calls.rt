@@ -3,13 +3,14 @@ ghost use Rattle.real_folder.specs.Untold.{untold};
 
 use super::{RealFolder, held_text, model_of, remove_part};
 use crate::names::etc_of;
-use crate::verdict::verdict_of;
+use crate::verdict::{ends_unseen, verdict_of};
 use acct_outside::{Created, Folder, FolderFault, Found, Name, Token, Verdict};
 use acct_text::{Bytes, Word};
 use std::fs::File;
-use std::rt::Files;
+use std::io;
+use std::rt::{Clock, Files};
 
-impl<R: Files<File = File> + AllocGlobal + Clone + Drop> Folder for RealFolder<R> {
+impl<R: Files<File = File> + Clock + AllocGlobal + Clone + Drop> Folder for RealFolder<R> {
     ghost moment = { λ folder. untold folder.faults.count };
 
     fn enter(&mut self, prefix: &Bytes) -> Result<(), FolderFault> {
@@ -43,6 +44,12 @@ impl<R: Files<File = File> + AllocGlobal + Clone + Drop> Folder for RealFolder<R
     }
 
     fn create(&mut self, by: &Token, number: u64) -> Result<Created, FolderFault> {
+        if ends_unseen(by) {
+            let unseen = self.at(self.etc.as_str(), Err(no_proc()));
+            return self.answer_change(unseen);
+        }
+        let alloc = self.rt.alloc();
+        self.shadow_locks.name(alloc, self.etc.as_str())?;
         let lock = self.path(Name::Lock(number))?;
         let own = self.own_path(by)?;
         let text = held_text(self.rt.alloc(), by)?;
@@ -86,6 +93,7 @@ impl<R: Files<File = File> + AllocGlobal + Clone + Drop> Folder for RealFolder<R
     // The session ends with its process, which the verdict of others tells.
     fn answered(&mut self, _by: &Token, _status: u8) {
         self.staged = None;
+        self.shadow_locks.let_go(&self.rt);
         if let Some(file) = &mut self.lock_file {
             file.forget(&self.rt);
         }
@@ -94,4 +102,9 @@ impl<R: Files<File = File> + AllocGlobal + Clone + Drop> Folder for RealFolder<R
     fn faults(&self) -> u64 {
         self.faults.count
     }
+}
+
+// The error of a session whose end nobody can tell.
+fn no_proc() -> io::Error {
+    io::Error::other("no locks of the kernel here, and no /proc: mount /proc")
 }
