@@ -24,7 +24,8 @@ $1 == "tool" {
     next
 }
 $1 == "operand" {
-    names = action(operand_kind(tool, $2))
+    of = operand_kind(tool, $2)
+    names = of == "files" ? " -F" : action(of)
     if (names) add(seen names)
     next
 }

@@ -2,7 +2,7 @@
 # files, users or groups of the image, several of these with commas between, or anything.
 function kind(name) {
     if (name ~ /^(DIR|BASE_DIR|HOME_DIR)$/) return "folders"
-    if (name == "SHELL") return "files"
+    if (name ~ /^(SHELL|FILE)$/) return "files"
     if (name ~ /^(USER|LOGIN|NAME)$/) return "users"
     if (name == "USERS") return "user_list"
     if (name == "GROUP") return "groups"

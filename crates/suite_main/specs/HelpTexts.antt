@@ -1,13 +1,14 @@
--- What the help texts tell: that of a tool its use, and exactly the options that its words are read by;
--- that of the suite each tool. No line of theirs is too long.
-use Rattle.std.specs.Prelude.{ℕ, Bool, true, false, not, ◌&&◌, nat_le, List, [], ◌∷◌, ◌++◌, length, take, drop, filter, Option, Some, None, codes, bytes_eq, if◌then◌else◌}
-use Rattle.std.specs.List.{list_all, list_any}
-use Rattle.acct_text.specs.Bytes.{newline, blank}
+-- What the help texts tell: that of a tool its use, and exactly the options and rules that its words
+-- are read by; that of the suite each tool. No line of theirs is too long.
+use Rattle.std.specs.Prelude.{ℕ, Bool, true, false, not, ◌&&◌, nat_le, List, [], ◌∷◌, ◌++◌, length, take, drop, filter, map, Option, Some, None, codes, bytes_eq, if◌then◌else◌}
+use Rattle.std.specs.List.{list_all, list_any, before_first, after_first}
+use lib.Pointwise.{pointwise}
+use Rattle.acct_text.specs.Bytes.{newline, blank, is_empty}
 use Rattle.acct_text.specs.Pieces.{cut_at}
 use Rattle.account_model.specs.Text.{begins_with}
 use Rattle.account_model.specs.declared.tool.Tool.{Tool}
 use Rattle.account_model.specs.Words.{tool_name, tools}
-use Rattle.account_model.specs.Options.{OptionForm, Word, option_forms}
+use Rattle.account_model.specs.Options.{OptionForm, Word, option_forms, rule_texts}
 
 -- the text begins so
 abbrev pub begins_so : List ℕ → List ℕ → Bool
@@ -48,6 +49,18 @@ option_lines text = filter (λ line. begins_so (codes "  -") line) (cut_at newli
 abbrev pub tells_options : List OptionForm → List ℕ → Bool
 tells_options forms text = list_options forms (option_lines text)
 
+-- ---- Rules
+
+-- the lines behind `Rules:` up to an empty one
+abbrev pub rule_lines : List ℕ → List (List ℕ)
+rule_lines text =
+    before_first is_empty
+    (after_first (λ line. bytes_eq line (codes "Rules:")) (cut_at newline text))
+
+-- a text lists these rules and no others, in their order; each stands four columns in
+abbrev pub tells_rules : List (List ℕ) → List ℕ → Bool
+tells_rules rules text = pointwise bytes_eq (map (λ rule. codes "    " ++ rule) rules) (rule_lines text)
+
 -- ---- Lines
 
 -- how many columns a line has at most
@@ -64,10 +77,12 @@ fits_columns text = list_all (λ line. nat_le (length line) most_columns) (cut_a
 abbrev pub use_of : Tool → List ℕ
 use_of tool = codes "Usage: accounts " ++ tool_name tool ++ codes " -P DIR "
 
--- the text begins with the tool's use, lists its options and no others, and fits its columns
+-- the text begins with the tool's use, lists its options and its rules and no others, and fits its
+-- columns
 abbrev pub helps_with : Tool → List ℕ → Bool
 helps_with tool text =
-    begins_so (use_of tool) text && tells_options (option_forms tool) text && fits_columns text
+    begins_so (use_of tool) text && tells_options (option_forms tool) text
+    && tells_rules (rule_texts tool) text && fits_columns text
 
 -- the text has a line for the tool, `  TOOL  ..`
 abbrev pub names_tool : List ℕ → Tool → Bool

@@ -1,3 +1,4 @@
 pub mod Help
 pub mod HelpTexts
+pub mod Input
 pub mod Program

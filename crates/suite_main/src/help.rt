@@ -1,6 +1,6 @@
 // What main prints by itself: the version, the list of the tools, and the text of each tool, which
-// has its use, its options in the order of the manual page, its rules by their numbers and its
-// statuses.
+// has its use, its options in the order of the manual page, its rules as they are told where they
+// are broken, and its statuses.
 
 ghost use Rattle.std.specs.Prelude.{◌≡◌, true};
 ghost use Rattle.suite_main.specs.HelpTexts.{helps_with, names_tools};
@@ -67,8 +67,8 @@ Exit status, where no tool has answered:
 "
 }
 
-/// The text of a tool: its use, and the options by which the tool's words are read, in lines of at most
-/// 80 columns.
+/// The text of a tool: its use, and the options and rules by which the tool's words are read, in lines
+/// of at most 80 columns.
 pub(crate) fn text_of(tool: Tool) -> &'static str
     ensures { helps_with tool result.now ≡ true }
 {

@@ -6,17 +6,20 @@
 #![tactic(auto)]
 
 mod help;
+mod input;
 mod program;
 mod words;
 
 use acct_outside::Sink;
 use acct_text::Word;
 use help::{VERSION, text_of, text_of_suite};
+use input::named_file;
 use program::{Ended, run_program};
 use real_folder::{RealClock, RealFolder, RealSink, RealSource, SystemError};
 use std::alloc::{AllocError, Global};
 use std::fs::File;
-use std::io::{ErrorKind, Write};
+use std::io::{ErrorKind, Read, Write};
+use std::process;
 use std::process::ExitCode;
 use std::rt::{Clock, Env, Files};
 use suite_core::{Cause, Outcome};
@@ -35,24 +38,24 @@ fn main(rt: HostRuntime) -> ExitCode {
     let mut out = RealSink::new(rt.alloc(), rt.stdout(), "standard output");
     let mut err = RealSink::new(rt.alloc(), rt.stderr(), "standard error");
     let status = match words_of(&rt) {
-        Ok(words) => answer(&rt, &words, &mut out, &mut err),
+        Ok(words) => answer(&rt, process::id(rt.process()), &words, &mut out, &mut err),
         Err(e) if e.kind() == ErrorKind::OutOfMemory => NO_MEMORY,
         Err(_) => tell(&mut err, "accounts: word is not UTF-8\n", SYNTAX),
     };
     ExitCode::from(status)
 }
 
-// Answers the words after the program's name, and gives the status.
+// Answers the words after the program's name, as the process with the number, and gives the status.
 fn answer<
     R: Files<File = File> + Input + Clock + Env + AllocGlobal + Clone + Drop,
     O: Write + Drop,
     E: Write + Drop,
->(rt: &R, words: &[Word], out: &mut RealSink<O>, err: &mut RealSink<E>) -> u8 {
+>(rt: &R, process: u32, words: &[Word], out: &mut RealSink<O>, err: &mut RealSink<E>) -> u8 {
     match request_of(words) {
         Request::Help => tell(out, text_of_suite(), 0),
         Request::ToolHelp(tool) => tell(out, text_of(tool), 0),
         Request::Version => tell(out, VERSION, 0),
-        Request::Suite => run(rt, words, out, err).unwrap_or(NO_MEMORY),
+        Request::Suite => run(rt, process, words, out, err).unwrap_or(NO_MEMORY),
     }
 }
 
@@ -64,24 +67,45 @@ fn tell<S: Sink>(sink: &mut S, text: &str, status: u8) -> u8 {
     }
 }
 
-// Runs the program on the real objects, and gives its status. After a fault it says why.
+// Runs the program on the input that its words name, and gives its status.
 fn run<
     R: Files<File = File> + Input + Clock + Env + AllocGlobal + Clone + Drop,
     O: Write + Drop,
     E: Write + Drop,
->(rt: &R, words: &[Word], out: &mut RealSink<O>, err: &mut RealSink<E>) -> Result<u8, AllocError> {
-    let mut folder = RealFolder::new(rt.clone()?);
-    let mut input = RealSource::new(rt.alloc(), rt.reader());
+>(
+    rt: &R,
+    process: u32,
+    words: &[Word],
+    out: &mut RealSink<O>,
+    err: &mut RealSink<E>,
+) -> Result<u8, AllocError> {
+    let mut folder = RealFolder::new(rt.clone()?, process);
+    let Some(file) = named_file(rt.alloc(), words)? else {
+        let mut input = RealSource::new(rt.alloc(), rt.reader());
+        return run_on(rt, words, &mut folder, &mut input, out, err);
+    };
+    // A word is UTF-8, as it came so.
+    let path = str::from_utf8(file.as_slice()).unwrap_or("");
+    let mut input = RealSource::of(rt.alloc(), path, File::open(rt, path));
+    run_on(rt, words, &mut folder, &mut input, out, err)
+}
+
+// Runs the program on the real objects, and gives its status. After a fault it says why.
+fn run_on<
+    R: Files<File = File> + Input + Clock + Env + AllocGlobal + Clone + Drop,
+    I: Read + Drop,
+    O: Write + Drop,
+    E: Write + Drop,
+>(
+    rt: &R,
+    words: &[Word],
+    folder: &mut RealFolder<R>,
+    input: &mut RealSource<'_, I>,
+    out: &mut RealSink<O>,
+    err: &mut RealSink<E>,
+) -> Result<u8, AllocError> {
     let mut clock = RealClock::new(rt.clone()?);
-    let ended = run_program(
-        rt.alloc(),
-        words,
-        &mut folder,
-        &mut input,
-        out,
-        err,
-        &mut clock,
-    );
+    let ended = run_program(rt.alloc(), words, folder, input, out, err, &mut clock);
     match &ended {
         Ended::Suite(Outcome { cause, .. }) => match cause {
             Cause::DiskFault(_) => tell_why(rt.alloc(), err, folder.last_error()),

@@ -3,24 +3,28 @@ ghost use Rattle.std.specs.Prelude.{◌≡◌, true};
 ghost use Rattle.account_model.specs.declared.tool.Tool.TheVariants.{Batch};
 ghost use Rattle.suite_main.specs.HelpTexts.{helps_with};
 
-/// The text: the use of batch, and its options and no others, in lines of at most 80 columns.
+/// The text: the use of batch, its options and rules and no others, in lines of at most 80 columns.
 pub(crate) fn text() -> &'static str
     ensures { helps_with Batch result.now ≡ true }
 {
     "\
-Usage: accounts batch -P DIR <FILE
+Usage: accounts batch -P DIR [--ensure] [FILE]
        accounts batch --help
 
-Carry out the commands that the lines of the standard input list, as one: all of
-them or none. Each is made on what those before it leave.
+Carry out the commands that the lines of FILE list, or of the standard input
+where FILE is - or isn't given, as one: all of them or none. Each is made on
+what those before it leave.
 
 A line is a command without `accounts` and without -P: useradd, usermod,
-userdel, groupadd, groupmod, groupdel, gpasswd or chage, with its words parted
-by blanks. A \\ keeps the blank or other byte behind it in its word. Lines that
-begin with # and lines of blanks alone are skipped.
+userdel, groupadd, groupmod, groupdel, gpasswd or chage. Its words are read as
+sh reads them, with ', \" and \\, but nothing is expanded. A # where a word
+would begin is a comment's, and a line without words is skipped.
 
 Options:
   -P, --prefix DIR              directory of the system image; always needed
+  -R, --root DIR                the same as -P
+  -e, --ensure                  pass by a line whose user or group is there, or
+                                whose user, group or member is gone, already
 
 Exit status:
   0    the commands are carried out
@@ -28,7 +32,7 @@ Exit status:
        updated
   2    words that can't be read, or a line that asks for nothing
   100  want of memory
-  101  the input can't be read
+  101  the file or the input can't be read
   102  the output or the message can't be written
   103  the clock gives no day
 

@@ -3,7 +3,7 @@ ghost use Rattle.std.specs.Prelude.{◌≡◌, true};
 ghost use Rattle.account_model.specs.declared.tool.Tool.TheVariants.{Chage};
 ghost use Rattle.suite_main.specs.HelpTexts.{helps_with};
 
-/// The text: the use of chage, and its options and no others, in lines of at most 80 columns.
+/// The text: the use of chage, its options and rules and no others, in lines of at most 80 columns.
 pub(crate) fn text() -> &'static str
     ensures { helps_with Chage result.now ≡ true }
 {
@@ -16,6 +16,7 @@ in DIR.
 
 Options:
   -P, --prefix DIR              directory of the system image; always needed
+  -R, --root DIR                the same as -P
   -d, --lastday LAST_DAY        date of the last change
   -E, --expiredate EXPIRE_DATE  date on which the account expires
   -I, --inactive INACTIVE       days from the password's expiry to the account's
@@ -27,9 +28,9 @@ Options:
 A date is YYYY-MM-DD or a number of days since 1970-01-01. The date or number of
 days -1 empties the field.
 
-Rules, by their numbers in the message \"options break rule N\":
-  1  at least one option but -P
-  2  -l with no other
+Rules:
+    at least one option besides -P is needed
+    -l goes with no other option
 
 Exit status:
   0    the aging is changed, is so already, or is listed

@@ -3,7 +3,7 @@ ghost use Rattle.std.specs.Prelude.{◌≡◌, true};
 ghost use Rattle.account_model.specs.declared.tool.Tool.TheVariants.{Chpasswd};
 ghost use Rattle.suite_main.specs.HelpTexts.{helps_with};
 
-/// The text: the use of chpasswd, and its options and no others, in lines of at most 80 columns.
+/// The text: the use of chpasswd, its options and rules and no others, in lines of at most 80 columns.
 pub(crate) fn text() -> &'static str
     ensures { helps_with Chpasswd result.now ≡ true }
 {
@@ -16,10 +16,11 @@ the standard input, all of them or none.
 
 Options:
   -P, --prefix DIR              directory of the system image; always needed
+  -R, --root DIR                the same as -P
   -e, --encrypted               the lines hold hashes; always needed
 
-Rules, by their numbers in the message \"options break rule N\":
-  1  -e is given
+Rules:
+    -e is needed
 
 Exit status:
   0    the passwords are set

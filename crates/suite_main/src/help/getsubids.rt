@@ -3,7 +3,7 @@ ghost use Rattle.std.specs.Prelude.{◌≡◌, true};
 ghost use Rattle.account_model.specs.declared.tool.Tool.TheVariants.{Getsubids};
 ghost use Rattle.suite_main.specs.HelpTexts.{helps_with};
 
-/// The text: the use of getsubids, and its options and no others, in lines of at most 80 columns.
+/// The text: the use of getsubids, its options and rules and no others, in lines of at most 80 columns.
 pub(crate) fn text() -> &'static str
     ensures { helps_with Getsubids result.now ≡ true }
 {
@@ -15,6 +15,7 @@ List the subordinate UIDs of the user NAME of the system image in DIR.
 
 Options:
   -P, --prefix DIR              directory of the system image; always needed
+  -R, --root DIR                the same as -P
   -g                            list the subordinate GIDs
 
 Exit status:

@@ -3,7 +3,7 @@ ghost use Rattle.std.specs.Prelude.{◌≡◌, true};
 ghost use Rattle.account_model.specs.declared.tool.Tool.TheVariants.{Gpasswd};
 ghost use Rattle.suite_main.specs.HelpTexts.{helps_with};
 
-/// The text: the use of gpasswd, and its options and no others, in lines of at most 80 columns.
+/// The text: the use of gpasswd, its options and rules and no others, in lines of at most 80 columns.
 pub(crate) fn text() -> &'static str
     ensures { helps_with Gpasswd result.now ≡ true }
 {
@@ -16,6 +16,7 @@ DIR.
 
 Options:
   -P, --prefix DIR              directory of the system image; always needed
+  -Q, --root DIR                the same as -P
   -a, --add USER                add a member
   -d, --delete USER             remove a member
   -A, --administrators USERS    all administrators, separated by commas
@@ -23,9 +24,9 @@ Options:
   -r, --remove-password         remove the password
   -R, --restrict                restrict the group to its members
 
-Rules, by their numbers in the message \"options break rule N\":
-  1  at least one option but -P
-  2  no two of the options but -A with -M
+Rules:
+    at least one option besides -P is needed
+    only -A and -M go together
 
 Exit status:
   0    the group is changed, or is so already

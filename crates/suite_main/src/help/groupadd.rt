@@ -3,7 +3,7 @@ ghost use Rattle.std.specs.Prelude.{◌≡◌, true};
 ghost use Rattle.account_model.specs.declared.tool.Tool.TheVariants.{Groupadd};
 ghost use Rattle.suite_main.specs.HelpTexts.{helps_with};
 
-/// The text: the use of groupadd, and its options and no others, in lines of at most 80 columns.
+/// The text: the use of groupadd, its options and rules and no others, in lines of at most 80 columns.
 pub(crate) fn text() -> &'static str
     ensures { helps_with Groupadd result.now ≡ true }
 {
@@ -15,6 +15,7 @@ Create the group GROUP in the system image in DIR.
 
 Options:
   -P, --prefix DIR              directory of the system image; always needed
+  -R, --root DIR                the same as -P
   -f, --force                   succeed where the group exists, and take another
                                 GID where that of -g is in use
   -g, --gid GID                 GID
@@ -23,8 +24,8 @@ Options:
   -p, --password PASSWORD       hash of the password
   -r, --system                  a system group
 
-Rules, by their numbers in the message \"options break rule N\":
-  1  -o only with -g
+Rules:
+    -o needs -g
 
 Exit status:
   0    the group is created, or exists and -f is given

@@ -3,7 +3,7 @@ ghost use Rattle.std.specs.Prelude.{◌≡◌, true};
 ghost use Rattle.account_model.specs.declared.tool.Tool.TheVariants.{Groupdel};
 ghost use Rattle.suite_main.specs.HelpTexts.{helps_with};
 
-/// The text: the use of groupdel, and its options and no others, in lines of at most 80 columns.
+/// The text: the use of groupdel, its options and rules and no others, in lines of at most 80 columns.
 pub(crate) fn text() -> &'static str
     ensures { helps_with Groupdel result.now ≡ true }
 {
@@ -15,6 +15,7 @@ Delete the group GROUP from the system image in DIR.
 
 Options:
   -P, --prefix DIR              directory of the system image; always needed
+  -R, --root DIR                the same as -P
   -f, --force                   also where it is the primary group of a user
 
 Exit status:

@@ -3,7 +3,7 @@ ghost use Rattle.std.specs.Prelude.{◌≡◌, true};
 ghost use Rattle.account_model.specs.declared.tool.Tool.TheVariants.{Groupmod};
 ghost use Rattle.suite_main.specs.HelpTexts.{helps_with};
 
-/// The text: the use of groupmod, and its options and no others, in lines of at most 80 columns.
+/// The text: the use of groupmod, its options and rules and no others, in lines of at most 80 columns.
 pub(crate) fn text() -> &'static str
     ensures { helps_with Groupmod result.now ≡ true }
 {
@@ -15,14 +15,15 @@ Change the group GROUP of the system image in DIR.
 
 Options:
   -P, --prefix DIR              directory of the system image; always needed
+  -R, --root DIR                the same as -P
   -g, --gid GID                 GID, which also its users get
   -n, --new-name NEW_GROUP      new name
   -o, --non-unique              allow a GID that is in use
   -p, --password PASSWORD       hash of the password
 
-Rules, by their numbers in the message \"options break rule N\":
-  1  -o only with -g
-  2  at least one of -g, -n and -p
+Rules:
+    -o needs -g
+    -g, -n or -p is needed
 
 Exit status:
   0    the group is changed, or is so already

@@ -3,7 +3,7 @@ ghost use Rattle.std.specs.Prelude.{◌≡◌, true};
 ghost use Rattle.account_model.specs.declared.tool.Tool.TheVariants.{Grpck};
 ghost use Rattle.suite_main.specs.HelpTexts.{helps_with};
 
-/// The text: the use of grpck, and its options and no others, in lines of at most 80 columns.
+/// The text: the use of grpck, its options and rules and no others, in lines of at most 80 columns.
 pub(crate) fn text() -> &'static str
     ensures { helps_with Grpck result.now ≡ true }
 {
@@ -15,12 +15,13 @@ Check or sort group and gshadow of the system image in DIR.
 
 Options:
   -P, --prefix DIR              directory of the system image; always needed
+  -R, --root DIR                the same as -P
   -r, --read-only               report, and change nothing
   -s, --sort                    sort by GID
 
-Rules, by their numbers in the message \"options break rule N\":
-  1  -r or -s
-  2  not both
+Rules:
+    -r or -s is needed
+    -r and -s exclude each other
 
 Exit status:
   0    no problem is found, or the files are sorted

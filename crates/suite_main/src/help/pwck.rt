@@ -3,7 +3,7 @@ ghost use Rattle.std.specs.Prelude.{◌≡◌, true};
 ghost use Rattle.account_model.specs.declared.tool.Tool.TheVariants.{Pwck};
 ghost use Rattle.suite_main.specs.HelpTexts.{helps_with};
 
-/// The text: the use of pwck, and its options and no others, in lines of at most 80 columns.
+/// The text: the use of pwck, its options and rules and no others, in lines of at most 80 columns.
 pub(crate) fn text() -> &'static str
     ensures { helps_with Pwck result.now ≡ true }
 {
@@ -15,13 +15,14 @@ Check or sort passwd and shadow of the system image in DIR.
 
 Options:
   -P, --prefix DIR              directory of the system image; always needed
+  -R, --root DIR                the same as -P
   -q, --quiet                   report errors without warnings
   -r, --read-only               report, and change nothing
   -s, --sort                    sort by UID
 
-Rules, by their numbers in the message \"options break rule N\":
-  1  -r or -s
-  2  not both
+Rules:
+    -r or -s is needed
+    -r and -s exclude each other
 
 Exit status:
   0    no problem is found, or the files are sorted

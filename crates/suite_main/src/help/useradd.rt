@@ -3,7 +3,7 @@ ghost use Rattle.std.specs.Prelude.{◌≡◌, true};
 ghost use Rattle.account_model.specs.declared.tool.Tool.TheVariants.{Useradd};
 ghost use Rattle.suite_main.specs.HelpTexts.{helps_with};
 
-/// The text: the use of useradd, and its options and no others, in lines of at most 80 columns.
+/// The text: the use of useradd, its options and rules and no others, in lines of at most 80 columns.
 pub(crate) fn text() -> &'static str
     ensures { helps_with Useradd result.now ≡ true }
 {
@@ -15,6 +15,7 @@ Create the user LOGIN in the system image in DIR.
 
 Options:
   -P, --prefix DIR              directory of the system image; always needed
+  -R, --root DIR                the same as -P
   -b, --base-dir BASE_DIR       home directory BASE_DIR/LOGIN, not /home/LOGIN
   -c, --comment COMMENT         comment, mostly the full name
   -d, --home-dir HOME_DIR       home directory, which is not made
@@ -37,10 +38,10 @@ Options:
 A date is YYYY-MM-DD or a number of days since 1970-01-01. The date or number of
 days -1 leaves the field empty.
 
-Rules, by their numbers in the message \"options break rule N\":
-  1  not -g with -U
-  2  not -N with -U
-  3  -o only with -u
+Rules:
+    -g and -U exclude each other
+    -N and -U exclude each other
+    -o needs -u
 
 Exit status:
   0    the user is created

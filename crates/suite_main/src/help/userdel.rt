@@ -3,7 +3,7 @@ ghost use Rattle.std.specs.Prelude.{◌≡◌, true};
 ghost use Rattle.account_model.specs.declared.tool.Tool.TheVariants.{Userdel};
 ghost use Rattle.suite_main.specs.HelpTexts.{helps_with};
 
-/// The text: the use of userdel, and its options and no others, in lines of at most 80 columns.
+/// The text: the use of userdel, its options and rules and no others, in lines of at most 80 columns.
 pub(crate) fn text() -> &'static str
     ensures { helps_with Userdel result.now ≡ true }
 {
@@ -15,6 +15,7 @@ Delete the user LOGIN from the system image in DIR.
 
 Options:
   -P, --prefix DIR              directory of the system image; always needed
+  -R, --root DIR                the same as -P
   -f, --force                   delete the group of the user's name even if it
                                 is the primary group of another user
 

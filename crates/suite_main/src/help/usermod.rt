@@ -3,7 +3,7 @@ ghost use Rattle.std.specs.Prelude.{◌≡◌, true};
 ghost use Rattle.account_model.specs.declared.tool.Tool.TheVariants.{Usermod};
 ghost use Rattle.suite_main.specs.HelpTexts.{helps_with};
 
-/// The text: the use of usermod, and its options and no others, in lines of at most 80 columns.
+/// The text: the use of usermod, its options and rules and no others, in lines of at most 80 columns.
 pub(crate) fn text() -> &'static str
     ensures { helps_with Usermod result.now ≡ true }
 {
@@ -15,6 +15,7 @@ Change the user LOGIN of the system image in DIR.
 
 Options:
   -P, --prefix DIR              directory of the system image; always needed
+  -R, --root DIR                the same as -P
   -a, --append                  add to the groups of -G, and leave no other
   -c, --comment COMMENT         comment, mostly the full name
   -d, --home HOME_DIR           home directory, which is not moved
@@ -37,11 +38,11 @@ Options:
 A date is YYYY-MM-DD or a number of days since 1970-01-01. The date or number of
 days -1 empties the field.
 
-Rules, by their numbers in the message \"options break rule N\":
-  1  -a only with -G
-  2  -o only with -u
-  3  at most one of -L, -U and -p
-  4  at least one option but -P
+Rules:
+    -a needs -G
+    -o needs -u
+    -L, -U and -p exclude each other
+    at least one option besides -P is needed
 
 Exit status:
   0    the user is changed, or is so already

@@ -1,6 +1,5 @@
 -- The text of each tool is that of its file.
 use Rattle.std.proofs.Common.{◌≡◌, true, sym, subst}
-use Rattle.account_model.specs.declared.tool.Tool.TheVariants.{Useradd, Usermod, Groupadd, Groupmod, Gpasswd, Chage, Pwck}
 use Rattle.suite_main.specs.HelpTexts.{helps_with}
 use Rattle.suite_main.proofs.help.text_of.Goals as goal
 
@@ -38,3 +37,8 @@ pub returns-in-Pwck : goal.returns-in-Pwck
 returns-in-Pwck c =
     subst (λ tool. helps_with tool c.text-in-Pwck.result.now ≡ true) (sym c.in-Pwck.is)
     c.text-in-Pwck.ensures
+
+pub returns-in-Grpck : goal.returns-in-Grpck
+returns-in-Grpck c =
+    subst (λ tool. helps_with tool c.text-in-Grpck.result.now ≡ true) (sym c.in-Grpck.is)
+    c.text-in-Grpck.ensures
