@@ -1,12 +1,8 @@
-//! Tests of whole commands over the folders that no transcript has: one on a disk, and one in memory
-//! in which other sessions take their steps between the calls of a command.
+//! A test of a whole command over a folder that no transcript has: one in memory in which other sessions
+//! take their steps between the calls of the command.
 //!
-//! The tests stand in a crate of their own, as a crate with tests is proved twice.
+//! It stands in a crate of its own, as a crate with tests is proved twice.
 #![tactic(auto)]
 
-#[cfg(test)]
-mod batches;
-#[cfg(test)]
-mod disk;
 #[cfg(test)]
 mod staged;
