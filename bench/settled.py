@@ -68,9 +68,9 @@ class Case:
             return "refused"
         now = tables(self.image)
         state = "new" if now == self.after else "old" if now == self.before else "mixed"
-        if status == 0 or b"after the commit" in message:
+        if status == 0 or b"the change was made" in message:
             wanted = ("new",)
-        elif b"in the commit" in message:
+        elif b"it isn't known" in message:
             wanted = ("old", "new")
         else:
             wanted = ("old", "new") if self.before == self.after else ("old",)
