@@ -68,10 +68,10 @@ class Case:
             return "refused"
         now = tables(self.image)
         state = "new" if now == self.after else "old" if now == self.before else "mixed"
-        if status == 0 or b"the change was made" in message:
-            wanted = ("new",)
-        elif b"it isn't known" in message:
+        if b"it isn't known" in message:
             wanted = ("old", "new")
+        elif status == 0 or b"the change was made" in message:
+            wanted = ("new",)
         else:
             wanted = ("old", "new") if self.before == self.after else ("old",)
         if state not in wanted:
