@@ -93,7 +93,8 @@ invalid_name = refl
 
 -- `groupadd -P R -p : -K GID_MIN=08 q`: `08` is no octal number
 invalid_setting : on image (words "groupadd -P R -p : -K GID_MIN=08 q")
-    ≡ refused 3 (BadKey (codes "GID_MIN=08")) "groupadd: invalid setting: GID_MIN=08"
+    ≡ refused 3 (BadKey (codes "GID_MIN=08"))
+    "groupadd: invalid setting: GID_MIN=08 (KEY=VALUE, with a key that accounts-useradd(8) lists)"
 unfolding digits
 invalid_setting = refl
 

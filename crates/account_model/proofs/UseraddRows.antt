@@ -188,7 +188,8 @@ bad_login = refl
 
 -- `useradd -P R -K UID_MIN=5 -K UMASK=1 -K x -c : bob`
 bad_key : on image (words "useradd -P R -K UID_MIN=5 -K UMASK=1 -K x -c : bob")
-    ≡ refused 3 (BadKey (codes "UMASK=1")) "useradd: invalid setting: UMASK=1"
+    ≡ refused 3 (BadKey (codes "UMASK=1"))
+    "useradd: invalid setting: UMASK=1 (KEY=VALUE, with a key that accounts-useradd(8) lists)"
 unfolding digits
 bad_key = refl
 

@@ -29,6 +29,10 @@ field_form = codes "no : and no newline"
 abbrev pub id_form : List ℕ
 id_form = codes "a number from 0 to 4294967294"
 
+-- of a setting of login.defs
+abbrev pub key_form : List ℕ
+key_form = codes "KEY=VALUE, with a key that accounts-useradd(8) lists"
+
 -- of a range of subordinate IDs
 abbrev pub range_form : List ℕ
 range_form = codes "FIRST-LAST, two IDs"
@@ -67,7 +71,7 @@ line_problem_text (UnknownUser name) = codes "unknown user " ++ name
 -- why the tool refuses
 abbrev pub refusal_text : Tool → Refusal → List ℕ
 refusal_text tool (BadName name) = but_wanted (codes "invalid name: " ++ name) name_form
-refusal_text tool (BadKey word) = codes "invalid setting: " ++ word
+refusal_text tool (BadKey word) = but_wanted (codes "invalid setting: " ++ word) key_form
 refusal_text tool (BadValue letter value) =
     but_wanted (codes "invalid value for -" ++ letter ∷ codes ": " ++ value)
     (wanted_form tool letter)

@@ -1,10 +1,10 @@
 // The text and the status of a refusal. The texts are this suite's own, the statuses are those of
 // the "EXIT VALUES" of the manual pages.
 ghost use Rattle.std.specs.Prelude.{◌≡◌, ◌++◌, ◌∷◌, codes, decimal, IfOk};
-ghost use Rattle.account_model.specs.Messages.{but_wanted, line_problem_text, name_form, refusal_text, wanted_form};
+ghost use Rattle.account_model.specs.Messages.{but_wanted, key_form, line_problem_text, name_form, refusal_text, wanted_form};
 ghost use Rattle.acct_text.specs.Tables.{table_name};
 
-use crate::{NAME_FORM, wanted_form};
+use crate::{KEY_FORM, NAME_FORM, wanted_form};
 use account_model::{LineProblem, Refusal, Tool};
 use acct_text::Piece::{Number, Text};
 use acct_text::{Bytes, Tab, pair, triple};
@@ -15,8 +15,8 @@ pub fn refusal_text(alloc: Global, tool: Tool, refusal: &Refusal) -> Result<Byte
     ensures { IfOk result (λ text. text ≡ refusal_text tool refusal.now) }
 {
     match refusal {
-        Refusal::BadName(name) => bad_name(alloc, name.as_slice()),
-        Refusal::BadKey(word) => pair(alloc, b"invalid setting: ", word.as_slice()),
+        Refusal::BadName(name) => but_wanted(alloc, b"invalid name: ", name.as_slice(), NAME_FORM),
+        Refusal::BadKey(word) => but_wanted(alloc, b"invalid setting: ", word.as_slice(), KEY_FORM),
         Refusal::BadValue(letter, value) => bad_value(alloc, tool, *letter, value.as_slice()),
         Refusal::UserExists(name) => triple(alloc, b"user ", name.as_slice(), b" exists"),
         Refusal::GroupExists(name) => triple(alloc, b"group ", name.as_slice(), b" exists"),
@@ -38,19 +38,18 @@ pub fn refusal_text(alloc: Global, tool: Tool, refusal: &Refusal) -> Result<Byte
     }
 }
 
-// The name can't be used.
-fn bad_name(alloc: Global, name: &[u8]) -> Result<Bytes, AllocError>
-    ensures { IfOk result (λ text. text ≡ but_wanted (codes "invalid name: " ++ name.now) name_form) }
+// What can't be used, with the form that is wanted.
+fn but_wanted<'text>(
+    alloc: Global,
+    what: &'text [u8],
+    word: &'text [u8],
+    form: &'text [u8],
+) -> Result<Bytes, AllocError>
+    ensures { IfOk result (λ text. text ≡ but_wanted (what.now ++ word.now) form.now) }
 {
     Bytes::made_of(
         alloc,
-        &[
-            Text(b"invalid name: "),
-            Text(name),
-            Text(b" ("),
-            Text(NAME_FORM),
-            Text(b")"),
-        ],
+        &[Text(what), Text(word), Text(b" ("), Text(form), Text(b")")],
     )
 }
 

@@ -9,6 +9,9 @@ use account_model::Tool;
 pub(crate) const NAME_FORM: &[u8] =
     b"1 to 32 letters, digits, _ . or -, not - first, not digits alone";
 
+/// The form of a setting of login.defs.
+pub(crate) const KEY_FORM: &[u8] = b"KEY=VALUE, with a key that accounts-useradd(8) lists";
+
 // The form of a home, a base folder and a shell.
 const PATH_FORM: &[u8] = b"a path that begins with /, no : and no newline";
 
