@@ -23,7 +23,7 @@ use std::process;
 use std::process::ExitCode;
 use std::rt::{Clock, Env, Files};
 use suite_core::{Cause, Outcome};
-use words::{Request, request_of, words_of};
+use words::{Request, request_of, teller, words_of};
 
 /// The status where main itself found no memory.
 const NO_MEMORY: u8 = 100;
@@ -108,26 +108,26 @@ fn run_on<
     let ended = run_program(rt.alloc(), words, folder, input, out, err, &mut clock);
     match &ended {
         Ended::Suite(Outcome { cause, .. }) => match cause {
-            Cause::DiskFault(_) => tell_why(rt.alloc(), err, folder.last_error()),
-            Cause::InputFault => tell_why(rt.alloc(), err, input.last_error()),
-            Cause::OutputFault(_) => tell_why(rt.alloc(), err, out.last_error()),
-            Cause::ClockFault => tell_why(rt.alloc(), err, clock.last_error()),
+            Cause::DiskFault(_) => tell_why(rt.alloc(), err, words, folder.last_error()),
+            Cause::InputFault => tell_why(rt.alloc(), err, words, input.last_error()),
+            Cause::OutputFault(_) => tell_why(rt.alloc(), err, words, out.last_error()),
+            Cause::ClockFault => tell_why(rt.alloc(), err, words, clock.last_error()),
             _ => {}
         },
-        Ended::Rehearsal(OUTPUT_FAULT) => tell_why(rt.alloc(), err, out.last_error()),
+        Ended::Rehearsal(OUTPUT_FAULT) => tell_why(rt.alloc(), err, words, out.last_error()),
         Ended::Rehearsal(_) => {}
     }
     Ok(ended.status())
 }
 
-// Writes the reason of a fault, where one is known and there is memory for it. The status stays that
-// of the fault.
-fn tell_why<S: Sink>(alloc: Global, err: &mut S, error: Option<&SystemError>) {
+// Writes the reason of a fault in the name of the tool, where one is known and there is memory for it.
+// The status stays that of the fault.
+fn tell_why<S: Sink>(alloc: Global, err: &mut S, words: &[Word], error: Option<&SystemError>) {
     let Some(error) = error else {
         return;
     };
     if let Ok(reason) = error.text(alloc) {
-        if let Ok(line) = format!(in alloc; "accounts: {}\n", reason.as_str()) {
+        if let Ok(line) = format!(in alloc; "{}: {}\n", teller(words), reason.as_str()) {
             let _ = err.put(line.as_str().as_bytes());
         }
     }

@@ -49,6 +49,18 @@ pub(crate) fn request_of(words: &[Word]) -> Request
     }
 }
 
+/// The name that begins a line on the error stream: of the tool that the first word names, and else of
+/// the program.
+pub(crate) fn teller(words: &[Word]) -> &'static str {
+    match words.split_first() {
+        Some((word, _)) => match Tool::named(word.as_slice()) {
+            Some(tool) => tool.name(),
+            None => "accounts",
+        },
+        None => "accounts",
+    }
+}
+
 // The tool that the words ask about: its name with `--help` or `-h`, and nothing behind that.
 fn asked_about(words: &[Word]) -> Option<Tool>
     ensures { (tool : Tool) → (result ≡ Some tool) ↔ AskAbout words.now tool }
