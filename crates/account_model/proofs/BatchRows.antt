@@ -1,6 +1,6 @@
 -- batch: rows of commands that are made as one, each decided by computing.
 use Prim.Native.String.{String}
-use Rattle.std.specs.Prelude.{◌≡◌, ℕ, List, [], ◌∷◌, ◌++◌, codes, Some, None, Result, Ok, refl}
+use Rattle.std.specs.Prelude.{◌≡◌, ℕ, List, [], ◌∷◌, ◌++◌, codes, Option, Some, None, Result, Ok, Err, refl}
 use Rattle.std.specs.Fmt.{digits}
 use Rattle.acct_text.specs.Bytes.{newline}
 use Rattle.acct_text.specs.declared.files.Files.{Files}
@@ -9,8 +9,9 @@ use Rattle.account_model.specs.LineWords.{backslash}
 use Rattle.account_model.specs.declared.word_fault.WordFault.{WordFault}
 use Rattle.account_model.specs.declared.refusal.Refusal.{Refusal}
 use Rattle.account_model.specs.declared.refusal.Refusal.TheVariants.{GidInUse, GroupExists, Multiple, NoShadow}
-use Rattle.account_model.specs.Answer.{Answer, RefusedLine}
-use Rattle.account_model.proofs.Commands.{words, lines, answer_with, changed, same, small, nothing}
+use Rattle.account_model.specs.Words.{request_of}
+use Rattle.account_model.specs.Answer.{Answer, RefusedLine, deed}
+use Rattle.account_model.proofs.Commands.{words, lines, today, answer_with, changed, same, small, nothing}
 
 -- what a batch answers on files without settings, by its lines
 abbrev batch_on : Files → List ℕ → Result Answer WordFault
@@ -103,3 +104,23 @@ other_refusal : ensuring_on (small "" "q:!:7:") (lines "groupadd q|groupadd -g 7
     ≡ refused_line 2 4 (GidInUse 7) "batch: line 2: groupadd: GID 7 is in use"
 unfolding digits
 other_refusal = refl
+
+-- ---- Lines that ask for nothing
+
+-- the deed of a batch on these files
+abbrev batch_deed : Files → List ℕ → Option Files
+batch_deed files input = elim (request_of (words "batch -P R")) [
+  | Err fault ↦ None
+  | Ok request ↦ deed request input today files None
+]
+
+-- a line that asks for something is a deed
+one_deed : batch_deed nothing (lines "groupadd -g 1500 staff")
+    ≡ Some (record nothing { group = Some (lines "staff:!:1500:") })
+unfolding digits
+one_deed = refl
+
+-- beside one that asks for nothing it is none
+faulty_deed : batch_deed nothing (lines "groupadd -g 1500 staff|groupadd -z q") ≡ None
+unfolding digits
+faulty_deed = refl

@@ -1,6 +1,7 @@
--- Claim: a deed is a change (`deed-is`). Way: its new files are made by the lines of a batch or by the tool
--- (`deed-makes`), each of which leaves a table standing where it stood; they differ from the old, within their limits.
-use Rattle.std.proofs.Common.{◌≡◌, ◌≢◌, ℕ, ◌≤◌, Bool, true, false, not, List, [], ◌∷◌, length, refl, sym, ◌∙◌, subst, inl, inr, map}
+-- Claim: a deed is a change (`deed-is`). Way: a batch with a faulty line has none (`deed-changes`); its new files are made
+-- by the lines of a batch or by the tool (`deed-makes`), each of which leaves a table standing where it stood; they differ
+-- from the old, within their limits.
+use Rattle.std.proofs.Common.{◌≡◌, ◌≢◌, ℕ, ◌≤◌, Bool, true, false, not, ◌&&◌, List, [], ◌∷◌, length, refl, sym, ◌∙◌, ap, subst, inl, inr, map}
 use Rattle.std.specs.Prelude.{◌⊎◌, ⊤, Result, Option, Some, None, is_some, nat_le, unwrap_or, Ok, Err, if◌then◌else◌}
 use Rattle.std.specs.List.{list_all, AllByRecursion}
 use Rattle.account_model.specs.Records.{passwd_format, shadow_format, group_format, gshadow_format, subid_format}
@@ -17,7 +18,7 @@ use Rattle.account_model.specs.Edits.{Edit}
 use Rattle.acct_text.specs.Files.{table_of}
 use Rattle.account_model.specs.Tables.{Script, table_after, files_after}
 use Rattle.account_model.specs.declared.tool.Tool.TheVariants.{Batch}
-use Rattle.account_model.specs.BatchLines.{LineRequest, line_requests}
+use Rattle.account_model.specs.BatchLines.{LineRequest, first_faulty, line_requests}
 use Rattle.account_model.specs.Settings.{Setting, settings_of}
 use Rattle.account_model.specs.Words.{is_batch}
 use Rattle.account_model.specs.Request.{Request}
@@ -27,7 +28,7 @@ use Rattle.account_model.specs.Change.{action_of}
 use Rattle.acct_text.specs.Limits.{table_limit}
 use Rattle.acct_text.specs.Tables.{all_tables}
 use Rattle.acct_text.specs.Contents.{same_content, IsChange}
-use Rattle.account_model.specs.Answer.{Answer, FileProblem, Same, Changed, TableTooLarge, passes_limit, new_table_problem, new_problem, files_problem, files_eq, answer_lines, answer_outcome, answer_under, new_files, deed, succeeding, unusable}
+use Rattle.account_model.specs.Answer.{Answer, FileProblem, Same, Changed, TableTooLarge, passes_limit, new_table_problem, new_problem, files_problem, files_eq, answer, answer_lines, answer_outcome, answer_under, is_faulty_batch, new_files, deed, succeeding, unusable}
 use Rattle.acct_text.proofs.NumberLaws.{some-inj}
 use Rattle.account_model.proofs.BatchLaws.{any-line, batch-keeps, outcome-made}
 
@@ -227,15 +228,61 @@ module _ (request : Request) (input : List ℕ) (day : ℕ) (old : Files) (setti
   answer-makes (Some p) e = absurd (cc)
   answer-makes None e = under-makes (is_batch request.tool) refl e
 
--- a deed's new files are made by the lines of a batch, or by the tool
+-- a batch of which no line is faulty isn't one that is refused for it
+faultless-batch :
+    {X : Type 0} (faulty : Option X) (batch : Bool)
+    → (batch ≡ true → faulty ≡ None)
+    → (is_some faulty && batch) ≡ false
+faultless-batch None batch asks = refl
+faultless-batch (Some line) false asks = refl
+faultless-batch (Some line) true asks = let none = asks refl in absurd (cc)
+
+-- a deed is what the answer changes
+pub deed-changes :
+    (request : Request) (input : List ℕ) (day : ℕ) (old : Files) (defs : Option (List ℕ))
+    (new : Files)
+    → deed request input day old defs ≡ Some new
+    → (is_faulty_batch request input ≡ false)
+    × (new_files (answer request input day old defs).cause ≡ Some new)
+deed-changes request input day old defs new e = by (is_faulty_batch request input) refl e
+  where
+    by :
+        (faulty : Bool)
+        → is_faulty_batch request input ≡ faulty
+        → (if faulty then None else new_files (answer request input day old defs).cause) ≡ Some new
+        → (is_faulty_batch request input ≡ false)
+        × (new_files (answer request input day old defs).cause ≡ Some new)
+    by true is e = absurd (cc e)
+    by false is e = (is, e)
+
+-- and what the answer changes is the deed, where no line of a batch is faulty
+pub faultless-deed :
+    (request : Request) (input : List ℕ) (day : ℕ) (old : Files) (defs : Option (List ℕ))
+    → (is_batch request.tool ≡ true → first_faulty input ≡ None)
+    → deed request input day old defs ≡ new_files (answer request input day old defs).cause
+faultless-deed request input day old defs asks =
+    ap (λ (faulty : Bool).
+    if faulty then None else new_files (answer request input day old defs).cause)
+    (faultless-batch (first_faulty input) (is_batch request.tool) asks)
+
+-- an answer's new files are made by the lines of a batch, or by the tool
+pub changes-makes :
+    (request : Request) (input : List ℕ) (day : ℕ) (old : Files) (defs : Option (List ℕ))
+    (new : Files)
+    → new_files (answer request input day old defs).cause ≡ Some new
+    → IsMadeNew request input day old (settings_of (unwrap_or defs [])) new
+changes-makes request input day old defs new e =
+    (answer-makes request input day old (settings_of (unwrap_or defs [])) new
+    (files_problem old defs) e).0
+
+-- and so are those of a deed
 pub deed-makes :
     (request : Request) (input : List ℕ) (day : ℕ) (old : Files) (defs : Option (List ℕ))
     (new : Files)
     → deed request input day old defs ≡ Some new
     → IsMadeNew request input day old (settings_of (unwrap_or defs [])) new
-deed-makes request input day old defs new e =
-    (answer-makes request input day old (settings_of (unwrap_or defs [])) new
-    (files_problem old defs) e).0
+deed-makes request input day old defs new e = changes-makes request input day old defs new
+    (deed-changes request input day old defs new e).1
 
 -- ---- A change
 
@@ -278,13 +325,13 @@ new-stand request input day old settings new (inr by_tool) =
     subst (StandAlike old) by_tool.files
     (made-stands (action_of request input day old settings) old by_tool.made by_tool.outcome)
 
--- a deed is a change
-pub deed-is :
+-- what an answer changes is a change
+pub changes-is :
     (request : Request) (input : List ℕ) (day : ℕ) (old : Files) (defs : Option (List ℕ))
     (new : Files)
-    → deed request input day old defs ≡ Some new
+    → new_files (answer request input day old defs).cause ≡ Some new
     → IsChange (table_of old) (table_of new)
-deed-is request input day old defs new e =
+changes-is request input day old defs new e =
     let settings = settings_of (unwrap_or defs [])
     in let makes = answer-makes request input day old settings new (files_problem old defs) e
     in record {
@@ -294,3 +341,12 @@ deed-is request input day old defs new e =
           (each-table (λ tab. new_table_problem tab (table_of new tab) ≡ None)
           (small-among new all_tables makes.1.small) tab) is;
     }
+
+-- a deed is a change
+pub deed-is :
+    (request : Request) (input : List ℕ) (day : ℕ) (old : Files) (defs : Option (List ℕ))
+    (new : Files)
+    → deed request input day old defs ≡ Some new
+    → IsChange (table_of old) (table_of new)
+deed-is request input day old defs new e =
+    changes-is request input day old defs new (deed-changes request input day old defs new e).1

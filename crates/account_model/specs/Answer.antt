@@ -1,6 +1,6 @@
 -- What a command answers on given files, and the new files that it makes.
 use Rattle.std.specs.List.{list_all}
-use Rattle.std.specs.Prelude.{map, ℕ, Bool, true, false, not, List, [], ◌∷◌, ◌++◌, codes, decimal, length, nat_le, Option, Some, None, option_map, unwrap_or, Result, Ok, Err, if◌then◌else◌}
+use Rattle.std.specs.Prelude.{map, ℕ, Bool, true, false, not, ◌&&◌, List, [], ◌∷◌, ◌++◌, codes, decimal, length, nat_le, Option, Some, None, is_some, option_map, unwrap_or, Result, Ok, Err, if◌then◌else◌}
 use Rattle.account_model.specs.declared.tool.Tool.{Tool}
 use Rattle.account_model.specs.declared.tool.Tool.TheVariants.{Batch}
 use Rattle.acct_text.specs.declared.Tab.{Tab}
@@ -9,7 +9,7 @@ use Rattle.acct_text.specs.declared.files.Files.{Files}
 use Rattle.account_model.specs.declared.refusal.Refusal.{Refusal}
 use Rattle.account_model.specs.Text.{first_some}
 use Rattle.acct_text.specs.Files.{table_of}
-use Rattle.account_model.specs.BatchLines.{line_requests}
+use Rattle.account_model.specs.BatchLines.{first_faulty, line_requests}
 use Rattle.account_model.specs.Settings.{Setting, settings_of, bad_line}
 use Rattle.account_model.specs.Request.{Request}
 use Rattle.account_model.specs.Words.{is_batch}
@@ -179,6 +179,15 @@ abbrev pub new_files : AnswerCause → Option Files
 new_files (Changed files) = Some files
 new_files cause = None
 
--- the change that the request stands for on these files, or none
+-- A batch of which a line that isn't skipped asks for nothing: it is refused as a whole. What is told of
+-- it is the fault of that line.
+abbrev pub is_faulty_batch : Request → List ℕ → Bool
+is_faulty_batch request input = is_some (first_faulty input) && is_batch request.tool
+
+-- the change that the request stands for on these files, or none; a batch with a faulty line has none,
+-- whatever its other lines ask for
 abbrev pub deed : Request → List ℕ → ℕ → Files → Option (List ℕ) → Option Files
-deed request input day files defs = new_files (answer request input day files defs).cause
+deed request input day files defs =
+    if is_faulty_batch request input
+    then None
+    else new_files (answer request input day files defs).cause
