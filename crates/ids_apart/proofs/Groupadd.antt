@@ -1,15 +1,17 @@
--- Claim: groupadd leaves ranges (`groupadd-ranges`), and without `-o` it gives a GID that no group has (`groupadd-ids`).
--- Way: a given GID that is taken is refused, or with `-f` another is chosen; a chosen one isn't used.
-use Rattle.std.proofs.Common.{◌≡◌, ℕ, Bool, true, false, not, ◌&&◌, List, [], ◌∷◌, ◌++◌, refl, subst}
+-- Claim: groupadd leaves ranges (`groupadd-ranges`), and gives a GID that no group has, but where `-o` names it
+-- (`groupadd-ids`). Way: a given GID that is taken is refused, or with `-f` another is chosen; a chosen one isn't used.
+use Rattle.std.proofs.Common.{◌≡◌, ℕ, Bool, true, false, not, ◌&&◌, List, [], ◌∷◌, ◌++◌, refl, sym, subst}
 use Rattle.std.specs.Prelude.{Option, Some, None, codes, is_some, option_and_then, if◌then◌else◌}
+use Rattle.std.proofs.lemmas.Bool.{eqb-true}
 use Rattle.acct_text.specs.declared.files.Files.{Files}
 use Rattle.acct_text.proofs.NumberLaws.{some-inj}
 use Rattle.account_model.specs.declared.settings.IdSort.TheVariants.{Gid}
 use Rattle.account_model.specs.declared.refusal.Refusal.TheVariants.{GidInUse}
+use Rattle.account_model.specs.declared.tool.Tool.TheVariants.{Groupadd}
 use Rattle.account_model.specs.Text.{first_some}
 use Rattle.account_model.specs.Edits.Edit.{Add}
 use Rattle.account_model.specs.Records.{passwd_format, group_format, subid_format}
-use Rattle.account_model.specs.Tables.{Script, no_edits, group_records}
+use Rattle.account_model.specs.Tables.{Script, no_edits, group_records, passwd_records, subgid_records, subuid_records}
 use Rattle.account_model.specs.Settings.{Setting, range}
 use Rattle.account_model.specs.Ids.{used_gids, is_used}
 use Rattle.account_model.specs.Hashes.{elsewhere}
@@ -19,10 +21,12 @@ use Rattle.account_model.specs.Refusals.{refuse_if}
 use Rattle.account_model.specs.Action.{changes}
 use Rattle.account_model.specs.NewAccount.{kind_of, settings_for, new_hash, new_group, add_group}
 use Rattle.account_model.specs.Groupadd.{is_gid_taken, other_gid, new_gid, groupadd_checks, groupadd_conflicts, is_content, groupadd_script, groupadd}
-use Rattle.ids_apart.specs.Apart.{AreApart}
-use Rattle.ids_apart.proofs.Keys.{OwnKeys}
+use Rattle.ids_apart.specs.Holders.{has_number, is_given, shares_gid_by}
+use Rattle.ids_apart.proofs.HolderEdits.{none-meets}
+use Rattle.ids_apart.proofs.Keys.{has_key}
 use Rattle.ids_apart.proofs.Kept.{uid_key, gid_key, KeepsRanges, KeepsOwnIds, stays-table, gentle-ranges, gentle-ids, none-gentle}
 use Rattle.ids_apart.proofs.Refusals.{behind-none}
+use Rattle.ids_apart.proofs.Shared.{unshared}
 use Rattle.ids_apart.proofs.Unused.{chosen-unused, refuse-fails, push-keeps}
 
 -- ---- The GID
@@ -50,7 +54,7 @@ taken-by :
     (request : Request) (files : Files) (settings : List Setting) (given gid : ℕ)
     (forced taken : Bool)
     → is_gid_taken request files given ≡ taken
-    → has_option (codes "o") request ≡ false
+    → (has_option (codes "o") request && is_given gid (Some given)) ≡ false
     → (if forced
     then None
     else option_and_then (λ n. refuse_if (is_gid_taken request files n) (GidInUse n)) (Some given))
@@ -61,16 +65,18 @@ taken-by request files settings given gid true true is shares none e =
     other-unused request files settings gid e
 taken-by request files settings given gid true false is shares none e =
     subst (λ id. is_used (used_gids files) id ≡ false) (some-inj e)
-    (untaken-by (is_used (used_gids files) given) (has_option (codes "o") request) shares is)
+    (untaken-by (is_used (used_gids files) given) (has_option (codes "o") request)
+    (unshared (has_option (codes "o") request) given gid (some-inj e) shares) is)
 taken-by request files settings given gid false taken is shares none e =
     subst (λ id. is_used (used_gids files) id ≡ false) (some-inj e)
-    (untaken-by (is_used (used_gids files) given) (has_option (codes "o") request) shares
+    (untaken-by (is_used (used_gids files) given) (has_option (codes "o") request)
+    (unshared (has_option (codes "o") request) given gid (some-inj e) shares)
     (refuse-fails (is_gid_taken request files given) (GidInUse given) none))
 
 -- the new GID, by the one that is given
 gid-by :
     (request : Request) (files : Files) (settings : List Setting) (gid : ℕ) (given : Option ℕ)
-    → has_option (codes "o") request ≡ false
+    → (has_option (codes "o") request && is_given gid given) ≡ false
     → (if has_option (codes "f") request
     then None
     else option_and_then (λ n. refuse_if (is_gid_taken request files n) (GidInUse n)) given) ≡ None
@@ -95,23 +101,32 @@ script-ranges :
     (elim gid as (λ n. Script) [ None ↦ no_edits | Some n ↦ add_group name hash n files ])
 script-ranges name hash files None = gentle-ranges files no_edits none-gentle
 script-ranges name hash files (Some gid) = record {
-  subuids = stays-table subid_format AreApart files.subuid [] (λ each. each);
-  subgids = stays-table subid_format AreApart files.subgid [] (λ each. each);
+  subuids = λ n. stays-table subid_format (has_number n) files.subuid []
+      (none-meets subid_format (has_number n) [] tt (subuid_records files));
+  subgids = λ n. stays-table subid_format (has_number n) files.subgid []
+      (none-meets subid_format (has_number n) [] tt (subgid_records files));
 }
 
 -- IDs, by the GID that there is
 script-ids :
-    (name hash : List ℕ) (files : Files) (gid : Option ℕ)
-    → ((id : ℕ) → gid ≡ Some id → is_used (used_gids files) id ≡ false)
-    → KeepsOwnIds files
+    (request : Request) (name hash : List ℕ) (files : Files) (gid : Option ℕ)
+    → ((id : ℕ) → gid ≡ Some id → shares_gid_by Groupadd id request ≡ false
+    → is_used (used_gids files) id ≡ false)
+    → KeepsOwnIds Groupadd request files
     (elim gid as (λ n. Script) [ None ↦ no_edits | Some n ↦ add_group name hash n files ])
-script-ids name hash files None unused = gentle-ids files no_edits none-gentle
-script-ids name hash files (Some gid) unused =
+script-ids request name hash files None unused =
+    gentle-ids Groupadd request files no_edits none-gentle
+script-ids request name hash files (Some gid) unused =
     let new = new_group name (if is_some files.gshadow then elsewhere else hash) gid
     in record {
-      uids = stays-table passwd_format (OwnKeys uid_key) files.passwd [] (λ each. each);
-      gids = stays-table group_format (OwnKeys gid_key) files.group (Add new ∷ [])
-          (push-keeps gid_key new (group_records files) (unused gid refl));
+      uids = λ uid shares. stays-table passwd_format (has_key uid_key uid) files.passwd []
+          (none-meets passwd_format (has_key uid_key uid) [] tt (passwd_records files));
+      gids = λ id shares. stays-table group_format (has_key gid_key id) files.group (Add new ∷ [])
+          (push-keeps gid_key id new (group_records files) (λ has.
+          let same = eqb-true gid id has
+          in subst (λ n. is_used (used_gids files) n ≡ false) same
+          (unused gid refl (subst (λ n. shares_gid_by Groupadd n request ≡ false) (sym same)
+          shares))));
     }
 
 -- ---- The whole
@@ -137,27 +152,26 @@ groupadd-ranges request files settings =
 -- IDs, by whether the group is there and that is no refusal
 ids-by :
     (name : List ℕ) (request : Request) (files : Files) (settings : List Setting) (content : Bool)
-    → has_option (codes "o") request ≡ false
     → first_some (if content
     then changes (groupadd_checks name request) no_edits
     else changes (groupadd_checks name request ++ groupadd_conflicts name request files settings)
     (groupadd_script name request files settings)).refusals ≡ None
-    → KeepsOwnIds files (if content
+    → KeepsOwnIds Groupadd request files (if content
     then changes (groupadd_checks name request) no_edits
     else changes (groupadd_checks name request ++ groupadd_conflicts name request files settings)
     (groupadd_script name request files settings)).script
-ids-by name request files settings true shares none = gentle-ids files no_edits none-gentle
-ids-by name request files settings false shares none =
+ids-by name request files settings true none =
+    gentle-ids Groupadd request files no_edits none-gentle
+ids-by name request files settings false none =
     let passed = behind-none (groupadd_checks name request)
     (groupadd_conflicts name request files settings) none
-    in script-ids name (new_hash request) files (new_gid request files settings)
-    (λ gid e. gid-by request files settings gid (given_gid request) shares passed.1.0 e)
+    in script-ids request name (new_hash request) files (new_gid request files settings)
+    (λ gid e shares. gid-by request files settings gid (given_gid request) shares passed.1.0 e)
 
--- without `-o` groupadd keeps GIDs distinct
+-- groupadd gives no GID to one more group, but where `-o` names it
 pub groupadd-ids :
     (request : Request) (files : Files) (settings : List Setting)
-    → has_option (codes "o") request ≡ false
     → first_some (groupadd request files settings).refusals ≡ None
-    → KeepsOwnIds files (groupadd request files settings).script
-groupadd-ids request files settings shares none = ids-by (operand request) request files settings
-    (is_content (operand request) request files) shares none
+    → KeepsOwnIds Groupadd request files (groupadd request files settings).script
+groupadd-ids request files settings none = ids-by (operand request) request files settings
+    (is_content (operand request) request files) none

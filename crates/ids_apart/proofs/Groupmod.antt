@@ -1,6 +1,6 @@
--- Claim: groupmod leaves ranges and UIDs (`groupmod-ranges`), and without `-o` it keeps GIDs distinct (`groupmod-ids`).
--- Way: a GID of `-g` that another group has is refused, and so is a group whose name stands twice.
-use Rattle.std.proofs.Common.{◌≡◌, ℕ, Bool, true, false, not, ◌&&◌, List, [], ◌∷◌, ◌++◌, refl, sym, inl, inr}
+-- Claim: groupmod leaves ranges and UIDs (`groupmod-ranges`), and gives no GID to one more group, but where `-o` names it
+-- (`groupmod-ids`). Way: a GID of `-g` that another group has is refused, and so is a group whose name stands twice.
+use Rattle.std.proofs.Common.{◌≡◌, ℕ, Bool, false, not, ◌&&◌, List, [], ◌∷◌, ◌++◌, refl, sym, subst, inl, inr}
 use Rattle.std.specs.Prelude.{Option, Some, None, ◌==◌, codes, option_and_then, if◌then◌else◌}
 use Rattle.std.specs.List.{AllByRecursion}
 use Rattle.std.proofs.lemmas.Bool.{and_cases, eqb-true, not-false}
@@ -9,6 +9,7 @@ use Rattle.acct_text.specs.declared.Tab.TheVariants.{Passwd, Shadow, Group}
 use Rattle.account_model.specs.declared.records.GroupRecord.{GroupRecord}
 use Rattle.account_model.specs.declared.refusal.Refusal.{Refusal}
 use Rattle.account_model.specs.declared.refusal.Refusal.TheVariants.{GidInUse, Multiple}
+use Rattle.account_model.specs.declared.tool.Tool.TheVariants.{Groupmod}
 use Rattle.account_model.specs.Text.{first_some}
 use Rattle.account_model.specs.Format.{is_named}
 use Rattle.account_model.specs.Edits.{Edit, first_multiple}
@@ -23,14 +24,15 @@ use Rattle.account_model.specs.Action.{with_option, multiple_in, multiple_entrie
 use Rattle.account_model.specs.Groupmod.{taken_gid, groupmod_refusals, set_gid, rename_group, groupmod_script, groupmod}
 use Rattle.account_model.proofs.SameLaws.{group-tells}
 use Rattle.account_model.proofs.ListLaws.{all-append}
-use Rattle.ids_apart.specs.Apart.{AreApart}
-use Rattle.ids_apart.proofs.PairEdits.{KeepsPairs, StayApart, edits-keep}
-use Rattle.ids_apart.proofs.Keys.{OwnKeys, KeepsKeys, where-keys, where-keep, all-keys-keep}
-use Rattle.ids_apart.proofs.Kept.{uid_key, gid_key, KeepsRanges, KeepsOwnIds, stays-table, none-stays, gentle-table}
-use Rattle.ids_apart.proofs.NewKeys.{IsFreeKey, set-keeps}
+use Rattle.ids_apart.specs.Holders.{has_number, is_given}
+use Rattle.ids_apart.proofs.HolderEdits.{AddsNone, EditsMeetNoMore, none-meets}
+use Rattle.ids_apart.proofs.Keys.{has_key, KeepsKeys, where-keys, where-keep, all-keys-keep}
+use Rattle.ids_apart.proofs.Kept.{uid_key, gid_key, KeepsRanges, KeepsOwnIds, stays-table, gentle-table}
+use Rattle.ids_apart.proofs.NewKeys.{IsFreeKey, set-meets}
 use Rattle.ids_apart.proofs.Refusals.{all-none, map-none}
-use Rattle.ids_apart.proofs.Unused.{refuse-fails, unused-all}
-use Rattle.ids_apart.proofs.Quiet.{LeavesRanges, IsQuiet, none-leaves, followed-leaves, option-quiet, group-hash-quiet}
+use Rattle.ids_apart.proofs.Shared.{unshared}
+use Rattle.ids_apart.proofs.Unused.{refuse-fails, unused-count}
+use Rattle.ids_apart.proofs.Quiet.{LeavesRanges, IsQuiet, none-leaves, followed-leaves, leaves-gentle, option-quiet, group-hash-quiet}
 
 -- ---- The parts of the script
 
@@ -93,11 +95,11 @@ name-users group (Some name) = tt
 
 -- and the GID of the group that it renames
 name-groups :
-    (group : List ℕ) (given : Option (List ℕ))
-    → AllByRecursion (KeepsPairs group_format (OwnKeys gid_key)) (name_part group given).group
-name-groups group None = tt
-name-groups group (Some name) = (
-  where-keep group_format gid_key (is_named group_format group) (λ r. record r { name = name })
+    (group : List ℕ) (given : Option (List ℕ)) (id : ℕ)
+    → AllByRecursion (AddsNone group_format (has_key gid_key id)) (name_part group given).group
+name-groups group None id = tt
+name-groups group (Some name) id = (
+  where-keep group_format gid_key id (is_named group_format group) (λ r. record r { name = name })
       (λ r. refl),
   tt,
 )
@@ -122,12 +124,12 @@ pub groupmod-ranges :
 groupmod-ranges request files =
     let leaves = script-leaves (operand request) request files
     in record {
-      subuids = stays-table subid_format AreApart files.subuid
+      subuids = λ n. gentle-table subid_format (has_number n) files.subuid
           (groupmod request files).script.subuid
-          (none-stays subid_format AreApart _ (groupmod request files).script.subuid leaves.subuid);
-      subgids = stays-table subid_format AreApart files.subgid
+          (leaves-gentle (groupmod request files).script.subuid leaves.subuid n);
+      subgids = λ n. gentle-table subid_format (has_number n) files.subgid
           (groupmod request files).script.subgid
-          (none-stays subid_format AreApart _ (groupmod request files).script.subgid leaves.subgid);
+          (leaves-gentle (groupmod request files).script.subgid leaves.subgid n);
     }
 
 -- ---- The IDs
@@ -157,7 +159,7 @@ free-by files group gid old found none =
     elim (and_cases (not (gid == old.gid)) (is_used (used_gids files) gid)
     (refuse-fails (not (gid == old.gid) && is_used (used_gids files) gid) (GidInUse gid) none)) [
       | inl same ↦ inr (old, found, sym (eqb-true gid old.gid (not-false (gid == old.gid) same)))
-      | inr unused ↦ inl (unused-all gid_key gid (group_records files) unused)
+      | inr unused ↦ inl (unused-count gid_key gid (group_records files) unused)
     ]
 
 -- the refusal of a GID that is another group's, by what is given and found
@@ -176,36 +178,39 @@ module _ (group : List ℕ) (request : Request) (files : Files) where
 
   -- without a new GID each edit keeps the GIDs
   kept-groups :
-      AllByRecursion (KeepsPairs group_format (OwnKeys gid_key)) (in_turn hash_edits [] name_edits)
-  kept-groups = all-turns (KeepsPairs group_format (OwnKeys gid_key)) hash_edits [] name_edits
-      (all-keys-keep group_format gid_key hash_edits (hash-quiet group request files).group) tt
-      (name-groups group (value_of (codes "n") request))
+      (id : ℕ)
+      → AllByRecursion (AddsNone group_format (has_key gid_key id))
+      (in_turn hash_edits [] name_edits)
+  kept-groups id = all-turns (AddsNone group_format (has_key gid_key id)) hash_edits [] name_edits
+      (all-keys-keep group_format gid_key id hash_edits (hash-quiet group request files).group) tt
+      (name-groups group (value_of (codes "n") request) id)
 
   -- the groups, by the GID that is given and the group that is found
   groups-by :
-      (given : Option ℕ) (found : Option GroupRecord) (with_o : Bool)
-      → with_o ≡ false
+      (id : ℕ) (given : Option ℕ) (found : Option GroupRecord) (with_o : Bool)
+      → (with_o && is_given id given) ≡ false
       → group_named group files ≡ found
       → used_by files with_o given found ≡ None
       → first_multiple group_format
       (in_turn hash_edits (gid_part group given found).group name_edits)
       (group_records files) ≡ None
-      → StayApart group_format (OwnKeys gid_key) (group_records files)
+      → EditsMeetNoMore group_format (has_key gid_key id) (group_records files)
       (in_turn hash_edits (gid_part group given found).group name_edits)
-  groups-by None found with_o shares is none single each =
-      edits-keep group_format (OwnKeys gid_key) (in_turn hash_edits [] name_edits) kept-groups
-      (group_records files) each
-  groups-by (Some gid) None with_o shares is none single each =
-      edits-keep group_format (OwnKeys gid_key) (in_turn hash_edits [] name_edits) kept-groups
-      (group_records files) each
-  groups-by (Some gid) (Some old) true shares is none single each = cc
-  groups-by (Some gid) (Some old) false shares is none single each =
-      set-keeps group_format group-tells gid_key group gid (λ r. record r { gid = gid }) (λ r. refl)
-      hash_edits (name_edits ++ []) (hash-quiet group request files).group (group_records files)
-      (free-by files group gid old is none) single
-      (all-append (KeepsPairs group_format (OwnKeys gid_key)) name_edits []
-      (name-groups group (value_of (codes "n") request)) tt)
-      each
+  groups-by id None found with_o shares is none single =
+      none-meets group_format (has_key gid_key id) (in_turn hash_edits [] name_edits)
+      (kept-groups id) (group_records files)
+  groups-by id (Some gid) None with_o shares is none single =
+      none-meets group_format (has_key gid_key id) (in_turn hash_edits [] name_edits)
+      (kept-groups id) (group_records files)
+  groups-by id (Some gid) (Some old) with_o shares is none single =
+      set-meets group_format group-tells gid_key group gid (λ r. record r { gid = gid }) (λ r. refl)
+      hash_edits (name_edits ++ []) (hash-quiet group request files).group id (group_records files)
+      (λ same. free-by files group gid old is
+      (subst (λ (shared : Bool). used_by files shared (Some gid) (Some old) ≡ None)
+      (unshared with_o gid id same shares) none))
+      single
+      (all-append (AddsNone group_format (has_key gid_key id)) name_edits []
+      (name-groups group (value_of (codes "n") request) id) tt)
 
   -- the users
   kept-users :
@@ -219,11 +224,10 @@ module _ (group : List ℕ) (request : Request) (files : Files) where
 
   -- the whole
   script-ids :
-      has_option (codes "o") request ≡ false
-      → first_some (groupmod_refusals group request files) ≡ None
+      first_some (groupmod_refusals group request files) ≡ None
       → multiple_entries (groupmod_script group request files) files ≡ None
-      → KeepsOwnIds files (groupmod_script group request files)
-  script-ids shares none multiple =
+      → KeepsOwnIds Groupmod request files (groupmod_script group request files)
+  script-ids none multiple =
       let passed = all-none (groupmod_refusals group request files) none
       in let single = all-none
       (multiple_in Passwd passwd_format (groupmod_script group request files).passwd
@@ -234,24 +238,23 @@ module _ (group : List ℕ) (request : Request) (files : Files) where
       (group_records files)
       ∷ _ ∷ []) multiple
       in record {
-        uids = gentle-table passwd_format (OwnKeys uid_key) files.passwd
+        uids = λ uid shares. gentle-table passwd_format (has_key uid_key uid) files.passwd
             (groupmod_script group request files).passwd
-            (all-keys-keep passwd_format uid_key
+            (all-keys-keep passwd_format uid_key uid
             (groupmod_script group request files).passwd kept-users);
-        gids = stays-table group_format (OwnKeys gid_key) files.group
+        gids = λ id shares. stays-table group_format (has_key gid_key id) files.group
             (groupmod_script group request files).group
-            (groups-by (given_gid request) (group_named group files)
+            (groups-by id (given_gid request) (group_named group files)
             (has_option (codes "o") request)
             shares refl passed.1.1.1.1.1.0
             (map-none (λ name. Multiple Group name) _ single.1.1.0));
       }
 
--- without `-o` groupmod keeps GIDs distinct
+-- groupmod gives no GID to one more group, but where `-o` names it
 pub groupmod-ids :
     (request : Request) (files : Files)
-    → has_option (codes "o") request ≡ false
     → first_some (groupmod request files).refusals ≡ None
     → multiple_entries (groupmod request files).script files ≡ None
-    → KeepsOwnIds files (groupmod request files).script
-groupmod-ids request files shares none multiple =
-    script-ids (operand request) request files shares none multiple
+    → KeepsOwnIds Groupmod request files (groupmod request files).script
+groupmod-ids request files none multiple =
+    script-ids (operand request) request files none multiple

@@ -1,22 +1,23 @@
--- What a script keeps apart, table by table (`KeepsRanges`, `KeepsOwnIds`). A script whose edits keep pairs whatever the
--- records are (`IsGentle`) keeps all (`gentle-ranges`, `gentle-ids`).
-use Rattle.std.proofs.Common.{◌≡◌, ℕ, List, [], sym, subst}
-use Rattle.std.specs.Prelude.{⊤, Option, Some, None, fold}
+-- What a script keeps apart, table by table (`KeepsRanges`, `KeepsOwnIds`). A script after whose edits no more records
+-- have an ID, whatever the records are (`IsGentle`), keeps all (`gentle-ranges`, `gentle-ids`).
+use Rattle.std.proofs.Common.{◌≡◌, ℕ, ◌≤◌, max, Bool, false, List, sym, subst, arith}
+use Rattle.std.specs.Prelude.{⊤, Option, Some, None, count_by}
 use Rattle.std.specs.List.{AllByRecursion}
 use Rattle.acct_text.specs.declared.files.Files.{Files}
+use Rattle.account_model.specs.declared.tool.Tool.{Tool}
 use Rattle.account_model.specs.declared.records.PasswdRecord.{PasswdRecord}
 use Rattle.account_model.specs.declared.records.GroupRecord.{GroupRecord}
 use Rattle.account_model.specs.Format.{Format}
 use Rattle.account_model.specs.Edits.{Edit}
 use Rattle.account_model.specs.Records.{passwd_format, group_format, subid_format}
-use Rattle.account_model.specs.RecordEdits.{records_edited, IsWrittenEdit}
+use Rattle.account_model.specs.RecordEdits.{IsWrittenEdit}
+use Rattle.account_model.specs.Request.{Request}
 use Rattle.account_model.specs.Tables.{Script, no_edits, followed_by, table_records, table_after}
 use Rattle.account_model.specs.LineLaws.{EditsAreOfRecords}
 use Rattle.account_model.proofs.ListLaws.{all-append}
-use Rattle.ids_apart.specs.Apart.{AreApart}
-use Rattle.ids_apart.proofs.Pairs.{EachTwo}
-use Rattle.ids_apart.proofs.PairEdits.{KeepsPairs, StayApart, edits-keep}
-use Rattle.ids_apart.proofs.Keys.{OwnKeys}
+use Rattle.ids_apart.specs.Holders.{has_number, shares_uid_by, shares_gid_by}
+use Rattle.ids_apart.proofs.HolderEdits.{AddsNone, EditsMeetNoMore, none-meets}
+use Rattle.ids_apart.proofs.Keys.{has_key}
 
 -- the UID of a user
 abbrev pub uid_key : PasswdRecord → ℕ
@@ -26,65 +27,69 @@ uid_key user = user.uid
 abbrev pub gid_key : GroupRecord → ℕ
 gid_key group = group.gid
 
--- of a table that stands, what holds of each two records holds after the edits
+-- of a table that stands, no more records pass after the edits, but one where none did
 abbrev pub TableStays :
-    {X : Type 0} → Format X → (X → X → Type 0) → Option (List ℕ) → List (Edit X) → Type 0
-TableStays format R None edits = ⊤
-TableStays format R (Some bytes) edits =
-    StayApart format R (table_records format (Some bytes)) edits
+    {X : Type 0} → Format X → (X → Bool) → Option (List ℕ) → List (Edit X) → Type 0
+TableStays format test None edits = ⊤
+TableStays format test (Some bytes) edits =
+    EditsMeetNoMore format test (table_records format (Some bytes)) edits
 
--- the ranges of subordinate IDs that are apart stay so
+-- no number comes to one more range of subordinate IDs that is in one
 pub record KeepsRanges (files : Files) (script : Script) : Type 0 where
-  pub subuids : TableStays subid_format AreApart files.subuid script.subuid
-  pub subgids : TableStays subid_format AreApart files.subgid script.subgid
+  pub subuids : (number : ℕ)
+      → TableStays subid_format (has_number number) files.subuid script.subuid
+  pub subgids : (number : ℕ)
+      → TableStays subid_format (has_number number) files.subgid script.subgid
 
--- the UIDs and the GIDs that are distinct stay so
-pub record KeepsOwnIds (files : Files) (script : Script) : Type 0 where
-  pub uids : TableStays passwd_format (OwnKeys uid_key) files.passwd script.passwd
-  pub gids : TableStays group_format (OwnKeys gid_key) files.group script.group
+-- no UID comes to one more user and no GID to one more group, but where the tool is asked for it with `-o`
+pub record KeepsOwnIds (tool : Tool) (request : Request) (files : Files) (script : Script)
+    : Type 0 where
+  pub uids : (uid : ℕ) → shares_uid_by tool uid request ≡ false
+      → TableStays passwd_format (has_key uid_key uid) files.passwd script.passwd
+  pub gids : (gid : ℕ) → shares_gid_by tool gid request ≡ false
+      → TableStays group_format (has_key gid_key gid) files.group script.group
 
 -- a table, whether it stands or not
 pub stays-table :
-    {X : Type 0} (format : Format X) (R : X → X → Type 0) (bytes : Option (List ℕ))
+    {X : Type 0} (format : Format X) (test : X → Bool) (bytes : Option (List ℕ))
     (edits : List (Edit X))
-    → StayApart format R (table_records format bytes) edits
-    → TableStays format R bytes edits
-stays-table format R None edits stay = tt
-stays-table format R (Some bytes) edits stay = stay
+    → EditsMeetNoMore format test (table_records format bytes) edits
+    → TableStays format test bytes edits
+stays-table format test None edits stay = tt
+stays-table format test (Some bytes) edits stay = stay
 
--- what holds of each two records of a table holds of the table after its edits
-pub table-apart :
-    {X : Type 0} (format : Format X) (R : X → X → Type 0) (bytes : Option (List ℕ))
+-- of the records of a table no more pass after its edits, but one where none did
+pub table-meets :
+    {X : Type 0} (format : Format X) (test : X → Bool) (bytes : Option (List ℕ))
     (edits : List (Edit X))
     → EditsAreOfRecords format
     → AllByRecursion (IsWrittenEdit format) edits
-    → TableStays format R bytes edits
-    → EachTwo R (table_records format bytes)
-    → EachTwo R (table_records format (table_after format edits bytes))
-table-apart format R None edits edited written stays each = tt
-table-apart format R (Some bytes) edits edited written stays each =
-    subst (EachTwo R) (sym (edited edits bytes written)) (stays each)
+    → TableStays format test bytes edits
+    → count_by test (table_records format (table_after format edits bytes))
+    ≤ max 1 (count_by test (table_records format bytes))
+table-meets format test None edits edited written stays = omega arith
+table-meets {X} format test (Some bytes) edits edited written stays =
+    subst (λ (xs : List X). count_by test xs
+    ≤ max 1 (count_by test (table_records format (Some bytes))))
+    (sym (edited edits bytes written)) stays
 
 -- ---- Gentle scripts
 
--- without edits all stays
-pub none-stays :
-    {X : Type 0} (format : Format X) (R : X → X → Type 0) (xs : List X) (edits : List (Edit X))
-    → edits ≡ []
-    → StayApart format R xs edits
-none-stays format R xs edits none each =
-    subst (λ by. EachTwo R (fold (records_edited format) xs by)) (sym none) each
-
--- each edit keeps pairs, whatever the records are
+-- after each edit no more records have an ID, whatever the records are
 pub record IsGentle (script : Script) : Type 0 where
-  pub passwd : AllByRecursion (KeepsPairs passwd_format (OwnKeys uid_key)) script.passwd
-  pub group : AllByRecursion (KeepsPairs group_format (OwnKeys gid_key)) script.group
-  pub subuid : AllByRecursion (KeepsPairs subid_format AreApart) script.subuid
-  pub subgid : AllByRecursion (KeepsPairs subid_format AreApart) script.subgid
+  pub passwd : (uid : ℕ)
+      → AllByRecursion (AddsNone passwd_format (has_key uid_key uid)) script.passwd
+  pub group : (gid : ℕ)
+      → AllByRecursion (AddsNone group_format (has_key gid_key gid)) script.group
+  pub subuid : (number : ℕ)
+      → AllByRecursion (AddsNone subid_format (has_number number)) script.subuid
+  pub subgid : (number : ℕ)
+      → AllByRecursion (AddsNone subid_format (has_number number)) script.subgid
 
 -- no edits
 pub none-gentle : IsGentle no_edits
-none-gentle = record { passwd = tt; group = tt; subuid = tt; subgid = tt }
+none-gentle =
+    record { passwd = λ uid. tt; group = λ gid. tt; subuid = λ n. tt; subgid = λ n. tt }
 
 -- two scripts
 pub followed-gentle :
@@ -93,31 +98,39 @@ pub followed-gentle :
     → IsGentle second
     → IsGentle (followed_by first second)
 followed-gentle first second one other = record {
-  passwd = all-append _ first.passwd second.passwd one.passwd other.passwd;
-  group = all-append _ first.group second.group one.group other.group;
-  subuid = all-append _ first.subuid second.subuid one.subuid other.subuid;
-  subgid = all-append _ first.subgid second.subgid one.subgid other.subgid;
+  passwd = λ n. all-append _ first.passwd second.passwd (one.passwd n) (other.passwd n);
+  group = λ n. all-append _ first.group second.group (one.group n) (other.group n);
+  subuid = λ n. all-append _ first.subuid second.subuid (one.subuid n) (other.subuid n);
+  subgid = λ n. all-append _ first.subgid second.subgid (one.subgid n) (other.subgid n);
 }
 
--- edits that keep pairs
+-- such edits of a table
 pub gentle-table :
-    {X : Type 0} (format : Format X) (R : X → X → Type 0) (bytes : Option (List ℕ))
+    {X : Type 0} (format : Format X) (test : X → Bool) (bytes : Option (List ℕ))
     (edits : List (Edit X))
-    → AllByRecursion (KeepsPairs format R) edits
-    → TableStays format R bytes edits
-gentle-table format R bytes edits keep =
-    stays-table format R bytes edits (edits-keep format R edits keep (table_records format bytes))
+    → AllByRecursion (AddsNone format test) edits
+    → TableStays format test bytes edits
+gentle-table format test bytes edits add =
+    stays-table format test bytes edits
+    (none-meets format test edits add (table_records format bytes))
 
 -- a gentle script keeps ranges apart
 pub gentle-ranges : (files : Files) (script : Script) → IsGentle script → KeepsRanges files script
 gentle-ranges files script gentle = record {
-  subuids = gentle-table subid_format AreApart files.subuid script.subuid gentle.subuid;
-  subgids = gentle-table subid_format AreApart files.subgid script.subgid gentle.subgid;
+  subuids = λ n. gentle-table subid_format (has_number n) files.subuid script.subuid
+      (gentle.subuid n);
+  subgids = λ n. gentle-table subid_format (has_number n) files.subgid script.subgid
+      (gentle.subgid n);
 }
 
--- and it keeps distinct IDs
-pub gentle-ids : (files : Files) (script : Script) → IsGentle script → KeepsOwnIds files script
-gentle-ids files script gentle = record {
-  uids = gentle-table passwd_format (OwnKeys uid_key) files.passwd script.passwd gentle.passwd;
-  gids = gentle-table group_format (OwnKeys gid_key) files.group script.group gentle.group;
+-- and IDs, whatever it is asked for
+pub gentle-ids :
+    (tool : Tool) (request : Request) (files : Files) (script : Script)
+    → IsGentle script
+    → KeepsOwnIds tool request files script
+gentle-ids tool request files script gentle = record {
+  uids = λ uid shares. gentle-table passwd_format (has_key uid_key uid) files.passwd script.passwd
+      (gentle.passwd uid);
+  gids = λ gid shares. gentle-table group_format (has_key gid_key gid) files.group script.group
+      (gentle.group gid);
 }

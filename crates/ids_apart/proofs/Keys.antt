@@ -1,19 +1,19 @@
--- Edits that keep the name and the key of each record, as the UID of a user (`KeepsKeys`). Claim: they keep distinct keys
--- (`keys-keep`), and together they are one function of each record, which leaves one that they don't touch as it is
--- (`composed`).
-use Rattle.std.proofs.Common.{◌≡◌, ◌≢◌, ℕ, Bool, true, false, not, ◌||◌, List, [], ◌∷◌, ◌++◌, map, refl, sym, ◌∙◌, ap, subst}
-use Rattle.std.specs.Prelude.{fold, flat_map, if◌then◌else◌}
+-- Edits that keep the name and the key of each record, as the UID of a user (`KeepsKeys`). Claim: after them no more
+-- records have a key (`keys-keep`), and together they are one function of each record, which leaves one that they don't
+-- touch as it is (`composed`).
+use Rattle.std.proofs.Common.{◌≡◌, ℕ, Bool, true, false, not, ◌||◌, List, [], ◌∷◌, ◌++◌, map, refl, sym, ◌∙◌, ap, subst}
+use Rattle.std.specs.Prelude.{fold, flat_map, ◌==◌, if◌then◌else◌}
 use Rattle.std.specs.List.{AllByRecursion}
 use Rattle.std.proofs.lemmas.Bool.{or_parts, not-false}
 use Rattle.std.proofs.lemmas.List.{map-id}
 use Rattle.account_model.specs.Format.{Format}
 use Rattle.account_model.specs.Edits.{Edit, each, each_where, touches}
 use Rattle.account_model.specs.RecordEdits.{records_edited, TellsSame}
-use Rattle.ids_apart.proofs.PairEdits.{KeepsPairs, each-keeps}
+use Rattle.ids_apart.proofs.HolderEdits.{AddsNone, each-adds-none}
 
--- two records have different keys
-abbrev pub OwnKeys : {X : Type 0} → (X → ℕ) → X → X → Type 0
-OwnKeys key x y = key x ≢ key y
+-- whether a record has the key
+abbrev pub has_key : {X : Type 0} → (X → ℕ) → ℕ → X → Bool
+has_key key id x = key x == id
 
 -- the edit makes one record of each, of the same name and key
 pub record KeepsKeys {X : Type 0} (format : Format X) (key : X → ℕ) (edit : Edit X) : Type 0 where
@@ -45,37 +45,37 @@ where-keys format key test f named same = record {
 
 -- records that become others of the same key
 pub each-keep :
-    {X : Type 0} (format : Format X) (key : X → ℕ) (f : X → X)
+    {X : Type 0} (format : Format X) (key : X → ℕ) (id : ℕ) (f : X → X)
     → ((x : X) → key (f x) ≡ key x)
-    → KeepsPairs format (OwnKeys key) (each f)
-each-keep format key f same = each-keeps format (OwnKeys key) f
-    (λ x y apart e. apart (sym (same x) ∙ e ∙ same y))
+    → AddsNone format (has_key key id) (each f)
+each-keep format key id f same = each-adds-none format (has_key key id) f
+    (λ x e. ap (λ own. own == id) (sym (same x)) ∙ e)
 
 -- the records that pass a test become others of the same key, under whatever name
 pub where-keep :
-    {X : Type 0} (format : Format X) (key : X → ℕ) (test : X → Bool) (f : X → X)
+    {X : Type 0} (format : Format X) (key : X → ℕ) (id : ℕ) (test : X → Bool) (f : X → X)
     → ((x : X) → key (f x) ≡ key x)
-    → KeepsPairs format (OwnKeys key) (each_where test f)
-where-keep format key test f same =
-    each-keep format key (λ x. if test x then f x else x)
+    → AddsNone format (has_key key id) (each_where test f)
+where-keep format key id test f same =
+    each-keep format key id (λ x. if test x then f x else x)
     (λ x. where-same key (test x) x (f x) (same x))
 
--- an edit that keeps the keys keeps them distinct
+-- after an edit that keeps the keys no more records have one
 pub keys-keep :
-    {X : Type 0} (format : Format X) (key : X → ℕ) (edit : Edit X)
+    {X : Type 0} (format : Format X) (key : X → ℕ) (id : ℕ) (edit : Edit X)
     → KeepsKeys format key edit
-    → KeepsPairs format (OwnKeys key) edit
-keys-keep format key edit keeps = subst (KeepsPairs format (OwnKeys key)) (sym keeps.is)
-    (each-keep format key keeps.act keeps.same)
+    → AddsNone format (has_key key id) edit
+keys-keep format key id edit keeps = subst (AddsNone format (has_key key id)) (sym keeps.is)
+    (each-keep format key id keeps.act keeps.same)
 
 -- and so do several
 pub all-keys-keep :
-    {X : Type 0} (format : Format X) (key : X → ℕ) (edits : List (Edit X))
+    {X : Type 0} (format : Format X) (key : X → ℕ) (id : ℕ) (edits : List (Edit X))
     → AllByRecursion (KeepsKeys format key) edits
-    → AllByRecursion (KeepsPairs format (OwnKeys key)) edits
-all-keys-keep format key [] keep = tt
-all-keys-keep format key (edit ∷ edits) keep =
-    (keys-keep format key edit keep.0, all-keys-keep format key edits keep.1)
+    → AllByRecursion (AddsNone format (has_key key id)) edits
+all-keys-keep format key id [] keep = tt
+all-keys-keep format key id (edit ∷ edits) keep =
+    (keys-keep format key id edit keep.0, all-keys-keep format key id edits keep.1)
 
 -- ---- Together
 

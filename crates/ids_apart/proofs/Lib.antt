@@ -1,8 +1,11 @@
 mod Pairs
-mod PairEdits
+mod Counts
+mod HolderEdits
 mod Keys
 mod Refusals
 mod NewKeys
+mod Numbers
+mod Shared
 mod Unused
 mod Kept
 mod Quiet
@@ -15,4 +18,5 @@ mod Usermod
 mod Days
 mod Tools
 pub mod Deeds
+mod Meetings
 mod ApartRows

@@ -1,155 +1,62 @@
--- Claim: where all records of a name get one key, distinct keys stay so (`set-keeps`). The key is nobody's, or that of the
--- first record of the name already; and a name with several records isn't touched, as its command is refused.
+-- Claim: where all records of a name get one key, no more records have a key than before, but one that had none
+-- (`set-meets`). The key is nobody's, or that of the first record of the name already; and a name with several records isn't
+-- touched, as its command is refused.
 -- Way: a record of the name has the key already, or the name has one record (`same-or-single`). In the first case all keys
--- stay (`each-same`); in the second one key becomes another that nobody has (`each-fresh`).
-use Rattle.std.proofs.Common.{◌≡◌, ◌≢◌, ℕ, ◌+◌, ◌≤◌, ◌<◌, Bool, true, false, ◌&&◌, List, [], ◌∷◌, ◌++◌, map, refl, sym, ◌∙◌, ap, subst, arith, inl, inr}
-use Rattle.std.specs.Prelude.{◌⊎◌, Some, None, cond, fold, find, flat_map, count_by, nat_le, bytes_eq, if◌then◌else◌}
+-- stay; in the second one record gets it where none has it (`count-set`). Any other key can only be lost (`count-other`).
+use Rattle.std.proofs.Common.{◌≡◌, ℕ, ◌≤◌, ◌<◌, max, Bool, true, false, ◌&&◌, List, [], ◌∷◌, ◌++◌, map, refl, sym, ◌∙◌, ap, subst, arith, inl, inr}
+use Rattle.std.specs.Prelude.{◌⊎◌, Some, None, cond, fold, find, flat_map, count_by, nat_le, bytes_eq, ◌==◌, if◌then◌else◌}
 use Rattle.std.specs.List.{AllByRecursion}
-use Rattle.std.proofs.lemmas.Bool.{and_cases, leb-false, true≢false}
-use Rattle.std.proofs.lemmas.List.Sums.{sum_by-cons, fold-append}
+use Rattle.std.proofs.lemmas.Bool.{and_cases, eqb-true, leb-false, true≢false}
+use Rattle.std.proofs.lemmas.List.Sums.{fold-append}
 use Rattle.std.proofs.lemmas.Slice.Eq.{bytes_eq-Decides}
 use Rattle.acct_text.proofs.NumberLaws.{some-inj}
 use Rattle.account_model.specs.Format.{Format, is_named, count_named}
 use Rattle.account_model.specs.Edits.{Edit, each_where, touches, is_multiple, first_multiple}
 use Rattle.account_model.specs.RecordEdits.{records_edited, TellsSame}
-use Rattle.ids_apart.proofs.Pairs.{EachTwo, all-then, all-both, each-map, each-then}
-use Rattle.ids_apart.proofs.PairEdits.{KeepsPairs, StayApart, edits-keep}
+use Rattle.ids_apart.proofs.Counts.{AtMostOne, at-most-one, count-either, count-le, count-map}
+use Rattle.ids_apart.proofs.Pairs.{all-of, all-then}
+use Rattle.ids_apart.proofs.HolderEdits.{AddsNone, EditsMeetNoMore, behind-meets}
 use Rattle.ids_apart.proofs.Refusals.{map-none}
-use Rattle.ids_apart.proofs.Keys.{OwnKeys, KeepsKeys, composed, untouched-by, flat-each, map-after}
-
--- ---- One record of a name
-
--- behind a record that passes none does
-abbrev AtMostOne : {X : Type 0} → (X → Bool) → List X → Type 0
-AtMostOne test [] = Unit {0}
-AtMostOne test (x ∷ xs) =
-    (test x ≡ true → AllByRecursion (λ y. test y ≡ false) xs) × AtMostOne test xs
-
-module _ {X : Type 0} (test : X → Bool) where
-  -- the count of one more
-  count-more : (x : X) (xs : List X) → count_by test (x ∷ xs) ≡ cond (test x) 1 0 + count_by test xs
-  count-more x xs = sum_by-cons (λ y. cond (test y) 1 0) x xs
-
-  -- where none is counted, none passes
-  none-by :
-      (x : X) (xs : List X) (passes : Bool)
-      → test x ≡ passes
-      → cond passes 1 0 + count_by test xs ≡ 0
-      → (test x ≡ false) × (count_by test xs ≡ 0)
-  none-by x xs true is none = let some : 1 + count_by test xs
-      ≡ 0 = none in absurd (omega (arith, some))
-  none-by x xs false is none = let rest : 0 + count_by test xs
-      ≡ 0 = none in (is, omega (arith, rest))
-
-  none-passes : (xs : List X) → count_by test xs ≡ 0 → AllByRecursion (λ y. test y ≡ false) xs
-  none-passes [] none = tt
-  none-passes (x ∷ xs) none =
-      let parts = none-by x xs (test x) refl (sym (count-more x xs) ∙ none)
-      in (parts.0, none-passes xs parts.1)
-
-  -- where at most one is counted, at most one passes
-  one-by :
-      (x : X) (xs : List X) (passes : Bool)
-      → test x ≡ passes
-      → cond passes 1 0 + count_by test xs ≤ 1
-      → (test x ≡ true → AllByRecursion (λ y. test y ≡ false) xs) × (count_by test xs ≤ 1)
-  one-by x xs true is few =
-      let one : 1 + count_by test xs ≤ 1 = few
-      in ((λ passes. none-passes xs (omega (arith, one))), omega (arith, one))
-  one-by x xs false is few =
-      let rest : 0 + count_by test xs ≤ 1 = few
-      in ((λ passes. absurd (true≢false (sym passes ∙ is))), omega (arith, rest))
-
-  at-most-one : (xs : List X) → count_by test xs ≤ 1 → AtMostOne test xs
-  at-most-one [] few = tt
-  at-most-one (x ∷ xs) few =
-      let parts = one-by x xs (test x) refl (subst (λ n. n ≤ 1) (count-more x xs) few)
-      in (parts.0, at-most-one xs parts.1)
+use Rattle.ids_apart.proofs.Keys.{KeepsKeys, has_key, composed, untouched-by, flat-each, map-after}
 
 -- ---- The new keys
 
--- the key is nobody's, or the first record that passes has it
+-- nobody has the key, or the first record that passes has it
 abbrev pub IsFreeKey : {X : Type 0} → (X → ℕ) → (X → Bool) → ℕ → List X → Type 0
-IsFreeKey {X} key test new xs = AllByRecursion (λ y. key y ≢ new) xs
+IsFreeKey {X} key test new xs = (count_by (has_key key new) xs ≡ 0)
     ⊎ ((own : X) × (find test xs ≡ Some own) × (key own ≡ new))
 
 -- the keys where the records that pass get a new one
 abbrev new_key : {X : Type 0} → (X → ℕ) → (X → Bool) → ℕ → X → ℕ
 new_key key test new x = if test x then new else key x
 
--- two keys of which at most one is new
-apart-by :
-    (new one other : ℕ) (first second : Bool)
-    → (first ≡ true → second ≡ false)
-    → one ≢ new
-    → other ≢ new
-    → one ≢ other
-    → (if first then new else one) ≢ (if second then new else other)
-apart-by new one other true true alone not_one not_other apart =
-    λ same. true≢false (alone refl)
-apart-by new one other true false alone not_one not_other apart = λ same. not_other (sym same)
-apart-by new one other false true alone not_one not_other apart = not_one
-apart-by new one other false false alone not_one not_other apart = apart
+-- a key that isn't the new one was there
+other-by :
+    (new one id : ℕ) (passes : Bool)
+    → (new == id) ≡ false
+    → ((if passes then new else one) == id) ≡ true
+    → (one == id) ≡ true
+other-by new one id true differs e = absurd (true≢false (sym e ∙ differs))
+other-by new one id false differs e = e
 
--- a key that is the new one stays
-stays-by :
+-- the new key is had by one that passes, or was there
+new-by :
+    (new one : ℕ) (passes : Bool)
+    → ((if passes then new else one) == new) ≡ true
+    → (passes ≡ true) ⊎ ((one == new) ≡ true)
+new-by new one true e = inl refl
+new-by new one false e = inr e
+
+-- the new key was there, where one that passes had it
+had-by :
     (new one : ℕ) (passes : Bool)
     → (passes ≡ true → one ≡ new)
-    → (if passes then new else one) ≡ one
-stays-by new one true has = sym (has refl)
-stays-by new one false has = refl
+    → ((if passes then new else one) == new) ≡ true
+    → (one == new) ≡ true
+had-by new one true has e = ap (λ key. key == new) (has refl) ∙ e
+had-by new one false has e = e
 
 module _ {X : Type 0} (key : X → ℕ) (test : X → Bool) (new : ℕ) where
-  -- a key beside those behind it, where the new one is nobody's
-  fresh-against :
-      (x : X) (xs : List X)
-      → key x ≢ new
-      → AllByRecursion (λ y. key y ≢ new) xs
-      → AllByRecursion (OwnKeys key x) xs
-      → (test x ≡ true → AllByRecursion (λ y. test y ≡ false) xs)
-      → AllByRecursion (OwnKeys (new_key key test new) x) xs
-  fresh-against x [] not_new fresh apart alone = tt
-  fresh-against x (y ∷ ys) not_new fresh apart alone = (
-    apart-by new (key x) (key y) (test x) (test y)
-        (λ passes. (alone passes).0) not_new fresh.0 apart.0,
-    fresh-against x ys not_new fresh.1 apart.1 (λ passes. (alone passes).1),
-  )
-
-  -- one record gets a key that nobody has
-  each-fresh :
-      (xs : List X)
-      → AtMostOne test xs
-      → AllByRecursion (λ y. key y ≢ new) xs
-      → EachTwo (OwnKeys key) xs
-      → EachTwo (OwnKeys (new_key key test new)) xs
-  each-fresh [] single fresh each = tt
-  each-fresh (x ∷ xs) single fresh each =
-      (fresh-against x xs fresh.0 fresh.1 each.0 single.0, each-fresh xs single.1 fresh.1 each.1)
-
-  -- a key beside those behind it, where all stay
-  same-against :
-      (x : X) (xs : List X)
-      → (test x ≡ true → key x ≡ new)
-      → AllByRecursion (λ y. test y ≡ true → key y ≡ new) xs
-      → AllByRecursion (OwnKeys key x) xs
-      → AllByRecursion (OwnKeys (new_key key test new) x) xs
-  same-against x xs has all apart =
-      all-both (λ y. test y ≡ true → key y ≡ new) (OwnKeys key x)
-      (OwnKeys (new_key key test new) x) xs
-      (λ y other differ same. differ
-      (sym (stays-by new (key x) (test x) has) ∙ same ∙ stays-by new (key y) (test y) other))
-      all apart
-
-  -- the records that pass have the key already
-  each-same :
-      (xs : List X)
-      → AllByRecursion (λ y. test y ≡ true → key y ≡ new) xs
-      → EachTwo (OwnKeys key) xs
-      → EachTwo (OwnKeys (new_key key test new)) xs
-  each-same [] all each = tt
-  each-same (x ∷ xs) all each =
-      (same-against x xs all.0 all.1 each.0, each-same xs all.1 each.1)
-
   -- none of those that don't pass is wrong
   vain : (xs : List X) → AllByRecursion (λ y. test y ≡ false) xs
       → AllByRecursion (λ y. test y ≡ true → key y ≡ new) xs
@@ -182,17 +89,53 @@ module _ {X : Type 0} (key : X → ℕ) (test : X → Bool) (new : ℕ) where
       found-by x xs own (test x) refl found has single.0
       (λ later. found-has xs own single.1 later has)
 
-  -- the records that pass have the key, or at most one passes
-  each-set :
+  -- where those that pass have the key, no more get it
+  count-same :
+      (xs : List X)
+      → AllByRecursion (λ y. test y ≡ true → key y ≡ new) xs
+      → count_by (λ x. new_key key test new x == new) xs ≤ count_by (has_key key new) xs
+  count-same xs all = count-le (λ x. new_key key test new x == new) (has_key key new) xs
+      (all-then (λ y. test y ≡ true → key y ≡ new)
+      (λ x. (new_key key test new x == new) ≡ true → has_key key new x ≡ true) xs
+      (λ x has. had-by new (key x) (test x) has) all)
+
+  -- how many have the new key: no more than had it, or one
+  count-set :
       (xs : List X)
       → IsFreeKey key test new xs
-      → AllByRecursion (λ y. test y ≡ true → key y ≡ new) xs ⊎ AtMostOne test xs
-      → EachTwo (OwnKeys key) xs
-      → EachTwo (OwnKeys (new_key key test new)) xs
-  each-set xs free (inl same) each = each-same xs same each
-  each-set xs (inl fresh) (inr single) each = each-fresh xs single fresh each
-  each-set xs (inr own) (inr single) each =
-      each-same xs (found-has xs own.0 single own.1 own.2) each
+      → AllByRecursion (λ y. test y ≡ true → key y ≡ new) xs ⊎ (count_by test xs ≤ 1)
+      → count_by (λ x. new_key key test new x == new) xs ≤ max 1 (count_by (has_key key new) xs)
+  count-set xs free (inl same) = let few = count-same xs same in omega (arith, few)
+  count-set xs (inl fresh) (inr single) =
+      let few = count-either test (has_key key new) (λ x. new_key key test new x == new) xs
+      (λ x. new-by new (key x) (test x))
+      in omega (arith, few, fresh, single)
+  count-set xs (inr own) (inr single) =
+      let few = count-same xs (found-has xs own.0 (at-most-one test xs single) own.1 own.2)
+      in omega (arith, few)
+
+  -- another key is had by no more
+  count-other :
+      (id : ℕ) (xs : List X)
+      → (new == id) ≡ false
+      → count_by (λ x. new_key key test new x == id) xs ≤ count_by (has_key key id) xs
+  count-other id xs differs = count-le (λ x. new_key key test new x == id) (has_key key id) xs
+      (all-of (λ x. (new_key key test new x == id) ≡ true → has_key key id x ≡ true) xs
+      (λ x. other-by new (key x) id (test x) differs))
+
+  -- so it is with each key, where the new one is free
+  count-key :
+      (id : ℕ) (xs : List X) (is : Bool)
+      → (new == id) ≡ is
+      → (new ≡ id → IsFreeKey key test new xs)
+      → AllByRecursion (λ y. test y ≡ true → key y ≡ new) xs ⊎ (count_by test xs ≤ 1)
+      → count_by (λ x. new_key key test new x == id) xs ≤ max 1 (count_by (has_key key id) xs)
+  count-key id xs false is free single =
+      let few = count-other id xs is in omega (arith, few)
+  count-key id xs true is free single =
+      let same = eqb-true new id is
+      in subst (λ n. count_by (λ x. new_key key test new x == n) xs
+      ≤ max 1 (count_by (has_key key n) xs)) same (count-set xs (free same) single)
 
   -- one more record that passes has the key, or another thing holds
   same-or-by :
@@ -287,19 +230,19 @@ module _ {X : Type 0} (format : Format X) (tells : TellsSame format) (key : X �
       → AllByRecursion (λ y. is_named format name y ≡ true → key y ≡ new) whole
       ⊎ (nat_le 2 (count_named format name whole) ≡ false)
       → AllByRecursion (λ y. is_named format name y ≡ true → key y ≡ new) whole
-      ⊎ AtMostOne (is_named format name) whole
+      ⊎ (count_by (is_named format name) whole ≤ 1)
   single-by whole (inl same) = inl same
   single-by whole (inr few) =
       let small : count_by (is_named format name) whole < 2 =
       leb-false 2 (count_named format name whole) few
-      in inr (at-most-one (is_named format name) whole (omega (arith, small)))
+      in inr (omega (arith, small))
 
   -- so it is where no record of a multiple name is touched
   same-or-one :
       (whole : List X)
       → first_multiple format edits whole ≡ None
       → AllByRecursion (λ y. is_named format name y ≡ true → key y ≡ new) whole
-      ⊎ AtMostOne (is_named format name) whole
+      ⊎ (count_by (is_named format name) whole ≤ 1)
   same-or-one whole none =
       let tests = none-found (λ r. touches format edits r && is_multiple format whole r) whole
       (map-none format.name
@@ -336,23 +279,38 @@ module _ {X : Type 0} (format : Format X) (tells : TellsSame format) (key : X �
       ∙ flat-each set_where (map first.act whole)
       ∙ map-after set_where first.act whole
 
+  -- how many have a key then
+  becomes-count :
+      (id : ℕ) (whole : List X)
+      → count_by (has_key key id) (map becomes whole)
+      ≤ count_by (λ x. new_key key (is_named format name) new x == id) whole
+  becomes-count id whole =
+      subst (λ n. n ≤ count_by (λ x. new_key key (is_named format name) new x == id) whole)
+      (sym (count-map (has_key key id) becomes whole))
+      (count-le (λ x. has_key key id (becomes x))
+      (λ x. new_key key (is_named format name) new x == id) whole
+      (all-of (λ x. has_key key id (becomes x) ≡ true
+      → (new_key key (is_named format name) new x == id) ≡ true) whole
+      (λ x has. ap (λ own. own == id) (sym (becomes-key x)) ∙ has)))
+
   -- the claim
-  pub set-keeps :
-      (whole : List X)
-      → IsFreeKey key (is_named format name) new whole
+  pub set-meets :
+      (id : ℕ) (whole : List X)
+      → (new ≡ id → IsFreeKey key (is_named format name) new whole)
       → first_multiple format edits whole ≡ None
-      → AllByRecursion (KeepsPairs format (OwnKeys key)) after
-      → StayApart format (OwnKeys key) whole edits
-  set-keeps whole free none later each =
-      let fresh = each-set key (is_named format name) new whole free (same-or-one whole none) each
-      in let apart = each-map (OwnKeys key) becomes whole
-      (each-then (OwnKeys (new_key key (is_named format name) new))
-      (λ x y. OwnKeys key (becomes x) (becomes y)) whole
-      (λ x y differ same. differ (sym (becomes-key x) ∙ same ∙ becomes-key y)) fresh)
-      in subst (EachTwo (OwnKeys key))
+      → AllByRecursion (AddsNone format (has_key key id)) after
+      → EditsMeetNoMore format (has_key key id) whole edits
+  set-meets id whole free none later =
+      let few = becomes-count id whole
+      in let kept = count-key key (is_named format name) new id whole (new == id) refl free
+      (same-or-one whole none)
+      in subst (λ (xs : List X).
+      count_by (has_key key id) xs ≤ max 1 (count_by (has_key key id) whole))
       (sym (fold-append (records_edited format) whole before
       (each_where (is_named format name) set ∷ after)))
-      (edits-keep format (OwnKeys key) after later
+      (behind-meets format (has_key key id) after whole
       (records_edited format (fold (records_edited format) whole before)
-      (each_where (is_named format name) set))
-      (subst (EachTwo (OwnKeys key)) (sym (becomes-all whole)) apart))
+      (each_where (is_named format name) set)) later
+      (subst (λ (xs : List X).
+      count_by (has_key key id) xs ≤ max 1 (count_by (has_key key id) whole))
+      (sym (becomes-all whole)) (omega (arith, few, kept))))

@@ -17,8 +17,8 @@ use Rattle.account_model.specs.Users.{find_user, group_named}
 use Rattle.account_model.specs.Request.{Request, has_option, value_of}
 use Rattle.account_model.specs.Action.{with_option, with_flag}
 use Rattle.account_model.proofs.ListLaws.{all-append}
-use Rattle.ids_apart.specs.Apart.{AreApart}
-use Rattle.ids_apart.proofs.PairEdits.{KeepsPairs}
+use Rattle.ids_apart.specs.Holders.{has_number}
+use Rattle.ids_apart.proofs.HolderEdits.{AddsNone}
 use Rattle.ids_apart.proofs.Keys.{KeepsKeys, where-keys, all-keys-keep}
 use Rattle.ids_apart.proofs.Kept.{uid_key, gid_key, IsGentle}
 
@@ -109,18 +109,20 @@ pub flag-quiet :
 flag-quiet letter request script is =
     either-quiet (has_option letter request) script no_edits is none-quiet
 
--- no edits keep ranges apart
-leaves-gentle :
+-- no edits of ranges
+pub leaves-gentle :
     (edits : List (Edit SubidRecord))
     → edits ≡ []
-    → AllByRecursion (KeepsPairs subid_format AreApart) edits
-leaves-gentle edits none = subst (AllByRecursion (KeepsPairs subid_format AreApart)) (sym none) tt
+    → (number : ℕ)
+    → AllByRecursion (AddsNone subid_format (has_number number)) edits
+leaves-gentle edits none number =
+    subst (AllByRecursion (AddsNone subid_format (has_number number))) (sym none) tt
 
 -- a quiet script is gentle
 pub quiet-gentle : (script : Script) → IsQuiet script → IsGentle script
 quiet-gentle script quiet = record {
-  passwd = all-keys-keep passwd_format uid_key script.passwd quiet.passwd;
-  group = all-keys-keep group_format gid_key script.group quiet.group;
+  passwd = λ uid. all-keys-keep passwd_format uid_key uid script.passwd quiet.passwd;
+  group = λ gid. all-keys-keep group_format gid_key gid script.group quiet.group;
   subuid = leaves-gentle script.subuid quiet.ranges.subuid;
   subgid = leaves-gentle script.subgid quiet.ranges.subgid;
 }

@@ -1,6 +1,6 @@
 -- The tools that give no ID: gpasswd, chage and chpasswd are quiet; userdel, groupdel, pwck and grpck drop or sort
 -- records; getsubids and reports edit nothing. Claim: their scripts are gentle (`userdel-gentle` and so on).
-use Rattle.std.proofs.Common.{ℕ, Bool, true, false, List, [], ◌∷◌, refl, sym}
+use Rattle.std.proofs.Common.{ℕ, Bool, true, false, List, [], ◌∷◌, refl}
 use Rattle.std.specs.Prelude.{Option, Some, None, codes, map, if◌then◌else◌}
 use Rattle.std.specs.List.{AllByRecursion}
 use Rattle.acct_text.specs.declared.files.Files.{Files}
@@ -25,9 +25,9 @@ use Rattle.account_model.specs.Groupdel.{remove_group, groupdel}
 use Rattle.account_model.specs.Userdel.{Kept, own_uid, group_without, remove_user, own_group, reason_to_keep, own_group_script, userdel}
 use Rattle.account_model.specs.Pwck.{pwck_sort, pwck_report, pwck}
 use Rattle.account_model.specs.Grpck.{grpck_sort, grpck_report, grpck}
-use Rattle.ids_apart.specs.Apart.{AreApart}
-use Rattle.ids_apart.proofs.PairEdits.{KeepsPairs, each-keeps, drop-keeps, sort-keeps}
-use Rattle.ids_apart.proofs.Keys.{OwnKeys}
+use Rattle.ids_apart.specs.Holders.{has_number}
+use Rattle.ids_apart.proofs.HolderEdits.{AddsNone, drop-adds-none, sort-adds-none}
+use Rattle.ids_apart.proofs.Keys.{each-keep, has_key}
 use Rattle.ids_apart.proofs.Kept.{uid_key, gid_key, IsGentle, none-gentle, followed-gentle}
 use Rattle.ids_apart.proofs.Quiet.{IsQuiet, order-quiet, option-quiet, flag-quiet, quiet-gentle, members-quiet, add-to-group-quiet, remove-from-group-quiet, demand-shadow-quiet, user-hash-quiet, group-hash-quiet, administrators-quiet}
 
@@ -120,35 +120,50 @@ chpasswd-gentle input files day = quiet-gentle (chpasswd input files day).script
 
 -- the records of a group go
 remove-group-keeps :
-    (group : List ℕ)
-    → AllByRecursion (KeepsPairs group_format (OwnKeys gid_key)) (remove_group group).group
-remove-group-keeps group =
-    (drop-keeps group_format (OwnKeys gid_key) (is_named group_format group), tt)
+    (group : List ℕ) (gid : ℕ)
+    → AllByRecursion (AddsNone group_format (has_key gid_key gid)) (remove_group group).group
+remove-group-keeps group gid =
+    (drop-adds-none group_format (has_key gid_key gid) (is_named group_format group), tt)
 
 -- groupdel drops groups
 pub groupdel-gentle : (request : Request) (files : Files) → IsGentle (groupdel request files).script
 groupdel-gentle request files = record {
-  passwd = tt;
+  passwd = λ uid. tt;
   group = remove-group-keeps (operand request);
-  subuid = tt;
-  subgid = tt;
+  subuid = λ n. tt;
+  subgid = λ n. tt;
 }
 
 -- a user goes
 remove-user-gentle : (user : List ℕ) (files : Files) → IsGentle (remove_user user files)
 remove-user-gentle user files = record {
-  passwd = (drop-keeps passwd_format (OwnKeys uid_key) (is_named passwd_format user), tt);
-  group = (each-keeps group_format (OwnKeys gid_key) (group_without user) (λ x y apart. apart), tt);
-  subuid = (drop-keeps subid_format AreApart (is_owned user (own_uid user files)), tt);
-  subgid = (drop-keeps subid_format AreApart (is_owned user (own_uid user files)), tt);
+  passwd = λ uid. (
+    drop-adds-none passwd_format (has_key uid_key uid) (is_named passwd_format user),
+    tt,
+  );
+  group = λ gid. (each-keep group_format gid_key gid (group_without user) (λ x. refl), tt);
+  subuid = λ n. (
+    drop-adds-none subid_format (has_number n)
+        (is_owned user (own_uid user files)),
+    tt,
+  );
+  subgid = λ n. (
+    drop-adds-none subid_format (has_number n)
+        (is_owned user (own_uid user files)),
+    tt,
+  );
 }
 
 -- the user's own group goes or is kept
 kept-gentle :
     (request : Request) (kept : Option Kept)
     → IsGentle (elim kept [ None ↦ remove_group (operand request) | Some reason ↦ no_edits ])
-kept-gentle request None =
-    record { passwd = tt; group = remove-group-keeps (operand request); subuid = tt; subgid = tt }
+kept-gentle request None = record {
+  passwd = λ uid. tt;
+  group = remove-group-keeps (operand request);
+  subuid = λ n. tt;
+  subgid = λ n. tt;
+}
 kept-gentle request (Some reason) = none-gentle
 
 -- the user's own group, where there is one
@@ -184,14 +199,10 @@ pwck-by :
     → IsGentle (if sorts then changes []
     (pwck_sort files) else pwck_report request files today).script
 pwck-by request files today true = record {
-  passwd = (
-    sort-keeps passwd_format (OwnKeys uid_key) uid_key
-        (λ x y apart same. apart (sym same)),
-    tt,
-  );
-  group = tt;
-  subuid = tt;
-  subgid = tt;
+  passwd = λ uid. (sort-adds-none passwd_format (has_key uid_key uid) uid_key, tt);
+  group = λ gid. tt;
+  subuid = λ n. tt;
+  subgid = λ n. tt;
 }
 pwck-by request files today false = none-gentle
 
@@ -205,14 +216,10 @@ grpck-by :
     (files : Files) (sorts : Bool)
     → IsGentle (if sorts then changes [] (grpck_sort files) else grpck_report files).script
 grpck-by files true = record {
-  passwd = tt;
-  group = (
-    sort-keeps group_format (OwnKeys gid_key) gid_key
-        (λ x y apart same. apart (sym same)),
-    tt,
-  );
-  subuid = tt;
-  subgid = tt;
+  passwd = λ uid. tt;
+  group = λ gid. (sort-adds-none group_format (has_key gid_key gid) gid_key, tt);
+  subuid = λ n. tt;
+  subgid = λ n. tt;
 }
 grpck-by files false = none-gentle
 

@@ -1,12 +1,12 @@
--- Claim: a tool that doesn't refuse keeps ranges apart (`tool-ranges`), and without `-o` distinct IDs (`tool-ids`).
--- Way: tool by tool.
-use Rattle.std.proofs.Common.{◌≡◌, ℕ, false, List}
-use Rattle.std.specs.Prelude.{None, codes}
+-- Claim: a tool that doesn't refuse gives no number to one more range that is in one (`tool-ranges`), and no ID to one more
+-- user or group, but where it is asked for it with `-o` (`tool-ids`). Way: tool by tool.
+use Rattle.std.proofs.Common.{◌≡◌, ℕ, List}
+use Rattle.std.specs.Prelude.{None}
 use Rattle.acct_text.specs.declared.files.Files.{Files}
 use Rattle.account_model.specs.declared.tool.Tool.{Tool}
 use Rattle.account_model.specs.declared.tool.Tool.TheVariants.{Useradd, Usermod, Userdel, Groupadd, Groupmod, Groupdel, Gpasswd, Chage, Chpasswd, Pwck, Grpck, Getsubids, Batch}
 use Rattle.account_model.specs.Text.{first_some}
-use Rattle.account_model.specs.Request.{Request, has_option}
+use Rattle.account_model.specs.Request.{Request}
 use Rattle.account_model.specs.Settings.{Setting}
 use Rattle.account_model.specs.Tables.{no_edits}
 use Rattle.account_model.specs.Action.{multiple_entries}
@@ -53,37 +53,36 @@ tool-ranges Getsubids request input day files settings none written =
 tool-ranges Batch request input day files settings none written =
     gentle-ranges files no_edits none-gentle
 
--- UIDs and GIDs stay distinct
+-- and so do UIDs and GIDs, but those that it is asked for with `-o`
 pub tool-ids :
     (tool : Tool) (request : Request) (input : List ℕ) (day : ℕ) (files : Files)
     (settings : List Setting)
-    → has_option (codes "o") request ≡ false
     → first_some (action_by tool request input day files settings).refusals ≡ None
     → multiple_entries (action_by tool request input day files settings).script files ≡ None
-    → KeepsOwnIds files (action_by tool request input day files settings).script
-tool-ids Useradd request input day files settings shares none multiple =
-    useradd-ids request files settings day shares none
-tool-ids Usermod request input day files settings shares none multiple =
-    usermod-ids request files day shares none multiple
-tool-ids Userdel request input day files settings shares none multiple =
-    gentle-ids files _ (userdel-gentle request files settings)
-tool-ids Groupadd request input day files settings shares none multiple =
-    groupadd-ids request files settings shares none
-tool-ids Groupmod request input day files settings shares none multiple =
-    groupmod-ids request files shares none multiple
-tool-ids Groupdel request input day files settings shares none multiple =
-    gentle-ids files _ (groupdel-gentle request files)
-tool-ids Gpasswd request input day files settings shares none multiple =
-    gentle-ids files _ (gpasswd-gentle request files)
-tool-ids Chage request input day files settings shares none multiple =
-    gentle-ids files _ (chage-gentle request files)
-tool-ids Chpasswd request input day files settings shares none multiple =
-    gentle-ids files _ (chpasswd-gentle input files day)
-tool-ids Pwck request input day files settings shares none multiple =
-    gentle-ids files _ (pwck-gentle request files day)
-tool-ids Grpck request input day files settings shares none multiple =
-    gentle-ids files _ (grpck-gentle request files)
-tool-ids Getsubids request input day files settings shares none multiple =
-    gentle-ids files no_edits none-gentle
-tool-ids Batch request input day files settings shares none multiple =
-    gentle-ids files no_edits none-gentle
+    → KeepsOwnIds tool request files (action_by tool request input day files settings).script
+tool-ids Useradd request input day files settings none multiple =
+    useradd-ids request files settings day none
+tool-ids Usermod request input day files settings none multiple =
+    usermod-ids request files day none multiple
+tool-ids Userdel request input day files settings none multiple =
+    gentle-ids Userdel request files _ (userdel-gentle request files settings)
+tool-ids Groupadd request input day files settings none multiple =
+    groupadd-ids request files settings none
+tool-ids Groupmod request input day files settings none multiple =
+    groupmod-ids request files none multiple
+tool-ids Groupdel request input day files settings none multiple =
+    gentle-ids Groupdel request files _ (groupdel-gentle request files)
+tool-ids Gpasswd request input day files settings none multiple =
+    gentle-ids Gpasswd request files _ (gpasswd-gentle request files)
+tool-ids Chage request input day files settings none multiple =
+    gentle-ids Chage request files _ (chage-gentle request files)
+tool-ids Chpasswd request input day files settings none multiple =
+    gentle-ids Chpasswd request files _ (chpasswd-gentle input files day)
+tool-ids Pwck request input day files settings none multiple =
+    gentle-ids Pwck request files _ (pwck-gentle request files day)
+tool-ids Grpck request input day files settings none multiple =
+    gentle-ids Grpck request files _ (grpck-gentle request files)
+tool-ids Getsubids request input day files settings none multiple =
+    gentle-ids Getsubids request files no_edits none-gentle
+tool-ids Batch request input day files settings none multiple =
+    gentle-ids Batch request files no_edits none-gentle

@@ -1,10 +1,10 @@
--- Claim: useradd gives a user ranges that meet none (`useradd-ranges`), and without `-o` a UID that no user has and a
--- group with a GID that no group has (`useradd-ids`). Way: a given UID that is in use is refused, and a chosen ID isn't
--- used; a range begins where it fits.
+-- Claim: useradd gives a user ranges that meet none (`useradd-ranges`), a UID that no user has, but where `-o` names it,
+-- and a group with a GID that no group has (`useradd-ids`). Way: a given UID that is in use is refused, and a chosen ID
+-- isn't used; a range begins where it fits.
 use Rattle.std.proofs.Common.{◌≡◌, zero, suc, ℕ, ◌+◌, ◌-◌, ◌<◌, Bool, true, false, not, ◌&&◌, List, [], ◌∷◌, ◌++◌, refl, sym, ◌∙◌, ap, subst, arith, append-nil}
 use Rattle.std.specs.Prelude.{Option, Some, None, ◌==◌, codes, is_some, map, option_and_then, if◌then◌else◌}
 use Rattle.std.specs.List.{AllByRecursion, list_any}
-use Rattle.std.proofs.lemmas.Bool.{and_parts}
+use Rattle.std.proofs.lemmas.Bool.{and_parts, eqb-true, true≢false}
 use Rattle.acct_text.specs.declared.files.Files.{Files}
 use Rattle.acct_text.proofs.NumberLaws.{some-inj}
 use Rattle.account_model.specs.declared.settings.IdSort.TheVariants.{Uid, Gid}
@@ -12,13 +12,14 @@ use Rattle.account_model.specs.declared.new_user.Allotment.TheVariants.{Unwanted
 use Rattle.account_model.specs.declared.new_user.Plan.{Plan}
 use Rattle.account_model.specs.declared.records.GroupRecord.{GroupRecord}
 use Rattle.account_model.specs.declared.refusal.Refusal.TheVariants.{UidInUse}
+use Rattle.account_model.specs.declared.tool.Tool.TheVariants.{Useradd}
 use Rattle.account_model.specs.Text.{first_some}
 use Rattle.account_model.specs.Edits.Edit.{Add}
 use Rattle.account_model.specs.Records.{passwd_format, group_format, subid_format}
 use Rattle.account_model.specs.Tables.{Script, no_edits, passwd_records, group_records}
 use Rattle.account_model.specs.Settings.{Setting, range}
 use Rattle.account_model.specs.Ids.{used_uids, used_gids, is_used}
-use Rattle.account_model.specs.FreeRange.{Meeting, IsFreeRange}
+use Rattle.account_model.specs.FreeRange.{IsFreeRange}
 use Rattle.account_model.specs.GivenGroups.{given_groups}
 use Rattle.account_model.specs.Hashes.{elsewhere, locked}
 use Rattle.account_model.specs.Members.{add_to_group}
@@ -31,10 +32,12 @@ use Rattle.account_model.specs.SubidOwner.{is_owned}
 use Rattle.account_model.specs.Useradd.{makes_group, new_uid, gid_beside, own_gid, primary_gid, used_uid, useradd_checks, useradd_conflicts, new_user, new_shadow, plan_of, add_own_group, join_groups, useradd_script, useradd_under, useradd}
 use Rattle.account_model.proofs.FreeRangeLaws.{free_range-is}
 use Rattle.account_model.proofs.ListLaws.{all-append}
-use Rattle.ids_apart.specs.Apart.{AreApart}
-use Rattle.ids_apart.proofs.Pairs.{all-then, each-push}
-use Rattle.ids_apart.proofs.PairEdits.{KeepsPairs, StayApart, edits-keep}
-use Rattle.ids_apart.proofs.Keys.{OwnKeys, KeepsKeys, all-keys-keep}
+use Rattle.ids_apart.specs.Holders.{has_number, is_given, shares_uid_by}
+use Rattle.ids_apart.proofs.Counts.{push-meets}
+use Rattle.ids_apart.proofs.HolderEdits.{AddsNone, EditsMeetNoMore, behind-meets, none-meets}
+use Rattle.ids_apart.proofs.Keys.{KeepsKeys, all-keys-keep, has_key}
+use Rattle.ids_apart.proofs.Numbers.{number-in, unmet-count}
+use Rattle.ids_apart.proofs.Shared.{unshared}
 use Rattle.ids_apart.proofs.Kept.{uid_key, gid_key, KeepsRanges, KeepsOwnIds, stays-table, gentle-ranges, gentle-ids, none-gentle}
 use Rattle.ids_apart.proofs.Refusals.{behind-none}
 use Rattle.ids_apart.proofs.Unused.{chosen-unused, refuse-fails, push-keeps}
@@ -42,25 +45,22 @@ use Rattle.ids_apart.proofs.Quiet.{LeavesRanges, IsQuiet, none-leaves, order-qui
 
 -- ---- The ranges
 
--- a range that fits is apart from those of the file
+-- a range that fits meets none of those of the file
 start-stays :
-    (request : Request) (ids : Subordinate) (start : Option ℕ)
+    (number : ℕ) (request : Request) (ids : Subordinate) (start : Option ℕ)
     → 0 < ids.count
     → free_start ids ≡ start
-    → StayApart subid_format AreApart ids.records
+    → EditsMeetNoMore subid_format (has_number number) ids.records
     (allotted request (elim start [ None ↦ Full | Some first ↦ Range first ids.count ]))
-start-stays request ids None some found each = each
-start-stays request ids (Some start) some found each =
+start-stays number request ids None some found =
+    none-meets subid_format (has_number number) [] tt ids.records
+start-stays number request ids (Some start) some found =
     let free = subst
     (λ choice. IsFreeRange ids.minimum ids.maximum ids.count ids.records choice) found
     (free_range-is ids.minimum ids.maximum ids.count some ids.records)
-    in each-push AreApart ids.records (new_range request start ids.count) each
-    (all-then (λ r. Meeting start (start + ids.count - 1) r → ⊥)
-    (λ r. AreApart r (new_range request start ids.count)) ids.records
-    (λ r apart meeting. apart (record {
-      begins_before = meeting.ends_behind;
-      ends_behind = meeting.begins_before;
-    })) free.member.apart)
+    in push-meets (has_number number) ids.records (new_range request start ids.count)
+    (λ has. let is = number-in number (new_range request start ids.count) has
+    in unmet-count number start (start + ids.count - 1) ids.records is.0 is.1 free.member.apart)
 
 -- a count that isn't 0
 some-count : (count : ℕ) → not (count == 0) ≡ true → 0 < count
@@ -69,24 +69,27 @@ some-count (suc n) e = omega arith
 
 -- a range, where one is allotted
 allotted-by :
-    (request : Request) (uid : Option ℕ) (ids : Subordinate) (test : Bool)
+    (number : ℕ) (request : Request) (uid : Option ℕ) (ids : Subordinate) (test : Bool)
     → is_allotted request uid ids ≡ test
-    → StayApart subid_format AreApart ids.records (allotted request (if test
+    → EditsMeetNoMore subid_format (has_number number) ids.records (allotted request (if test
     then elim (free_start ids) [ None ↦ Full | Some start ↦ Range start ids.count ]
     else Unwanted))
-allotted-by request uid ids false is each = each
-allotted-by request uid ids true is each =
-    start-stays request ids (free_start ids)
+allotted-by number request uid ids false is =
+    none-meets subid_format (has_number number) [] tt ids.records
+allotted-by number request uid ids true is =
+    start-stays number request ids (free_start ids)
     (some-count ids.count
     (and_parts (is_some ids.bytes && not (list_any (is_owned (operand request) uid) ids.records)
     && may_have_ranges request) (not (ids.count == 0)) is).1)
-    refl each
+    refl
 
--- the new range of a table keeps all apart
+-- the new range of a table meets none
 allotted-stays :
-    (request : Request) (uid : Option ℕ) (ids : Subordinate)
-    → StayApart subid_format AreApart ids.records (allotted request (allotment request uid ids))
-allotted-stays request uid ids = allotted-by request uid ids (is_allotted request uid ids) refl
+    (number : ℕ) (request : Request) (uid : Option ℕ) (ids : Subordinate)
+    → EditsMeetNoMore subid_format (has_number number) ids.records
+    (allotted request (allotment request uid ids))
+allotted-stays number request uid ids =
+    allotted-by number request uid ids (is_allotted request uid ids) refl
 
 -- ---- The other edits
 
@@ -134,12 +137,19 @@ own-users own true none =
     subst (AllByRecursion (KeepsKeys passwd_format uid_key)) (sym none) tt
 own-users own false none = tt
 
-module _ (request : Request) (files : Files) (settings : List Setting)
-    (shares : has_option (codes "o") request ≡ false) where
+module _ (request : Request) (files : Files) (settings : List Setting) where
+  -- a chosen UID isn't used
+  free-unused :
+      (uid : ℕ)
+      → free_uid (kind_of request) files settings ≡ Some uid
+      → is_used (used_uids files) uid ≡ false
+  free-unused uid e =
+      chosen-unused (kind_of request) (range Uid (kind_of request) settings) (used_uids files) uid e
+
   -- the new UID isn't used, by the one that is given
   uid-by :
       (uid : ℕ) (given : Option ℕ) (with_o : Bool)
-      → with_o ≡ false
+      → (with_o && is_given uid given) ≡ false
       → (if with_o
       then None
       else option_and_then (λ n. refuse_if (is_used (used_uids files) n) (UidInUse n)) given) ≡ None
@@ -148,9 +158,9 @@ module _ (request : Request) (files : Files) (settings : List Setting)
         | None ↦ free_uid (kind_of request) files settings
       ] ≡ Some uid
       → is_used (used_uids files) uid ≡ false
-  uid-by uid given true shared none e = cc
-  uid-by uid None false shared none e =
-      chosen-unused (kind_of request) (range Uid (kind_of request) settings) (used_uids files) uid e
+  uid-by uid (Some n) true shared none e =
+      absurd (true≢false (unshared true n uid (some-inj e) shared))
+  uid-by uid None with_o shared none e = free-unused uid e
   uid-by uid (Some n) false shared none e = subst (λ id. is_used (used_uids files) id ≡ false)
       (some-inj e) (refuse-fails (is_used (used_uids files) n) (UidInUse n) none)
 
@@ -159,8 +169,9 @@ module _ (request : Request) (files : Files) (settings : List Setting)
       (uid : ℕ)
       → used_uid request files ≡ None
       → new_uid request files settings ≡ Some uid
+      → shares_uid_by Useradd uid request ≡ false
       → is_used (used_uids files) uid ≡ false
-  uid-unused uid none e =
+  uid-unused uid none e shares =
       uid-by uid (given_uid request) (has_option (codes "o") request) shares none e
 
 -- the GID of a user's own group isn't used, by whether its UID is one
@@ -219,69 +230,76 @@ module _ (request : Request) (files : Files) (settings : List Setting) (day uid 
   -- a user of this UID and this GID keeps ranges apart
   add-ranges : KeepsRanges files edits
   add-ranges = record {
-    subuids = stays-table subid_format AreApart files.subuid
+    subuids = λ n. stays-table subid_format (has_number n) files.subuid
         (own.subuid ++ (join.subuid ++ (allotted request plan.subuid ++ [])))
-        (subst (StayApart subid_format AreApart (subordinate_uids files settings).records)
+        (subst (EditsMeetNoMore subid_format (has_number n) (subordinate_uids files settings).records)
         (sym (ranges-behind own.subuid join.subuid (allotted request plan.subuid)
         own-ranges.subuid (join-quiet request files).ranges.subuid))
-        (allotted-stays request plan.uid (subordinate_uids files settings)));
-    subgids = stays-table subid_format AreApart files.subgid
+        (allotted-stays n request plan.uid (subordinate_uids files settings)));
+    subgids = λ n. stays-table subid_format (has_number n) files.subgid
         (own.subgid ++ (join.subgid ++ (allotted request plan.subgid ++ [])))
-        (subst (StayApart subid_format AreApart (subordinate_gids files settings).records)
+        (subst (EditsMeetNoMore subid_format (has_number n) (subordinate_gids files settings).records)
         (sym (ranges-behind own.subgid join.subgid (allotted request plan.subgid)
         own-ranges.subgid (join-quiet request files).ranges.subgid))
-        (allotted-stays request plan.uid (subordinate_gids files settings)));
+        (allotted-stays n request plan.uid (subordinate_gids files settings)));
   }
 
   -- the users, with one more
   add-users :
-      is_used (used_uids files) uid ≡ false
-      → StayApart passwd_format (OwnKeys uid_key) (passwd_records files)
+      (id : ℕ)
+      → ((uid == id) ≡ true → is_used (used_uids files) id ≡ false)
+      → EditsMeetNoMore passwd_format (has_key uid_key id) (passwd_records files)
       (Add (new_user request files uid gid) ∷ (own.passwd ++ (join.passwd ++ [])))
-  add-users unused each =
+  add-users id unused =
       let rest = all-append (KeepsKeys passwd_format uid_key) own.passwd (join.passwd ++ [])
       (own-users (add_group (operand request) locked gid files) (makes_group request settings) refl)
       (all-append (KeepsKeys passwd_format uid_key) join.passwd []
       (join-quiet request files).passwd tt)
-      in edits-keep passwd_format (OwnKeys uid_key) (own.passwd ++ (join.passwd ++ []))
-      (all-keys-keep passwd_format uid_key (own.passwd ++ (join.passwd ++ [])) rest)
-      (passwd_records files ++ new_user request files uid gid ∷ [])
-      (push-keeps uid_key (new_user request files uid gid) (passwd_records files) unused each)
+      in behind-meets passwd_format (has_key uid_key id) (own.passwd ++ (join.passwd ++ []))
+      (passwd_records files) (passwd_records files ++ new_user request files uid gid ∷ [])
+      (all-keys-keep passwd_format uid_key id (own.passwd ++ (join.passwd ++ [])) rest)
+      (push-keeps uid_key id (new_user request files uid gid) (passwd_records files) unused)
 
   -- the edits of group behind the own group's
-  join-keeps : AllByRecursion (KeepsPairs group_format (OwnKeys gid_key)) (join.group ++ [])
-  join-keeps = all-keys-keep group_format gid_key (join.group ++ [])
+  join-keeps :
+      (id : ℕ) → AllByRecursion (AddsNone group_format (has_key gid_key id)) (join.group ++ [])
+  join-keeps id = all-keys-keep group_format gid_key id (join.group ++ [])
       (all-append (KeepsKeys group_format gid_key) join.group []
       (join-quiet request files).group tt)
 
   -- the groups, with one more where it is made
   add-groups :
-      (makes : Bool)
-      → (makes ≡ true → is_used (used_gids files) gid ≡ false)
-      → StayApart group_format (OwnKeys gid_key) (group_records files)
+      (id : ℕ) (makes : Bool)
+      → (makes ≡ true → (gid == id) ≡ true → is_used (used_gids files) id ≡ false)
+      → EditsMeetNoMore group_format (has_key gid_key id) (group_records files)
       ((if makes then add_group (operand request) locked gid files else no_edits).group
       ++ (join.group ++ []))
-  add-groups true unused each =
+  add-groups id true unused =
       let new = new_group (operand request)
       (if is_some files.gshadow then elsewhere else locked) gid
-      in edits-keep group_format (OwnKeys gid_key) (join.group ++ []) join-keeps
-      (group_records files ++ new ∷ [])
-      (push-keeps gid_key new (group_records files) (unused refl) each)
-  add-groups false unused each =
-      edits-keep group_format (OwnKeys gid_key) (join.group ++ []) join-keeps
-      (group_records files) each
+      in behind-meets group_format (has_key gid_key id) (join.group ++ []) (group_records files)
+      (group_records files ++ new ∷ []) (join-keeps id)
+      (push-keeps gid_key id new (group_records files) (unused refl))
+  add-groups id false unused =
+      none-meets group_format (has_key gid_key id) (join.group ++ []) (join-keeps id)
+      (group_records files)
 
   -- a user of an unused UID, with a group of an unused GID
   add-ids :
-      is_used (used_uids files) uid ≡ false
+      (shares_uid_by Useradd uid request ≡ false → is_used (used_uids files) uid ≡ false)
       → (makes_group request settings ≡ true → is_used (used_gids files) gid ≡ false)
-      → KeepsOwnIds files edits
+      → KeepsOwnIds Useradd request files edits
   add-ids unused_uid unused_gid = record {
-    uids = stays-table passwd_format (OwnKeys uid_key) files.passwd
+    uids = λ id shares. stays-table passwd_format (has_key uid_key id) files.passwd
         (Add (new_user request files uid gid) ∷ (own.passwd ++ (join.passwd ++ [])))
-        (add-users unused_uid);
-    gids = stays-table group_format (OwnKeys gid_key) files.group (own.group ++ (join.group ++ []))
-        (add-groups (makes_group request settings) unused_gid);
+        (add-users id (λ has. let same = eqb-true uid id has
+        in subst (λ n. is_used (used_uids files) n ≡ false) same
+        (unused_uid (subst (λ n. shares_uid_by Useradd n request ≡ false) (sym same) shares))));
+    gids = λ id shares. stays-table group_format (has_key gid_key id) files.group
+        (own.group ++ (join.group ++ []))
+        (add-groups id (makes_group request settings)
+        (λ makes has. subst (λ n. is_used (used_gids files) n ≡ false) (eqb-true gid id has)
+        (unused_gid makes)));
   }
 
 -- ---- The whole
@@ -308,37 +326,36 @@ useradd-ranges request files settings day =
 -- IDs, by those that there are
 script-ids :
     (request : Request) (files : Files) (settings : List Setting) (day : ℕ) (uid gid : Option ℕ)
-    → ((id : ℕ) → uid ≡ Some id → is_used (used_uids files) id ≡ false)
+    → ((id : ℕ) → uid ≡ Some id → shares_uid_by Useradd id request ≡ false
+    → is_used (used_uids files) id ≡ false)
     → ((id : ℕ) → gid ≡ Some id → makes_group request settings ≡ true
     → is_used (used_gids files) id ≡ false)
-    → KeepsOwnIds files (useradd_script request files (plan_of request files settings)
+    → KeepsOwnIds Useradd request files (useradd_script request files (plan_of request files settings)
     (new_shadow request settings day) uid gid)
 script-ids request files settings day None gid unused_uid unused_gid =
-    gentle-ids files no_edits none-gentle
+    gentle-ids Useradd request files no_edits none-gentle
 script-ids request files settings day (Some uid) None unused_uid unused_gid =
-    gentle-ids files no_edits none-gentle
+    gentle-ids Useradd request files no_edits none-gentle
 script-ids request files settings day (Some uid) (Some gid) unused_uid unused_gid =
     add-ids request files settings day uid gid (unused_uid uid refl) (unused_gid gid refl)
 
 -- useradd under settings
 under-ids :
     (settings : List Setting) (request : Request) (files : Files) (day : ℕ)
-    → has_option (codes "o") request ≡ false
     → first_some (useradd_under settings request files day).refusals ≡ None
-    → KeepsOwnIds files (useradd_under settings request files day).script
-under-ids settings request files day shares none =
+    → KeepsOwnIds Useradd request files (useradd_under settings request files day).script
+under-ids settings request files day none =
     let passed = behind-none (useradd_checks request)
     (useradd_conflicts request files (plan_of request files settings)) none
     in script-ids request files settings day (new_uid request files settings)
     (primary_gid request files settings)
-    (λ id e. uid-unused request files settings shares id passed.1.1.1.1.0 e)
+    (λ id e shares. uid-unused request files settings id passed.1.1.1.1.0 e shares)
     (λ id e makes. primary-by request files settings id _ (makes_group request settings) makes e)
 
--- without `-o` useradd keeps UIDs and GIDs distinct
+-- useradd gives no UID to one more user, but where `-o` names it, and no GID to one more group
 pub useradd-ids :
     (request : Request) (files : Files) (settings : List Setting) (day : ℕ)
-    → has_option (codes "o") request ≡ false
     → first_some (useradd request files settings day).refusals ≡ None
-    → KeepsOwnIds files (useradd request files settings day).script
-useradd-ids request files settings day shares none =
-    under-ids (settings_for request settings) request files day shares none
+    → KeepsOwnIds Useradd request files (useradd request files settings day).script
+useradd-ids request files settings day none =
+    under-ids (settings_for request settings) request files day none

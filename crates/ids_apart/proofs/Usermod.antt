@@ -1,5 +1,5 @@
--- Claim: usermod keeps ranges apart (`usermod-ranges`), and without `-o` it keeps UIDs distinct (`usermod-ids`).
--- Way: the hash comes first and keeps all; a UID of `-u` that another user has is refused, and so is a user whose name
+-- Claim: usermod keeps ranges apart (`usermod-ranges`), and gives no UID to one more user, but where `-o` names it
+-- (`usermod-ids`). Way: the hash comes first and keeps all; a UID of `-u` that another user has is refused, and so is a user whose name
 -- stands twice.
 use Rattle.std.proofs.Common.{◌≡◌, ℕ, Bool, true, false, not, ◌&&◌, ◌||◌, List, [], ◌∷◌, ◌++◌, refl, sym, ◌∙◌, ap, subst, inl, inr, append-nil}
 use Rattle.std.specs.Prelude.{◌⊎◌, Option, Some, None, ◌==◌, codes, option_map, option_and_then, unwrap_or, if◌then◌else◌}
@@ -9,6 +9,7 @@ use Rattle.acct_text.specs.declared.files.Files.{Files}
 use Rattle.acct_text.specs.declared.Tab.TheVariants.{Passwd, Subuid, Subgid}
 use Rattle.account_model.specs.declared.records.PasswdRecord.{PasswdRecord}
 use Rattle.account_model.specs.declared.refusal.Refusal.TheVariants.{UidInUse, Multiple}
+use Rattle.account_model.specs.declared.tool.Tool.TheVariants.{Usermod}
 use Rattle.account_model.specs.Text.{first_some}
 use Rattle.account_model.specs.Format.{is_named}
 use Rattle.account_model.specs.Edits.{each_where, first_multiple}
@@ -28,13 +29,14 @@ use Rattle.account_model.specs.Usermod.{changed_user, changed_group, range_owner
 use Rattle.account_model.proofs.SameLaws.{passwd-tells}
 use Rattle.account_model.proofs.UsermodRangeScripts.{values-ordered, added-ordered}
 use Rattle.account_model.proofs.ListLaws.{all-append}
-use Rattle.ids_apart.specs.Apart.{AreApart}
-use Rattle.ids_apart.proofs.PairEdits.{KeepsPairs, StayApart, edits-keep}
-use Rattle.ids_apart.proofs.Keys.{OwnKeys, each-keep, where-keep, all-keys-keep}
+use Rattle.ids_apart.specs.Holders.{has_number, is_given}
+use Rattle.ids_apart.proofs.HolderEdits.{AddsNone, EditsMeetNoMore, none-meets}
+use Rattle.ids_apart.proofs.Keys.{has_key, each-keep, where-keep, all-keys-keep}
 use Rattle.ids_apart.proofs.Kept.{uid_key, gid_key, TableStays, KeepsRanges, KeepsOwnIds, stays-table, gentle-table}
-use Rattle.ids_apart.proofs.NewKeys.{IsFreeKey, set-keeps}
+use Rattle.ids_apart.proofs.NewKeys.{IsFreeKey, set-meets}
 use Rattle.ids_apart.proofs.Refusals.{all-none, behind-none, map-none}
-use Rattle.ids_apart.proofs.Unused.{refuse-fails, unused-all}
+use Rattle.ids_apart.proofs.Shared.{unshared}
+use Rattle.ids_apart.proofs.Unused.{refuse-fails, unused-count}
 use Rattle.ids_apart.proofs.Quiet.{IsQuiet, none-quiet, order-quiet, either-quiet, demand-shadow-quiet, user-hash-quiet}
 use Rattle.ids_apart.proofs.UsermodRanges.{ranges-stay}
 
@@ -87,14 +89,14 @@ usermod-ranges request files day none written_uids written_gids =
     (range_edits owner (subgid_change request files))
     leaves.subgid
     in record {
-      subuids = subst (TableStays subid_format AreApart files.subuid) (sym uids)
-          (ranges-stay Subuid owner (subuid_change request files) files.subuid
+      subuids = λ n. subst (TableStays subid_format (has_number n) files.subuid) (sym uids)
+          (ranges-stay n Subuid owner (subuid_change request files) files.subuid
           (values-ordered (values_of (codes "V") request))
           (added-ordered files.subuid owner (codes "V") (codes "v") request)
           (subst (AllByRecursion (IsWrittenEdit subid_format)) uids written_uids)
           passed.1.1.1.1.1.1.0);
-      subgids = subst (TableStays subid_format AreApart files.subgid) (sym gids)
-          (ranges-stay Subgid owner (subgid_change request files) files.subgid
+      subgids = λ n. subst (TableStays subid_format (has_number n) files.subgid) (sym gids)
+          (ranges-stay n Subgid owner (subgid_change request files) files.subgid
           (values-ordered (values_of (codes "W") request))
           (added-ordered files.subgid owner (codes "W") (codes "w") request)
           (subst (AllByRecursion (IsWrittenEdit subid_format)) gids written_gids)
@@ -135,75 +137,78 @@ free-by request files uid shares none =
     elim (untaken-by (is_used (used_uids files) uid) (has_option (codes "o") request)
     (is_own_uid request files uid) shares
     (refuse-fails (is_uid_taken request files uid) (UidInUse uid) none)) [
-      | inl unused ↦ inl (unused-all uid_key uid (passwd_records files) unused)
+      | inl unused ↦ inl (unused-count uid_key uid (passwd_records files) unused)
       | inr own ↦ inr (own-by uid (find_user (operand request) files) own)
     ]
 
 module _ (request : Request) (files : Files) where
   -- the users, by the UID that is given
   users-by :
-      (given : Option ℕ)
+      (id : ℕ) (given : Option ℕ)
       → given_uid request ≡ given
-      → has_option (codes "o") request ≡ false
+      → (has_option (codes "o") request && is_given id given) ≡ false
       → option_and_then (λ uid. refuse_if (is_uid_taken request files uid) (UidInUse uid)) given
       ≡ None
       → first_multiple passwd_format
       ((hash_script request files).passwd
       ++ each_where (is_named passwd_format (operand request)) (changed_user request files) ∷ [])
       (passwd_records files) ≡ None
-      → StayApart passwd_format (OwnKeys uid_key) (passwd_records files)
+      → EditsMeetNoMore passwd_format (has_key uid_key id) (passwd_records files)
       ((hash_script request files).passwd
       ++ each_where (is_named passwd_format (operand request)) (changed_user request files) ∷ [])
-  users-by None is shares none single each =
+  users-by id None is shares none single =
       let edit = each_where (is_named passwd_format (operand request)) (changed_user request files)
-      in edits-keep passwd_format (OwnKeys uid_key)
+      in none-meets passwd_format (has_key uid_key id)
       ((hash_script request files).passwd ++ edit ∷ [])
-      (all-append (KeepsPairs passwd_format (OwnKeys uid_key)) (hash_script request files).passwd
+      (all-append (AddsNone passwd_format (has_key uid_key id)) (hash_script request files).passwd
       (edit ∷ [])
-      (all-keys-keep passwd_format uid_key (hash_script request files).passwd
+      (all-keys-keep passwd_format uid_key id (hash_script request files).passwd
       (hash-quiet request files).passwd) (
-        where-keep passwd_format uid_key (is_named passwd_format (operand request))
+        where-keep passwd_format uid_key id (is_named passwd_format (operand request))
             (changed_user request files)
             (λ r. ap (λ uid. unwrap_or uid r.uid) is),
         tt,
       ))
-      (passwd_records files) each
-  users-by (Some uid) is shares none single each =
-      set-keeps passwd_format passwd-tells uid_key (operand request) uid
+      (passwd_records files)
+  users-by id (Some uid) is shares none single =
+      set-meets passwd_format passwd-tells uid_key (operand request) uid
       (changed_user request files)
       (λ r. ap (λ new. unwrap_or new r.uid) is)
-      (hash_script request files).passwd [] (hash-quiet request files).passwd (passwd_records files)
-      (free-by request files uid shares none) single tt each
+      (hash_script request files).passwd [] (hash-quiet request files).passwd id
+      (passwd_records files)
+      (λ same. free-by request files uid
+      (unshared (has_option (codes "o") request) uid id same shares) none)
+      single tt
 
   -- the groups keep their GIDs
   kept-groups :
-      AllByRecursion (KeepsPairs group_format (OwnKeys gid_key))
+      (id : ℕ)
+      → AllByRecursion (AddsNone group_format (has_key gid_key id))
       (usermod_script request files 0).group
-  kept-groups = all-append (KeepsPairs group_format (OwnKeys gid_key))
+  kept-groups id = all-append (AddsNone group_format (has_key gid_key id))
       (hash_script request files).group _
-      (all-keys-keep group_format gid_key (hash_script request files).group
+      (all-keys-keep group_format gid_key id (hash_script request files).group
       (hash-quiet request files).group)
-      (each-keep group_format gid_key (changed_group request files) (λ r. refl), tt)
+      (each-keep group_format gid_key id (changed_group request files) (λ r. refl), tt)
 
--- without `-o` usermod keeps UIDs and GIDs distinct
+-- usermod gives no UID to one more user, but where `-o` names it, and leaves GIDs
 pub usermod-ids :
     (request : Request) (files : Files) (day : ℕ)
-    → has_option (codes "o") request ≡ false
     → first_some (usermod request files day).refusals ≡ None
     → multiple_entries (usermod request files day).script files ≡ None
-    → KeepsOwnIds files (usermod request files day).script
-usermod-ids request files day shares none multiple =
+    → KeepsOwnIds Usermod request files (usermod request files day).script
+usermod-ids request files day none multiple =
     let passed = behind-none (usermod_checks request) (usermod_conflicts request files) none
     in let single = all-none
     (multiple_in Passwd passwd_format (usermod request files day).script.passwd
     (passwd_records files)
     ∷ _ ∷ _ ∷ _ ∷ []) multiple
     in record {
-      uids = stays-table passwd_format (OwnKeys uid_key) files.passwd
+      uids = λ uid shares. stays-table passwd_format (has_key uid_key uid) files.passwd
           (usermod request files day).script.passwd
-          (users-by request files (given_uid request) refl shares passed.1.1.0
+          (users-by request files uid (given_uid request) refl shares passed.1.1.0
           (map-none (λ name. Multiple Passwd name) _ single.0));
-      gids = gentle-table group_format (OwnKeys gid_key) files.group
+      gids = λ gid shares. gentle-table group_format (has_key gid_key gid) files.group
           (usermod request files day).script.group
-          (kept-groups request files);
+          (kept-groups request files gid);
     }

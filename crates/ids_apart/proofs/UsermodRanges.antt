@@ -1,10 +1,9 @@
--- Claim: usermod keeps ranges apart (`ranges-stay`). Way: what is left of a range lies in it (`cut-keeps`), and a new range
--- that meets a line, as the lines then stand, is refused (`adds-stay`).
+-- Claim: usermod gives no number to one more range that is in one (`ranges-stay`). Way: what is left of a range lies in it
+-- (`cut-keeps`), and a new range that meets a line, as the lines then stand, is refused (`adds-stay`).
 use Rattle.std.proofs.Common.{◌≡◌, ℕ, ◌+◌, ◌-◌, ◌≤◌, ◌<◌, min, max, Bool, true, false, List, [], ◌∷◌, ◌++◌, map, refl, sym, ◌∙◌, ap, subst, arith}
-use Rattle.std.specs.Prelude.{Option, Some, None, cond, fold, nat_lt, if◌then◌else◌}
+use Rattle.std.specs.Prelude.{Option, Some, None, cond, count_by, fold, nat_lt, if◌then◌else◌}
 use Rattle.std.specs.List.{AllByRecursion, position_from, cons_option, list_any}
 use Rattle.std.proofs.lemmas.Bool.{ltb-true, or_from}
-use Rattle.std.proofs.lemmas.List.Sums.{fold-append}
 use Rattle.acct_text.specs.declared.Tab.{Tab}
 use Rattle.acct_text.specs.Lines.{Line, lines_of, file_bytes}
 use Rattle.acct_text.proofs.LinesLaws.{lines_of-only}
@@ -15,169 +14,139 @@ use Rattle.account_model.specs.Format.{records_of, is_named}
 use Rattle.account_model.specs.Edits.{Edit, with_line, edited_by}
 use Rattle.account_model.specs.Records.{subid_format, last_id}
 use Rattle.account_model.specs.RecordEdits.{records_edited, IsWrittenEdit}
-use Rattle.account_model.specs.FreeRange.{Meeting, meets}
-use Rattle.account_model.specs.SubidOwner.{is_owned, left_below, left_above, left_without}
+use Rattle.account_model.specs.FreeRange.{meets}
+use Rattle.account_model.specs.SubidOwner.{is_owned, left_without}
 use Rattle.account_model.specs.UsermodRanges.{IdRange, RangeOwner, RangeChange, rename_owner, cut_range, add_range, edits_before_adding, range_edits, line_meets, first_meeting, meeting_in}
 use Rattle.account_model.proofs.FreeRangeLaws.{apart-is}
 use Rattle.account_model.proofs.SameLaws.{subid-tells}
 use Rattle.account_model.proofs.EditLines.{edited-lines, table-edited}
 use Rattle.account_model.proofs.UsermodRangeScripts.{IsOrdered}
-use Rattle.account_model.proofs.ListLaws.{all-append}
-use Rattle.ids_apart.specs.Apart.{AreApart}
-use Rattle.ids_apart.proofs.Pairs.{EachTwo, all-then, each-push, each-flat_map}
-use Rattle.ids_apart.proofs.PairEdits.{KeepsPairs, StayApart, edits-keep, each-keeps}
+use Rattle.ids_apart.specs.Holders.{has_number}
+use Rattle.ids_apart.proofs.Counts.{cond-le, cond-two, count-becomes, count-more, push-meets}
+use Rattle.ids_apart.proofs.HolderEdits.{AddsNone, EditsMeetNoMore, before-meets, each-adds-none}
 use Rattle.ids_apart.proofs.Kept.{TableStays}
+use Rattle.ids_apart.proofs.Numbers.{has-number, number-in, unmet-count}
 
 -- ---- The owner
 
--- two ranges, whoever owns them
-renamed-apart :
-    (name : List ℕ) (r s : SubidRecord) (first second : Bool)
-    → AreApart r s
-    → AreApart (if first then record r { owner = name } else r)
-    (if second then record s { owner = name } else s)
-renamed-apart name r s true true apart meeting = apart
-    (record { begins_before = meeting.begins_before; ends_behind = meeting.ends_behind })
-renamed-apart name r s true false apart meeting = apart
-    (record { begins_before = meeting.begins_before; ends_behind = meeting.ends_behind })
-renamed-apart name r s false true apart meeting = apart
-    (record { begins_before = meeting.begins_before; ends_behind = meeting.ends_behind })
-renamed-apart name r s false false apart meeting = apart meeting
+-- a range has its numbers, whoever owns it
+renamed-has :
+    (number : ℕ) (name : List ℕ) (r : SubidRecord) (renames : Bool)
+    → has_number number (if renames then record r { owner = name } else r) ≡ true
+    → has_number number r ≡ true
+renamed-has number name r true has = has
+renamed-has number name r false has = has
 
 -- the owner field follows the name
-rename-keeps : (owner : RangeOwner) → KeepsPairs subid_format AreApart (rename_owner owner)
-rename-keeps owner = each-keeps subid_format AreApart
+rename-keeps :
+    (number : ℕ) (owner : RangeOwner)
+    → AddsNone subid_format (has_number number) (rename_owner owner)
+rename-keeps number owner = each-adds-none subid_format (has_number number)
     (λ r. if is_named subid_format owner.old_name r then record r { owner = owner.new_name } else r)
-    (λ r s apart. renamed-apart owner.new_name r s (is_named subid_format owner.old_name r)
-    (is_named subid_format owner.old_name s) apart)
+    (λ r. renamed-has number owner.new_name r (is_named subid_format owner.old_name r))
 
 -- ---- What is left of a range
 
--- a range within another
-record LiesIn (r piece : SubidRecord) : Type 0 where
-  low : r.first ≤ piece.first
-  high : last_id piece ≤ last_id r
+module _ (number first last : ℕ) (r : SubidRecord) where
+  -- the part below
+  abbrev below : SubidRecord
+  below = record r { count = min (last_id r + 1) first - r.first }
 
--- ranges within two that are apart are apart
-within-apart :
-    (r s piece other : SubidRecord)
-    → AreApart r s
-    → LiesIn r piece
-    → LiesIn s other
-    → AreApart piece other
-within-apart r s piece other apart one two meeting =
-    let low : r.first ≤ piece.first = one.low
-    in let high : last_id piece ≤ last_id r = one.high
-    in let other_low : s.first ≤ other.first = two.low
-    in let other_high : last_id other ≤ last_id s = two.high
-    in let before : other.first ≤ last_id piece = meeting.begins_before
-    in let behind : piece.first ≤ last_id other = meeting.ends_behind
-    in apart (record { begins_before = omega arith; ends_behind = omega arith })
+  -- the part above
+  abbrev above : SubidRecord
+  above = record r {
+    first = max r.first (last + 1);
+    count = last_id r + 1 - max r.first (last + 1);
+  }
 
--- the part below
-below-lies :
-    (first : ℕ) (r : SubidRecord) (before : Bool)
-    → nat_lt r.first first ≡ before
-    → AllByRecursion (LiesIn r)
-    (if before then record r { count = min (last_id r + 1) first - r.first } ∷ [] else [])
-below-lies first r false is = tt
-below-lies first r true is =
-    let less : r.first < first = ltb-true r.first first is
-    in (record { low = omega arith; high = omega arith }, tt)
+  -- a number of the part below is one of the range, before the first that goes
+  below-has :
+      nat_lt r.first first ≡ true
+      → has_number number below ≡ true
+      → (has_number number r ≡ true) × (number < first)
+  below-has before has =
+      let less : r.first < first = ltb-true r.first first before
+      in let is = number-in number below has
+      in let low : r.first ≤ number = is.0
+      in let high : number ≤ r.first + (min (last_id r + 1) first - r.first) - 1 = is.1
+      in (has-number number r low (omega arith), omega arith)
 
--- the part above
-above-lies :
-    (last : ℕ) (r : SubidRecord) (behind : Bool)
-    → nat_lt last (last_id r) ≡ behind
-    → AllByRecursion (LiesIn r) (if behind
-    then record r
-    { first = max r.first (last + 1); count = last_id r + 1 - max r.first (last + 1) } ∷ []
-    else [])
-above-lies last r false is = tt
-above-lies last r true is =
-    let less : last < last_id r = ltb-true last (last_id r) is
-    in (record { low = omega arith; high = omega arith }, tt)
+  -- a number of the part above is one of the range, behind the last that goes
+  above-has :
+      nat_lt last (last_id r) ≡ true
+      → has_number number above ≡ true
+      → (has_number number r ≡ true) × (last < number)
+  above-has behind has =
+      let less : last < last_id r = ltb-true last (last_id r) behind
+      in let is = number-in number above has
+      in let low : max r.first (last + 1) ≤ number = is.0
+      in let high : number ≤ max r.first (last + 1)
+      + (last_id r + 1 - max r.first (last + 1)) - 1 = is.1
+      in (has-number number r (omega arith) (omega arith), omega arith)
+
+  -- of both parts together at most one has a number, and only where the range has it
+  left-count :
+      (before behind : Bool)
+      → first ≤ last
+      → nat_lt r.first first ≡ before
+      → nat_lt last (last_id r) ≡ behind
+      → count_by (has_number number)
+      ((if before then below ∷ [] else []) ++ (if behind then above ∷ [] else []))
+      ≤ cond (has_number number r) 1 0
+  left-count false false order is also = omega arith
+  left-count true false order is also =
+      omega (
+        arith,
+        count-more (has_number number) below [],
+        cond-le (has_number number below) (has_number number r) (λ has. (below-has is has).0),
+      )
+  left-count false true order is also =
+      omega (
+        arith,
+        count-more (has_number number) above [],
+        cond-le (has_number number above) (has_number number r) (λ has. (above-has also has).0),
+      )
+  left-count true true order is also =
+      omega (
+        arith,
+        count-more (has_number number) below (above ∷ []),
+        count-more (has_number number) above [],
+        cond-two (has_number number below) (has_number number above) (has_number number r)
+            (λ has. (below-has is has).0) (λ has. (above-has also has).0)
+            (λ has too. apart (below-has is has).1 (above-has also too).1),
+      )
+    where
+      apart : number < first → last < number → ⊥
+      apart less greater = absurd (omega (arith, less, greater, order))
 
 -- a range that may be cut
-left-lies :
-    (ids : IdRange) (r : SubidRecord) (owned : Bool)
-    → AllByRecursion (LiesIn r) (if owned then left_without ids.first ids.last r else r ∷ [])
-left-lies ids r true = all-append (LiesIn r) (left_below ids.first r) (left_above ids.last r)
-    (below-lies ids.first r (nat_lt r.first ids.first) refl)
-    (above-lies ids.last r (nat_lt ids.last (last_id r)) refl)
-left-lies ids r false = (record { low = omega arith; high = omega arith }, tt)
-
--- the parts below and above are apart
-left-apart :
-    (first last : ℕ) (r : SubidRecord) (before behind : Bool)
-    → first ≤ last
-    → nat_lt r.first first ≡ before
-    → nat_lt last (last_id r) ≡ behind
-    → EachTwo AreApart
-    ((if before then record r { count = min (last_id r + 1) first - r.first } ∷ [] else [])
-    ++ (if behind
-    then record r
-    { first = max r.first (last + 1); count = last_id r + 1 - max r.first (last + 1) } ∷ []
-    else []))
-left-apart first last r false false order is also = tt
-left-apart first last r false true order is also = (tt, tt)
-left-apart first last r true false order is also = (tt, tt)
-left-apart first last r true true order is also =
-    let less : r.first < first = ltb-true r.first first is
-    in (
-      (
-        (λ meeting.
-            let meets : max r.first (last + 1) ≤ r.first +
-            (min (last_id r + 1) first - r.first) - 1 =
-            meeting.begins_before
-            in absurd (omega arith)),
-        tt,
-      ),
-      (tt, tt),
-    )
-
--- what is left of a range that may be cut is apart
-cut-within :
-    (ids : IdRange) (r : SubidRecord) (owned : Bool)
+cut-count :
+    (number : ℕ) (ids : IdRange) (r : SubidRecord) (owned : Bool)
     → ids.first ≤ ids.last
-    → EachTwo AreApart (if owned then left_without ids.first ids.last r else r ∷ [])
-cut-within ids r true order = left-apart ids.first ids.last r (nat_lt r.first ids.first)
-    (nat_lt ids.last (last_id r)) order refl refl
-cut-within ids r false order = (tt, tt)
+    → count_by (has_number number)
+    (if owned then left_without ids.first ids.last r else r ∷ [])
+    ≤ cond (has_number number r) 1 0
+cut-count number ids r true order = left-count number ids.first ids.last r
+    (nat_lt r.first ids.first) (nat_lt ids.last (last_id r)) order refl refl
+cut-count number ids r false order = omega (arith, count-more (has_number number) r [])
 
--- pieces of two ranges that are apart
-cut-between :
-    (r s : SubidRecord) (pieces others : List SubidRecord)
-    → AreApart r s
-    → AllByRecursion (LiesIn r) pieces
-    → AllByRecursion (LiesIn s) others
-    → AllByRecursion (λ piece. AllByRecursion (AreApart piece) others) pieces
-cut-between r s pieces others apart lie also_lie =
-    all-then (LiesIn r) (λ piece. AllByRecursion (AreApart piece) others) pieces
-    (λ piece one. all-then (LiesIn s) (AreApart piece) others
-    (λ other two. within-apart r s piece other apart one two) also_lie) lie
-
--- a range that is cut keeps all apart
+-- a range that is cut gives no number to one more
 cut-keeps :
-    (owner : RangeOwner) (ids : IdRange)
+    (number : ℕ) (owner : RangeOwner) (ids : IdRange)
     → ids.first ≤ ids.last
-    → KeepsPairs subid_format AreApart (cut_range owner ids)
-cut-keeps owner ids order rs each = each-flat_map AreApart
+    → AddsNone subid_format (has_number number) (cut_range owner ids)
+cut-keeps number owner ids order rs = count-becomes (has_number number)
     (λ r. if is_owned owner.new_name owner.uid r then left_without ids.first ids.last r else r ∷ [])
-    (λ r s apart. cut-between r s _ _ apart
-    (left-lies ids r (is_owned owner.new_name owner.uid r))
-    (left-lies ids s (is_owned owner.new_name owner.uid s)))
-    (λ r. cut-within ids r (is_owned owner.new_name owner.uid r) order)
-    rs each
+    (λ r. cut-count number ids r (is_owned owner.new_name owner.uid r) order) rs
 
 -- and so do all that go
 cuts-keep :
-    (owner : RangeOwner) (ranges : List IdRange)
+    (number : ℕ) (owner : RangeOwner) (ranges : List IdRange)
     → AllByRecursion IsOrdered ranges
-    → AllByRecursion (KeepsPairs subid_format AreApart) (map (cut_range owner) ranges)
-cuts-keep owner [] all = tt
-cuts-keep owner (ids ∷ ranges) all =
-    (cut-keeps owner ids all.0.ordered, cuts-keep owner ranges all.1)
+    → AllByRecursion (AddsNone subid_format (has_number number)) (map (cut_range owner) ranges)
+cuts-keep number owner [] all = tt
+cuts-keep number owner (ids ∷ ranges) all =
+    (cut-keeps number owner ids all.0.ordered, cuts-keep number owner ranges all.1)
 
 -- ---- New ranges
 
@@ -232,18 +201,18 @@ abbrev added_record : RangeOwner → IdRange → SubidRecord
 added_record owner ids =
     record { owner = owner.new_name; first = ids.first; count = ids.last + 1 - ids.first }
 
--- a range that meets none is apart from them
-added-apart :
-    (owner : RangeOwner) (ids : IdRange) (rs : List SubidRecord)
+-- a range that meets none gives its numbers to one alone
+added-meets :
+    (number : ℕ) (owner : RangeOwner) (ids : IdRange) (rs : List SubidRecord)
     → ids.first ≤ ids.last
     → list_any (meets ids.first ids.last) rs ≡ false
-    → EachTwo AreApart rs
-    → EachTwo AreApart (rs ++ added_record owner ids ∷ [])
-added-apart owner ids rs order none each = each-push AreApart rs (added_record owner ids) each
-    (all-then (λ r. Meeting ids.first ids.last r → ⊥) (λ r. AreApart r (added_record owner ids)) rs
-    (λ r apart meeting.
-    let behind : r.first ≤ ids.first + (ids.last + 1 - ids.first) - 1 = meeting.ends_behind
-    in apart (record { begins_before = omega arith; ends_behind = meeting.begins_before }))
+    → count_by (has_number number) (rs ++ added_record owner ids ∷ [])
+    ≤ max 1 (count_by (has_number number) rs)
+added-meets number owner ids rs order none =
+    push-meets (has_number number) rs (added_record owner ids) (λ has.
+    let is = number-in number (added_record owner ids) has
+    in let high : number ≤ ids.first + (ids.last + 1 - ids.first) - 1 = is.1
+    in unmet-count number ids.first ids.last rs is.0 (omega (arith, high, order))
     (apart-is ids.first ids.last rs none))
 
 -- the first meeting is none
@@ -257,26 +226,27 @@ meeting-by :
 meeting-by table ids None rest none = (refl, none)
 meeting-by table ids (Some number) rest none = cc
 
--- new ranges that aren't refused keep all apart
+-- new ranges that aren't refused
 adds-stay :
-    (table : Tab) (owner : RangeOwner) (added : List IdRange) (lines : List Line)
+    (number : ℕ) (table : Tab) (owner : RangeOwner) (added : List IdRange) (lines : List Line)
     → AllByRecursion IsOrdered added
     → AllByRecursion (IsWrittenEdit subid_format) (map (add_range owner) added)
     → first_meeting table owner added lines ≡ None
-    → StayApart subid_format AreApart (records_of subid_format lines) (map (add_range owner) added)
-adds-stay table owner [] lines order written none each = each
-adds-stay table owner (ids ∷ added) lines order written none each =
+    → EditsMeetNoMore subid_format (has_number number) (records_of subid_format lines)
+    (map (add_range owner) added)
+adds-stay number table owner [] lines order written none = omega arith
+adds-stay number table owner (ids ∷ added) lines order written none =
     let new = added_record owner ids
     in let more = with_line (subid_format.print new) lines
     in let parts = meeting-by table ids (position_from (line_meets ids) 1 lines)
     (first_meeting table owner added more) none
     in let same = with-line-records (subid_format.print new) lines new written.0.reads
-    in let apart = added-apart owner ids (records_of subid_format lines) order.0.ordered
-    (none-meets ids 1 lines parts.0) each
-    in subst (λ (rs : List SubidRecord). EachTwo AreApart
-    (fold (records_edited subid_format) rs (map (add_range owner) added))) same
-    (adds-stay table owner added more order.1 written.1 parts.1
-    (subst (EachTwo AreApart) (sym same) apart))
+    in let one = added-meets number owner ids (records_of subid_format lines) order.0.ordered
+    (none-meets ids 1 lines parts.0)
+    in let rest = subst (λ (rs : List SubidRecord).
+    EditsMeetNoMore subid_format (has_number number) rs (map (add_range owner) added)) same
+    (adds-stay number table owner added more order.1 written.1 parts.1)
+    in omega (arith, one, rest)
 
 -- ---- The whole
 
@@ -304,27 +274,24 @@ records-after edits text written =
     (lines_of-only (file_bytes lines) lines (edited-lines subid_format refl edits text written)))
     ∙ table-edited subid_format subid-tells refl edits text written
 
--- the ranges that go and those that come keep all apart
+-- the ranges that go and those that come
 pub ranges-stay :
-    (table : Tab) (owner : RangeOwner) (change : RangeChange) (bytes : Option (List ℕ))
+    (number : ℕ) (table : Tab) (owner : RangeOwner) (change : RangeChange)
+    (bytes : Option (List ℕ))
     → AllByRecursion IsOrdered change.removed
     → AllByRecursion IsOrdered change.added
     → AllByRecursion (IsWrittenEdit subid_format) (range_edits owner change)
     → meeting_in table owner change bytes ≡ None
-    → TableStays subid_format AreApart bytes (range_edits owner change)
-ranges-stay table owner change None removed added written none = tt
-ranges-stay table owner change (Some text) removed added written none = λ each.
+    → TableStays subid_format (has_number number) bytes (range_edits owner change)
+ranges-stay number table owner change None removed added written none = tt
+ranges-stay number table owner change (Some text) removed added written none =
     let before = edits_before_adding owner change
     in let adds = map (add_range owner) change.added
     in let records = records_of subid_format (lines_of text)
     in let same = records-after before text
     (all-front (IsWrittenEdit subid_format) before adds written)
-    in let kept = edits-keep subid_format AreApart before
-    (rename-keeps owner, cuts-keep owner change.removed removed) records each
-    in subst (EachTwo AreApart)
-    (sym (fold-append (records_edited subid_format) records before adds))
-    (subst (λ (rs : List SubidRecord). EachTwo AreApart
-    (fold (records_edited subid_format) rs adds)) same
-    (adds-stay table owner change.added (edited_by subid_format before (lines_of text)) added
-    (all-back (IsWrittenEdit subid_format) before adds written) none
-    (subst (EachTwo AreApart) (sym same) kept)))
+    in before-meets subid_format (has_number number) before adds records
+    (rename-keeps number owner, cuts-keep number owner change.removed removed)
+    (subst (λ (rs : List SubidRecord). EditsMeetNoMore subid_format (has_number number) rs adds) same
+    (adds-stay number table owner change.added (edited_by subid_format before (lines_of text)) added
+    (all-back (IsWrittenEdit subid_format) before adds written) none))
