@@ -16,7 +16,7 @@ use Rattle.account_model.specs.Laws.{DoneLinesStay, LeavesAll}
 use Rattle.account_model.specs.Change.{action_of}
 
 -- what is wrapped in `Ok`
-ok-inj :
+pub ok-inj :
     {X Y : Type 0} {x y : X} (one two : Result X Y)
     → one ≡ Ok x
     → two ≡ Ok y
@@ -73,13 +73,13 @@ outcome-made action files made is = made-by action files made (first_some action
 -- ---- The lines
 
 -- the line is carried out, and those behind it
-record LineCarried (outcome : Result Made Refusal) (rest : Files → Result Written LineRefusal)
+pub record LineCarried (outcome : Result Made Refusal) (rest : Files → Result Written LineRefusal)
     (written : Written) : Type 0 where
-  made : Made
-  is : outcome ≡ Ok made
-  others : Written
-  behind : rest made.files ≡ Ok others
-  files : others.files ≡ written.files
+  pub made : Made
+  pub is : outcome ≡ Ok made
+  pub others : Written
+  pub behind : rest made.files ≡ Ok others
+  pub files : others.files ≡ written.files
 
 -- those behind it, by their outcome
 others-carried :
@@ -98,7 +98,7 @@ others-carried made first written rest (Ok others) behind is = record {
 }
 
 -- a line, by its outcome
-line-carried :
+pub line-carried :
     (line : LineRequest) (outcome : Result Made Refusal)
     (rest : Files → Result Written LineRefusal) (written : Written)
     → with_rest line outcome rest ≡ Ok written

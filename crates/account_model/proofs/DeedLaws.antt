@@ -142,6 +142,7 @@ pub record IsByLines (request : Request) (input : List ℕ) (day : ℕ) (old : F
 -- the request's tool makes them
 pub record IsByTool (request : Request) (input : List ℕ) (day : ℕ) (old : Files)
     (settings : List Setting) (new : Files) : Type 0 where
+  pub is : is_batch request.tool ≡ false
   pub made : Made
   pub outcome : outcome_of (action_of request input day old settings) old ≡ Ok made
   pub files : made.files ≡ new
@@ -194,14 +195,15 @@ module _ (request : Request) (input : List ℕ) (day : ℕ) (old : Files) (setti
   -- another tool, by its outcome
   tool-makes :
       (outcome : Result Made Refusal)
+      → is_batch request.tool ≡ false
       → outcome_of (action_of request input day old settings) old ≡ outcome
       → new_files (answer_outcome request.tool old outcome).cause ≡ Some new
       → IsMadeNew × IsOther old new
-  tool-makes (Err refusal) outcome e = absurd (cc)
-  tool-makes (Ok made) outcome e =
+  tool-makes (Err refusal) is outcome e = absurd (cc)
+  tool-makes (Ok made) is outcome e =
       let parts = written-is request.tool old new (written_by request.tool made)
       (new_problem made.files) (files_eq old made.files) refl refl e
-      in (inr (record { made = made; outcome = outcome; files = parts.0 }), parts.1)
+      in (inr (record { is = is; made = made; outcome = outcome; files = parts.0 }), parts.1)
 
   -- by whether the request is a batch
   under-makes :
@@ -215,7 +217,7 @@ module _ (request : Request) (input : List ℕ) (day : ℕ) (old : Files) (setti
   under-makes true is e =
       lines-make (batch (ensures request) (line_requests input) day settings old) is refl e
   under-makes false is e =
-      tool-makes (outcome_of (action_of request input day old settings) old) refl e
+      tool-makes (outcome_of (action_of request input day old settings) old) is refl e
 
   -- by the problem of the files
   answer-makes :
@@ -228,14 +230,22 @@ module _ (request : Request) (input : List ℕ) (day : ℕ) (old : Files) (setti
   answer-makes (Some p) e = absurd (cc)
   answer-makes None e = under-makes (is_batch request.tool) refl e
 
--- a batch of which no line is faulty isn't one that is refused for it
-faultless-batch :
+-- what isn't there, where it is asked for
+none-faulty :
     {X : Type 0} (faulty : Option X) (batch : Bool)
     → (batch ≡ true → faulty ≡ None)
     → (is_some faulty && batch) ≡ false
-faultless-batch None batch asks = refl
-faultless-batch (Some line) false asks = refl
-faultless-batch (Some line) true asks = let none = asks refl in absurd (cc)
+none-faulty None batch asks = refl
+none-faulty (Some line) false asks = refl
+none-faulty (Some line) true asks = let none = asks refl in absurd (cc)
+
+-- a batch of which each line asks for something isn't a faulty one
+pub faultless-batch :
+    (request : Request) (input : List ℕ)
+    → (is_batch request.tool ≡ true → first_faulty input ≡ None)
+    → is_faulty_batch request input ≡ false
+faultless-batch request input asks =
+    none-faulty (first_faulty input) (is_batch request.tool) asks
 
 -- a deed is what the answer changes
 pub deed-changes :
@@ -263,7 +273,7 @@ pub faultless-deed :
 faultless-deed request input day old defs asks =
     ap (λ (faulty : Bool).
     if faulty then None else new_files (answer request input day old defs).cause)
-    (faultless-batch (first_faulty input) (is_batch request.tool) asks)
+    (faultless-batch request input asks)
 
 -- an answer's new files are made by the lines of a batch, or by the tool
 pub changes-makes :

@@ -49,6 +49,8 @@ pub mod OtherText
 pub mod NoEdits
 pub mod TouchedLaws
 pub mod UntouchedLaws
+pub mod TextTimes
+pub mod UntouchedDeeds
 pub mod FormatLaws
 pub mod NamingLaws
 pub mod TextLaws

@@ -76,7 +76,7 @@ weaker-within strong weak (line ∷ lines) weaker =
     (weaker-within strong weak lines weaker)
 
 -- the lines that pass a test are within all
-filter-within :
+pub filter-within :
     (test : Line → Bool) (lines : List Line)
     → IsWithin (texts_of (filter test lines)) (texts_of lines)
 filter-within test [] = ends
@@ -393,7 +393,7 @@ either-within format edits few a b false in_a in_b = in_b
 -- ---- All edits
 
 -- what all edits leave untouched, the first edit leaves to the others
-step-within :
+pub step-within :
     {R : Type 0} (format : Format R)
     → TellsSame format
     → (edit : Edit R) (edits : List (Edit R)) (lines : List Line)

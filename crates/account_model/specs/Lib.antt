@@ -41,6 +41,7 @@ pub mod RecordEdits
 pub mod Faults
 pub mod WrittenScript
 pub mod TouchedLines
+pub mod DeedLines
 pub mod LineFormat
 pub mod Naming
 pub mod ChoiceLaws
