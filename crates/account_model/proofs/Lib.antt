@@ -51,6 +51,12 @@ pub mod TouchedLaws
 pub mod UntouchedLaws
 pub mod TextTimes
 pub mod UntouchedDeeds
+pub mod NamedLaws
+pub mod NamedParts
+pub mod NamedUsers
+pub mod NamedTools
+pub mod NamedDeeds
+pub mod UnnamedLines
 pub mod FormatLaws
 pub mod NamingLaws
 pub mod TextLaws

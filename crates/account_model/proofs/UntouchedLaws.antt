@@ -22,7 +22,7 @@ within-itself [] = ends
 within-itself (text ∷ texts) = keeps (within-itself texts)
 
 -- what stands within texts that stand within others, stands within the others
-within-within :
+pub within-within :
     {few some many : List (List ℕ)}
     → IsWithin few some
     → IsWithin some many
@@ -66,7 +66,7 @@ line-by false true line xs ys kept within = skips within
 line-by false false line xs ys kept within = within
 
 -- the lines that pass a test are within those that pass a weaker one
-weaker-within :
+pub weaker-within :
     (strong weak : Line → Bool) (lines : List Line)
     → ((line : Line) → strong line ≡ true → weak line ≡ true)
     → IsWithin (texts_of (filter strong lines)) (texts_of (filter weak lines))

@@ -42,6 +42,7 @@ pub mod Faults
 pub mod WrittenScript
 pub mod TouchedLines
 pub mod DeedLines
+pub mod NamedLines
 pub mod LineFormat
 pub mod Naming
 pub mod ChoiceLaws

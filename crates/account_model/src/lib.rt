@@ -27,7 +27,7 @@ mod words_of;
 
 pub use choice_laws::{ids_are_chosen, ranges_are_found};
 pub use date_laws::{days_are_counted, days_have_dates};
-pub use deed_lines::deeds_leave_untouched;
+pub use deed_lines::{deeds_leave_unnamed, deeds_leave_untouched};
 pub use fault::LineFault;
 pub use given::Given;
 pub use laws::{deeds_are_changes, done_lines_stay, reports_are_whole, tools_are_written};
