@@ -51,6 +51,9 @@ pub mod TouchedLaws
 pub mod UntouchedLaws
 pub mod TextTimes
 pub mod UntouchedDeeds
+pub mod LineTools
+pub mod OrderScripts
+pub mod OrderTools
 pub mod NamedLaws
 pub mod NamedParts
 pub mod NamedUsers

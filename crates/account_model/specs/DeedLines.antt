@@ -1,6 +1,6 @@
 -- Which lines of the six tables a deed leaves: its edits are those of its tool, or of the commands of a
 -- batch one after another, and each line that they don't touch stays byte for byte.
-use Rattle.std.specs.Prelude.{◌≡◌, ℕ, ◌≤◌, List, [], ◌∷◌, count_by, bytes_eq, Option, Some, None, unwrap_or, Result, ⊤, if◌then◌else◌}
+use Rattle.std.specs.Prelude.{◌≡◌, ℕ, ◌≤◌, Bool, false, codes, List, [], ◌∷◌, count_by, bytes_eq, Option, Some, None, unwrap_or, Result, ⊤, if◌then◌else◌}
 use Rattle.std.specs.declared.result.Result.TheVariants.{Ok, Err}
 use Rattle.std.specs.List.{AllByRecursion}
 use Rattle.acct_text.specs.declared.files.Files.{Files}
@@ -13,7 +13,9 @@ use Rattle.account_model.specs.WrittenScript.{IsWrittenScript}
 use Rattle.account_model.specs.TouchedLines.{KeepsOrder, IsWithin, untouched_texts}
 use Rattle.account_model.specs.declared.refusal.Refusal.{Refusal}
 use Rattle.account_model.specs.Settings.{Setting, settings_of}
-use Rattle.account_model.specs.Request.{Request}
+use Rattle.account_model.specs.declared.tool.Tool.{Tool}
+use Rattle.account_model.specs.declared.tool.Tool.TheVariants.{Pwck, Grpck}
+use Rattle.account_model.specs.Request.{Request, has_option}
 use Rattle.account_model.specs.Words.{is_batch}
 use Rattle.account_model.specs.Action.{Action, Made, outcome_of}
 use Rattle.account_model.specs.Change.{action_of}
@@ -107,3 +109,30 @@ DeedsLeaveUntouched = (request : Request) (input : List ℕ) (day : ℕ) (old : 
     (defs : Option (List ℕ)) (new : Files) → day ≤ greatest_days
     → deed request input day old defs ≡ Some new
     → IsByEdits (edits_of_deed request input day old defs) old new
+
+-- ---- The order
+
+-- the tool is asked to sort
+abbrev pub sorts_by : Tool → Request → Bool
+sorts_by Pwck request = has_option (codes "s") request
+sorts_by Grpck request = has_option (codes "s") request
+sorts_by tool request = false
+
+-- the command sorts: `pwck -s` and `grpck -s`, which no line of a batch is (pwck(8), grpck(8))
+abbrev pub is_sort : Request → Bool
+is_sort request = sorts_by request.tool request
+
+-- no edit sorts
+pub record KeepOrder (edits : Script) : Type 0 where
+  pub passwd : AllByRecursion KeepsOrder edits.passwd
+  pub shadow : AllByRecursion KeepsOrder edits.shadow
+  pub group : AllByRecursion KeepsOrder edits.group
+  pub gshadow : AllByRecursion KeepsOrder edits.gshadow
+  pub subuid : AllByRecursion KeepsOrder edits.subuid
+  pub subgid : AllByRecursion KeepsOrder edits.subgid
+
+-- so it is with each deed of a command that doesn't sort
+abbrev pub DeedsKeepOrder : Type 0
+DeedsKeepOrder = (request : Request) (input : List ℕ) (day : ℕ) (old : Files)
+    (defs : Option (List ℕ)) → is_sort request ≡ false
+    → KeepOrder (edits_of_deed request input day old defs)
