@@ -23,7 +23,7 @@ use Rattle.acct_outside.specs.declared.CommitStage.TheVariants.{Before}
 use Rattle.account_model.specs.Answer.{AnswerCause, deed, new_files as new_of}
 use Rattle.account_model.specs.declared.word_fault.WordFault.{WordFault}
 use Rattle.account_model.specs.Request.{Request}
-use Rattle.account_model.proofs.AsksLaws.{asks_iff_read}
+use Rattle.account_model.proofs.DeedLaws.{faultless-deed}
 use Rattle.intent_file.specs.Intent.{NewTable}
 use Rattle.acct_text.specs.ChangedTables.{with_new_table, changed_among}
 use Rattle.suite_rules.specs.Standing.{Standing, standing}
@@ -114,7 +114,10 @@ module _ (runner : Runner) (answer : Answer) (change : Change)
         (deed request runner.asked.command.input runner.asked.command.day
         (files_of (old_files change)) change.inputs.defs)
   ])
-      ((asks_iff_read runner.asked.command.words runner.asked.request).0 of_change.asks)
+      of_change.is_read.request
+      ∙ ap (option_map table_of) (faultless-deed runner.asked.request runner.asked.command.input
+      runner.asked.command.day (files_of (old_files change)) change.inputs.defs
+      of_change.is_read.lines_ask)
       ∙ ap (λ (cause : AnswerCause). option_map table_of (new_of cause)) of_change.is_change
 
   -- a session that knows the inputs is to change each table that is listed

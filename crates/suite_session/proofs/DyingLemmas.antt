@@ -24,7 +24,6 @@ use Rattle.acct_outside.specs.Moment.{Past}
 use Rattle.acct_outside.specs.Others.{ByOthers, none_came, one_came}
 use Rattle.acct_outside.specs.Tokens.{Token}
 use Rattle.memory_folder.proofs.EventLemmas.{actual-given}
-use Rattle.account_model.specs.Words.{request_of}
 use Rattle.suite_rules.specs.Deeds.{SuiteDeeds}
 use Rattle.suite_rules.specs.Lawful.{KeepsRulesOrNone, Lawful, goes_on}
 use Rattle.suite_rules.specs.Rules.{Permits}
@@ -33,7 +32,7 @@ use Rattle.lock_steps.specs.NextCall.{IsCallWhere}
 use Rattle.suite_session.specs.declared.state.State.{State}
 use Rattle.suite_session.specs.declared.session.Phase.{Phase}
 use Rattle.suite_session.specs.declared.session.Phase.TheVariants.{Waiting, Begun, Over, Unbegun}
-use Rattle.suite_session.specs.Runner.{Question, Runner}
+use Rattle.suite_session.specs.Runner.{IsRead, Question, Runner}
 use Rattle.suite_session.specs.Belongs.{IsOnItsWay, OthersCame, of_others}
 use Rattle.suite_session.specs.Dying.{DiedIn, SessionDies}
 use Rattle.suite_session.specs.NextCall.{HasLock, IsReady, state_call}
@@ -126,7 +125,7 @@ module _ (before : MemoryFolder) (runner : Runner) (state : State)
       }
 
       -- it keeps a lawful history lawful
-      pub died-lawful : request_of runner.asked.command.words ≡ Ok runner.asked.request →
+      pub died-lawful : IsRead runner.asked →
           StaysOurs (moment_of before) (moment_of now)
       died-lawful read deeds ours =
           let old = past_of before in
@@ -227,7 +226,7 @@ module _ (before : MemoryFolder) (runner : Runner) (state : State)
       by-result (Err fault) came = tt
 
   -- in either case a lawful history stays lawful
-  pub lawful-then : request_of runner.asked.command.words ≡ Ok runner.asked.request →
+  pub lawful-then : IsRead runner.asked →
       StaysOurs (moment_of before) (moment_of now)
   lawful-then read = by-result result told kept
     where

@@ -15,7 +15,7 @@ use Rattle.acct_outside.specs.Calls.{Found, found_absent, found_bytes, found_too
 use Rattle.acct_outside.specs.History.{History}
 use Rattle.account_model.specs.declared.tool.Tool.{Tool}
 use Rattle.account_model.specs.Answer.{Changed as ChangedTo, new_files}
-use Rattle.account_model.proofs.DeedLaws.{deed-is}
+use Rattle.account_model.proofs.DeedLaws.{changes-is}
 use Rattle.acct_text.specs.declared.files.Files.{Files}
 use Rattle.acct_text.specs.Contents.{IsChange}
 use Rattle.acct_text.specs.Files.{table_of}
@@ -40,8 +40,7 @@ use Rattle.suite_session.specs.declared.state.State.{State}
 use Rattle.suite_session.specs.declared.state.State.TheVariants.{BackingUp, Unlocking, Answering}
 use Rattle.suite_session.specs.declared.tools.Decided.{Decided}
 use Rattle.suite_session.specs.declared.tools.Decided.TheVariants.{Change as Changes}
-use Rattle.account_model.specs.Words.{Asks}
-use Rattle.suite_session.specs.Runner.{Question, Runner}
+use Rattle.suite_session.specs.Runner.{IsRead, Question, Runner}
 use Rattle.acct_outside.specs.Moment.{Past, Moment}
 use Rattle.acct_outside.specs.declared.CommitStage.{CommitStage}
 use Rattle.suite_rules.proofs.Parts.{StandsWhere}
@@ -408,20 +407,20 @@ decides-on asked same_asked files same_files defs same_defs decided one two thre
 -- a change is one, by the law of the tools
 pub change-is : (asked : Question) (files : Files) (defs : Option Bytes) (new : Files) →
     (answer_on asked files defs).cause ≡ ChangedTo new → IsChange (table_of files) (table_of new)
-change-is asked files defs new is = deed-is asked.request asked.command.input asked.command.day
+change-is asked files defs new is = changes-is asked.request asked.command.input asked.command.day
     files defs new (ap new_files is)
 
 -- a change that it decided is backed up, with its answer
 pub of-change : (runner : Runner) (inputs : Inputs) (new : List NewTable) (answer : FinalAnswer) →
-    Asks runner.asked.command.words runner.asked.request →
+    IsRead runner.asked →
     DecidesOn runner.asked inputs.files inputs.defs (Changes new answer) → (walker : Walker) →
     walker ≡ walk_of (change_by new inputs) →
     ReadsIntent (intent_text (intended walker.change)) (intended walker.change) →
     DecidesTo runner inputs (BackingUp walker answer)
-of-change runner inputs new answer asks decides walker is small = (
+of-change runner inputs new answer read decides walker is small = (
   is ∙ ap (λ (one : Walker). walk_of one.change) (sym is),
   ap (λ (one : Walker). one.change.inputs) is,
   subst (λ (one : Walker). IsOfChange runner one.change answer) (sym is)
-      (record { asks = asks; is_answer = decides.0; is_change = decides.1 }),
+      (record { is_read = read; is_answer = decides.0; is_change = decides.1 }),
   small,
 )

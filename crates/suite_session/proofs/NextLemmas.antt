@@ -1,7 +1,7 @@
 -- Claim: a session that belongs to a folder is ready for the call of its state, and its life has a place
 -- for it (`next-ready`); where it reads a lock, it has listed one (`has-lock`).
 -- Way: by the state, as it stands there; an answer is the one that the streams left.
-use Rattle.std.proofs.Common.{◌≡◌, refl, sym, ap, subst, ◌∙◌, Option, Some, None, IfSome, Result, Ok}
+use Rattle.std.proofs.Common.{◌≡◌, refl, sym, ap, subst, ◌∙◌, Option, Some, None, IfSome, Result}
 use Rattle.std.specs.Prelude.{IfOk}
 use Rattle.acct_text.specs.Bytes.{Bytes}
 use Rattle.acct_text.specs.Contents.{Contents}
@@ -12,7 +12,6 @@ use Rattle.acct_outside.specs.Life.{Life, MayCall, life, running}
 use Rattle.acct_outside.specs.Moment.{Past, Moment}
 use Rattle.acct_outside.specs.declared.CommitStage.{CommitStage}
 use Rattle.acct_outside.specs.declared.CommitStage.TheVariants.{Before, Committed}
-use Rattle.account_model.specs.Words.{request_of}
 use Rattle.suite_rules.specs.Deeds.{SuiteDeeds}
 use Rattle.suite_rules.specs.Rules.{AnswerRule}
 use Rattle.suite_rules.specs.Standing.{Standing, standing}
@@ -25,7 +24,7 @@ use Rattle.suite_answers.specs.declared.answer.Answer.{Answer}
 use Rattle.suite_answers.specs.Reasons.{stage_of}
 use Rattle.suite_session.specs.declared.state.State.{State}
 use Rattle.suite_session.specs.declared.state.State.TheVariants.{Looking, Reading, Asking, Claiming, Confirming, Withdrawing, ReadingIntent, Recovering, Moving, Loading, BackingUp, Committing, Installing, Unlocking, Freeing, Watching, Gathering, Answering}
-use Rattle.suite_session.specs.Runner.{Runner}
+use Rattle.suite_session.specs.Runner.{IsRead, Runner}
 use Rattle.suite_session.specs.Belongs.{IsOnItsWay}
 use Rattle.suite_session.specs.Causes.{HasListedNone}
 use Rattle.suite_session.specs.Deeds.{AreOfTools}
@@ -85,7 +84,7 @@ module _ (now : Moment) (runner : Runner) where
     }) stands
 
     module _ (ours : AreOfTools deeds)
-        (read : request_of runner.asked.command.words ≡ Ok runner.asked.request) where
+        (read : IsRead runner.asked) where
       pub next-ready : (state : State) → MayCall running (state_call state) →
           IsOnItsWay now runner state → IfSome now.told (MayCallNext deeds runner state)
       next-ready (Looking looking) may way =

@@ -15,8 +15,8 @@ use Rattle.account_model.specs.declared.tool.Tool.{Tool}
 use Rattle.account_model.specs.declared.tool.Tool.TheVariants.{Useradd, Usermod, Userdel, Groupadd, Groupmod, Groupdel, Gpasswd, Chage, Chpasswd, Pwck, Grpck, Getsubids, Batch}
 use Rattle.account_model.specs.Answer.{AnswerCause, Unusable, Refused as ModelRefused, RefusedLine as ModelRefusedLine, Same as ModelSame, Changed as ModelChanged}
 use Rattle.account_model.specs.Statuses.{file_status, lock_status, memory_status, output_fault_status, update_status}
-use Rattle.account_model.specs.Words.{request_of}
 use Rattle.suite_rules.specs.Deeds.{SuiteDeeds}
+use Rattle.account_model.proofs.DeedLaws.{faultless-batch}
 use Rattle.suite_rules.specs.Standing.{Standing, standing}
 use Rattle.suite_rules.specs.Rules.{AnswerRule, answers_refusal, answers_changed, answers_same, answers_shown}
 use Rattle.suite_answers.specs.declared.cause.Which.TheVariants.{Input, File}
@@ -24,7 +24,7 @@ use Rattle.suite_answers.specs.declared.cause.Cause.{Cause}
 use Rattle.suite_answers.specs.declared.cause.Cause.TheVariants.{Changed, Same, Refused, RefusedLine, Syntax, BatchSyntax, Held, Gone, Raced, Outrun, LockDamaged, Exhausted, IntentDamaged, TooLarge, NoTable, BadSetting, DiskFault, InputFault, OutputFault, ClockFault, Memory}
 use Rattle.suite_answers.specs.declared.answer.Answer.{Answer}
 use Rattle.suite_answers.specs.Reasons.{stage_of}
-use Rattle.suite_session.specs.Runner.{Runner}
+use Rattle.suite_session.specs.Runner.{IsRead, Runner}
 use Rattle.suite_session.specs.Answers.{after_streams, cause_of_answer, given_for, IsAnswerOn, Says}
 use Rattle.suite_session.specs.Deeds.{AreOfTools, files_of, is_change, tools_answer_same}
 use Rattle.suite_session.specs.Due.{AnswersAll, ShowsAll, IsShown}
@@ -98,7 +98,7 @@ both-hold true true is none = absurd (search rules)
 both-hold false changes is none = absurd (search rules)
 
 module _ (deeds : SuiteDeeds) (ours : AreOfTools deeds) (runner : Runner) (answer : Answer)
-    (history : History) (read : request_of runner.asked.command.words ≡ Ok runner.asked.request)
+    (history : History) (read : IsRead runner.asked)
     (asked : (standing runner.token history).command ≡ Some runner.asked.command) where
   abbrev stood : Standing
   stood = standing runner.token history
@@ -122,7 +122,12 @@ module _ (deeds : SuiteDeeds) (ours : AreOfTools deeds) (runner : Runner) (answe
       deeds.answers_same runner.asked.command contents defs ≡ true
   same-on contents defs is_answer zero cause is quiet =
       (λ i. ours.is_same i runner.asked.command contents defs)
-      ∙ rw (read, tools_answer_same)
+      ∙ rw (
+        read.request,
+        faultless-batch runner.asked.request runner.asked.command.input
+            read.lines_ask,
+        tools_answer_same,
+      )
       (both-hold _ _ (ap (λ status. status == 0) (sym is_answer.has_status) ∙ zero)
       (not-change _ cause (sym is_answer.has_cause ∙ is) quiet))
 

@@ -8,7 +8,6 @@ use Rattle.acct_outside.specs.History.{own_events}
 use Rattle.acct_outside.specs.Life.{Life, runs_in, running, faulted, unbegun as not_begun, ended, MayCall}
 use Rattle.acct_outside.specs.Others.{Admission}
 use Rattle.acct_outside.specs.Contract.{NeverAdmits, MayAnswer, Tells}
-use Rattle.account_model.specs.Words.{request_of}
 use Rattle.suite_rules.specs.Deeds.{SuiteDeeds}
 use Rattle.suite_rules.specs.OwnLock.{OwnLock, is_keeper, kept_number}
 use Rattle.suite_rules.specs.Knowledge.{Knowledge}
@@ -21,7 +20,7 @@ use Rattle.suite_answers.specs.declared.cause.Cause.TheVariants.{DiskFault}
 use Rattle.suite_answers.specs.declared.answer.Answer.{Answer as FinalAnswer}
 use Rattle.suite_session.specs.declared.state.State.{State}
 use Rattle.suite_session.specs.declared.state.State.TheVariants.{Looking, Reading, Asking, Claiming, Confirming, Answering}
-use Rattle.suite_session.specs.Runner.{Runner}
+use Rattle.suite_session.specs.Runner.{IsRead, Runner}
 use Rattle.acct_outside.specs.Moment.{Past, Moment, Narrows}
 use Rattle.suite_rules.proofs.Parts.{MayAnswerWhere, StaysLawfulWhere, TellsWhere}
 use Rattle.suite_session.specs.Answers.{after_streams, Says}
@@ -216,7 +215,7 @@ module _ (before now : Moment) (runner : Runner) (status : ℕ) where
   answered-due answer (Some was) None may tells grew came due left = absurd tells
 
   -- it keeps a history lawful, for the deeds of the tools
-  answered-lawful : request_of runner.asked.command.words ≡ Ok runner.asked.request →
+  answered-lawful : IsRead runner.asked →
       (deeds : SuiteDeeds) → AreOfTools deeds → (answer : FinalAnswer)
       (put : Result (Unit {0}) SinkFault) → status ≡ (after_streams put answer).outcome.status →
       (was told : Option Past) → MayAnswerWhere before.admits was runner.token →
@@ -271,7 +270,7 @@ module _ (before now : Moment) (runner : Runner) (status : ℕ) where
 
 -- the session has given its answer
 pub answers-turn : (before now : Moment) (runner : Runner) (answer : FinalAnswer) →
-    request_of runner.asked.command.words ≡ Ok runner.asked.request →
+    IsRead runner.asked →
     IsOnItsWay before runner (Answering answer) →
     Tells before now runner.token (answers answer.outcome.status) (Ok tt) →
     Narrows before.admits now.admits → before.faults ≤ now.faults →

@@ -8,7 +8,7 @@ use Rattle.acct_text.specs.Bytes.{Bytes}
 use Rattle.acct_text.specs.Contents.{Contents}
 use Rattle.acct_text.specs.Files.{table_of}
 use Rattle.acct_outside.specs.Calls.{Command}
-use Rattle.account_model.specs.Answer.{AnswerCause, Changed, Answer, answer, deed}
+use Rattle.account_model.specs.Answer.{AnswerCause, Changed, Answer, answer, deed, is_faulty_batch}
 use Rattle.account_model.specs.Words.{request_of}
 use Rattle.suite_rules.specs.Deeds.{SuiteDeeds}
 
@@ -40,12 +40,12 @@ is_change cause = false
 abbrev pub is_unchanging : Answer → Bool
 is_unchanging given = (given.status == 0) && not (is_change given.cause)
 
--- the command's answer has status 0 and changes nothing
+-- the command's answer has status 0 and changes nothing, and no line of a batch is faulty
 abbrev pub tools_answer_same : Command → Contents → Option Bytes → Bool
 tools_answer_same command contents defs = elim (request_of command.words) [
   | Err fault ↦ false
-  | Ok request ↦ is_unchanging
-      (answer request command.input command.day (files_of contents) defs)
+  | Ok request ↦ not (is_faulty_batch request command.input)
+      && is_unchanging (answer request command.input command.day (files_of contents) defs)
 ]
 
 -- these deeds are those of the tools

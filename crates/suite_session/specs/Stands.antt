@@ -17,7 +17,6 @@ use Rattle.lock_steps.specs.Watching.{HasGathered}
 use Rattle.recovery.specs.Stands.{Recovers, HasStagedNext}
 use Rattle.account_model.specs.declared.tool.Tool.{Tool}
 use Rattle.account_model.specs.Answer.{Changed as ChangedTo}
-use Rattle.account_model.specs.Words.{Asks}
 use Rattle.account_model.specs.Request.{is_report}
 use Rattle.commit_steps.specs.States.{Change, Walker}
 use Rattle.commit_steps.specs.Walks.{token_of}
@@ -29,7 +28,7 @@ use Rattle.suite_answers.specs.declared.answer.Answer.{Answer}
 use Rattle.suite_answers.specs.Reasons.{stage_of}
 use Rattle.suite_session.specs.declared.state.State.{State}
 use Rattle.suite_session.specs.declared.state.State.TheVariants.{Looking, Reading, Asking, Claiming, Confirming, Withdrawing, ReadingIntent, Recovering, Moving, Loading, BackingUp, Committing, Installing, Unlocking, Freeing, Watching, Gathering, Answering}
-use Rattle.suite_session.specs.Runner.{Runner}
+use Rattle.suite_session.specs.Runner.{IsRead, Runner}
 use Rattle.acct_outside.specs.Moment.{Past, Moment, Narrows}
 use Rattle.acct_outside.specs.declared.CommitStage.TheVariants.{Before, Committed}
 use Rattle.suite_session.specs.Moment.{At}
@@ -110,7 +109,7 @@ pub record MayGive (now : Moment) (runner : Runner) (answer : Answer) : Type 0 w
 
 -- the answer is that on the inputs of the change, which becomes its new files
 pub record IsOfChange (runner : Runner) (change : Change) (answer : Answer) : Type 0 where
-  pub asks : Asks runner.asked.command.words runner.asked.request
+  pub is_read : IsRead runner.asked
   pub is_answer : IsAnswerOn runner.asked change.inputs.files change.inputs.defs answer
   pub is_change : (answer_on runner.asked change.inputs.files change.inputs.defs).cause
       ≡ ChangedTo change.new

@@ -7,6 +7,7 @@ use crate::recovering::stopped;
 use crate::runner::Runner;
 use crate::state::State;
 use crate::tools::{Decided, Tools};
+use crate::turning::asks_once;
 use crate::unlocking::{failed, given_up, leave};
 use acct_outside::{CommitStage, Folder, FolderFault};
 use acct_text::NewTables;
@@ -68,8 +69,7 @@ fn backing_up(
     requires { DecidesOn runner.now.asked loaded.files loaded.defs (Decided.Change new answer) }
     ensures { DecidesTo runner.now loaded result }
 {
-    // The tool isn't needed: that the words ask for the request is a clause of it.
-    let _ = runner.asked.tool();
+    asks_once(&runner.asked);
     match loaded.prepare(alloc, new) {
         Ok(backing) => State::BackingUp(backing, answer),
         Err(_) => given_up(

@@ -1,10 +1,10 @@
 // The one turn of a session: its begin, a step, or its answer.
-ghost use Rattle.std.specs.Prelude.{◌≡◌, ◌+◌, ◌<◌, None, Ok, IfOk, IsSome};
-ghost use Rattle.account_model.specs.Words.{request_of};
+ghost use Rattle.std.specs.Prelude.{◌≡◌, ◌+◌, ◌<◌, None, IfOk, IsSome};
 ghost use Rattle.suite_session.specs.Answers.{IsTold};
 ghost use Rattle.suite_session.specs.Locking.{cause_of_fault};
 ghost use Rattle.suite_session.specs.Belongs.{Belongs};
 ghost use Rattle.suite_session.specs.Left.{appends_left, calls_left};
+ghost use Rattle.suite_session.specs.Runner.{IsRead};
 ghost use Rattle.suite_session.specs.Session.{answer_of, given_in, outcome_of, phase_left};
 ghost use Rattle.suite_session.specs.Stands.{StandsAs};
 ghost use Rattle.suite_session.specs.Turning.{IsFirst, SessionTurns, TakesTurn};
@@ -148,10 +148,12 @@ fn answered<F: Folder>(runner: Runner, answer: Answer, folder: &mut F) -> Phase
     Phase::Over(runner, answer)
 }
 
-/// A law: the words of what was asked have one reading, which is its request.
+/// A law: the words of what was asked have one reading, which is its request; and each line of a batch
+/// that isn't skipped asks for something.
 pub(crate) fn asks_once(asked: &Question)
-    ensures { request_of asked.now.command.words ≡ Ok asked.now.request }
+    ensures { IsRead asked.now }
 {
     words_have_one_reading();
     asked.tool();
+    asked.input();
 }

@@ -4,8 +4,7 @@ use Rattle.acct_outside.specs.NamedCalls.{call_of}
 use Rattle.memory_folder.specs.Events.{effect_in}
 use Rattle.memory_folder.specs.Logged.{with_event}
 use Rattle.memory_folder.specs.Memory.{Runs, past_of}
-use Rattle.account_model.specs.Words.{request_of}
-use Rattle.suite_session.specs.Runner.{Runner}
+use Rattle.suite_session.specs.Runner.{IsRead, Runner}
 use Rattle.suite_session.proofs.DyingLemmas.{death_of, dies-then, lawful-then, may-die, others-then, runs-there}
 use Rattle.suite_session.proofs.dying.die_in.Goals as goal
 
@@ -36,7 +35,7 @@ returns-clause-lawful c =
     ≡ with_event (death_of (past_of c.args.folder.now) one.token (call_of c.in_ok-call.call)
     (effect_in c.args.effect)) (past_of c.args.folder.now))) c.runner.view_is c.die.ensures.told)
     c.die.ensures.err
-    (subst (λ (one : Runner). request_of one.asked.command.words ≡ Ok one.asked.request)
+    (subst (λ (one : Runner). IsRead one.asked)
     c.runner.view_is c.asks_once.ensures)
 
 pub returns-clause-others : goal.returns-clause-others

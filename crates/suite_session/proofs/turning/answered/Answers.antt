@@ -1,8 +1,7 @@
 use Rattle.std.proofs.Common.{◌≡◌, refl, subst, Ok}
 use Rattle.acct_outside.specs.Calls.{answers}
 use Rattle.acct_outside.specs.Contract.{Tells}
-use Rattle.account_model.specs.Words.{request_of}
-use Rattle.suite_session.specs.Runner.{Runner}
+use Rattle.suite_session.specs.Runner.{IsRead, Runner}
 use Rattle.suite_session.proofs.SessionTurns.{answer-one, answers-turn}
 use Rattle.suite_session.proofs.StreamLemmas.{left-given}
 use Rattle.suite_session.proofs.turning.answered.Goals as goal
@@ -14,7 +13,7 @@ returns-clause-turns g c =
       refl,
       refl,
       answers-turn before now c.args.runner c.args.answer
-          (subst (λ (one : Runner). request_of one.asked.command.words ≡ Ok one.asked.request)
+          (subst (λ (one : Runner). IsRead one.asked)
           c.runner.view_is c.asks_once.ensures)
           c.requires
           (subst (λ (one : Runner). Tells before now one.token
