@@ -3,6 +3,7 @@ mod MessageRows
 mod Image
 mod AnswerRows
 mod BatchRows
+mod NamedRows
 pub mod BatchLaws
 pub mod DeedLaws
 pub mod RefusalFacts

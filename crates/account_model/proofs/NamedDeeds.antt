@@ -99,7 +99,7 @@ module _ (one other : Named) where
       in (parts.0, lists.0, lists.1)
 
   -- edits that spare what the first doesn't name spare what neither names
-  front-spares : (edits : Script) → SparesUnnamed one edits → SparesUnnamed both edits
+  pub front-spares : (edits : Script) → SparesUnnamed one edits → SparesUnnamed both edits
   front-spares edits spares = record {
     passwd = λ r none. let parts = passwd-parts r none in spares.passwd r
         (or_from (is_listed r.name one.users) (list_any (λ gid. r.gid == gid) one.gids)
@@ -125,7 +125,7 @@ module _ (one other : Named) where
   }
 
   -- and so do those that spare what the second doesn't name
-  back-spares : (edits : Script) → SparesUnnamed other edits → SparesUnnamed both edits
+  pub back-spares : (edits : Script) → SparesUnnamed other edits → SparesUnnamed both edits
   back-spares edits spares = record {
     passwd = λ r none. let parts = passwd-parts r none in spares.passwd r
         (or_from (is_listed r.name other.users) (list_any (λ gid. r.gid == gid) other.gids)
@@ -190,7 +190,7 @@ lines-spare (line ∷ rest) day settings files =
 -- ---- Deeds
 
 -- by whether the request is a batch
-deed-spares :
+pub deed-spares :
     (request : Request) (input : List ℕ) (day : ℕ) (old : Files) (settings : List Setting)
     (is : Bool)
     → SparesUnnamed (if is

@@ -185,7 +185,7 @@ pub record IsMadeBy (edits : Script) (old new : Files) : Type 0 where
   pub makes : files_after edits old ≡ new
 
 -- no edits make what stood
-none-made : (old : Files) → IsMadeBy no_edits old old
+pub none-made : (old : Files) → IsMadeBy no_edits old old
 none-made old = record { written = none-written; makes = files-stay old }
 
 -- edits, and those that follow
