@@ -1,15 +1,17 @@
--- What the law isn't empty of, each row decided by computing: two users one after another get different UIDs, GIDs and
--- ranges, and `-o` gives one UID to two.
-use Rattle.std.specs.Prelude.{◌≡◌, ℕ, List, [], ◌∷◌, map, codes, refl, Some, None, unwrap_or}
+-- What the laws aren't empty of, each row decided by computing: two users one after another get different UIDs, GIDs and
+-- ranges, and `-o` gives one UID to two; where root and toor have one UID, only `-o` gives it to a third.
+use Rattle.std.specs.Prelude.{◌≡◌, ℕ, true, false, List, [], ◌∷◌, ◌++◌, map, codes, refl, Some, None, unwrap_or}
 use Rattle.std.specs.Fmt.{digits}
 use Rattle.std.specs.Str.{byte}
+use Rattle.acct_text.specs.Bytes.{newline}
 use Rattle.acct_text.specs.declared.files.Files.{Files}
 use Rattle.account_model.specs.declared.given.Given.{Given}
-use Rattle.account_model.specs.declared.tool.Tool.TheVariants.{Useradd}
+use Rattle.account_model.specs.declared.tool.Tool.TheVariants.{Useradd, Usermod}
 use Rattle.account_model.specs.Request.{Request}
 use Rattle.account_model.specs.Tables.{group_records, subuid_records}
 use Rattle.account_model.specs.Ids.{used_uids}
 use Rattle.account_model.specs.Answer.{deed}
+use Rattle.ids_apart.specs.Holders.{shares_uid, uid_holders}
 
 -- four tables without lines
 abbrev empty : Files
@@ -61,3 +63,63 @@ shared_uid : used_uids
     ∷ []) (codes "bob"))) ≡ 1000 ∷ 1000 ∷ []
 unfolding digits
 shared_uid = refl
+
+-- ---- root and toor
+
+-- two users of UID 0, and another
+abbrev root_and_toor : Files
+root_and_toor = record empty {
+  passwd = Some (codes "root:!:0:0::/:" ++ newline ∷ codes "toor:!:0:0::/:" ++ newline
+      ∷ codes "ann:!:7:7::/:" ++ newline ∷ []);
+}
+
+-- usermod with these options
+abbrev usermods : List Given → List ℕ → Request
+usermods options login =
+    record { tool = Usermod; prefix = codes "R"; options = options; operands = login ∷ [] }
+
+-- `-u 0`, `-o`, `-N` and `-l sue`
+abbrev uid_zero : Given
+uid_zero = record { letter = byte "u"; value = Some (codes "0") }
+
+abbrev sharing : Given
+sharing = record { letter = byte "o"; value = None }
+
+abbrev no_group : Given
+no_group = record { letter = byte "N"; value = None }
+
+abbrev named_sue : Given
+named_sue = record { letter = byte "l"; value = Some (codes "sue") }
+
+-- another user: `useradd -P R -N bob`
+third_user : uid_holders 0 (after_request root_and_toor (useradds (no_group ∷ []) (codes "bob")))
+    ≡ 2
+unfolding digits
+third_user = refl
+
+-- another name: `usermod -P R -l sue toor`
+renamed_user : uid_holders 0 (after_request root_and_toor (usermods (named_sue ∷ []) (codes "toor")))
+    ≡ 2
+unfolding digits
+renamed_user = refl
+
+-- `usermod -P R -u 0 ann` is refused
+taken_uid : uid_holders 0 (after_request root_and_toor (usermods (uid_zero ∷ []) (codes "ann")))
+    ≡ 2
+unfolding digits
+taken_uid = refl
+
+-- `usermod -P R -o -u 0 ann` names it, and so may share it
+named_uid : uid_holders 0
+    (after_request root_and_toor (usermods (sharing ∷ uid_zero ∷ []) (codes "ann"))) ≡ 3
+unfolding digits
+named_uid = refl
+
+named_shares : shares_uid 0 (usermods (sharing ∷ uid_zero ∷ []) (codes "ann")) ≡ true
+unfolding digits
+named_shares = refl
+
+-- and shares no other
+other_shares : shares_uid 7 (usermods (sharing ∷ uid_zero ∷ []) (codes "ann")) ≡ false
+unfolding digits
+other_shares = refl
