@@ -4,8 +4,8 @@
 -- (`ran-lawful`).
 -- Way: the session has a token, and was alone since the entry (`who-ran`). So its answer is the model's
 -- on the settled files of then, and these became the deed's where it changed them (`step-of`).
-use Rattle.std.proofs.Common.{◌≡◌, ◌⊎◌, refl, sym, ap, subst, ◌∙◌, ◌∷◌, ◌++◌, [], ℕ, List, inl, inr, Option, Some, None, Result, Ok, Err}
-use Rattle.std.specs.Prelude.{unwrap_or, option_map}
+use Rattle.std.proofs.Common.{◌≡◌, ◌⊎◌, refl, sym, ap, subst, ◌∙◌, ◌∷◌, ◌++◌, [], ℕ, Bool, true, false, List, inl, inr, Option, Some, None, Result, Ok, Err}
+use Rattle.std.specs.Prelude.{unwrap_or, option_map, if◌then◌else◌}
 use Rattle.std.specs.List.{AllByRecursion}
 use Rattle.acct_text.specs.declared.Tab.{Tab}
 use Rattle.acct_text.specs.declared.Tab.TheVariants.{Passwd, Shadow, Group, Gshadow, Subuid, Subgid}
@@ -31,7 +31,7 @@ use Rattle.account_model.specs.declared.word_fault.WordFault.TheVariants.{Memory
 use Rattle.account_model.specs.Options.{Word}
 use Rattle.account_model.specs.Request.{Request}
 use Rattle.account_model.specs.Words.{Asks}
-use Rattle.account_model.specs.Answer.{AnswerCause, Unusable, Refused as ModelRefused, RefusedLine as ModelRefusedLine, Same as ModelSame, Changed as ModelChanged, deed, new_files}
+use Rattle.account_model.specs.Answer.{AnswerCause, Unusable, Refused as ModelRefused, RefusedLine as ModelRefusedLine, Same as ModelSame, Changed as ModelChanged, deed, is_faulty_batch, new_files}
 use Rattle.account_model.proofs.AsksLaws.{asks_iff_read}
 use Rattle.suite_rules.specs.Deeds.{SuiteDeeds}
 use Rattle.suite_rules.specs.Lawful.{Lawful}
@@ -189,6 +189,12 @@ no-deed (ModelRefusedLine line refusal) told is stays = refl
 no-deed ModelSame told is stays = refl
 no-deed (ModelChanged files) told is stays = absurd (stays is)
 
+-- and so there is no deed, whether a line of a batch is faulty or not
+no-change-deed : (faulty : Bool) (made : Option Files) → made ≡ None →
+    (if faulty then None else made) ≡ None
+no-change-deed true made none = refl
+no-change-deed false made none = none
+
 -- ---- One step
 
 -- files are those of their contents
@@ -267,8 +273,10 @@ module _ (deeds : SuiteDeeds) (ours : AreOfTools deeds) (asked : Question)
         ∙ (ap (λ (list : List Commitment). fold_deeds deeds defs was list table) stayed.0.none
         ∙ (after-made was None table
         ∙ ap (λ (one : Option Files). table_of (unwrap_or one (files_of was)) table)
-        (sym (no-deed (answer_on asked (files_of was) defs).cause given.outcome.cause
-        (stayed.0.alone old alone).is_answer.has_cause stayed.1))))
+        (sym (no-change-deed (is_faulty_batch asked.request asked.command.input)
+        (new_files (answer_on asked (files_of was) defs).cause)
+        (no-deed (answer_on asked (files_of was) defs).cause given.outcome.cause
+        (stayed.0.alone old alone).is_answer.has_cause stayed.1)))))
 
     -- its answer is that on these
     answer-by : ChangedOrStayed deeds asked first new token given given.outcome.cause →

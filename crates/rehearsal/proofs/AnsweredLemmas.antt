@@ -7,6 +7,7 @@
 use Rattle.std.proofs.Common.{◌≡◌, ◌∙◌, refl, sym, ap, ap₂, subst, ℕ, ◌+◌, Bool, true, false, List, [], Option, Some, None, Result, Ok, Err}
 use Rattle.std.specs.Prelude.{if◌then◌else◌, unwrap_or, IfOk}
 use Rattle.acct_text.specs.Bytes.{Bytes}
+use Rattle.acct_text.specs.declared.files.Files.{Files}
 use Rattle.acct_outside.specs.declared.Name.TheVariants.{Intent}
 use Rattle.acct_outside.specs.Folder.{Folder}
 use Rattle.memory_folder.specs.Logged.{folder_after}
@@ -19,6 +20,7 @@ use Rattle.account_model.specs.Options.{Word}
 use Rattle.account_model.specs.Request.{Request, is_report}
 use Rattle.account_model.specs.Words.{Asks}
 use Rattle.account_model.proofs.AsksLaws.{asks_iff_read}
+use Rattle.account_model.proofs.DeedLaws.{faultless-deed}
 use Rattle.suite_answers.specs.declared.cause.Outcome.{Outcome}
 use Rattle.suite_session.specs.Answers.{cause_of_answer}
 use Rattle.suite_session.specs.Deeds.{is_change}
@@ -103,6 +105,8 @@ module _ (words : List Word) (old new : Past) (outcome : Outcome) (before now : 
       let step = steps request (asks decided).1 decided in
       let same = step-answer request step.0 step.1 step.2 in
       let files = step.3.files
+      ∙ ap (λ (made : Option Files). unwrap_or made (files_at old))
+      (faultless-deed request step.0 step.1 (files_at old) (defs_at old) step.2.lines_ask)
       ∙ ap (λ (one : Answer). unwrap_or (new_files one.cause) (files_at old)) same in
       let change = sym (cause-change (given request).cause)
       ∙ (ap (λ (one : Answer). is_changed (cause_of_answer one.cause)) (sym same)

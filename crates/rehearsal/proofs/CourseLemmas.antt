@@ -6,11 +6,11 @@ use Rattle.std.specs.Prelude.{if◌then◌else◌, unwrap_or}
 use Rattle.acct_text.specs.declared.Tab.TheVariants.{Passwd, Shadow, Group, Gshadow, Subuid, Subgid}
 use Rattle.acct_text.specs.declared.files.Files.{Files}
 use Rattle.account_model.specs.declared.word_fault.WordFault.{WordFault}
-use Rattle.account_model.specs.Answer.{answer, deed}
+use Rattle.account_model.specs.Answer.{answer, new_files}
 use Rattle.account_model.specs.Options.{Word}
 use Rattle.account_model.specs.Request.{Request}
 use Rattle.account_model.specs.Words.{request_of}
-use Rattle.account_model.proofs.DeedLaws.{deed-is}
+use Rattle.account_model.proofs.DeedLaws.{changes-is}
 use Rattle.acct_outside.specs.Moment.{Past}
 use Rattle.suite_session.specs.Deeds.{is_change}
 use Rattle.rehearsal.specs.Alone.{HasFiles, files_at}
@@ -35,13 +35,14 @@ read-stands : (read : Result Request WordFault) (was : Reached) → AllStand was
     AllStand (after_read read was).files
 read-stands (Err fault) was stand = stand
 read-stands (Ok request) was stand =
-    by-deed (deed request [] rehearsal_day was.files None) refl
+    by-change (new_files (answer request [] rehearsal_day was.files None).cause) refl
   where
-    by-deed : (made : Option Files) → deed request [] rehearsal_day was.files None ≡ made →
+    by-change : (made : Option Files) →
+        new_files (answer request [] rehearsal_day was.files None).cause ≡ made →
         AllStand (unwrap_or made was.files)
-    by-deed None is = stand
-    by-deed (Some files) is = λ table.
-        (deed-is request [] rehearsal_day was.files None files is).standing table ∙ stand table
+    by-change None is = stand
+    by-change (Some files) is = λ table.
+        (changes-is request [] rehearsal_day was.files None files is).standing table ∙ stand table
 
 -- the claim
 pub reached-stands : (seed place : ℕ) → AllStand (reached seed place).files

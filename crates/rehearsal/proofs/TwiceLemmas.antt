@@ -2,7 +2,7 @@
 -- `groupadd -P R -g 1500 other` is that the GID is in use (`second-refused`).
 -- Way: each is one step of the account model, whose answers on these files are computed (`first-answer`,
 -- `second-answer`). A folder whose passwd and group are empty has no accounts (`begins-empty`).
-use Rattle.std.proofs.Common.{◌≡◌, refl, sym, ap, ap₂, subst, ◌∙◌, ◌∷◌, [], ◌++◌, ℕ, inl, inr, Option, Some, None, Result, Ok, Err}
+use Rattle.std.proofs.Common.{◌≡◌, refl, sym, ap, ap₂, subst, ◌∙◌, ◌∷◌, [], ◌++◌, ℕ, Bool, false, inl, inr, Option, Some, None, Result, Ok, Err, true≢false}
 use Rattle.std.specs.Prelude.{codes, unwrap_or}
 use Rattle.std.specs.Fmt.{digits}
 use Rattle.acct_text.specs.Bytes.{Bytes, newline}
@@ -15,9 +15,10 @@ use Rattle.acct_outside.specs.Moment.{Past}
 use Rattle.account_model.specs.declared.refusal.Refusal.TheVariants.{GidInUse}
 use Rattle.account_model.specs.declared.word_fault.WordFault.{WordFault}
 use Rattle.account_model.specs.Request.{Request}
-use Rattle.account_model.specs.Words.{Asks, fault, request_of}
-use Rattle.account_model.specs.Answer.{Answer, Changed, Refused, answer, new_files}
+use Rattle.account_model.specs.Words.{Asks, fault, is_batch, request_of}
+use Rattle.account_model.specs.Answer.{Answer, Changed, Refused, answer, deed, new_files}
 use Rattle.account_model.proofs.AsksLaws.{asks_iff_read, request_or_fault}
+use Rattle.account_model.proofs.DeedLaws.{faultless-deed}
 use Rattle.suite_rules.specs.Deeds.{SuiteDeeds}
 use Rattle.suite_rules.specs.Lawful.{Lawful, starts}
 use Rattle.suite_answers.specs.declared.cause.Cause.TheVariants.{Changed as IsChanged}
@@ -81,6 +82,25 @@ answer-of name request asks input day files given is =
     ap (λ (one : Result Request WordFault). answer_to one input day files) (sym read) ∙ is in
     cc
 
+-- whether what is asked for is a batch
+abbrev asks_batch : Result Request WordFault → Bool
+asks_batch (Ok request) = is_batch request.tool
+asks_batch (Err fault) = false
+
+-- the first request is none
+no-batch : (request : Request) → Asks (group_words (codes "staff")) request →
+    is_batch request.tool ≡ false
+unfolding digits
+no-batch request asks =
+    ap asks_batch (sym ((asks_iff_read (group_words (codes "staff")) request).0 asks))
+
+-- so its deed is what its answer changes
+first-deed : (request : Request) → Asks (group_words (codes "staff")) request →
+    (input : Bytes) (day : ℕ) (files : Files) (defs : Option Bytes) →
+    deed request input day files defs ≡ new_files (answer request input day files defs).cause
+first-deed request asks input day files defs = faultless-deed request input day files defs
+    (λ batch. absurd (true≢false (sym batch ∙ no-batch request asks)))
+
 -- ---- The two steps
 
 module _ (start between end : Past) (none : HasNoAccounts start) where
@@ -97,6 +117,8 @@ module _ (start between end : Past) (none : HasNoAccounts start) where
       files_at between ≡ staff_alone
   staff-stands request outcome asks (input, day, step) =
       step.files
+      ∙ ap (λ (made : Option Files). unwrap_or made (files_at start))
+      (first-deed request asks input day (files_at start) (defs_at start))
       ∙ ap (λ (given : Answer). unwrap_or (new_files given.cause) (files_at start))
       (step-answer request start (files_with_groups []) none.files none.settings input day
       ∙ answer-of (codes "staff") request asks input day (files_with_groups []) _

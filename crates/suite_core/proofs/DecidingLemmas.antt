@@ -22,7 +22,7 @@ use Rattle.account_model.specs.Text.{first_some}
 use Rattle.account_model.specs.Action.{Action, Made, outcome_of}
 use Rattle.account_model.specs.Batch.{LineRefusal, Written, batch, ensures, written_by}
 use Rattle.account_model.proofs.BatchLaws.{outcome-made}
-use Rattle.account_model.proofs.DeedLaws.{batch-stands, deed-is, files-stand}
+use Rattle.account_model.proofs.DeedLaws.{batch-stands, changes-is, files-stand}
 use Rattle.account_model.specs.Change.{action_of}
 use Rattle.account_model.specs.BatchLines.{line_requests}
 use Rattle.account_model.specs.Settings.{Setting, bad_line, settings_of}
@@ -289,7 +289,7 @@ module _ (asked : Question) (files : Files) (defs : Option Bytes) where
           ∙ ap (λ (one : Bool). succeeding (if one then Same else Changed written.files) written)
           differs in
           let cause = ap (λ (one : ToolAnswer). one.cause) told in
-          let allowed = deed-is asked.request asked.command.input asked.command.day files defs
+          let allowed = changes-is asked.request asked.command.input asked.command.day files defs
           written.files (ap new_files cause) in
           subst (λ (one : List NewTable). DecidesOn asked files defs (Changes one given))
           (are ∙ sym shown.0) (
