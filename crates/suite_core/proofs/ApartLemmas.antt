@@ -1,7 +1,7 @@
--- Claim: IDs stay apart (`ids-stay-apart`). Way: what each deed keeps, a command keeps, whose words may ask for nothing
--- (`command-keeps`), and so do commands one after another (`fold-keeps`). The settled files of a lawful history are their
--- fold.
-use Rattle.std.proofs.Common.{◌≡◌, ℕ, List, [], ◌∷◌, refl, sym, subst, Option, Some, None, option_map, unwrap_or, Result, Ok, Err}
+-- Claims: no ID gets one more holder (`no-new-holders`), and IDs stay apart (`ids-stay-apart`). Way: what each deed keeps, a
+-- command keeps, whose words may ask for nothing (`command-keeps`), and so do commands one after another (`fold-keeps`). The
+-- settled files of a lawful history are their fold.
+use Rattle.std.proofs.Common.{◌≡◌, ℕ, Bool, List, [], ◌∷◌, refl, sym, subst, arith, Option, Some, None, option_map, unwrap_or, Result, Ok, Err}
 use Rattle.std.specs.Prelude.{⊤}
 use Rattle.acct_text.specs.Bytes.{Bytes}
 use Rattle.acct_text.specs.Contents.{Contents}
@@ -21,11 +21,12 @@ use Rattle.suite_rules.specs.Settled.{settled}
 use Rattle.suite_rules.specs.Committed.{Commitment, committed, fold_deeds, folded}
 use Rattle.suite_session.specs.Deeds.{AreOfTools, files_of, tools_deed}
 use Rattle.ids_apart.specs.Apart.{UidsAreDistinct, GidsAreDistinct, SubuidsAreApart, SubgidsAreApart}
-use Rattle.ids_apart.specs.Laws.{IsKept, ShareNoIds, DeedsKeepIdsApart}
-use Rattle.suite_core.specs.Apart.{AreAny, AreWithoutSharing, StaysSo, IdsStayApart}
+use Rattle.ids_apart.specs.Holders.{gid_holders, shares_gid, shares_uid, subgid_holders, subuid_holders, uid_holders}
+use Rattle.ids_apart.specs.Laws.{AddsNoHolder, DeedsAddNoHolders, IsKept, MeetNoMore, NoneDoes, ShareNoIds, DeedsKeepIdsApart}
+use Rattle.suite_core.specs.Apart.{AddsNoHolders, AreAny, AreNone, AreWithoutSharing, NoNewHolders, StaysSo, IdsStayApart}
 
 -- a deed by what the words ask for
-abbrev deed_by : Result Request WordFault → Command → Contents → Option Bytes → Option Contents
+abbrev pub deed_by : Result Request WordFault → Command → Contents → Option Bytes → Option Contents
 deed_by read command contents defs = elim read [
   | Err fault ↦ None
   | Ok request ↦ option_map table_of
@@ -122,6 +123,62 @@ own-stays :
     → StaysSo AreWithoutSharing Holds
 own-stays Holds kept settles = stays-so ShareNoIds Holds kept AreWithoutSharing
     (λ one list such request asks. such.0 request asks) (λ one list such. such.1) settles
+
+-- ---- Holders
+
+-- a bound on the holders stays, after each deed that adds none
+met-kept :
+    (IsAsked : Request → List ℕ → Type 0) (holders : Files → ℕ) (most : ℕ)
+    → AddsNoHolder IsAsked holders
+    → IsKept IsAsked (λ files. MeetNoMore most (holders files))
+met-kept IsAsked holders most adds request input day old defs new asked e met =
+    omega (arith, met, adds request input day old defs new asked e)
+
+-- so no more come to an ID than at first
+adds-none :
+    (AreSuch : List Commitment → Type 0) (holders : Files → ℕ)
+    → ((most : ℕ) → StaysSo AreSuch (λ files. MeetNoMore most (holders files)))
+    → AddsNoHolders AreSuch holders
+adds-none AreSuch holders stays = record {
+  after_front = λ deeds ours first history front later is such.
+      (stays (holders (files_of (settled first)))).after_front deeds ours first history front later
+      is such (omega arith);
+  at_present = λ deeds ours first history lawful such.
+      (stays (holders (files_of (settled first)))).at_present deeds ours first history lawful such
+      (omega arith);
+}
+
+-- whatever is committed
+any-adds-none :
+    (holders : Files → ℕ)
+    → AddsNoHolder (λ request input. ⊤) holders
+    → LawfulSettles
+    → AddsNoHolders AreAny holders
+any-adds-none holders adds settles = adds-none AreAny holders
+    (λ most. any-stays (λ files. MeetNoMore most (holders files))
+    (met-kept (λ request input. ⊤) holders most adds) settles)
+
+-- where no committed command shares it
+unshared-adds-none :
+    (shares : Request → Bool) (holders : Files → ℕ)
+    → AddsNoHolder (NoneDoes shares) holders
+    → LawfulSettles
+    → AddsNoHolders (AreNone shares) holders
+unshared-adds-none shares holders adds settles = adds-none (AreNone shares) holders
+    (λ most. stays-so (NoneDoes shares) (λ files. MeetNoMore most (holders files))
+    (met-kept (NoneDoes shares) holders most adds) (AreNone shares)
+    (λ one list such request asks. such.0 request asks) (λ one list such. such.1) settles)
+
+-- the law of holders
+pub no-new-holders : DeedsAddNoHolders → LawfulSettles → NoNewHolders
+no-new-holders adds settles = record {
+  uids = λ uid. unshared-adds-none (shares_uid uid) (uid_holders uid) (adds.uids uid) settles;
+  gids = λ gid. unshared-adds-none (shares_gid gid) (gid_holders gid) (adds.gids gid) settles;
+  subuids = λ number. any-adds-none (subuid_holders number) (adds.subuids number) settles;
+  subgids = λ number. any-adds-none (subgid_holders number) (adds.subgids number) settles;
+}
+
+-- ---- All apart
 
 -- the law
 pub ids-stay-apart : DeedsKeepIdsApart → LawfulSettles → IdsStayApart

@@ -1,3 +1,4 @@
 mod ApartLemmas
 mod DecidingLemmas
 mod TopLemmas
+mod UntouchedLemmas

@@ -1,6 +1,6 @@
 -- IDs stay apart, whichever commands are committed and in whatever order: the deeds of the tools, one after another on the
 -- first settled files.
-use Rattle.std.specs.Prelude.{◌≡◌, List, ◌++◌, ⊤}
+use Rattle.std.specs.Prelude.{◌≡◌, ℕ, Bool, List, ◌++◌, ⊤}
 use Rattle.std.specs.List.{AllByRecursion}
 use Rattle.acct_text.specs.declared.files.Files.{Files}
 use Rattle.acct_outside.specs.Folder.{Folder}
@@ -13,7 +13,8 @@ use Rattle.suite_rules.specs.Settled.{settled}
 use Rattle.suite_rules.specs.Committed.{Commitment, committed, folded}
 use Rattle.suite_session.specs.Deeds.{AreOfTools, files_of}
 use Rattle.ids_apart.specs.Apart.{UidsAreDistinct, GidsAreDistinct, SubuidsAreApart, SubgidsAreApart}
-use Rattle.ids_apart.specs.Laws.{ShareNoIds}
+use Rattle.ids_apart.specs.Holders.{gid_holders, shares_gid, shares_uid, subgid_holders, subuid_holders, uid_holders}
+use Rattle.ids_apart.specs.Laws.{MeetNoMore, NoneDoes, ShareNoIds}
 
 -- what the command's words ask for has no `-o`, and neither has a line of a batch
 abbrev pub AsksForOwnIds : Commitment → Type 0
@@ -27,6 +28,39 @@ AreAny commands = ⊤
 -- committed commands without `-o`
 abbrev pub AreWithoutSharing : List Commitment → Type 0
 AreWithoutSharing commands = AllByRecursion AsksForOwnIds commands
+
+-- what the command's words ask for doesn't do this, and neither does a line of a batch
+abbrev pub AsksForNone : (Request → Bool) → Commitment → Type 0
+AsksForNone does one =
+    (request : Request) → Asks one.command.words request → NoneDoes does request one.command.input
+
+-- no committed command does it
+abbrev pub AreNone : (Request → Bool) → List Commitment → Type 0
+AreNone does commands = AllByRecursion (AsksForNone does) commands
+
+-- ---- No new meeting
+
+-- An ID with so many holders in the first settled files has no more after each front of the committed list, where its
+-- commands are such, but the one that an ID without any may get. So it is with the settled files of a lawful history.
+pub record AddsNoHolders (AreSuch : List Commitment → Type 0) (holders : Files → ℕ) : Type 0 where
+  pub after_front : (deeds : SuiteDeeds) → AreOfTools deeds → (first : Folder) (history : History)
+      (front later : List Commitment) → committed history ≡ front ++ later → AreSuch front
+      → MeetNoMore (holders (files_of (settled first)))
+      (holders (files_of (folded deeds first front)))
+  pub at_present : (deeds : SuiteDeeds) → AreOfTools deeds → (first : Folder) (history : History)
+      → Lawful deeds first history → AreSuch (committed history)
+      → MeetNoMore (holders (files_of (settled first)))
+      (holders (files_of (settled (after first history))))
+
+-- whatever stood at first: a UID that no committed `useradd -o` and no `usermod -o` names, a GID that no `groupadd -o` and
+-- no `groupmod -o` names, and each number of the subordinate ranges
+pub record NoNewHolders : Type 0 where
+  pub uids : (uid : ℕ) → AddsNoHolders (AreNone (shares_uid uid)) (uid_holders uid)
+  pub gids : (gid : ℕ) → AddsNoHolders (AreNone (shares_gid gid)) (gid_holders gid)
+  pub subuids : (number : ℕ) → AddsNoHolders AreAny (subuid_holders number)
+  pub subgids : (number : ℕ) → AddsNoHolders AreAny (subgid_holders number)
+
+-- ---- Where all was apart
 
 -- What holds of the first settled files holds after each front of the committed list, where its commands are such. So in a
 -- lawful history it holds of the settled files, at each moment and after each death.

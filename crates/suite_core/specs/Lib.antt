@@ -1,3 +1,4 @@
 pub mod Apart
 pub mod Deciding
 pub mod Top
+pub mod Untouched

@@ -8,7 +8,7 @@ mod apart;
 mod deciding;
 mod top;
 
-pub use apart::ids_stay_apart;
+pub use apart::{ids_stay_apart, untouched_lines_stay};
 pub use deciding::Suite;
 pub use suite_answers::{Answer, Cause, Outcome, Which};
 pub use suite_course::{answers_keep_promises, tools_have_deeds};
