@@ -16,11 +16,12 @@ use Rattle.acct_text.proofs.LinesLaws.{lines_of-are}
 use Rattle.acct_text.proofs.NumberLaws.{some-inj, number-is, is_digits-numeral}
 use Rattle.account_model.specs.declared.records.ShadowRecord.{ShadowRecord}
 use Rattle.account_model.specs.declared.refusal.LineProblem.{LineProblem}
-use Rattle.account_model.specs.declared.refusal.LineProblem.TheVariants.{NoColon, HashColon, UnknownUser}
+use Rattle.account_model.specs.declared.refusal.LineProblem.TheVariants.{NoColon, HashColon, UnknownUser, LineEnd}
 use Rattle.account_model.specs.declared.refusal.Refusal.{Refusal}
 use Rattle.account_model.specs.declared.refusal.Refusal.TheVariants.{BadLine}
 use Rattle.account_model.specs.Text.{hyphen, has_byte, first_some}
 use Rattle.account_model.specs.Format.{is_named}
+use Rattle.account_model.specs.LineWords.{ends_in_return}
 use Rattle.account_model.specs.Edits.{each_where}
 use Rattle.account_model.specs.Records.{shadow_format, greatest_days}
 use Rattle.account_model.specs.Written.{IsField, IsDaysNumber, IsShadow}
@@ -236,15 +237,16 @@ lacks-drop byte (suc count) (first ∷ rest) lacks = lacks-drop byte count rest 
 
 -- a hash that no problem of the line names has no `:`
 no-colon-by :
-    (files : Files) (text : List ℕ) (colon_there hash_colon user_there : Bool)
+    (files : Files) (text : List ℕ) (colon_there hash_colon user_there returns : Bool)
     → has_byte colon (line_hash text) ≡ hash_colon
     → (if not colon_there then Some NoColon else
     (if hash_colon then Some HashColon else
-    (if not user_there then Some (UnknownUser (line_name text)) else None))) ≡ None
+    (if not user_there then Some (UnknownUser (line_name text)) else
+    (if returns then Some LineEnd else None)))) ≡ None
     → Lacks colon (line_hash text)
-no-colon-by files text false hash_colon user_there is none = cc
-no-colon-by files text true true user_there is none = cc
-no-colon-by files text true false user_there is none = lacks-byte colon (line_hash text) is
+no-colon-by files text false hash_colon user_there returns is none = cc
+no-colon-by files text true true user_there returns is none = cc
+no-colon-by files text true false user_there returns is none = lacks-byte colon (line_hash text) is
 
 -- the hash of a line without a problem can stand in a field
 hash-field :
@@ -254,7 +256,7 @@ hash-field :
     → IsField (line_hash text)
 hash-field files text lacks none = record {
   no_colon = no-colon-by files text (has_byte colon text) (has_byte colon (line_hash text))
-      (has_user (line_name text) files) refl none;
+      (has_user (line_name text) files) (ends_in_return text) refl none;
   no_newline = lacks-drop newline (position_or_len (λ b. b == colon) text + 1) text lacks;
 }
 

@@ -1,9 +1,11 @@
 -- chpasswd from its input to its answer, each row decided by computing.
-use Rattle.std.specs.Prelude.{◌≡◌, [], ◌++◌, codes, refl, Some, None}
+use Rattle.std.specs.Prelude.{◌≡◌, [], ◌∷◌, ◌++◌, codes, refl, Some, None}
 use Rattle.std.specs.Fmt.{digits}
 use Rattle.acct_text.specs.declared.Tab.TheVariants.{Passwd}
+use Rattle.acct_text.specs.Bytes.{newline}
 use Rattle.account_model.specs.declared.refusal.Refusal.TheVariants.{BadLine, Multiple}
-use Rattle.account_model.specs.declared.refusal.LineProblem.TheVariants.{NoColon, HashColon, UnknownUser}
+use Rattle.account_model.specs.declared.refusal.LineProblem.TheVariants.{NoColon, HashColon, UnknownUser, LineEnd}
+use Rattle.account_model.specs.LineWords.{carriage_return}
 use Rattle.account_model.proofs.Image.{image}
 use Rattle.account_model.proofs.SettingsImage.{image_defs, file}
 use Rattle.account_model.proofs.Commands.{words, lines, answer_with, changed, same, refused, small}
@@ -28,6 +30,14 @@ unknown_line_user :
     ≡ refused 1 (BadLine 1 (UnknownUser (codes "ann"))) "chpasswd: line 1: unknown user ann"
 unfolding digits
 unknown_line_user = refl
+
+-- `chpasswd -P R -e` with a line that ends in a carriage return, as on other systems
+return_at_line_end :
+    answer_with (codes "bob:h2" ++ carriage_return ∷ newline ∷ []) (words "chpasswd -P R -e") image
+    (Some (file image_defs))
+    ≡ refused 1 (BadLine 1 LineEnd) "chpasswd: line 1: ends in a carriage return"
+unfolding digits
+return_at_line_end = refl
 
 -- `chpasswd -P R -e` with two users: each gets the hash, and the day as last change
 two_hashes :

@@ -3,13 +3,14 @@ use Rattle.std.specs.Prelude.{ℕ, suc, not, ◌==◌, if◌then◌else◌, List
 use Rattle.std.specs.List.{before_first, after_first}
 use Rattle.acct_text.specs.declared.files.Files.{Files}
 use Rattle.account_model.specs.declared.refusal.LineProblem.{LineProblem}
-use Rattle.account_model.specs.declared.refusal.LineProblem.TheVariants.{NoColon, HashColon, UnknownUser}
+use Rattle.account_model.specs.declared.refusal.LineProblem.TheVariants.{NoColon, HashColon, UnknownUser, LineEnd}
 use Rattle.account_model.specs.declared.refusal.Refusal.{Refusal}
 use Rattle.account_model.specs.declared.refusal.Refusal.TheVariants.{BadLine}
 use Rattle.acct_text.specs.Bytes.{colon}
 use Rattle.account_model.specs.Text.{has_byte}
 use Rattle.acct_text.specs.Lines.{Line, lines_of}
 use Rattle.account_model.specs.Format.{is_named}
+use Rattle.account_model.specs.LineWords.{ends_in_return}
 use Rattle.account_model.specs.Edits.{each_where}
 use Rattle.account_model.specs.Records.{shadow_format}
 use Rattle.account_model.specs.Tables.{Script, no_edits, in_order}
@@ -25,12 +26,14 @@ line_name text = before_first (λ b. b == colon) text
 abbrev pub line_hash : List ℕ → List ℕ
 line_hash text = after_first (λ b. b == colon) text
 
--- what is wrong with a line: no `:`, then one in the hash, then a name that isn't in passwd
+-- what is wrong with a line: no `:`, then one in the hash, then a name that isn't in passwd, then a
+-- carriage return at its end, with which no password would match the hash
 abbrev pub line_problem : Files → List ℕ → Option LineProblem
 line_problem files text =
     if not (has_byte colon text) then Some NoColon else
     (if has_byte colon (line_hash text) then Some HashColon else
-    (if not (has_user (line_name text) files) then Some (UnknownUser (line_name text)) else None))
+    (if not (has_user (line_name text) files) then Some (UnknownUser (line_name text)) else
+    (if ends_in_return text then Some LineEnd else None)))
 
 -- the first bad line, by its number; the first of these lines has the number that is given
 abbrev pub bad_line_from : ℕ → Files → List Line → Option Refusal

@@ -5,7 +5,7 @@ use Rattle.account_model.specs.declared.tool.Tool.TheVariants.{Chage}
 use Rattle.account_model.specs.declared.refusal.Refusal.{Refusal}
 use Rattle.account_model.specs.declared.refusal.Refusal.TheVariants.{BadName, BadKey, BadValue, UserExists, GroupExists, NoUser, NoGroup, UidInUse, GidInUse, NoFreeUid, NoFreeGid, NoGap, Meets, EmptyHash, PrimaryGroup, NotMember, NoShadow, BadLine, NoRanges, Multiple}
 use Rattle.account_model.specs.declared.refusal.LineProblem.{LineProblem}
-use Rattle.account_model.specs.declared.refusal.LineProblem.TheVariants.{NoColon, HashColon, UnknownUser}
+use Rattle.account_model.specs.declared.refusal.LineProblem.TheVariants.{NoColon, HashColon, UnknownUser, LineEnd}
 use Rattle.acct_text.specs.Bytes.{newline}
 use Rattle.acct_text.specs.Tables.{table_name}
 use Rattle.account_model.specs.Text.{has_byte}
@@ -67,6 +67,7 @@ abbrev pub line_problem_text : LineProblem → List ℕ
 line_problem_text NoColon = codes "no colon"
 line_problem_text HashColon = codes "colon in hash"
 line_problem_text (UnknownUser name) = codes "unknown user " ++ name
+line_problem_text LineEnd = codes "ends in a carriage return"
 
 -- why the tool refuses
 abbrev pub refusal_text : Tool → Refusal → List ℕ

@@ -10,6 +10,8 @@ pub enum LineProblem {
     HashColon,
     /// The user of this name isn't in passwd.
     UnknownUser(Bytes),
+    /// The line ends in a carriage return, which no hash of crypt(5) has.
+    LineEnd,
 }
 
 /// The cause of a refusal, with its values in the order of its text.

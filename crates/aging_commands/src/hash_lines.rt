@@ -9,6 +9,7 @@ ghost use Rattle.aging_commands.specs.HashLines.{IsCut, hash_line, line_refusal,
 use account_model::{LineProblem, Refusal};
 use acct_text::{Bytes, cut_once, lines};
 use command_values::{ToolFault, has_byte};
+use option_words::ends_in_return;
 use std::alloc::{AllocError, Global};
 use table_lookups::UserIndex;
 
@@ -24,7 +25,7 @@ pub(crate) struct NewHash<'a> {
 /// The lines of the input.
 ///
 /// `BadLine` refuses the first bad one, counted from 1: it has no `:`, or its hash has one, or its
-/// name isn't in passwd.
+/// name isn't in passwd, or it ends in a carriage return.
 pub(crate) fn read_hashes<'a>(
     alloc: Global,
     input: &'a [u8],
@@ -74,6 +75,9 @@ fn read_hash<'a>(
     if users.user_named(alloc, new.name)?.is_none() {
         let name = Bytes::of(alloc, new.name)?;
         return Err(bad_line(number, LineProblem::UnknownUser(name)));
+    }
+    if ends_in_return(line) {
+        return Err(bad_line(number, LineProblem::LineEnd));
     }
     Ok(new)
 }

@@ -21,5 +21,5 @@ mod words;
 pub use account_model::{Given, Tool, WordFault};
 pub use batch::{BatchLine, BatchLines, FaultyLine, LineRequest, first_faulty};
 pub use parsed::{Options, Parsed};
-pub use splitting::split_line;
+pub use splitting::{ends_in_return, split_line};
 pub use words::{read_line_words, read_words};

@@ -52,8 +52,8 @@ pub fn split_line(alloc: Global, line: &[u8]) -> Result<Vec<Word>, WordFault>
     splitting.into_words()
 }
 
-// Whether the line ends in a carriage return.
-fn ends_in_return(line: &[u8]) -> bool
+/// Whether the line ends in a carriage return, as lines of other systems do.
+pub fn ends_in_return(line: &[u8]) -> bool
     ensures { result ≡ ends_in_return line.now }
 {
     match line.split_last() {
