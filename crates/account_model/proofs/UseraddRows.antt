@@ -169,6 +169,38 @@ gid_of_own_group : plainly_on (small "" "g:x:1000:") (words "useradd -P R -U ann
 unfolding digits
 gid_of_own_group = refl
 
+-- `useradd -P R -N ann`: a range of the name is the user's, and is told
+range_of_name : plainly_on (record nothing { subuid = Some (lines "ann:200000:10") })
+    (words "useradd -P R -N ann")
+    ≡ changed_with "useradd: user ann inherits ranges of subuid"
+    (record nothing {
+      passwd = Some (lines "ann:!:1000:100::/home/ann:");
+      subuid = Some (lines "ann:200000:10");
+    })
+unfolding digits
+range_of_name = refl
+
+-- `useradd -r -F -N -P R svc`: so is one of the UID
+range_of_uid : plainly_on (record nothing { subgid = Some (lines "a:1:1|999:200000:10") })
+    (words "useradd -r -F -N -P R svc")
+    ≡ changed_with "useradd: user svc inherits ranges of subgid"
+    (record nothing {
+      passwd = Some (lines "svc:!:999:100::/home/svc:");
+      subgid = Some (lines "a:1:1|999:200000:10");
+    })
+unfolding digits
+range_of_uid = refl
+
+-- `useradd -r -N -P R svc`: a system user gets no range without `-F`, and none is told
+range_of_system_user : plainly_on (record nothing { subuid = Some (lines "svc:200000:10") })
+    (words "useradd -r -N -P R svc")
+    ≡ changed (record nothing {
+      passwd = Some (lines "svc:!:999:100::/home/svc:");
+      subuid = Some (lines "svc:200000:10");
+    })
+unfolding digits
+range_of_system_user = refl
+
 -- `useradd -P R -N ann`: a line of shadow without a user is replaced
 shadow_line_is_put : plainly_on (record nothing { shadow = Some (lines "ann:*:1::::::") })
     (words "useradd -P R -N ann")

@@ -1,9 +1,13 @@
 -- useradd LOGIN (useradd(8)): makes a user.
 use Rattle.std.specs.Prelude.{ℕ, Bool, not, ◌&&◌, ◌||◌, if◌then◌else◌, List, [], ◌∷◌, ◌++◌, map, codes, Option, Some, None, is_some, is_none, option_map, option_and_then, unwrap_or}
+use Rattle.std.specs.List.{list_any}
 use Rattle.acct_text.specs.declared.files.Files.{Files}
+use Rattle.acct_text.specs.declared.Tab.{Tab}
 use Rattle.acct_text.specs.declared.Tab.TheVariants.{Subuid, Subgid}
+use Rattle.acct_text.specs.Tables.{table_name}
 use Rattle.account_model.specs.declared.records.PasswdRecord.{PasswdRecord}
 use Rattle.account_model.specs.declared.records.ShadowRecord.{ShadowRecord}
+use Rattle.account_model.specs.declared.records.SubidRecord.{SubidRecord}
 use Rattle.account_model.specs.declared.new_user.Plan.{Plan}
 use Rattle.account_model.specs.declared.settings.Key.{Key}
 use Rattle.account_model.specs.declared.settings.Key.TheVariants.{PassMinDays, PassMaxDays, PassWarnAge}
@@ -11,7 +15,7 @@ use Rattle.account_model.specs.declared.refusal.Refusal.{Refusal}
 use Rattle.account_model.specs.declared.refusal.Refusal.TheVariants.{UserExists, GroupExists, UidInUse, NoFreeUid, NoFreeGid}
 use Rattle.account_model.specs.Text.{asterisk, exclamation, begins_with}
 use Rattle.account_model.specs.Edits.Edit.{Add, Put}
-use Rattle.account_model.specs.Tables.{Script, no_edits, in_order}
+use Rattle.account_model.specs.Tables.{Script, no_edits, in_order, subuid_records, subgid_records}
 use Rattle.account_model.specs.Values.{is_field, is_folder, is_shell, is_days_value, is_expiration_value, days_value, expiration_value, field_value, text_value, given_uid}
 use Rattle.account_model.specs.Records.{is_id}
 use Rattle.account_model.specs.GivenGroups.{given_group, given_groups, unknown_group, unknown_groups}
@@ -23,7 +27,8 @@ use Rattle.account_model.specs.Request.{Request, has_option, operand}
 use Rattle.account_model.specs.Refusals.{refuse_if, bad_value, bad_key, bad_name}
 use Rattle.account_model.specs.Action.{Action}
 use Rattle.account_model.specs.NewAccount.{kind_of, settings_for, free_uid, free_gid, add_group, new_hash}
-use Rattle.account_model.specs.NewRanges.{subordinate_uids, subordinate_gids, allotment, no_gap, allotted}
+use Rattle.account_model.specs.NewRanges.{subordinate_uids, subordinate_gids, may_have_ranges, allotment, no_gap, allotted}
+use Rattle.account_model.specs.SubidOwner.{is_owned}
 use Rattle.account_model.specs.Users.{has_user, has_group}
 
 -- ---- The IDs
@@ -197,7 +202,7 @@ useradd_script request files plan shadow (Some uid) (Some gid) =
     add_user request files plan shadow uid gid
 useradd_script request files plan shadow uid gid = no_edits
 
--- ---- The notice
+-- ---- The notices
 
 -- no password opens an account with such a hash: it begins with `!` or `*`
 abbrev pub opens_nothing : List ℕ → Bool
@@ -209,10 +214,28 @@ open_hash_text user =
     codes "password of " ++ user ++ codes " stands in passwd, as shadow does not exist"
 
 -- a notice where the hash stands in passwd and could open the account, and else none
-abbrev pub useradd_notices : Request → Files → List (List ℕ)
-useradd_notices request files = if is_some files.shadow || opens_nothing (new_hash request)
+abbrev pub hash_notices : Request → Files → List (List ℕ)
+hash_notices request files = if is_some files.shadow || opens_nothing (new_hash request)
     then []
     else open_hash_text (operand request) ∷ []
+
+-- the notice of ranges that the user has by lines of the table which stood there before, and in place of a new one
+abbrev pub inherited_text : List ℕ → Tab → List ℕ
+inherited_text user tab = codes "user " ++ user ++ codes " inherits ranges of " ++ table_name tab
+
+-- a notice where a user that may have ranges owns a line of the table by its name or its UID, and else none
+abbrev pub range_notices : Request → Option ℕ → Tab → List SubidRecord → List (List ℕ)
+range_notices request uid tab records =
+    if may_have_ranges request && list_any (is_owned (operand request) uid) records
+    then inherited_text (operand request) tab ∷ []
+    else []
+
+-- what is told of a new user of this UID: of the hash, and then of what the user inherits
+abbrev pub useradd_notices : Request → Files → Option ℕ → List (List ℕ)
+useradd_notices request files uid =
+    hash_notices request files
+    ++ range_notices request uid Subuid (subuid_records files)
+    ++ range_notices request uid Subgid (subgid_records files)
 
 -- ---- The whole
 
@@ -223,7 +246,7 @@ useradd_by plan shadow request files = record {
   script = useradd_script request files plan shadow plan.uid plan.gid;
   status = 0;
   output = [];
-  notices = useradd_notices request files;
+  notices = useradd_notices request files plan.uid;
 }
 
 -- what useradd does under the settings that `-K` has changed

@@ -14,7 +14,7 @@ use Rattle.tool_answers.specs.declared.decision.Output.{Output}
 use Rattle.tool_answers.specs.declared.tool_fault.ToolFault.{ToolFault}
 use Rattle.login_defs.specs.declared.defs.Defs.{Defs}
 use Rattle.login_defs.specs.Held.{HasSettings}
-use Rattle.table_edits.specs.Acting.{ActsBy, IsReportOf}
+use Rattle.table_edits.specs.Acting.{ActsBy, IsReportOf, IsScriptOf}
 use Rattle.table_edits.specs.Deciding.{IsCarriedOut}
 use Rattle.table_edits.specs.declared.report.Report.{Report}
 use Rattle.table_edits.specs.declared.script.Script.{Script}
@@ -41,10 +41,12 @@ ActsUnder defs day asking files script =
     (settings : List Setting) → HasSettings defs settings
     → ActsBy (action_of asking.request asking.input day files settings) script
 
--- it reports this, whichever settings the values are those of, and whatever its input and the day
-abbrev pub ReportsUnder : Defs → Request → Files → Report → Type 0
-ReportsUnder defs request files report =
+-- where it answers with the script, it reports this, whichever settings the values are those of, and
+-- whatever its input and the day
+abbrev pub ReportsUnder : Defs → Request → Files → Script → Report → Type 0
+ReportsUnder defs request files script report =
     (settings : List Setting) → HasSettings defs settings → (input : List ℕ) (day : ℕ)
+    → IsScriptOf (action_of request input day files settings) script
     → IsReportOf (action_of request input day files settings) report
 
 -- the decision is that of the tool on this day, whichever settings the values are those of

@@ -52,19 +52,20 @@ pub(crate) fn script_of(
     }
 }
 
-/// What the tool reports where it doesn't refuse: useradd and userdel their notices, chage what
-/// `-l` asks for, and the others nothing.
+/// What the tool reports where it answers with the script: useradd and userdel their notices, chage
+/// what `-l` asks for, and the others nothing.
 pub(crate) fn report_of(
     alloc: Global,
     asked: &Asked,
     tables: &Tables,
     defs: &Defs,
+    script: &Script,
 ) -> Result<Report, AllocError>
     requires { looks_through asked.now.tool ≡ false }
-    ensures { IfOk result (ReportsUnder defs.now asked.now tables.now) }
+    ensures { IfOk result (ReportsUnder defs.now asked.now tables.now script.now) }
 {
     match asked.tool() {
-        Tool::Useradd => useradd_report(alloc, asked, tables),
+        Tool::Useradd => useradd_report(alloc, asked, tables, script),
         Tool::Userdel => userdel_report(alloc, asked, tables, defs),
         Tool::Chage => chage_report(alloc, asked, tables),
         _ => Ok(Report::silent(alloc)),

@@ -37,7 +37,7 @@ pub fn carry_out(
     let asked = Asked::of(line);
     let seen = Tables::carried(tables);
     let script = script_of(alloc, &asked, b"", &seen, defs, day)?;
-    let report = report_of(alloc, &asked, &seen, defs)?;
+    let report = report_of(alloc, &asked, &seen, defs, &script)?;
     tools_are_written();
     table_edits::carry_out(alloc, line.tool, tables, &script, report)
 }

@@ -79,7 +79,7 @@ fn decide_by_script(
     let tables = Tables::of(files);
     match script_of(alloc, asked, input, &tables, defs, day) {
         Ok(script) => {
-            let report = report_of(alloc, asked, &tables, defs)?;
+            let report = report_of(alloc, asked, &tables, defs, &script)?;
             tools_are_written();
             decide_by(alloc, asked.tool(), files, &script, report)
         }

@@ -1,19 +1,24 @@
 -- Claim: the primary GID is that of the user's own group, where it has one (`own-gid`); useradd answers
 -- the first refusal of its words (`refused-by_words`), then that of its conflicts
--- (`refused-by_conflict`), and else its edits (`made-user`). Way: what it does by its plan is what it
--- has to do under the settings, as the plan is that of the settings.
-use Rattle.std.proofs.Common.{◌≡◌, ℕ, Bool, true, false, List, sym, ap, ◌∙◌}
-use Rattle.std.specs.Prelude.{Option, Some, None, Err, option_and_then, option_map, unwrap_or, if◌then◌else◌}
+-- (`refused-by_conflict`), and else its edits (`made-user`), which add a user of the planned UID
+-- (`adds-planned`). Way: what it does by its plan is what it has to do under the settings, as the plan
+-- is that of the settings.
+use Rattle.std.proofs.Common.{◌≡◌, ℕ, Bool, true, false, List, [], ◌∷◌, ◌++◌, refl, sym, ap, ◌∙◌}
+use Rattle.std.specs.Prelude.{Option, Some, None, Err, is_none, take, option_and_then, option_map, unwrap_or, if◌then◌else◌}
 use Rattle.acct_text.specs.declared.files.Files.{Files}
 use Rattle.account_model.specs.declared.new_user.Plan.{Plan}
 use Rattle.account_model.specs.declared.records.ShadowRecord.{ShadowRecord}
+use Rattle.account_model.specs.declared.refusal.Refusal.{Refusal}
+use Rattle.account_model.specs.declared.refusal.Refusal.TheVariants.{NoFreeUid, NoFreeGid}
 use Rattle.account_model.specs.GivenGroups.{given_group}
 use Rattle.account_model.specs.NewAccount.{free_gid, kind_of}
 use Rattle.account_model.specs.Ids.{is_used, used_gids}
+use Rattle.account_model.specs.Refusals.{refuse_if}
 use Rattle.account_model.specs.Request.{Request}
 use Rattle.account_model.specs.Settings.{Setting}
 use Rattle.account_model.specs.Text.{first_some}
-use Rattle.account_model.specs.Useradd.{add_user, default_gid, gid_beside, makes_group, new_shadow, new_uid, own_gid, plan_of, primary_gid, useradd_by, useradd_checks, useradd_conflicts, useradd_script, useradd_under}
+use Rattle.account_model.specs.Useradd.{add_user, default_gid, gid_beside, makes_group, new_shadow, new_uid, own_gid, plan_of, primary_gid, useradd_by, useradd_checks, useradd_conflicts, useradd_refusals, useradd_script, useradd_under, used_up}
+use Rattle.account_model.proofs.DeedLaws.{first-none}
 use Rattle.tool_answers.specs.Refusing.{IsFaultOf}
 use Rattle.tool_answers.specs.declared.tool_fault.ToolFault.{ToolFault}
 use Rattle.tool_answers.specs.declared.tool_fault.ToolFault.TheVariants.{Refused, Memory}
@@ -22,6 +27,7 @@ use Rattle.table_edits.specs.Acting.{ActsBy, IsScriptOf}
 use Rattle.table_edits.specs.SeenScript.{seen_script}
 use Rattle.table_lookups.specs.Stopping.{StopsBy}
 use Rattle.table_edits.specs.declared.script.Script.{Script}
+use Rattle.user_creation.specs.Added.{added_uid}
 use Rattle.user_creation.specs.Plans.{HasPlanned}
 use Rattle.user_creation.specs.declared.plan.NewIds.{NewIds}
 
@@ -106,3 +112,36 @@ module _ (request : Request) (files : Files) (settings : List Setting) (day : �
           ∙ ap (λ plan. (useradd_by plan shadow request files).script) planned
           ∙ ap (λ shadow. (useradd_by (plan_of request files settings) shadow request files).script) same;
     }
+
+-- ---- What is told of the new user
+
+-- of refusals none of which is there, none behind the first is
+none-behind :
+    (before behind : List (Option Refusal))
+    → first_some (before ++ behind) ≡ None
+    → first_some behind ≡ None
+none-behind [] behind none = none
+none-behind (None ∷ before) behind none = none-behind before behind none
+none-behind (Some refusal ∷ before) behind none = cc
+
+-- where there are both IDs, the script adds a user of the UID
+adds-by :
+    (request : Request) (files : Files) (plan : Plan) (shadow : ShadowRecord) (uid gid : Option ℕ)
+    → refuse_if (is_none uid) NoFreeUid ≡ None
+    → refuse_if (is_none gid) NoFreeGid ≡ None
+    → added_uid (useradd_script request files plan shadow uid gid) ≡ uid
+adds-by request files plan shadow (Some uid) (Some gid) has_uid has_gid = refl
+adds-by request files plan shadow (Some uid) None has_uid has_gid = cc
+adds-by request files plan shadow None gid has_uid has_gid = cc
+
+-- where nothing refuses, the script adds a user of the planned UID
+pub adds-planned :
+    (request : Request) (files : Files) (plan : Plan) (shadow : ShadowRecord)
+    → first_some (useradd_refusals request files plan) ≡ None
+    → added_uid (useradd_by plan shadow request files).script ≡ plan.uid
+adds-planned request files plan shadow none =
+    let conflicts = none-behind (useradd_checks request) (useradd_conflicts request files plan) none in
+    let left = none-behind (take 5 (useradd_conflicts request files plan)) (used_up plan) conflicts in
+    let uid = first-none (refuse_if (is_none plan.uid) NoFreeUid) _ left in
+    let gid = first-none (refuse_if (is_none plan.gid) NoFreeGid) _ uid.1 in
+    adds-by request files plan shadow plan.uid plan.gid uid.0 gid.0

@@ -1,3 +1,4 @@
+pub mod Added
 pub mod Allotments
 pub mod Plans
 pub mod Joining

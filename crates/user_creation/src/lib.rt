@@ -2,9 +2,9 @@
 //! of login.defs(5) and the day.
 //!
 //! `useradd` tests the refusals in their order, and then builds the script of its edits;
-//! `useradd_report` tells of a hash that all can read (`notice`). `plan` has the IDs and ranges
-//! that the user is to get, `ranges` those of subuid(5) and subgid(5), `records` the new lines,
-//! and `script` the edits.
+//! `useradd_report` tells of a hash that all can read, and of ranges that are inherited (`notice`).
+//! `plan` has the IDs and ranges that the user is to get, `ranges` those of subuid(5) and subgid(5),
+//! `records` the new lines, and `script` the edits.
 #![tactic(auto)]
 
 mod creation;

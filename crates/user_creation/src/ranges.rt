@@ -51,8 +51,8 @@ fn is_open(asked: &Asked, file: &RangeFile<'_>, uid: Option<u32>) -> bool
     file.is_there() && may_have_ranges(asked) && !file.has_owner(asked.operand(), uid)
 }
 
-// Whether the user is no system user, or `-F` is given.
-fn may_have_ranges(asked: &Asked) -> bool
+/// Whether the user is no system user, or `-F` is given.
+pub(crate) fn may_have_ranges(asked: &Asked) -> bool
     ensures { result ≡ may_have_ranges asked.now }
 {
     !asked.has(b'r') || asked.has(b'F')
